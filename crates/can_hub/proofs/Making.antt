@@ -3,8 +3,7 @@ use Rattle.std.specs.Prelude.{All}
 use Rattle.std.proofs.lemmas.List.Elements.{All-head, All-tail}
 use Rattle.atomic_table.specs.Seated.{TableId}
 use Rattle.can_hub.specs.Buses.{BusSeen, NumberedFrom, names_of}
-use Rattle.can_hub.specs.Benches.{IsWithin, NamedFrom, bench_names, bus_of, buses_from}
-use Rattle.can_event.specs.declared.bus_config.BusConfig.{BusConfig}
+use Rattle.can_hub.specs.Benches.{IsProper, NamedFrom, bench_names, bus_of, buses_from}
 use Rattle.can_hub.specs.declared.bench.Bench.{Bench}
 
 -- a list is its first element and what follows it
@@ -46,11 +45,11 @@ module _ {F G : Type 0} where
   named_next roll meter n m b rest more er en h =
       subst (λ (k : ℕ). NamedFrom roll meter k more) (sym en) (subst (λ (r : List (Bench F G)). NamedFrom roll meter n r) er h).2
 
-  pub proper_here : (Limits : BusConfig → Type 0) (b : Bench F G) (rest more : List (Bench F G)) → rest ≡ b ∷ more → All (λ x. IsWithin Limits x) rest → IsWithin Limits b
-  proper_here Limits b rest more er h = All-head (λ (x : Bench F G). IsWithin Limits x) b more (subst (λ (r : List (Bench F G)). All (λ x. IsWithin Limits x) r) er h)
+  pub proper_here : (b : Bench F G) (rest more : List (Bench F G)) → rest ≡ b ∷ more → All (λ x. IsProper x) rest → IsProper b
+  proper_here b rest more er h = All-head (λ (x : Bench F G). IsProper x) b more (subst (λ (r : List (Bench F G)). All (λ x. IsProper x) r) er h)
 
-  pub proper_next : (Limits : BusConfig → Type 0) (b : Bench F G) (rest more : List (Bench F G)) → rest ≡ b ∷ more → All (λ x. IsWithin Limits x) rest → All (λ x. IsWithin Limits x) more
-  proper_next Limits b rest more er h = All-tail (λ (x : Bench F G). IsWithin Limits x) b more (subst (λ (r : List (Bench F G)). All (λ x. IsWithin Limits x) r) er h)
+  pub proper_next : (b : Bench F G) (rest more : List (Bench F G)) → rest ≡ b ∷ more → All (λ x. IsProper x) rest → All (λ x. IsProper x) more
+  proper_next b rest more er h = All-tail (λ (x : Bench F G). IsProper x) b more (subst (λ (r : List (Bench F G)). All (λ x. IsProper x) r) er h)
 
   pub made_last : (made : List BusSeen) (rest : List (Bench F G)) (all : List BusSeen) → rest ≡ [] → made ++ buses_from (length made) rest ≡ all → made ≡ all
   made_last made rest all none h = sym (append-nil made) ∙ ap (λ (r : List (Bench F G)). made ++ buses_from (length made) r) (sym none) ∙ h

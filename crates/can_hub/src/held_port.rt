@@ -3,9 +3,7 @@ ghost use Rattle.can_hub.specs.PassSteps.{is_shared};
 
 use crate::pass_port::{PassPort, pass_on};
 use crate::tally::Counted;
-use can_bus::{
-    Event, IfaceStats, Journaled, Received, Record, Refusal, Reply, RingBus, SocketId, SocketStats,
-};
+use can_bus::{Event, IfaceStats, Received, Refusal, Reply, SocketId, SocketStats};
 use can_confine::Counters;
 use can_dialog::{Port, PortRefusal};
 use can_fault::FaultSource;
@@ -27,23 +25,13 @@ pub struct HeldPort<
     F: FaultSource + Drop,
     G: Gate + Drop,
     R: Wait,
-    B: Journaled<Left = L> = RingBus,
-    L: Drop = Record,
 > {
-    port: &'p mut PassPort<'a, N, F, G, R, B, L>,
-    hold: Option<Hold<'a, N, F, G, B>>,
+    port: &'p mut PassPort<'a, N, F, G, R>,
+    hold: Option<Hold<'a, N, F, G>>,
 }
 
-impl<
-    'p,
-    'a,
-    N: RollName + MeterName,
-    F: FaultSource + Drop,
-    G: Gate + Drop,
-    R: Wait,
-    B: Journaled<Left = L>,
-    L: Drop,
-> Model for HeldPort<'p, 'a, N, F, G, R, B, L> {
+impl<'p, 'a, N: RollName + MeterName, F: FaultSource + Drop, G: Gate + Drop, R: Wait> Model
+    for HeldPort<'p, 'a, N, F, G, R> {
     ghost use Rattle.can_hub.specs.PassSteps.{PortSeen};
 
     ghost Value = { PortSeen };
@@ -51,18 +39,16 @@ impl<
     ghost view = { λ p. p.port.now };
 }
 
-impl<
+impl<'p, 'a, N: RollName + MeterName, F: FaultSource + Drop, G: Gate + Drop, R: Wait> HeldPort<
     'p,
     'a,
-    N: RollName + MeterName,
-    F: FaultSource + Drop,
-    G: Gate + Drop,
-    R: Wait,
-    B: Journaled<Left = L>,
-    L: Drop,
-> HeldPort<'p, 'a, N, F, G, R, B, L> {
+    N,
+    F,
+    G,
+    R,
+> {
     /// The same port; no lock is taken.
-    pub fn new(port: &'p mut PassPort<'a, N, F, G, R, B, L>) -> HeldPort<'p, 'a, N, F, G, R, B, L>
+    pub fn new(port: &'p mut PassPort<'a, N, F, G, R>) -> HeldPort<'p, 'a, N, F, G, R>
         ensures { result ≡ port.old }
     {
         HeldPort { port, hold: None }
@@ -70,19 +56,11 @@ impl<
 }
 
 /// The hold of this station. Where there is none it takes the lock, after a hold of another station is dropped.
-fn hold_of<
-    'h,
-    'a,
-    N: RollName + MeterName,
-    F: FaultSource + Drop,
-    G: Gate + Drop,
-    R: Wait,
-    B: Journaled,
->(
+fn hold_of<'h, 'a, N: RollName + MeterName, F: FaultSource + Drop, G: Gate + Drop, R: Wait>(
     rt: &R,
-    station: &'a Station<N, F, G, B>,
-    taken: &'h mut Option<Hold<'a, N, F, G, B>>,
-) -> &'h mut Hold<'a, N, F, G, B>
+    station: &'a Station<N, F, G>,
+    taken: &'h mut Option<Hold<'a, N, F, G>>,
+) -> &'h mut Hold<'a, N, F, G>
     ensures { result.now.number ≡ station.now.number }
 {
     let is_own = match taken {
@@ -103,16 +81,8 @@ fn is_shared(event: &Event) -> bool
     matches!(event, Event::Send(_, _) | Event::Receive(_))
 }
 
-impl<
-    'p,
-    'a,
-    N: RollName + MeterName,
-    F: FaultSource + Drop,
-    G: Gate + Drop,
-    R: Wait,
-    B: Journaled<Left = L>,
-    L: Drop,
-> Port for HeldPort<'p, 'a, N, F, G, R, B, L> {
+impl<'p, 'a, N: RollName + MeterName, F: FaultSource + Drop, G: Gate + Drop, R: Wait> Port
+    for HeldPort<'p, 'a, N, F, G, R> {
     ghost use Rattle.can_hub.specs.PassSteps.{PassStep};
 
     ghost step = { PassStep F };

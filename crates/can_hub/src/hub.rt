@@ -2,12 +2,11 @@ ghost use Rattle.std.specs.Prelude.{◌≡◌, ◌<◌, ◌≤◌, ◌++◌, len
 ghost use Rattle.can_frame.specs.Names.{place_of};
 ghost use Rattle.can_proto.specs.Spelling.{spaced};
 ghost use Rattle.can_hub.specs.Buses.{BusSeen, IsFirstNamed, config_on, items_on, names_on, all_names};
-ghost use Rattle.can_hub.specs.Benches.{IsWithin, MakeHub, MakeHubWithin, MakeLongHub, NamedFrom, bus_of, buses_from};
-ghost use Rattle.can_hub.specs.Settling.{AllConfigured, AllOwn, AllSettleIn, FirstForeign};
+ghost use Rattle.can_hub.specs.Benches.{IsProper, MakeHub, NamedFrom, bus_of, buses_from};
+ghost use Rattle.can_hub.specs.Settling.{AllConfigured, AllOwn, AllSettle, FirstForeign};
 
 use crate::bench::{Bench, make_hub};
-use crate::bench_bus::BenchBus;
-use can_bus::{BusFault, Journaled, LongEnd, LongRingBus, Record, RingBus};
+use can_bus::BusFault;
 use can_dialog::put_names;
 use can_fault::FaultSource;
 use can_frame::{Iface, Names};
@@ -28,20 +27,14 @@ pub struct SettleFault {
 
 /// A bus of a hub: its station, and the names of its interfaces.
 #[derive(Drop)]
-pub struct Wire<
-    N: RollName + MeterName,
-    F: FaultSource + Drop,
-    G: Gate + Drop,
-    B: Journaled = RingBus,
-> {
+pub struct Wire<N: RollName + MeterName, F: FaultSource + Drop, G: Gate + Drop> {
     names: Names,
-    station: Station<N, F, G, B>,
+    station: Station<N, F, G>,
     pace_ms: u32,
     rx_capacity: u32,
 }
 
-impl<N: RollName + MeterName, F: FaultSource + Drop, G: Gate + Drop, B: Journaled> Model
-    for Wire<N, F, G, B> {
+impl<N: RollName + MeterName, F: FaultSource + Drop, G: Gate + Drop> Model for Wire<N, F, G> {
     ghost use Rattle.can_hub.specs.Buses.{BusSeen};
 
     ghost Value = { BusSeen };
@@ -55,18 +48,12 @@ impl<N: RollName + MeterName, F: FaultSource + Drop, G: Gate + Drop, B: Journale
     } };
 }
 
-impl<N: RollName + MeterName, F: FaultSource + Drop, G: Gate + Drop, B: BenchBus> Wire<N, F, G, B> {
-    /// The bus that a bench makes under a number, in a long run with memory for this many entries at once. `NoMemory`
-    /// where memory was refused.
-    fn new(
-        alloc: Global,
-        number: u8,
-        bench: Bench<F, G>,
-        size: u32,
-    ) -> Result<Wire<N, F, G, B>, BusFault>
+impl<N: RollName + MeterName, F: FaultSource + Drop, G: Gate + Drop> Wire<N, F, G> {
+    /// The bus that a bench makes under a number. `NoMemory` where memory was refused.
+    fn new(alloc: Global, number: u8, bench: Bench<F, G>) -> Result<Wire<N, F, G>, BusFault>
         requires roll { bench.blanks.roll ≡ N.roll number }
         requires meter { bench.blanks.meter ≡ N.meter number }
-        requires proper { IsWithin B.limits bench }
+        requires proper { IsProper bench }
         ensures made { IfOk result (λ w. w ≡ bus_of number bench) }
         ensures fault { IfErr result (λ e. e ≡ BusFault.NoMemory) }
     {
@@ -80,10 +67,9 @@ impl<N: RollName + MeterName, F: FaultSource + Drop, G: Gate + Drop, B: BenchBus
             pace_ms,
             rx_capacity,
         } = bench;
-        let bus = B::with_room(alloc, config, size)?;
         Ok(Wire {
             names,
-            station: Station::over(alloc, blanks, number, bus, config, source, plan, gate)?,
+            station: Station::with_plan(alloc, blanks, number, config, source, plan, gate)?,
             pace_ms,
             rx_capacity,
         })
@@ -92,25 +78,13 @@ impl<N: RollName + MeterName, F: FaultSource + Drop, G: Gate + Drop, B: BenchBus
 
 /// Buses, each with a station of its own. A bus's number is its place.
 #[derive(Drop)]
-pub struct Hub<
-    N: RollName + MeterName,
-    F: FaultSource + Drop,
-    G: Gate + Drop,
-    B: Journaled<Left = L> = RingBus,
-    L: Drop = Record,
-> {
-    wires: Vec<Wire<N, F, G, B>>,
+pub struct Hub<N: RollName + MeterName, F: FaultSource + Drop, G: Gate + Drop> {
+    wires: Vec<Wire<N, F, G>>,
     // Room for what each bus leaves at its end.
-    settled: Vec<Settled<L>>,
+    settled: Vec<Settled>,
 }
 
-impl<
-    N: RollName + MeterName,
-    F: FaultSource + Drop,
-    G: Gate + Drop,
-    B: Journaled<Left = L>,
-    L: Drop,
-> Model for Hub<N, F, G, B, L> {
+impl<N: RollName + MeterName, F: FaultSource + Drop, G: Gate + Drop> Model for Hub<N, F, G> {
     ghost use Rattle.std.specs.Prelude.{◌≡◌, ◌≤◌, [], List, length, vec_capacity};
     ghost use Rattle.can_hub.specs.Buses.{BusSeen, NumberedFrom, AllApart, names_of};
 
@@ -136,68 +110,14 @@ impl<N: RollName + MeterName, F: FaultSource + Drop, G: Gate + Drop> Hub<N, F, G
         ensures made { IfOk result (λ h. h ≡ buses_from 0 benches.items) }
         ensures bad { (result ≡ Err BusFault.BadConfig) ↔ (¬ MakeHub benches.items) }
     {
-        Hub::make(alloc, benches, 0)
-    }
-}
-
-impl<N: RollName + MeterName, F: FaultSource + Drop, G: Gate + Drop> Hub<
-    N,
-    F,
-    G,
-    LongRingBus,
-    LongEnd,
-> {
-    /// The same with buses of long runs, each of which keeps in memory only the entries that were not taken yet. It takes
-    /// memory for this many of each: `TAIL_SIZE`, but for tests.
-    ///
-    /// `BadConfig` as by `new`, but for configurations outside the limits of a long run.
-    pub fn new_long(
-        alloc: Global,
-        benches: Vec<Bench<F, G>>,
-        size: u32,
-    ) -> Result<Hub<N, F, G, LongRingBus, LongEnd>, BusFault>
-        requires { NamedFrom N.roll N.meter 0 benches.items }
-        ensures made { IfOk result (λ h. h ≡ buses_from 0 benches.items) }
-        ensures bad { (result ≡ Err BusFault.BadConfig) ↔ (¬ MakeLongHub benches.items) }
-    {
-        Hub::make(alloc, benches, size)
-    }
-}
-
-impl<
-    N: RollName + MeterName,
-    F: FaultSource + Drop,
-    G: Gate + Drop,
-    B: BenchBus<Left = L>,
-    L: Drop,
-> Hub<N, F, G, B, L> {
-    /// A station for each bench over a bus on which nothing was done, in a long run with memory for this many entries at
-    /// once.
-    fn make(
-        alloc: Global,
-        benches: Vec<Bench<F, G>>,
-        size: u32,
-    ) -> Result<Hub<N, F, G, B, L>, BusFault>
-        requires { NamedFrom N.roll N.meter 0 benches.items }
-        ensures made { IfOk result (λ h. h ≡ buses_from 0 benches.items) }
-        ensures bad { (result ≡ Err BusFault.BadConfig) ↔ (¬ MakeHubWithin B.limits benches.items) }
-    {
-        if !make_hub::<B, F, G>(&benches) {
+        if !make_hub(&benches) {
             return Err(BusFault::BadConfig);
         }
         let settled = Vec::with_capacity(alloc, benches.len())?;
-        let wires = wires_of::<N, F, G, B>(alloc, benches, size)?;
+        let wires = wires_of::<N, F, G>(alloc, benches)?;
         Ok(Hub { wires, settled })
     }
-}
 
-impl<
-    N: RollName + MeterName,
-    F: FaultSource + Drop,
-    G: Gate + Drop,
-    B: Journaled<Left = L>,
-    L: Drop,
-> Hub<N, F, G, B, L> {
     /// The bus that has an interface of this name, and that interface. No other bus has the name. `None` exactly
     /// where no bus has it. It reads the names of the buses up to that one.
     pub fn find(&self, name: &str) -> Option<(usize, Iface)>
@@ -237,7 +157,7 @@ impl<
 
     /// The station of a bus.
     #[tactic(auto, using(crate::proofs::Places::number_at, crate::proofs::Places::config_at))]
-    pub fn station(&self, bus: usize) -> &Station<N, F, G, B>
+    pub fn station(&self, bus: usize) -> &Station<N, F, G>
         requires { bus < length self.now }
         ensures number { result.now.number ≡ bus }
         ensures config { config_on (slice_get self.now bus) ≡ Some result.now.config }
@@ -295,13 +215,6 @@ impl<
         }
     }
 
-    /// Ends the waits for entries of all buses, once no calls are made any more.
-    pub fn end_entries<R: Wait>(&self, rt: &R) {
-        for wire in &self.wires {
-            wire.station.end_entries(rt);
-        }
-    }
-
     /// Another gauge of a bus's meter, which reads the error counters without the lock. `AllocError` where there
     /// is no memory. It may wait for the lock.
     pub fn gauge<R: Wait>(&self, rt: &R, bus: usize) -> Result<Gauge<N>, AllocError>
@@ -322,10 +235,10 @@ impl<
         rt: &R,
         alloc: Global,
         passes: Vec<Vec<Pass<N>>>,
-    ) -> Result<Vec<Settled<L>>, SettleFault>
+    ) -> Result<Vec<Settled>, SettleFault>
         requires { length passes.items ≡ length self }
-        ensures settled { IfOk result (λ v. AllSettleIn B.left passes.items v.items) }
-        ensures configured { IfOk result (λ v. AllConfigured B.left self v.items) }
+        ensures settled { IfOk result (λ v. AllSettle passes.items v.items) }
+        ensures configured { IfOk result (λ v. AllConfigured self v.items) }
         ensures refused { MatchResult result (λ _. AllOwn 0 passes.items)
             (λ f. FirstForeign passes.items f.bus) }
     {
@@ -347,21 +260,20 @@ impl<
 }
 
 /// The buses that these benches make, numbered from 0.
-fn wires_of<N: RollName + MeterName, F: FaultSource + Drop, G: Gate + Drop, B: BenchBus>(
+fn wires_of<N: RollName + MeterName, F: FaultSource + Drop, G: Gate + Drop>(
     alloc: Global,
     benches: Vec<Bench<F, G>>,
-    size: u32,
-) -> Result<Vec<Wire<N, F, G, B>>, BusFault>
+) -> Result<Vec<Wire<N, F, G>>, BusFault>
     requires few { length benches.items ≤ 16 }
     requires named { NamedFrom N.roll N.meter 0 benches.items }
-    requires proper { All (λ b. IsWithin B.limits b) benches.items }
+    requires proper { All (λ b. IsProper b) benches.items }
     ensures made { IfOk result (λ v. v.items ≡ buses_from 0 benches.items) }
     ensures fault { IfErr result (λ e. e ≡ BusFault.NoMemory) }
 {
     let mut wires = Vec::with_capacity(alloc, benches.len())?;
     for bench in benches {
         let number = wires.len() as u8;
-        wires.push_reserved(Wire::new(alloc, number, bench, size)?);
+        wires.push_reserved(Wire::new(alloc, number, bench)?);
     }
     Ok(wires)
 }

@@ -4,9 +4,7 @@ ghost use Rattle.can_hub.specs.PassSteps.{GaugeTells, passed_on, with_room};
 
 use crate::hub::Hub;
 use crate::tally::{Counted, Tally};
-use can_bus::{
-    Event, IfaceStats, Journaled, Record, Refusal, Reply, RingBus, SocketId, SocketStats,
-};
+use can_bus::{Event, IfaceStats, Refusal, Reply, SocketId, SocketStats};
 use can_confine::Counters;
 use can_dialog::{Port, PortRefusal, rule_reply};
 use can_fault::FaultSource;
@@ -20,20 +18,14 @@ use std::sync::Wait;
 
 /// A station that was entered, with a gauge of its meter and the pass.
 #[derive(Drop)]
-pub struct Entered<
-    'a,
-    N: RollName + MeterName,
-    F: FaultSource + Drop,
-    G: Gate + Drop,
-    B: Journaled,
-> {
-    pub(crate) station: &'a Station<N, F, G, B>,
+pub struct Entered<'a, N: RollName + MeterName, F: FaultSource + Drop, G: Gate + Drop> {
+    pub(crate) station: &'a Station<N, F, G>,
     gauge: Gauge<N>,
     pub(crate) pass: Pass<N>,
 }
 
-impl<'a, N: RollName + MeterName, F: FaultSource + Drop, G: Gate + Drop, B: Journaled> Model
-    for Entered<'a, N, F, G, B> {
+impl<'a, N: RollName + MeterName, F: FaultSource + Drop, G: Gate + Drop> Model
+    for Entered<'a, N, F, G> {
     ghost use Rattle.can_hub.specs.PassSteps.{EnteredSeen};
 
     ghost Value = { EnteredSeen };
@@ -52,31 +44,16 @@ impl<'a, N: RollName + MeterName, F: FaultSource + Drop, G: Gate + Drop, B: Jour
 /// `status` returns the error counters that were published last, as the gauge reads them: it takes no lock and waits
 /// for nobody. They are 0/0 where no station was entered, or where its bus has no such interface.
 #[derive(Drop)]
-pub struct PassPort<
-    'a,
-    N: RollName + MeterName,
-    F: FaultSource + Drop,
-    G: Gate + Drop,
-    R: Wait,
-    B: Journaled<Left = L> = RingBus,
-    L: Drop = Record,
-> {
+pub struct PassPort<'a, N: RollName + MeterName, F: FaultSource + Drop, G: Gate + Drop, R: Wait> {
     pub(crate) rt: &'a R,
     pub(crate) alloc: Global,
-    hub: &'a Hub<N, F, G, B, L>,
-    pub(crate) entered: Option<Entered<'a, N, F, G, B>>,
+    hub: &'a Hub<N, F, G>,
+    pub(crate) entered: Option<Entered<'a, N, F, G>>,
     pub(crate) tally: Tally,
 }
 
-impl<
-    'a,
-    N: RollName + MeterName,
-    F: FaultSource + Drop,
-    G: Gate + Drop,
-    R: Wait,
-    B: Journaled<Left = L>,
-    L: Drop,
-> Model for PassPort<'a, N, F, G, R, B, L> {
+impl<'a, N: RollName + MeterName, F: FaultSource + Drop, G: Gate + Drop, R: Wait> Model
+    for PassPort<'a, N, F, G, R> {
     ghost use Rattle.can_hub.specs.PassSteps.{PortSeen};
 
     ghost Value = { PortSeen };
@@ -84,23 +61,17 @@ impl<
     ghost view = { λ p. record { buses = p.hub.now; entered = p.entered } };
 }
 
-impl<
+impl<'a, N: RollName + MeterName, F: FaultSource + Drop, G: Gate + Drop, R: Wait> PassPort<
     'a,
-    N: RollName + MeterName,
-    F: FaultSource + Drop,
-    G: Gate + Drop,
-    R: Wait,
-    B: Journaled<Left = L>,
-    L: Drop,
-> PassPort<'a, N, F, G, R, B, L> {
+    N,
+    F,
+    G,
+    R,
+> {
     ghost use Rattle.std.specs.Prelude.{None, option_map};
 
     /// A port over the buses of a hub; no station was entered.
-    pub fn new(
-        rt: &'a R,
-        alloc: Global,
-        hub: &'a Hub<N, F, G, B, L>,
-    ) -> PassPort<'a, N, F, G, R, B, L>
+    pub fn new(rt: &'a R, alloc: Global, hub: &'a Hub<N, F, G>) -> PassPort<'a, N, F, G, R>
         ensures { result ≡ record { buses = hub.now; entered = None } }
     {
         PassPort {
@@ -113,7 +84,7 @@ impl<
     }
 
     /// The station that was entered.
-    pub fn station(&self) -> Option<&'a Station<N, F, G, B>>
+    pub fn station(&self) -> Option<&'a Station<N, F, G>>
         ensures { option_map (λ s. s.now) result ≡ option_map (λ e. e.station) self.now.entered }
     {
         match &self.entered {
@@ -178,15 +149,8 @@ fn read_gauge<N: MeterName>(gauge: &mut Gauge<N>, iface: Iface) -> Counters
     gauge.status(place).counters
 }
 
-impl<
-    'a,
-    N: RollName + MeterName,
-    F: FaultSource + Drop,
-    G: Gate + Drop,
-    R: Wait,
-    B: Journaled<Left = L>,
-    L: Drop,
-> Port for PassPort<'a, N, F, G, R, B, L> {
+impl<'a, N: RollName + MeterName, F: FaultSource + Drop, G: Gate + Drop, R: Wait> Port
+    for PassPort<'a, N, F, G, R> {
     ghost use Rattle.can_hub.specs.PassSteps.{PassStep};
 
     ghost step = { PassStep F };

@@ -4,7 +4,7 @@ use Rattle.std.proofs.lemmas.List.Elements.{All-cons}
 use Rattle.std.proofs.lemmas.Option.{slice_get-get_or}
 use Rattle.can_frame.specs.Names.{AreNames, names_in}
 use Rattle.can_station.specs.declared.gate.Open.{Open}
-use Rattle.can_record.specs.Journal.{Journal, Kept}
+use Rattle.can_record.specs.Journal.{Kept}
 use Rattle.can_station.specs.declared.pass.Settled.{Settled}
 use Rattle.can_station.specs.Passes.{PassSeen}
 use Rattle.can_hub.specs.declared.bench.Bench.{Bench}
@@ -83,11 +83,11 @@ settles-legal [] (s ∷ ss) all = absurd all
 settles-legal (p ∷ ps) [] all = absurd all
 
 -- and have the configurations of the benches
-pub settles-configured : {F G L : Type 0} (left : L → Journal) (n : ℕ) (benches : List (Bench F G)) (ends : List (Settled L)) → AllConfigured left (buses_from n benches) ends → AllZip (λ b s. (left s.history).config ≡ b.config) benches ends
-settles-configured left n [] [] all = tt
-settles-configured left n (b ∷ bs) (s ∷ ss) all = (all.0, settles-configured left (suc n) bs ss all.1)
-settles-configured left n [] (s ∷ ss) all = absurd all
-settles-configured left n (b ∷ bs) [] all = absurd all
+pub settles-configured : {F G : Type 0} (n : ℕ) (benches : List (Bench F G)) (ends : List (Settled Kept)) → AllConfigured (buses_from n benches) ends → AllZip (λ b s. s.history.config ≡ b.config) benches ends
+settles-configured n [] [] all = tt
+settles-configured n (b ∷ bs) (s ∷ ss) all = (all.0, settles-configured (suc n) bs ss all.1)
+settles-configured n [] (s ∷ ss) all = absurd all
+settles-configured n (b ∷ bs) [] all = absurd all
 
 -- which are those that the words and the options give
 pub served-configured : (o : ServeOptions) (buses : List BusWord) (benches : List (Bench Perfect Open)) (ends : List (Settled Kept)) → AreBenches o buses benches → AllZip (λ b s. s.history.config ≡ b.config) benches ends → AreConfigured o buses ends

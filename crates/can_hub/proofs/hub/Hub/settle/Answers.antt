@@ -1,8 +1,10 @@
 use Rattle.std.proofs.Common.{◌≡◌, ◌+◌, ◌∷◌, ◌++◌, ◌∙◌, ℕ, suc, List, [], Vec, Global, length, length-append, append_assoc, append-nil, inl, inr, arith, sym, subst, ap}
 use Rattle.std.specs.Vec.Iter.{into_iter_items}
+use Rattle.can_record.specs.Journal.{Kept}
+use Rattle.can_station.specs.declared.pass.Settled.{Settled}
 use Rattle.can_hub.specs.Buses.{BusSeen, NumberedFrom}
 use Rattle.can_station.specs.Passes.{PassSeen, AllOf, SomeOther}
-use Rattle.can_hub.specs.Settling.{AllConfigured, AllSettleIn}
+use Rattle.can_hub.specs.Settling.{AllConfigured, AllSettle}
 use Rattle.can_hub.proofs.Making.{emptied}
 use Rattle.can_hub.proofs.Ending.{configured_push, settle_none, own_push, settle_push}
 use Rattle.can_hub.proofs.hub.Hub.settle.Goals as goal
@@ -21,12 +23,12 @@ loop-wire-init g c =
       [],
       record {
         buses = given.0 ∙ c.self.view_is;
-        configured = subst (λ (ds : List _). AllConfigured g.B.Journaled.left [] ds) (sym own.3) tt;
+        configured = subst (λ (ds : List _). AllConfigured [] ds) (sym own.3) tt;
         lists = lists.rest;
         own = tt;
-        settled = settle_none Global g.B.Journaled.left c.self.inside.settled.items own.3;
+        settled = settle_none Global c.self.inside.settled.items own.3;
         place = sym zero;
-        numbered = subst (λ (ds : List _). NumberedFrom (length ds) items) (sym own.3) (subst (λ (ws : List BusSeen). NumberedFrom 0 ws) (sym given.0) own.0);
+        numbered = subst (λ (ds : List (Settled Kept)). NumberedFrom (length ds) items) (sym own.3) (subst (λ (ws : List BusSeen). NumberedFrom 0 ws) (sym given.0) own.0);
         wires = omega (arith, given.1, wires, c.self.inside.wires.ok.0);
         passes = omega (arith, lists.len, passes, c.args.passes.ok.0);
         same = omega (arith, given.1, c.self.inside.wires.ok.0, lists.len, c.args.passes.ok.0, c.requires, buses);
@@ -80,11 +82,11 @@ loop-wire-preserved g c =
       gone ++ c.in-Some.wire ∷ [],
       record {
         buses = append_assoc gone (c.in-Some.wire ∷ []) (into_iter_items c.next.new.self) ∙ ap (λ (r : List BusSeen). gone ++ r) (sym steps.0) ∙ i.buses;
-        configured = subst (λ (ds : List _). AllConfigured g.B.Journaled.left (gone ++ c.in-Some.wire ∷ []) ds) (sym c.push_reserved.ensures.items)
-            (configured_push g.B.Journaled.left gone done c.in-Some.wire c.in-Ok.left i.configured (c.in-Ok.ensures.config ∙ ap (λ (b : BusSeen). b.config) c.wire.view_is));
+        configured = subst (λ (ds : List _). AllConfigured (gone ++ c.in-Some.wire ∷ []) ds) (sym c.push_reserved.ensures.items)
+            (configured_push gone done c.in-Some.wire c.in-Ok.left i.configured (c.in-Ok.ensures.config ∙ ap (λ (b : BusSeen). b.config) c.wire.view_is));
         lists = append_assoc before (own ∷ []) (into_iter_items c.next-in-loop-wire.new.self) ∙ ap (λ (r : List (Vec PassSeen Global)). before ++ r) (sym lists.items) ∙ i.lists;
         own = own_push 0 (length done) before own i.own (omega (arith, i.place)) (subst (λ (k : ℕ). AllOf k own.items) bus c.in-Ok.ensures.refused.0);
-        settled = subst (λ (ds : List _). AllSettleIn g.B.Journaled.left (before ++ own ∷ []) ds) (sym c.push_reserved.ensures.items) (settle_push g.B.Journaled.left before done own c.in-Ok.left i.settled c.in-Ok.ensures.settled);
+        settled = subst (λ (ds : List (Settled Kept)). AllSettle (before ++ own ∷ []) ds) (sym c.push_reserved.ensures.items) (settle_push before done own c.in-Ok.left i.settled c.in-Ok.ensures.settled);
         place = omega (arith, grown, longer, i.place);
         numbered = subst (λ (k : ℕ). NumberedFrom k more) next numbered.1;
         wires = omega (arith, steps.1, i.wires, wires);
@@ -100,7 +102,7 @@ returns-clause-settled g c =
     let i = c.loop-wire.invariant.2 in
     let none = emptied (into_iter_items c.loop-wire.lists) (omega (arith, c.in-None.ensures.steps.0, i.same, i.passes)) in
     let all : before ≡ c.args.passes.items = sym (append-nil before) ∙ ap (λ (r : List (Vec PassSeen Global)). before ++ r) (sym none) ∙ i.lists in
-    subst (λ (ps : List (Vec PassSeen Global)). AllSettleIn g.B.Journaled.left ps c.loop-wire.settled.items) all i.settled
+    subst (λ (ps : List (Vec PassSeen Global)). AllSettle ps c.loop-wire.settled.items) all i.settled
 
 pub returns-clause-configured : goal.returns-clause-configured
 returns-clause-configured g c =
@@ -108,4 +110,4 @@ returns-clause-configured g c =
     let i = c.loop-wire.invariant.2 in
     let none = emptied (into_iter_items c.loop-wire.wire-iterator) (omega (arith, c.in-None.ensures.steps.0, i.wires)) in
     let all : gone ≡ c.args.self = sym (append-nil gone) ∙ ap (λ (r : List BusSeen). gone ++ r) (sym none) ∙ i.buses in
-    subst (λ (bs : List BusSeen). AllConfigured g.B.Journaled.left bs c.loop-wire.settled.items) all i.configured
+    subst (λ (bs : List BusSeen). AllConfigured bs c.loop-wire.settled.items) all i.configured

@@ -23,4 +23,4 @@ returns-in-Ok-settle-clause-legal g c = settles-legal _ _ c.in-Ok-settle.ensures
 
 pub returns-in-Ok-settle-clause-configured : goal.returns-in-Ok-settle-clause-configured
 returns-in-Ok-settle-clause-configured g c =
-    settles-configured _ 0 c.args.benches.items _ (subst (λ (buses : List BusSeen). AllConfigured _ buses c.in-Ok-settle.settled.items) c.in-Ok.ensures.made c.in-Ok-settle.ensures.configured)
+    settles-configured 0 c.args.benches.items _ (subst (λ (buses : List BusSeen). AllConfigured buses c.in-Ok-settle.settled.items) c.in-Ok.ensures.made c.in-Ok-settle.ensures.configured)

@@ -1,14 +1,14 @@
 use Rattle.std.proofs.Common.{List, length, rules, arith, sym, subst, ap}
 use Rattle.can_hub.specs.Buses.{BusSeen, NumberedFrom, AllApart, names_of}
-use Rattle.can_hub.specs.Benches.{MakeHubWithin}
+use Rattle.can_hub.specs.Benches.{MakeHub}
 use Rattle.can_hub.proofs.Making.{numbered, same_names, same_length}
-use Rattle.can_hub.proofs.hub.Hub.make.Goals as goal
+use Rattle.can_hub.proofs.hub.Hub.new.Goals as goal
 
 pub invariant_of-result : goal.invariant_of-result
 invariant_of-result g c =
     let benches = c.args.benches.items in
     let made = c.in_ok-wires.ensures.made in
-    let hub : MakeHubWithin g.B.BenchBus.limits benches = subst (λ (b : List _). MakeHubWithin g.B.BenchBus.limits b) c.deref.ensures.value (c.make_hub.ensures.0 (search (rules, c.if-not-make_hub.false))) in
+    let hub : MakeHub benches = subst (λ (b : List _). MakeHub b) c.deref.ensures.value (c.make_hub.ensures.0 (search (rules, c.if-not-make_hub.false))) in
     let long = ap length made in
     let same = same_length 0 benches in (
       subst (λ (bs : List BusSeen). NumberedFrom 0 bs) (sym made) (numbered 0 benches),
@@ -20,5 +20,5 @@ invariant_of-result g c =
 
 pub returns-clause-bad : goal.returns-clause-bad
 returns-clause-bad g c =
-    let hub : MakeHubWithin g.B.BenchBus.limits c.args.benches.items = subst (λ (b : List _). MakeHubWithin g.B.BenchBus.limits b) c.deref.ensures.value (c.make_hub.ensures.0 (search (rules, c.if-not-make_hub.false))) in
+    let hub : MakeHub c.args.benches.items = subst (λ (b : List _). MakeHub b) c.deref.ensures.value (c.make_hub.ensures.0 (search (rules, c.if-not-make_hub.false))) in
     (λ e. absurd (cc (e)), λ no. absurd (no hub))
