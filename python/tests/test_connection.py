@@ -14,13 +14,20 @@ from canbusd.bus import CanbusdBus
 from canbusd.server import Server
 
 
-class Played:
-    """A server of one session on a Unix path, which replies to each message as `answers` says."""
+UNKNOWN = "< error unknown command >"
 
-    def __init__(self, path, greeting=b"< hi >", cut=False):
+
+class Played:
+    """A server of one session on a Unix path, which replies to each message as `answers` says. One that is old accepts
+    frames without a word.
+    """
+
+    def __init__(self, path, greeting=b"< hi >", cut=False, old=False):
         self.address, self._greeting, self._cut = str(path), greeting, cut
-        self.answers = {}
-        self.seen = []
+        self.answers = {"echo": "< echo >"}
+        if old:
+            self.answers.update({"ack": UNKNOWN, "origin": UNKNOWN, "interfaces": UNKNOWN, "send": "", "sendrtr": ""})
+        self.seen, self._accepted = [], 0
         self.peer = None
         self._listener = socket.socket(socket.AF_UNIX)
         self._listener.bind(self.address)
@@ -51,7 +58,12 @@ class Played:
     def _answer(self, one):
         self.seen.append(one)
         word = one.split()[0]
-        answer = self.answers.get(word, {"echo": "< echo >", "send": ""}.get(word, "< ok >"))
+        answer = self.answers.get(word)
+        if answer is None and word.startswith("send"):
+            answer = f"< ack {self._accepted} >"
+            self._accepted += 1
+        elif answer is None:
+            answer = "< ok >"
         if answer:
             self.tell(answer.encode())
 
@@ -120,11 +132,13 @@ def test_answers_cut_at_each_byte_among_frames(play):
         assert [bus.recv(WAIT).arbitration_id for _ in range(3)] == [0x123, 0x040, 0x124]
 
 
-def test_what_is_written(play):
-    played = play()
+@pytest.mark.parametrize("old, end", [(False, []), (True, ["echo"])])
+def test_what_is_written(play, old, end):
+    played = play(old=old)
     with CanbusdBus("can0", address=played.address, fd=True, receive_own_messages=True) as bus:
         assert [one for one in played.seen if one != "echo"] == [
-            "open can0", "rawmode", "errdata 1", "errmask 1FFFFFFF", "fdframes 1", "recvown 1", "filter 1 0 0"
+            "open can0", "rawmode", "errdata 1", "errmask 1FFFFFFF", "fdframes 1", "recvown 1", "ack 1", "origin 1",
+            "filter 1 0 0",
         ]  # fmt: skip
         del played.seen[:]
         bus.send(message(0x12345, b"\x01\xab", extended=True))
@@ -132,12 +146,27 @@ def test_what_is_written(play):
         bus.set_filters([{"can_id": 0x123, "can_mask": 0x7FF, "extended": False}])
         assert played.seen == [
             "send 00012345 2 01 AB",
-            "echo",
+            *end,
             "sendrtr 123 4",
-            "echo",
+            *end,
             "filter 1 123 800007FF",
             "echo",
         ]
+
+
+def test_whose_a_frame_is(play):
+    played = play(cut=True)
+    with CanbusdBus("can0", address=played.address, fd=True, receive_own_messages=True) as bus:
+        for number in (0, 7, 5000):
+            played.answers["send"] = f"< frame 124 1.000000  same {number + 1} >< ack {number} >"
+            bus.send(message(1))
+            played.tell(
+                b"< frame 123 1.000000  same %d >< fdframe 123 1.000000 0102 same %d >< remote 123 1.000000 4 other %d >"
+                b"< error 040 1.000000 0000000000000000 >" % ((number,) * 3)
+            )
+            got = [bus.recv(WAIT) for _ in range(5)]
+            assert [one.is_rx for one in got] == [True, False, False, True, True]
+            assert [bytes(one.data) for one in got[1:3]] == [b"", b"\1\2"] and got[3].dlc == 4
 
 
 @pytest.mark.parametrize(
@@ -162,15 +191,19 @@ def test_a_refusal_at_the_start(play, refused):
         CanbusdBus("can0", address=played.address)
 
 
-def test_an_answer_that_comes_too_late(play):
-    played = play()
+@pytest.mark.parametrize("old, end", [(False, b""), (True, b"< echo >")])
+def test_an_answer_that_comes_too_late(play, old, end):
+    played = play(old=old)
     with CanbusdBus("can0", address=played.address, timeout=0.2) as bus:
-        played.answers["echo"] = ""
-        with pytest.raises(can.CanTimeoutError, match="no answer within 0.2 seconds"):
-            bus.send(message(1))
-        del played.answers["echo"]
+        answers = played.answers.copy()
+        played.answers.update({"send": "", "echo": ""})
+        for _ in range(2):
+            with pytest.raises(can.CanTimeoutError, match="no answer within 0.2 seconds"):
+                bus.send(message(1))
+        played.answers.clear()
+        played.answers.update(answers)
         # It belongs to no later question.
-        played.tell(b"< error bus off >< echo >")
+        played.tell(b"< error bus off >%b< error no buffers >%b" % (end, end))
         bus.send(message(2))
         played.answers["status"] = "< status active 1 2 >"
         assert bus.error_counters() == ("active", 1, 2)

@@ -20,7 +20,7 @@ from collections import deque
 from collections.abc import Callable, Sequence
 from typing import Any, NoReturn, Optional, TypeVar
 
-from canbusd._protocol import LONGEST_MESSAGE
+from canbusd._protocol import LONGEST_ANSWER
 from canbusd.frames import MESSAGE
 
 DEFAULT_ADDRESS = "127.0.0.1:29536"
@@ -38,6 +38,14 @@ POLL, LONGEST_POLL = 0.0002, 0.01
 LONGEST_WAIT = 3600.0
 # Seconds after which a thread looks for what another one has read, if that was interrupted before it woke it.
 LONGEST_NAP = 1.0
+
+# How an answer ends: with an echo, or as the verdict on a frame, which is one message; and what is written after a message.
+ECHO, VERDICT = "e", "v"
+TAILS = {ECHO: "< echo >", VERDICT: ""}
+# The verdict that accepts a frame. A record has fewer entries than 10**8, and so have numbers.
+ACK = re.compile("ack ([0-9]{1,8})")
+# By how much the places of numbers grow.
+PAGE = 4096
 
 T = TypeVar("T")
 
@@ -158,12 +166,17 @@ class Connection:
         self._pieces: list[bytes] = []
         self._rest = ""
         self._frames: deque[str] = deque()
-        self._answers: list[str] = []
-        # How long the question at hand is, and what was sent of it. Answers that are waited for: echoes of this one, and of
-        # questions that were given up.
+        # Whether the server accepts each frame by its number, and the numbers of this session's own, each a place.
+        self._has_acks = False
+        self._own = bytearray()
+        # How long the question at hand is, and what was sent of it.
         self._length, self._sent = 0, [0]
-        self._wanted = 1
-        self._owed = 0
+        # How each answer that was asked for ends, how many have come, and how many are of questions that were given up.
+        # At first it is the greeting.
+        self._ends, self._came, self._owed = VERDICT, 0, 0
+        # The answers to the question at hand, and what has come of the next.
+        self._answers: list[str] = []
+        self._answer = ""
         self._end: Optional[str] = None
         self._is_closing = self._is_closed = False
         self._readiness: Optional[Readiness] = None
@@ -177,19 +190,29 @@ class Connection:
             raise
 
     def ask(self, messages: Sequence[str]) -> list[str]:
-        """Writes these messages at once, and returns the answer to each; the empty text where it had none."""
-        data = "".join(f"< {message} >< echo >" for message in messages).encode()
+        """Writes these messages at once, and returns the answer to each; the empty text where it had none, or accepts a
+        frame."""
+        ends = "".join(VERDICT if self._has_acks and message.startswith("send") else ECHO for message in messages)
+        data = "".join(f"< {message} >{TAILS[end]}" for message, end in zip(messages, ends)).encode()
         with self._asking:
             deadline = time.monotonic() + self._timeout
             with self._lock:
                 self._settle()
-                self._length, self._sent, self._wanted = len(data), [], len(messages)
+                self._length, self._sent, self._ends = len(data), [], self._ends + ends
             self._write(data, self._sent, deadline)
             self._wait(self._answered, deadline)
             with self._lock:
-                if self._wanted:
+                if self._came < len(self._ends):
                     raise NoAnswer(f"no answer within {self._timeout:g} seconds")
-                return self._answers_by_question()
+                return self._answers
+
+    def ask_acks(self) -> None:
+        """Has the server accept each frame by its number, in place of an echo; an older one goes on with echoes."""
+        self._has_acks = self.ask(["ack 1"]) == ["ok"]
+
+    def is_own(self, number: int) -> bool:
+        """Whether this is the number that a frame of this session got at its interface."""
+        return number < len(self._own) and self._own[number] != 0
 
     def frame(self, timeout: Optional[float]) -> Optional[str]:
         """Returns the next message that hands over a frame, from `<` on; None where none came in this time, in seconds."""
@@ -280,11 +303,9 @@ class Connection:
         if greeting != "hi":
             shown = f"`{greeting[:60]}`" if greeting else f"nothing within {self._timeout:g} seconds"
             raise NoAnswer(f"no server of canbusd: {shown} in place of its greeting")
-        self._answers.clear()
-        self._wanted = 0
 
     def _answered(self) -> Optional[bool]:
-        return True if self._wanted == 0 else None
+        return True if self._came == len(self._ends) else None
 
     def _next_frame(self) -> Optional[str]:
         frame = self._frames.popleft() if self._frames else None
@@ -295,23 +316,13 @@ class Connection:
     def _never(self) -> None:
         return None
 
-    def _answers_by_question(self) -> list[str]:
-        """The answers at hand, each that comes before the echo of its question."""
-        answers, last = [], ""
-        for answer in self._answers:
-            if answer == "echo":
-                answers.append(last)
-                last = ""
-            else:
-                last = answer
-        return answers
-
     def _settle(self) -> None:
         """Forgets the question at hand. If it was given up, the rest of its answers is still to come."""
         sent = sum(self._sent)
         if 0 < sent < self._length:
             self._stop("half a command was written")
-        self._owed, self._wanted, self._answers = self._owed + self._wanted * (sent > 0), 0, []
+        ends = self._ends[self._came :] if sent else self._ends[self._came : self._owed]
+        self._ends, self._came, self._owed, self._answers, self._answer = ends, 0, len(ends), [], ""
 
     def _write(self, data: bytes, sent: list[int], deadline: float) -> None:
         """Writes all of this, and notes what was sent. Meanwhile frames are read: a server that waits for its reader takes
@@ -416,7 +427,7 @@ class Connection:
         messages = (self._rest + b"".join(self._pieces).decode("ascii", "replace")).split(">")
         rest = messages.pop()
         frames: list[str] = []
-        answers, wanted, owed, unasked = self._answers.copy(), self._wanted, self._owed, ""
+        answers, answer, came, unasked = self._answers.copy(), self._answer, self._came, ""
         for one in messages:
             if one.startswith("< frame "):
                 frames.append(one)
@@ -424,24 +435,38 @@ class Connection:
             message = one[one.rfind("<") + 1 :].strip()
             if MESSAGE.fullmatch(message):
                 frames.append(f"< {message}")
-            elif owed:
-                owed -= message == "echo"
-            elif wanted:
-                answers.append(message)
-                wanted -= message == "echo"
-            else:
+            elif came == len(self._ends):
                 unasked = unasked or message
+            elif self._ends[came] == ECHO and message != "echo":
+                answer = message
+            else:
+                if self._ends[came] == VERDICT:
+                    answer = self._verdict(message)
+                if came >= self._owed:
+                    answers.append(answer)
+                answer, came = "", came + 1
         # All of it or nothing: no handler of a signal is called before the frames are there.
-        self._pieces, self._rest, self._answers, self._wanted, self._owed = [], rest, answers, wanted, owed
+        self._pieces, self._rest, self._answers, self._answer, self._came = [], rest, answers, answer, came
         self._frames.extend(frames)
         if unasked and not self._is_closing:
             self._stop(f"the server says: {unasked}")
-        elif len(rest) > 2 * LONGEST_MESSAGE:
+        elif len(rest) > LONGEST_ANSWER:
             self._stop("no server of canbusd: a message without its end")
         elif is_end:
             self._stop("the server closed the connection")
         if self._readiness is not None and self._frames:
             self._readiness.show(True)
+
+    def _verdict(self, message: str) -> str:
+        """The answer that a verdict on a frame is: the empty text for `ack 17`, whose number is noted."""
+        accepted = ACK.fullmatch(message)
+        if not accepted:
+            return message
+        number = int(accepted[1])
+        if number >= len(self._own):
+            self._own.extend(bytes(number + PAGE - len(self._own)))
+        self._own[number] = 1
+        return ""
 
     def _stop(self, reason: str) -> None:
         """The connection is of no use any more. The first reason is the one that counts."""

@@ -8,8 +8,8 @@ from typing import Any, NamedTuple, Optional, Union
 
 from canbusd.frames import EXTENDED, INVERTED
 
-# What may be between `<` and `>`.
-LONGEST_MESSAGE = 1024
+# What may be between `<` and `>`, and in an answer: the names of 256 interfaces.
+LONGEST_MESSAGE, LONGEST_ANSWER = 1024, 4120
 ALL_CLASSES = 0x1FFFFFFF
 # The states of an interface, by how bad they are.
 STATES = ("active", "warning", "passive", "off")
@@ -76,6 +76,12 @@ def rules_left_of(answer: str) -> Optional[int]:
     if len(words) != 2 or words[0] != "faults":
         return None
     return int(words[1])
+
+
+def interfaces_of(answer: str) -> Optional[list[str]]:
+    """Returns the names in the answer `interfaces can0 can1`; None for another message."""
+    words = answer.split()
+    return words[1:] if words[:1] == ["interfaces"] else None
 
 
 def options(

@@ -11,7 +11,7 @@ import threading
 import time
 from collections.abc import Iterable, Sequence
 from math import isfinite
-from typing import Any, Optional, TypeVar, Union, cast
+from typing import TYPE_CHECKING, Any, Optional, TypeVar, Union, cast
 
 import canbusd._python_can  # noqa: F401  it says what is missing, so it comes first
 
@@ -38,12 +38,16 @@ from canbusd._protocol import (
     counters_of,
     filter_message,
     filter_words,
+    interfaces_of,
     options,
     refusal_in,
     stats_of,
 )
 from canbusd._text import NAME
-from canbusd.frames import command_of, identifier_word, passes_filters, received
+from canbusd.frames import command_of, identifier_word, passes_filters, received, without_origin
+
+if TYPE_CHECKING:
+    from can.typechecking import AutoDetectedConfig
 
 Self = TypeVar("Self", bound="CanbusdBus")
 
@@ -62,6 +66,8 @@ BUS_STATES = {
     "passive": BusState.PASSIVE,
     "off": BusState.ERROR,
 }
+# Seconds in which a server has to answer that may not be there.
+DETECTION = 1.0
 TRUTHS = {"1": True, "true": True, "yes": True, "on": True, "0": False, "false": False, "no": False, "off": False}
 
 
@@ -102,6 +108,23 @@ def refusal(text: str, after: str = "") -> CanOperationError:
     return CanOperationError(f"{text}{after}{CURES.get(text, '')}", ERROR_CODES.get(text))
 
 
+def interfaces(address: Optional[str] = None, timeout: float = 5.0) -> list[str]:
+    """Returns the names of all interfaces of the server at this address, by default that of buses, in its order."""
+    found = server_address(address)
+    try:
+        connection = Connection(found, timeout)
+        try:
+            [answer] = connection.ask(["interfaces"])
+        finally:
+            connection.close()
+    except (OSError, SessionRefused) as fault:
+        raise CanInitializationError(f"canbusd: the server at {found}: {reason_of(fault)}") from None
+    names = interfaces_of(answer)
+    if names is None:
+        raise CanInitializationError(f"canbusd: the server at {found} is older, and can't say which interfaces it has")
+    return names
+
+
 def goes_on(fault: Exception) -> bool:
     """Whether a periodic task goes on after this, as one of the system's own CAN sockets does."""
     return isinstance(fault, CanOperationError) and fault.error_code in ERROR_CODES.values()
@@ -115,7 +138,7 @@ class CanbusdBus(InjectsFaults, BusABC):
     :param address: ``HOST:PORT``, ``[V6]:PORT``, or a Unix path that begins with ``/`` or ``.``; by default
         ``$CANBUSD_ADDRESS``, else ``127.0.0.1:29536``
     :param fd: send and receive CAN FD frames too
-    :param receive_own_messages: receive what was sent here
+    :param receive_own_messages: receive what was sent here, with ``is_rx`` false
     :param local_loopback: what is sent here reaches other sockets of the same interface
     :param error_frames: receive error message frames; true, false or a mask of their classes
     :param join_filters: receive what matches all filters, not only one
@@ -150,9 +173,10 @@ class CanbusdBus(InjectsFaults, BusABC):
         self._fd = truth("fd", fd)
         self._join = truth("join_filters", join_filters)
         self._timeout = seconds("timeout", timeout)
+        self._receives_own = truth("receive_own_messages", receive_own_messages)
         messages = options(
             fd=self._fd,
-            receive_own_messages=truth("receive_own_messages", receive_own_messages),
+            receive_own_messages=self._receives_own,
             local_loopback=truth("local_loopback", local_loopback),
             error_frames=mask_or_truth("error_frames", error_frames),
             join_filters=self._join,
@@ -298,6 +322,14 @@ class CanbusdBus(InjectsFaults, BusABC):
         super().shutdown()
         self._connection.close()
 
+    @staticmethod
+    def _detect_available_configs() -> "list[AutoDetectedConfig]":
+        """The interfaces of the server that a bus without an address uses, for `can.detect_available_configs`."""
+        try:
+            return [{"interface": "canbusd", "channel": name} for name in interfaces(timeout=DETECTION)]
+        except (CanInitializationError, ValueError):
+            return []
+
     def _recv_internal(self, timeout: Optional[float]) -> tuple[Optional[Message], bool]:
         deadline = None if timeout is None else time.monotonic() + timeout
         while True:
@@ -327,13 +359,22 @@ class CanbusdBus(InjectsFaults, BusABC):
     def _next(self, timeout: Optional[float]) -> Optional[Message]:
         try:
             text = self._connection.frame(timeout)
-            message = None if text is None else received(self._make, *text.split()[1:])
+            message = None if text is None else self._message(text)
         except ConnectionError as fault:
             raise CanOperationError(str(fault)) from None
         except (TypeError, ValueError):
             message = None
         if text is not None and (message is None or not isfinite(message.timestamp)):
             raise CanOperationError(f"no message of canbusd: {text} >")
+        return message
+
+    def _message(self, text: str) -> Message:
+        """The message in this text; where own ones are received, one that was sent here is marked."""
+        if not self._receives_own:
+            return received(self._make, *text.split()[1:])
+        text, number = without_origin(text)
+        message = received(self._make, *text.split()[1:])
+        message.is_rx = number is None or not self._connection.is_own(number)
         return message
 
     def _passes(self, message: Message) -> bool:
@@ -366,6 +407,10 @@ class CanbusdBus(InjectsFaults, BusABC):
             faults = [answer for answer in answers if answer != "ok"]
             if faults:
                 raise SessionRefused(refusal_in(faults[0]))
+            connection.ask_acks()
+            if self._receives_own:
+                # An older server does not know it, and then all messages are received ones.
+                connection.ask(["origin 1"])
         except (OSError, SessionRefused) as fault:
             if connection is not None:
                 connection.close()

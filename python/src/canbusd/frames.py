@@ -35,8 +35,11 @@ ERROR_FRAME = "[23][0-9A-F]{7}#[0-9A-F]{16}"
 
 # cansend's spelling: an FD frame has a second # and a digit of flags.
 SPELLING = re.compile("([0-9A-Fa-f]+)#(?:#([0-9A-Fa-f]))?([0-9A-Fa-fRr.]*)")
-# A session's message with a frame or an error message frame. In answers no moment follows `error`.
-MESSAGE = re.compile("(frame|fdframe|remote|error) ([0-9A-F]+) ([0-9]+[.][0-9]{6})(?: +([0-9A-F]*))?")
+# A session's message with a frame or an error message frame, where it was asked for with the sender's interface and the
+# number there. In answers no moment follows `error`.
+MESSAGE = re.compile(
+    "(frame|fdframe|remote|error) ([0-9A-F]+) ([0-9]+[.][0-9]{6})(?: +([0-9A-F]*))?(?: +(?:same|other) [0-9]+)?"
+)
 
 
 Made = TypeVar("Made")
@@ -225,6 +228,13 @@ def received(make: Callable[..., Made], kind: str, digits: str, moment: str, pay
         data=data,
         is_fd=kind == "fdframe",
     )
+
+
+def without_origin(message: str) -> tuple[str, Optional[int]]:
+    """Returns a message that hands over a frame without ` same 17` or ` other 17`; the number if the same interface has
+    sent the frame, else None."""
+    message, _, number = message.partition(" same ")
+    return message.partition(" other ")[0], int(number) if number else None
 
 
 def frame_of(message: str) -> Optional[Frame]:

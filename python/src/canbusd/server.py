@@ -143,6 +143,11 @@ class Server(Expectations, ProgramRun):
         if observed:
             self._observing(observed)
 
+    @property
+    def interfaces(self) -> list[str]:
+        """The names of all interfaces, in the order of the buses."""
+        return [name for bus in self._by_bus.values() for name in bus[:-1]]
+
     def bus(self, channel: str, **kwargs: Any) -> "CanbusdBus":
         """Returns a bus of python-can on the interface of this name; the arguments are those of CanbusdBus."""
         import canbusd._python_can  # noqa: F401  it says what is missing, so it comes first
@@ -150,9 +155,8 @@ class Server(Expectations, ProgramRun):
 
         from canbusd.bus import CanbusdBus
 
-        names = [name for bus in self._by_bus.values() for name in bus[:-1]]
-        if channel not in names:
-            raise CanInitializationError(f"{channel}: no such interface; the server has {', '.join(names)}")
+        if channel not in self.interfaces:
+            raise CanInitializationError(f"{channel}: no such interface; the server has {', '.join(self.interfaces)}")
         if self._result is not None:
             raise CanInitializationError(
                 f"{channel}: the server has ended; stop(), log(), record(), audit(), report() and its with block end it"
@@ -201,8 +205,7 @@ class Server(Expectations, ProgramRun):
         return dict(pair.split("=", 1) for pair in pairs if pair)
 
     def _run_words(self) -> list[str]:
-        names = ",".join(name for names in self._by_bus.values() for name in names[:-1])
-        return [find_program("canbusd-run"), "--address", self.address, "--interfaces", names]
+        return [find_program("canbusd-run"), "--address", self.address]
 
     def stop(self) -> Result:
         """Ends the server; logs and records are written. Called again it returns the same.
@@ -290,7 +293,7 @@ class Server(Expectations, ProgramRun):
         """The first interface of the bus that has this one; a fault says what it was given as."""
         found = [first for first, names in self._by_bus.items() if name in names[:-1] or name is None]
         if len(found) != 1:
-            known = ", ".join(one for names in self._by_bus.values() for one in names[:-1])
+            known = ", ".join(self.interfaces)
             raise ValueError(f"{what} is that of an interface of the server, one of {known}, not {name!r}")
         return found[0]
 

@@ -5,7 +5,7 @@ import sys
 import time
 
 from canbusd._summary import Row, table
-from canbusd.bus import CanbusdBus, seconds
+from canbusd.bus import CanbusdBus, interfaces, seconds
 from canbusd.commands import NOTHING, add_address
 
 EPILOG = """\
@@ -13,7 +13,7 @@ TEC and REC are the transmit and the receive error count: error warning from 96,
 256. `sent` is what was accepted for sending: done, waiting, or lost at bus off. `refused` found the transmit queue
 full.
 
-  python3 -m canbusd status can0 can1
+  python3 -m canbusd status
   python3 -m canbusd status --watch can0 can1
 """
 HOME, CLEAR_LINE, CLEAR_BELOW = "\x1b[H", "\x1b[K", "\x1b[J"
@@ -21,7 +21,9 @@ HOME, CLEAR_LINE, CLEAR_BELOW = "\x1b[H", "\x1b[K", "\x1b[J"
 
 def add_arguments(parser: argparse.ArgumentParser) -> None:
     """Adds the words of the command."""
-    parser.add_argument("interfaces", nargs="+", metavar="INTERFACE", help="an interface of the server")
+    parser.add_argument(
+        "interfaces", nargs="*", metavar="INTERFACE", help="an interface of the server (default: all of them)"
+    )
     parser.add_argument("--watch", action="store_true", help="keep the table on the screen until Ctrl-C")
     parser.add_argument(
         "--interval", type=float, default=0.5, metavar="S", help="seconds between two looks with --watch (default 0.5)"
@@ -32,7 +34,7 @@ def add_arguments(parser: argparse.ArgumentParser) -> None:
 def run(options: argparse.Namespace) -> None:
     """Prints the table, once or again and again."""
     interval = seconds("--interval", options.interval)
-    names = options.interfaces
+    names = options.interfaces or interfaces(options.address)
     buses = [CanbusdBus(name, NOTHING, address=options.address, error_frames=False) for name in names]
     on_screen = options.watch and sys.stdout.isatty()
     if on_screen:
