@@ -4,6 +4,7 @@
 #ifndef BRIDGE_H
 #define BRIDGE_H
 
+#include "../shared/interfaces.h"
 #include "../shared/wire.h"
 
 #include <linux/can.h>
@@ -14,8 +15,8 @@
 
 /* The bridge's end of the pair. */
 #define PROGRAM 3
-/* The interfaces that a server may have: 16 buses of 16. */
-#define MOST_SESSIONS 256
+/* Numbers of frames are below the most entries of a record (`--limit` of canbusd.1). */
+#define MOST_NUMBERS (1u << 24)
 /* Seconds that a server is given for a reply. */
 #define PATIENCE 5
 #define SECOND 1000000000ull
@@ -26,6 +27,9 @@ struct item {
     struct canfd_frame frame;
     bool is_fd;
     uint64_t moment; /* nanoseconds since 1970 */
+    enum { ORIGIN_NONE, ORIGIN_SAME, ORIGIN_OTHER } origin;
+    uint64_t number;        /* of the frame at its sender's interface, where it has an origin */
+    uint32_t message_flags; /* of recvmsg: MSG_DONTROUTE, MSG_CONFIRM */
 };
 
 /* ---- main.c ---- */
@@ -51,6 +55,9 @@ void message_of_frame(char text[COMMAND], const struct canfd_frame *frame, bool 
 /* Reads the text of a message, without < and >, that hands over a frame; false where it is another. */
 bool message_to_item(const char *text, struct item *item);
 
+/* Reads decimal digits, and goes past them; false where there are none. */
+bool message_number(const char **at, uint64_t *number);
+
 /* ---- session.c: a session of the server, on one interface ---- */
 
 /* The options and filters of a socket. */
@@ -61,18 +68,21 @@ struct options {
 };
 #define NO_FILTERS UINT32_MAX
 
+/* The reply that ends what was given last: an echo of commands, or the verdict on a frame. */
+enum due { DUE_NOTHING, DUE_ECHO, DUE_VERDICT };
+
 struct session {
-    int fd;    /* -1: it has come to its end */
-    int index; /* of its interface, 0 before it has one */
-    char name[IFNAMSIZ];
+    int fd;               /* -1: it has come to its end */
+    int index;            /* of its interface */
     bool is_receiving;    /* for what the socket is bound to, and not only to send */
     bool is_counting;     /* a reply to session_ask_counts is due */
-    unsigned due;         /* echoes that have not come yet */
     uint32_t dropped;     /* by the server, as far as is known */
     struct options given; /* what the server has */
-    char reply[64];       /* the first reply to the last command that is not ok */
+    enum due due;         /* what has not come yet */
+    char reply[64];       /* the first reply to what was given last that is not ok */
     size_t have;
     char input[32768];
+    uint8_t sent[MOST_NUMBERS / 8]; /* a bit for each number that a frame of this session has got */
 };
 
 /* Connects to the server; NULL and the refusal where there is none. */
@@ -83,11 +93,8 @@ void session_end(struct session *session);
  * server said first that is not ok. */
 int session_command(struct session *session, const char *text);
 
-/* Sends a frame, and returns the server's verdict. What acknowledges a frame is here and nowhere else. */
+/* Sends a frame, and returns the server's verdict. */
 int session_send(struct session *session, const struct canfd_frame *frame, bool is_fd);
-
-/* Takes the interface of this name. ENODEV where there is none; then the session can take another. */
-int session_open(struct session *session, const char *name);
 
 /* Asks for the counts, which come in the order of the frames; nothing waits for them. */
 void session_ask_counts(struct session *session);
@@ -100,13 +107,13 @@ bool session_read(struct session *session, bool waits);
 
 /* ---- sessions.c: the sessions of this socket ---- */
 
-extern struct session *sessions[MOST_SESSIONS];
+extern struct session *sessions[INTERFACE_MOST];
 extern int session_count;
 extern bool is_bound;
 extern int bound_index; /* 0: to all */
 
-/* Binds the socket to the interface of this index, and name where it is known; to all for index 0. */
-int sessions_bind(int index, const char *name);
+/* Binds the socket to the interface of this index; to all for index 0. */
+int sessions_bind(int index);
 
 /* Returns the session that sends on this interface, which is started if need be; NULL and the refusal where there is
  * none. */
@@ -117,15 +124,6 @@ int sessions_apply(void);
 
 /* Whether one of them has come to its end. */
 bool sessions_ended(void);
-
-/* Whether the server has an interface of this name, which is kept open for a bind that follows. */
-int sessions_look_up(const char *name);
-
-/* The name of the interface of this index; false where it is not known. */
-bool sessions_name(int index, char name[IFNAMSIZ]);
-
-/* Writes the names of all interfaces, joined by commas; returns their length. */
-uint32_t sessions_list(char *room, size_t size);
 
 /* ---- wait.c: waiting ---- */
 
@@ -190,15 +188,6 @@ int raw_want(const struct can_filter *filters, size_t count);
 void raw_want_fd(bool has_fd);
 void raw_want_own(void);
 
-/* ---- own.c: which received frames this socket has sent ---- */
-
-/* A frame is about to be sent; the one that was last is refused. */
-void own_sent(const struct canfd_frame *frame, bool is_fd);
-void own_refused(void);
-
-/* The flags of recvmsg for a received frame, where this socket receives its own. */
-uint32_t own_flags(const struct item *item);
-
 /* ---- bcm.c: CAN_BCM ---- */
 
 /* Carries out what a program writes; `taken` is what its write returns. */
@@ -209,7 +198,7 @@ int64_t bcm_due(void);
 
 /* ---- isotp.c: CAN_ISOTP ---- */
 
-int isotp_bind(int index, const char *name, canid_t rx_id, canid_t tx_id);
+int isotp_bind(int index, canid_t rx_id, canid_t tx_id);
 int isotp_set(int option, const void *value, size_t length);
 int isotp_get(int option, void *room, uint32_t *length);
 void isotp_address(uint32_t identifiers[2]);

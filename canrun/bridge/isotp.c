@@ -143,7 +143,7 @@ static bool is_identifier(canid_t id) {
     return id == (id & (id & CAN_EFF_FLAG ? CAN_EFF_FLAG | CAN_EFF_MASK : CAN_SFF_MASK));
 }
 
-int isotp_bind(int index, const char *name, canid_t rx_id, canid_t tx_id) {
+int isotp_bind(int index, canid_t rx_id, canid_t tx_id) {
     bool is_to_all = isotp.options.flags & (CAN_ISOTP_SF_BROADCAST | CAN_ISOTP_CF_BROADCAST);
     canid_t mask = (rx_id & CAN_EFF_FLAG ? CAN_EFF_MASK : CAN_SFF_MASK) | CAN_EFF_FLAG | CAN_RTR_FLAG;
     if (!is_identifier(tx_id) || (!is_to_all && !is_identifier(rx_id))) {
@@ -162,7 +162,7 @@ int isotp_bind(int index, const char *name, canid_t rx_id, canid_t tx_id) {
     isotp.tx_id = tx_id;
     int error = raw_want(&(struct can_filter){rx_id, mask}, is_to_all ? 0 : 1);
     raw_want_fd(isotp.link.mtu == CANFD_MTU);
-    return error ? error : sessions_bind(index, name);
+    return error ? error : sessions_bind(index);
 }
 
 void isotp_address(uint32_t identifiers[2]) {

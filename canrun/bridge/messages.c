@@ -73,7 +73,7 @@ static int get_hex(const char **at, uint32_t *number) {
     return count;
 }
 
-static bool get_decimal(const char **at, uint64_t *number) {
+bool message_number(const char **at, uint64_t *number) {
     const char *from = *at;
     for (*number = 0; **at >= '0' && **at <= '9' && *at - from < 12; (*at)++) {
         *number = *number * 10 + (uint64_t)(**at - '0');
@@ -84,11 +84,11 @@ static bool get_decimal(const char **at, uint64_t *number) {
 /* SECONDS.MICROS. */
 static bool get_moment(const char **at, uint64_t *nanoseconds) {
     uint64_t seconds, micros;
-    if (!get_decimal(at, &seconds) || **at != '.') {
+    if (!message_number(at, &seconds) || **at != '.') {
         return false;
     }
     (*at)++;
-    if (!get_decimal(at, &micros)) {
+    if (!message_number(at, &micros)) {
         return false;
     }
     *at += **at == ' ';
@@ -96,10 +96,22 @@ static bool get_moment(const char **at, uint64_t *nanoseconds) {
     return true;
 }
 
-static void get_data(const char *at, struct canfd_frame *frame) {
-    while (frame->len < CANFD_MAX_DLEN && digit(at[0]) >= 0 && digit(at[1]) >= 0) {
-        frame->data[frame->len++] = (uint8_t)(digit(at[0]) << 4 | digit(at[1]));
-        at += 2;
+static void get_data(const char **at, struct canfd_frame *frame) {
+    while (frame->len < CANFD_MAX_DLEN && digit((*at)[0]) >= 0 && digit((*at)[1]) >= 0) {
+        frame->data[frame->len++] = (uint8_t)(digit((*at)[0]) << 4 | digit((*at)[1]));
+        *at += 2;
+    }
+}
+
+/* From which interface a frame was sent, and its number there; error message frames have none. */
+static void get_origin(const char *at, struct item *item) {
+    static const char same[] = "same ", other[] = "other ";
+    at += strspn(at, " ");
+    bool is_same = !strncmp(at, same, sizeof same - 1);
+    if (is_same || !strncmp(at, other, sizeof other - 1)) {
+        at += is_same ? sizeof same - 1 : sizeof other - 1;
+        item->origin = is_same ? ORIGIN_SAME : ORIGIN_OTHER;
+        message_number(&at, &item->number);
     }
 }
 
@@ -127,11 +139,12 @@ bool message_to_item(const char *text, struct item *item) {
         bool is_long = digits == 8 && kinds[i].flag != CAN_ERR_FLAG;
         item->frame.can_id = identifier | kinds[i].flag | (is_long ? CAN_EFF_FLAG : 0);
         if (kinds[i].flag == CAN_RTR_FLAG) {
-            get_decimal(&at, &remote_length);
+            message_number(&at, &remote_length);
             item->frame.len = (uint8_t)MIN(remote_length, (uint64_t)CAN_MAX_DLEN);
         } else {
-            get_data(at, &item->frame);
+            get_data(&at, &item->frame);
         }
+        get_origin(at, item);
         return true;
     }
     return false;

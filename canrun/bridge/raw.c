@@ -177,13 +177,7 @@ int raw_send(struct session *to, const struct canfd_frame *frame, bool is_fd, bo
         return refused(EINVAL, "error message frames can't be sent");
     }
     for (;;) {
-        if (options.receive_own) {
-            own_sent(frame, is_fd); /* It may come back before the verdict does. */
-        }
         int error = session_send(to, frame, is_fd);
-        if (error && options.receive_own) {
-            own_refused();
-        }
         if (error != ENOBUFS || !is_waiting) {
             return error;
         }
@@ -226,6 +220,5 @@ void raw_receive(const struct item *item, int index) {
     if (filters_here && !(item->frame.can_id & CAN_ERR_FLAG) && !passes(item->frame.can_id)) {
         return;
     }
-    uint32_t flags = options.receive_own ? own_flags(item) : 0;
-    outbox_put(&item->frame, item->is_fd ? CANFD_MTU : CAN_MTU, item->moment, index, flags);
+    outbox_put(&item->frame, item->is_fd ? CANFD_MTU : CAN_MTU, item->moment, index, item->message_flags);
 }

@@ -2,8 +2,6 @@
 #define _GNU_SOURCE
 #include "bridge.h"
 
-#include "../shared/interfaces.h"
-
 #include <errno.h>
 #include <string.h>
 #include <sys/socket.h>
@@ -41,29 +39,9 @@ static int send_message(const struct wire_request *request, const char *data, si
     }
 }
 
-/* The name in the data, which is empty where there is none. */
-static void get_name(char name[IFNAMSIZ], const char *data, size_t length) {
-    memset(name, 0, IFNAMSIZ);
-    memcpy(name, data, MIN(length, (size_t)IFNAMSIZ - 1));
-}
-
-static int look_up(const char *name, struct reply *reply) {
-    int error = interface_is_name(name) ? sessions_look_up(name) : refused(ENODEV, "no interface may have this name");
-    reply->head.value = error ? 0 : interface_index(name);
-    return error;
-}
-
-static int name_of(int index, struct reply *reply) {
-    if (!sessions_name(index, reply->data)) {
-        return refused(ENODEV, "no interface has this index");
-    }
-    reply->head.length = (uint32_t)strlen(reply->data);
-    return 0;
-}
-
-static int bind_to(const struct wire_request *request, const char *name) {
-    return protocol == WIRE_ISOTP ? isotp_bind(request->ifindex, name, request->rx_id, request->tx_id)
-                                  : sessions_bind(request->ifindex, name);
+static int bind_to(const struct wire_request *request) {
+    return protocol == WIRE_ISOTP ? isotp_bind(request->ifindex, request->rx_id, request->tx_id)
+                                  : sessions_bind(request->ifindex);
 }
 
 static int set_option(int option, const char *data, size_t length) {
@@ -86,17 +64,13 @@ static int get_address(struct reply *reply) {
 
 /* Carries out a request whose data are these, and whose reply goes there; returns an errno, 0, or ISOTP_LATER. */
 static int carry_out(const struct wire_request *request, const char *data, size_t length, int to, struct reply *reply) {
-    char name[IFNAMSIZ];
     switch (request->kind) {
     case WIRE_SEND: return send_message(request, data, length, to, reply);
-    case WIRE_BIND: get_name(name, data, length); return bind_to(request, name);
+    case WIRE_BIND: return bind_to(request);
     case WIRE_SET: return set_option(request->option, data, length);
     case WIRE_GET: return get_option(request->option, reply);
     case WIRE_SOCKET_SET: outbox_set(request->option, request->number); return 0;
     case WIRE_ADDRESS: return get_address(reply);
-    case WIRE_INDEX: get_name(name, data, length); return look_up(name, reply);
-    case WIRE_NAME_OF: return name_of(request->ifindex, reply);
-    case WIRE_LIST: reply->head.length = sessions_list(reply->data, sizeof reply->data); return 0;
     default: return refused(EINVAL, "library and bridge are not of the same version");
     }
 }

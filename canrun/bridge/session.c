@@ -52,18 +52,45 @@ void session_end(struct session *session) {
     free(session);
 }
 
+/* ---- which received frames this session has sent ---- */
+
+/* Takes the text that accepts a frame, with its number; false where it is another. */
+static bool note_sent(struct session *session, const char *text) {
+    static const char word[] = "ack ";
+    uint64_t number;
+    if (strncmp(text, word, sizeof word - 1) != 0) {
+        return false;
+    }
+    text += sizeof word - 1;
+    if (message_number(&text, &number) && number < MOST_NUMBERS) {
+        session->sent[number / 8] |= (uint8_t)(1 << number % 8);
+    }
+    return true;
+}
+
+/* The flags of recvmsg: MSG_DONTROUTE of what the host has sent, by the same interface; MSG_CONFIRM of what this socket
+ * has. The server accepts a frame before it hands it over. */
+static uint32_t message_flags(const struct session *session, const struct item *item) {
+    if (item->origin != ORIGIN_SAME) {
+        return 0;
+    }
+    bool is_own = item->number < MOST_NUMBERS && session->sent[item->number / 8] >> item->number % 8 & 1;
+    return MSG_DONTROUTE | (is_own ? MSG_CONFIRM : 0);
+}
+
 /* ---- what the server says ---- */
 
 static void handle_reply(struct session *session, const char *text) {
     unsigned dropped;
-    if (!strcmp(text, "echo")) {
-        session->due -= session->due > 0;
+    bool is_accepted = session->due == DUE_VERDICT && note_sent(session, text);
+    if (is_accepted || (session->due == DUE_ECHO && !strcmp(text, "echo"))) {
+        session->due = DUE_NOTHING;
     } else if (session->is_counting && sscanf(text, "stats %*u %u", &dropped) == 1) {
         session->is_counting = false;
         outbox_server_dropped(session, dropped);
-    } else if (session->due == 1 && !*session->reply && strcmp(text, "ok") != 0) {
-        /* With more echoes due it is the reply to a command that was given up. */
+    } else if (session->due && !*session->reply && strcmp(text, "ok") != 0) {
         snprintf(session->reply, sizeof session->reply, "%s", text);
+        session->due = session->due == DUE_VERDICT ? DUE_NOTHING : session->due;
     }
 }
 
@@ -85,6 +112,7 @@ static void handle_input(struct session *session) {
         if (!message_to_item(open_at, &item)) {
             handle_reply(session, open_at);
         } else if (session->is_receiving) {
+            item.message_flags = message_flags(session, &item);
             item_received(&item, session->index);
         }
     }
@@ -129,28 +157,45 @@ static bool put_text(struct session *session, const char *text, size_t length) {
     return false;
 }
 
-int session_command(struct session *session, const char *text) {
-    char whole[LONGEST];
-    int length = snprintf(whole, sizeof whole, "%s< echo >", text);
-    session->reply[0] = 0;
-    session->due++;
-    if (!put_text(session, whole, (size_t)length)) {
-        return refused(ENXIO, GONE);
-    }
+/* Waits for the end of the last command; false where it does not come in time. */
+static bool settle(struct session *session) {
     while (session->due && session->fd >= 0) {
         if (!session_read(session, true)) {
-            return refused(ETIMEDOUT, "the server does not reply");
+            return false;
         }
+    }
+    return true;
+}
+
+/* Gives commands that end with this reply, and waits for it; after what was given up as the server did not reply. */
+static int give(struct session *session, const char *text, size_t length, enum due due) {
+    static const char silent[] = "the server does not reply";
+    if (!settle(session)) {
+        return refused(ETIMEDOUT, silent);
+    }
+    session->reply[0] = 0;
+    session->due = due;
+    if (!put_text(session, text, length)) {
+        return refused(ENXIO, GONE);
+    }
+    if (!settle(session)) {
+        return refused(ETIMEDOUT, silent);
     }
     /* What it said before its end counts: it may have too many sessions. */
     int error = error_of(session->reply);
-    return error ? error : session->fd < 0 ? refused(ENXIO, GONE) : 0;
+    return error ? error : session->due ? refused(ENXIO, GONE) : 0;
+}
+
+int session_command(struct session *session, const char *text) {
+    char whole[LONGEST];
+    int length = snprintf(whole, sizeof whole, "%s< echo >", text);
+    return give(session, whole, (size_t)length, DUE_ECHO);
 }
 
 int session_send(struct session *session, const struct canfd_frame *frame, bool is_fd) {
     char text[COMMAND];
     message_of_frame(text, frame, is_fd);
-    return session_command(session, text);
+    return give(session, text, strlen(text), DUE_VERDICT);
 }
 
 struct session *session_start(int *error) {
@@ -179,16 +224,6 @@ struct session *session_start(int *error) {
         return NULL;
     }
     return session;
-}
-
-int session_open(struct session *session, const char *name) {
-    char text[IFNAMSIZ + 16];
-    snprintf(text, sizeof text, "< open %s >", name);
-    int error = session_command(session, text);
-    if (!error) {
-        snprintf(session->name, IFNAMSIZ, "%s", name);
-    }
-    return error;
 }
 
 /* ---- counts ---- */

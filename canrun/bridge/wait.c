@@ -17,7 +17,7 @@ static int wait_for(struct pollfd *polled, nfds_t count, int64_t nanoseconds) {
 }
 
 bool wait_for_input(int64_t nanoseconds, bool takes_requests) {
-    static struct pollfd polled[1 + MOST_SESSIONS];
+    static struct pollfd polled[1 + INTERFACE_MOST];
     short events = (short)((takes_requests ? POLLIN : 0) | (outbox_is_empty() ? 0 : POLLOUT));
     /* A socket whose other end is closed is ready for ever, though nobody asks. */
     polled[0] = (struct pollfd){takes_requests || !program_is_gone() ? PROGRAM : -1, events, 0};

@@ -4,7 +4,6 @@
 #include "server.h"
 
 #include "../shared/address.h"
-#include "../shared/interfaces.h"
 
 #include <errno.h>
 #include <stdio.h>
@@ -18,26 +17,24 @@ enum { STATUS_FAULT = 125, STATUS_NOT_RUN = 126, STATUS_NOT_FOUND = 127 };
 
 /* clang-format off */
 static const char HELP[] =
-    "usage: canbusd-run [--address ADDR] [--interfaces NAME,..] [--wait] [--] PROGRAM [ARGUMENT ..]\n"
+    "usage: canbusd-run [--address ADDR] [--wait] [--] PROGRAM [ARGUMENT ..]\n"
     "       canbusd-run --help | --version\n"
     "\n"
     "Runs PROGRAM, and what it starts, so that CAN sockets (CAN_RAW, CAN_BCM, CAN_ISOTP) are sockets of a canbusd\n"
     "server: candump, cansend, python-can's socketcan interface, or a program of your own. It needs no root, kernel\n"
     "module or vcan.\n"
     "\n"
-    "  --address ADDR        the server: HOST:PORT, [V6]:PORT, or a Unix path that begins with / or .\n"
-    "                        (default: $CANBUSD_ADDRESS, else " ADDRESS_DEFAULT ")\n"
-    "  --interfaces NAME,..  which interfaces there are, for `any` and lists of names (default:\n"
-    "                        $CANBUSD_INTERFACES, else those of can0 to can9 and vcan0 to vcan9 that it has)\n"
-    "  --wait                wait for a server that is not there yet, and in each write for room in a full\n"
-    "                        transmit queue; without it the run fails, and the write with ENOBUFS\n"
+    "  --address ADDR  the server: HOST:PORT, [V6]:PORT, or a Unix path that begins with / or .\n"
+    "                  (default: $CANBUSD_ADDRESS, else " ADDRESS_DEFAULT ")\n"
+    "  --wait          wait for a server that is not there yet, and in each write for room in a full\n"
+    "                  transmit queue; without it the run fails, and the write with ENOBUFS\n"
     "\n"
     "CANBUSD_RUN_DEBUG=1 in the environment writes each call that is refused, and why, to standard error.\n"
     "The status is the program's; 125 where canbusd-run fails, 126 where PROGRAM can't be run, 127 where there is none.\n";
 /* clang-format on */
 
 struct words {
-    const char *address, *interfaces;
+    const char *address;
     int waits;
     char **program;
 };
@@ -71,8 +68,6 @@ static int read_words(char **at, struct words *words) {
             words->waits = 1;
         } else if ((value = value_of("--address", &at))) {
             words->address = value;
-        } else if ((value = value_of("--interfaces", &at))) {
-            words->interfaces = value;
         } else {
             return fault("no such option (--help shows all)", *at);
         }
@@ -82,22 +77,6 @@ static int read_words(char **at, struct words *words) {
     }
     words->program = at;
     return *at ? 0 : fault("which program? --help shows how it is used", NULL);
-}
-
-/* A list whose names could be those of interfaces. */
-static int check_interfaces(const char *list) {
-    for (const char *at = list;; at++) {
-        char name[IFNAMSIZ] = "";
-        size_t length = strcspn(at, ",");
-        memcpy(name, at, length < IFNAMSIZ ? length : 0);
-        if (!interface_is_name(name)) {
-            return fault("--interfaces needs names of interfaces, joined by commas", list);
-        }
-        at += length;
-        if (!*at) {
-            return 0;
-        }
-    }
 }
 
 /* Puts a text in front of a list of the environment, unless it is there. */
@@ -153,7 +132,7 @@ static int become(char **program) {
 int main(int count, char **all) {
     const char *address = getenv("CANBUSD_ADDRESS");
     struct words words = {.address = address && *address ? address : ADDRESS_DEFAULT};
-    char name[SERVER_NAME];
+    struct server server;
     if (count > 1 && !strcmp(all[1], "--help")) {
         return fputs(HELP, stdout) < 0 || fflush(stdout) ? STATUS_FAULT : 0;
     }
@@ -161,19 +140,14 @@ int main(int count, char **all) {
         return puts("canbusd-run " VERSION) < 0 || fflush(stdout) ? STATUS_FAULT : 0;
     }
     int status = read_words(all + 1, &words);
-    if (!status && words.interfaces) {
-        status = check_interfaces(words.interfaces);
-    }
     if (status) {
         return status;
     }
-    if (!server_find(words.address, words.waits, name)) {
+    if (!server_find(words.address, words.waits, &server)) {
         return STATUS_FAULT;
     }
-    setenv("CANBUSD_ADDRESS", name, 1);
-    if (words.interfaces) {
-        setenv("CANBUSD_INTERFACES", words.interfaces, 1);
-    }
+    setenv("CANBUSD_ADDRESS", server.address, 1);
+    setenv("CANBUSD_INTERFACES", server.interfaces, 1);
     if (words.waits) {
         setenv("CANBUSD_RUN_WAIT", "1", 1);
     }

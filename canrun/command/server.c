@@ -14,9 +14,12 @@
 #include <time.h>
 #include <unistd.h>
 
-/* Milliseconds for the server's greeting, and between two looks while it is waited for. */
-#define GREETING_TIME 5000
+/* Milliseconds for each reply of the server, and between two looks while it is waited for. */
+#define REPLY_TIME 5000
 #define PAUSE 100
+
+/* The fault of a server that can't say which interfaces it has. */
+static const char TOO_OLD[] = "is older than canbusd-run " VERSION;
 
 /* Turns a host into a number, and a path into one that holds in any folder. Returns a fault, or NULL. */
 static const char *resolve(struct address *address) {
@@ -42,40 +45,34 @@ static const char *resolve(struct address *address) {
     return fault ? gai_strerror(fault) : NULL;
 }
 
-static void write_name(const struct address *address, char name[SERVER_NAME]) {
+static void write_address(const struct address *address, struct server *server) {
+    size_t size = sizeof server->address;
     if (address->is_path) {
-        snprintf(name, SERVER_NAME, "%s", address->host);
+        snprintf(server->address, size, "%s", address->host);
     } else {
-        snprintf(name, SERVER_NAME, strchr(address->host, ':') ? "[%s]:%u" : "%s:%u", address->host, address->port);
+        const char *form = strchr(address->host, ':') ? "[%s]:%u" : "%s:%u";
+        snprintf(server->address, size, form, address->host, address->port);
     }
 }
 
-/* Reads what the server says first; what does not end with > is no whole message. */
-static void read_greeting(int fd, char greeting[64]) {
+/* Reads the server's next message; what does not end with > is no whole one. */
+static void read_message(int fd, char *message, size_t size) {
     size_t have = 0;
     struct pollfd polled = {fd, POLLIN, 0};
-    greeting[0] = 0;
-    while (have < 63 && !strchr(greeting, '>') && poll(&polled, 1, GREETING_TIME) > 0) {
-        ssize_t part = read(fd, greeting + have, 63 - have);
+    message[0] = 0;
+    while (have < size - 1 && !strchr(message, '>') && poll(&polled, 1, REPLY_TIME) > 0) {
+        ssize_t part = read(fd, message + have, size - 1 - have);
         if (part <= 0) {
             break;
         }
         have += (size_t)part;
-        greeting[have] = 0;
+        message[have] = 0;
     }
 }
 
-/* Returns 0 where a canbusd listens there, or a fault for the line; `is_absent` where it may come yet. */
-static const char *look(const struct address *address, bool *is_absent) {
+/* Returns NULL where this is the greeting of a canbusd, else what it is. */
+static const char *other_greeting(char *greeting) {
     static char said[160];
-    char greeting[64];
-    int fd = address_connect(address);
-    *is_absent = fd < 0 && (errno == ECONNREFUSED || errno == ENOENT);
-    if (fd < 0) {
-        return strerror(errno);
-    }
-    read_greeting(fd, greeting);
-    close(fd);
     if (!strncmp(greeting, "< hi >", 6)) {
         return NULL;
     }
@@ -88,7 +85,44 @@ static const char *look(const struct address *address, bool *is_absent) {
     return said;
 }
 
-bool server_find(const char *text, bool waits, char name[SERVER_NAME]) {
+/* Asks for the names of all interfaces; false where the server does not know the question. */
+static bool ask_interfaces(int fd, struct server *server) {
+    static const char question[] = "< interfaces >", before[] = "< interfaces ", after[] = " >";
+    char message[sizeof before + INTERFACE_NAMES + sizeof after];
+    if (send(fd, question, sizeof question - 1, MSG_NOSIGNAL) < 0) {
+        return false;
+    }
+    read_message(fd, message, sizeof message);
+    char *names = message + sizeof before - 1, *end = strstr(message, after);
+    if (strncmp(message, before, sizeof before - 1) != 0 || !end || end - names >= INTERFACE_NAMES) {
+        return false;
+    }
+    *end = 0;
+    for (char *at = names; (at = strchr(at, ' '));) {
+        *at = ',';
+    }
+    memcpy(server->interfaces, names, (size_t)(end - names) + 1);
+    return true;
+}
+
+/* Returns NULL where a canbusd listens there, or a fault for the line; `is_absent` where it may come yet. */
+static const char *look(const struct address *address, bool *is_absent, struct server *server) {
+    char greeting[64];
+    int fd = address_connect(address);
+    *is_absent = fd < 0 && (errno == ECONNREFUSED || errno == ENOENT);
+    if (fd < 0) {
+        return strerror(errno);
+    }
+    read_message(fd, greeting, sizeof greeting);
+    const char *fault = other_greeting(greeting);
+    if (!fault && !ask_interfaces(fd, server)) {
+        fault = TOO_OLD;
+    }
+    close(fd);
+    return fault;
+}
+
+bool server_find(const char *text, bool waits, struct server *server) {
     struct address address;
     bool is_absent = false;
     if (!address_read(text, &address)) {
@@ -98,18 +132,20 @@ bool server_find(const char *text, bool waits, char name[SERVER_NAME]) {
         return false;
     }
     const char *fault = resolve(&address);
-    while (!fault && (fault = look(&address, &is_absent)) && is_absent && waits) {
+    while (!fault && (fault = look(&address, &is_absent, server)) && is_absent && waits) {
         fault = NULL;
         poll(NULL, 0, PAUSE);
     }
-    if (fault) {
+    if (fault == TOO_OLD) {
+        fprintf(stderr, "canbusd-run: the server at %s %s: start one of the same version\n", text, fault);
+    } else if (fault) {
         fprintf(
             stderr,
             "canbusd-run: no canbusd server at %s (%s): start one with `canbusd serve can0`, wait for it with --wait, "
             "or name another with --address or $CANBUSD_ADDRESS\n",
             text, fault);
-        return false;
+    } else {
+        write_address(&address, server);
     }
-    write_name(&address, name);
-    return true;
+    return !fault;
 }

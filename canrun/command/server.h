@@ -2,13 +2,20 @@
 #ifndef SERVER_H
 #define SERVER_H
 
+#include "../shared/interfaces.h"
+
 #include <limits.h>
 #include <stdbool.h>
 
-#define SERVER_NAME (PATH_MAX + 300)
+struct server {
+    /* As a bridge can use it: an absolute path, or a host that is a number. */
+    char address[PATH_MAX + 300];
+    /* The names of all its interfaces, joined by commas. */
+    char interfaces[INTERFACE_NAMES];
+};
 
-/* Looks whether a canbusd listens at this address; where `waits`, until one does. Writes the address so that a bridge
- * can use it: an absolute path, or a host that is a number. False after a line on standard error. */
-bool server_find(const char *text, bool waits, char name[SERVER_NAME]);
+/* Looks whether a canbusd listens at this address; where `waits`, until one does. False after a line on standard error.
+ */
+bool server_find(const char *text, bool waits, struct server *server);
 
 #endif

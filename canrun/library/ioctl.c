@@ -38,16 +38,16 @@ static bool is_of_stamp(unsigned long request) {
 }
 
 /* The facts of an interface of the server, which always is up. */
-static int interface_ioctl(int fd, unsigned long request, struct ifreq *interface) {
+static int interface_ioctl(unsigned long request, struct ifreq *interface) {
     if (request == SIOCGIFNAME) {
         char name[IFNAMSIZ];
-        int result = name_of_index(fd, interface->ifr_ifindex, name);
+        int result = name_of_index(interface->ifr_ifindex, name);
         memcpy(interface->ifr_name, name, result ? 0 : IFNAMSIZ);
         return result;
     }
     char name[IFNAMSIZ] = {0};
     memcpy(name, interface->ifr_name, strnlen(interface->ifr_name, IFNAMSIZ - 1));
-    int index = index_of_name(fd, name);
+    int index = index_of_name(name);
     if (index < 0) {
         return -1;
     }
@@ -90,7 +90,7 @@ EXPORT int ioctl(int fd, unsigned long request, ...) {
     int result = real()->ioctl(fd, request, argument);
     /* Interfaces can be looked up by any socket. */
     if (result && is_ours && is_of_interface(request) && (errno == ENODEV || protocol)) {
-        result = interface_ioctl(protocol ? fd : -1, request, argument);
+        result = interface_ioctl(request, argument);
     }
     return result;
 }

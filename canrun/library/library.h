@@ -87,12 +87,9 @@ int can_socket(int type, int protocol);
 /* Starts the bridge of a socket whose other end is this. Returns 0, or an errno. */
 int start_bridge(int end);
 
-/* The index of the interface of this name, or -1 and errno; the name of this index, or -1. The socket is any CAN
- * socket, or -1. */
-int index_of_name(int fd, const char *name);
-int name_of_index(int fd, int index, char name[IFNAMSIZ]);
-/* The name, where this process has looked it up or it is listed; else an empty one. */
-void known_name(int index, char name[IFNAMSIZ]);
+/* The index of the interface of this name, or -1 and errno; the name of this index, or -1 and errno. */
+int index_of_name(const char *name);
+int name_of_index(int index, char name[IFNAMSIZ]);
 
 /* The moment of the frame that was received last by this descriptor, for SIOCGSTAMP; 0 before that. */
 void keep_stamp(int fd, uint64_t nanoseconds);

@@ -16,7 +16,6 @@
 static int bind_can(const char *call, int fd, enum wire_protocol protocol, const struct sockaddr *address,
                     socklen_t length) {
     struct sockaddr_can can = {0};
-    char name[IFNAMSIZ];
     if (!address || length < (protocol == WIRE_ISOTP ? ISOTP_ADDRESS : SHORT_ADDRESS)) {
         return refuse(call, EINVAL, "the address is too short");
     }
@@ -29,9 +28,7 @@ static int bind_can(const char *call, int fd, enum wire_protocol protocol, const
         request.rx_id = can.can_addr.tp.rx_id;
         request.tx_id = can.can_addr.tp.tx_id;
     }
-    known_name(can.can_ifindex, name);
-    struct iovec data = {name, strlen(name)};
-    int result = ask(fd, call, &request, &data, 1, NULL);
+    int result = ask(fd, call, &request, NULL, 0, NULL);
     return result && errno == ENXIO ? fail(ENODEV) : result;
 }
 

@@ -11,7 +11,6 @@
 #include <sched.h>
 #include <signal.h>
 #include <stdio.h>
-#include <stdlib.h>
 #include <string.h>
 #include <sys/syscall.h>
 #include <sys/wait.h>
@@ -20,7 +19,6 @@
 /* The descriptor that a bridge has its end of the pair at. */
 #define BRIDGE_END 3
 #define STACK 16384
-#define SETTING 1024
 
 struct start {
     int end, failed;
@@ -77,19 +75,28 @@ static const char *const SETTINGS[] = {
 };
 #define SETTING_COUNT (sizeof SETTINGS / sizeof *SETTINGS)
 
-static void gather(char room[SETTING_COUNT][SETTING], char *environment[SETTING_COUNT + 1]) {
+/* The setting of this name, with the name, as the environment has it; NULL where it has none. */
+static char *setting(const char *name) {
+    const size_t length = strlen(name);
+    for (char **at = environ; at && *at; at++) {
+        if (!strncmp(*at, name, length) && (*at)[length] == '=') {
+            return *at;
+        }
+    }
+    return NULL;
+}
+
+static void gather(char *environment[SETTING_COUNT + 1]) {
     size_t count = 0;
     for (size_t i = 0; i < SETTING_COUNT; i++) {
-        const char *value = getenv(SETTINGS[i]);
-        if (value && snprintf(room[i], SETTING, "%s=%s", SETTINGS[i], value) < SETTING) {
-            environment[count++] = room[i];
-        }
+        environment[count] = setting(SETTINGS[i]);
+        count += environment[count] != NULL;
     }
     environment[count] = NULL;
 }
 
 int start_bridge(int end) {
-    char program[PATH_MAX], settings[SETTING_COUNT][SETTING], *environment[SETTING_COUNT + 1];
+    char program[PATH_MAX], *environment[SETTING_COUNT + 1];
     char stacks[2][STACK] __attribute__((aligned(16)));
     struct start start = {.end = end, .program = program, .environment = environment, .stack_end = stacks[0] + STACK};
     sigset_t all, before;
@@ -97,7 +104,7 @@ int start_bridge(int end) {
     if (error) {
         return error;
     }
-    gather(settings, environment);
+    gather(environment);
     /* A handler of the program must not run in a copy. */
     sigfillset(&all);
     pthread_sigmask(SIG_BLOCK, &all, &before);

@@ -1,55 +1,44 @@
-/* Names and indices of interfaces: see interfaces.h. */
+/* The interfaces of the server: see interfaces.h. */
 #include "interfaces.h"
 
-#include <stdint.h>
 #include <stdlib.h>
 #include <string.h>
 
-#define IN_NAMES "ABCDEFGHIJKLMNOPQRSTUVWXYZabcdefghijklmnopqrstuvwxyz0123456789_-."
-/* Indices are from here on, since the kernel numbers its own interfaces from 1. */
-#define FIRST_INDEX 0x10000
-#define INDEX_BITS 0xffffff
+#define PAST_LAST (INTERFACE_FIRST + INTERFACE_MOST)
 
-bool interface_is_name(const char *name) {
-    size_t length = strspn(name, IN_NAMES);
-    return length >= 1 && length < IFNAMSIZ && !name[length];
+/* Takes the next name off a list joined by commas, or the empty one at its end. */
+static void next_name(const char **list, char name[IFNAMSIZ]) {
+    size_t length = strcspn(*list, ",");
+    memset(name, 0, IFNAMSIZ);
+    memcpy(name, *list, length < IFNAMSIZ ? length : 0);
+    *list += length + ((*list)[length] == ',');
 }
 
-/* FNV-1a, http://www.isthe.com/chongo/tech/comp/fnv. */
-int interface_index(const char *name) {
-    uint32_t hash = 2166136261u;
-    for (; *name; name++) {
-        hash = (hash ^ (unsigned char)*name) * 16777619u;
-    }
-    return FIRST_INDEX + (int)(hash & INDEX_BITS);
-}
-
-bool interface_next(const char **list, char name[IFNAMSIZ]) {
-    while (**list) {
-        size_t length = strcspn(*list, ",");
-        const char *from = *list;
-        *list += length + (from[length] == ',');
-        if (length < IFNAMSIZ) {
-            memset(name, 0, IFNAMSIZ);
-            memcpy(name, from, length);
-            if (interface_is_name(name)) {
-                return true;
-            }
-        }
-    }
-    return false;
-}
-
-bool interface_of_index(const char *list, int index, char name[IFNAMSIZ]) {
-    while (interface_next(&list, name)) {
-        if (interface_index(name) == index) {
-            return true;
-        }
-    }
-    return false;
-}
-
-const char *interface_list(void) {
+static const char *all_names(void) {
     const char *list = getenv("CANBUSD_INTERFACES");
-    return list && *list ? list : NULL;
+    return list ? list : "";
+}
+
+int interface_index(const char *name) {
+    const char *list = all_names();
+    char listed[IFNAMSIZ];
+    for (int index = INTERFACE_FIRST; *list && index < PAST_LAST; index++) {
+        next_name(&list, listed);
+        if (*name && !strcmp(listed, name)) {
+            return index;
+        }
+    }
+    return 0;
+}
+
+bool interface_name(int index, char name[IFNAMSIZ]) {
+    const char *list = all_names();
+    int at = INTERFACE_FIRST - 1;
+    for (; *list && at < index; at++) {
+        next_name(&list, name);
+    }
+    if (at != index || index < INTERFACE_FIRST || index >= PAST_LAST) {
+        memset(name, 0, IFNAMSIZ);
+    }
+    return *name;
 }

@@ -1,23 +1,20 @@
-/* Names and indices of interfaces, as library and bridge both see them. */
+/* The interfaces of the server, as library and bridge both see them: canbusd-run has asked for them. */
 #ifndef INTERFACES_H
 #define INTERFACES_H
 
 #include <net/if.h>
 #include <stdbool.h>
 
-/* Whether an interface may have this name. */
-bool interface_is_name(const char *name);
+/* The most interfaces of a server, 16 buses of 16, and the room for their names, joined by commas. */
+#define INTERFACE_MOST 256
+#define INTERFACE_NAMES (INTERFACE_MOST * IFNAMSIZ)
+/* The index of the first; the others follow in the server's order. The kernel numbers its own from 1. */
+#define INTERFACE_FIRST 0x10000
 
-/* The index of the interface of this name. It is made of the name, and so is the same in all processes. */
+/* The index of the interface of this name; 0 where the server has none. */
 int interface_index(const char *name);
 
-/* Takes the next name off a list joined by commas; false at its end. Names that no interface may have are skipped. */
-bool interface_next(const char **list, char name[IFNAMSIZ]);
-
-/* Whether a list has the interface of this index, and its name. */
-bool interface_of_index(const char *list, int index, char name[IFNAMSIZ]);
-
-/* The list of $CANBUSD_INTERFACES, or NULL where nobody has said which interfaces there are. */
-const char *interface_list(void);
+/* Writes the name of the interface of this index; an empty one, and false, where there is none. */
+bool interface_name(int index, char name[IFNAMSIZ]);
 
 #endif

@@ -24,14 +24,11 @@ enum wire_protocol { WIRE_RAW = 'r', WIRE_BCM = 'b', WIRE_ISOTP = 'i' };
 enum wire_kind {
     WIRE_SEND, /* the frame or message follows; `ifindex` is that of sendto, or WIRE_BOUND; what the write returns is
                 * the reply's value */
-    WIRE_BIND, /* to `ifindex`, 0 for all; the name follows where the library knows it */
+    WIRE_BIND, /* to `ifindex`, 0 for all */
     WIRE_SET,  /* `option` of the protocol's level; the value follows */
     WIRE_GET,  /* the same; the value is the reply's data */
     WIRE_SOCKET_SET, /* `option` of SOL_SOCKET, which the kernel has set, so that the bridge knows of it */
     WIRE_ADDRESS,    /* the index is the reply's value; of ISO-TP the two identifiers are its data */
-    WIRE_INDEX,      /* of the interface whose name follows: the reply's value */
-    WIRE_NAME_OF,    /* of the interface `ifindex`: the reply's data */
-    WIRE_LIST,       /* the names of all interfaces, joined by commas: the reply's data */
 };
 #define WIRE_BOUND (-1)
 
