@@ -115,12 +115,14 @@ WAITING = {7, 23, 270, 271, 232, 281, 47}
 def settled(child):
     """Returns the program once it waits for frames; it may have ended."""
 
+    def fact(name):
+        with open(f"/proc/{child.pid}/{name}", encoding="utf-8") as file:
+            return file.read().split()[0]
+
     def waits():
-        with open(f"/proc/{child.pid}/comm", encoding="utf-8") as comm, open(
-            f"/proc/{child.pid}/syscall", encoding="ascii"
-        ) as syscall:
-            # The command waits too, for the server's greeting.
-            return comm.read() != "canbusd-run\n" and syscall.read().split()[0] in map(str, WAITING)
+        # The command waits too, for the server's replies, and for a moment its process has the name of this one.
+        before, call, after = fact("comm"), fact("syscall"), fact("comm")
+        return "canbusd-run" not in (before, after) and call in map(str, WAITING)
 
     def is_settled():
         return child.poll() is not None or waits()

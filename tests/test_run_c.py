@@ -63,9 +63,9 @@ def test_program(build, name):
 
 @pytest.mark.parametrize("name", PLAIN)
 def test_program_at_unix_path(build, name):
-    """the same at a Unix path, by --interfaces"""
+    """the same at a Unix path"""
     with serving(*FAST, "can0,can1", address="./run.socket") as server:
-        build.passes(server, name, options=["--interfaces", "can0,can1"])
+        build.passes(server, name)
         server.end()
 
 
@@ -79,22 +79,17 @@ def test_stamps(build):
         assert len(stamps) == 3 and logged[:3] == stamps, f"{stamps}, and in the log {logged}"
 
 
-@pytest.mark.parametrize("options", [[], ["--interfaces", "can0,can1,car0"]])
-def test_any(build, options):
-    """two buses, with interfaces that are found and that are named"""
-    names = ["can0,can1", "car0"] if options else ["can0,can1", "vcan3"]
-    if not options:
-        build.flags = (*build.flags, '-DOTHER="vcan3"')
-    with serving(*FAST, *names) as server:
-        build.passes(server, "any", options=options)
+def test_any(build):
+    """two buses"""
+    with serving(*FAST, "can0,can1", "car0") as server:
+        build.passes(server, "any")
         server.end()
 
 
-@pytest.mark.parametrize("options", [["--interfaces", SIXTEEN]])
-def test_interfaces_16(build, options):
+def test_interfaces_16(build):
     """all of a bus of 16"""
     with serving(*FAST, SIXTEEN) as server:
-        build.passes(server, "interfaces_16", options=options)
+        build.passes(server, "interfaces_16")
         server.end()
 
 

@@ -30,7 +30,7 @@ def test_help():
     """--help shows each option, --version the version"""
     shown = alone("--help")
     assert shown.returncode == 0 and shown.stderr == ""
-    for word in ("--address", "--interfaces", "--wait", "CANBUSD_ADDRESS", "CANBUSD_RUN_DEBUG", "125", "126", "127"):
+    for word in ("--address", "--wait", "CANBUSD_ADDRESS", "CANBUSD_RUN_DEBUG", "125", "126", "127"):
         assert word in shown.stdout, word
     assert re.fullmatch(r"canbusd-run \d+\.\d+\.\d+\n", alone("--version").stdout)
 
@@ -41,8 +41,6 @@ def test_help():
         ((), "which program? --help shows how it is used"),
         (("--address", NOWHERE), "which program? --help shows how it is used"),
         (("--fast", "true"), "no such option (--help shows all): --fast"),
-        (("--interfaces", "can0,", "true"), "--interfaces needs names of interfaces, joined by commas: can0,"),
-        (("--interfaces", "a/b", "true"), "--interfaces needs names of interfaces, joined by commas: a/b"),
         (
             ("--address", "can0", "true"),
             "can0 is no address: it is HOST:PORT, [V6]:PORT, or a Unix path that begins with / or .",
@@ -92,6 +90,38 @@ def test_other_server():
             connection.close()
             said = child.stderr.read()
             assert child.wait(WAIT) == 125 and "something else: it says 220 mail.example" in said, said
+
+
+@pytest.mark.parametrize("answer", [b"< error unknown command >", b"< interfaces can0", b""])
+def test_older_server(answer):
+    """a server that can't say which interfaces it has is told to be older"""
+    with socket.create_server(("127.0.0.1", 0)) as older:
+        address = f"127.0.0.1:{older.getsockname()[1]}"
+        with subprocess.Popen([command(), "--address", address, "true"], stderr=subprocess.PIPE, text=True) as child:
+            connection, _ = older.accept()
+            with connection:
+                connection.sendall(b"< hi >")
+                assert connection.recv(100) == b"< interfaces >"
+                connection.sendall(answer)
+            version = alone("--version").stdout.strip()
+            assert child.stderr.read() == (
+                f"canbusd-run: the server at {address} is older than {version}: start one of the same version\n"
+            )
+            assert child.wait(WAIT) == 125
+
+
+def test_interfaces():
+    """the names that the server has, for all that is run"""
+    buses = [",".join(f"{bus}-interface{number:02}" for number in range(16)) for bus in "abcdefghijklmnop"]
+    names = [name for bus in buses for name in bus.split(",")]
+    text = "import socket; print(*(n for i, n in socket.if_nameindex() if i >= 1 << 20)); " + (
+        "print(*(socket.if_nametoindex(n) for n in socket_names), *map(socket.if_indextoname, (1 << 20, (1 << 20) + 255)))"
+    ).replace("socket_names", repr([names[0], names[17], names[-1]]))
+    with serving(*buses) as server:
+        shown, numbers = passes(server, "/usr/bin/python3", "-c", text).splitlines()
+        assert shown.split() == names
+        assert numbers == f"1048576 1048593 1048831 {names[0]} {names[-1]}"
+        server.end()
 
 
 def test_wait(tmp_path):
@@ -273,7 +303,9 @@ def test_debug():
             text.replace("can0", "can9"),
             env=environment(server, CANBUSD_RUN_DEBUG="1"),
         )
-        assert "canbusd-run: interface: No such device: the server says: no such interface\n" in wrong.stderr, wrong
+        assert (
+            "canbusd-run: interface: No such device: no interface of the server has this name\n" in wrong.stderr
+        ), wrong
         server.end()
 
 
@@ -368,7 +400,7 @@ else:
     raise AssertionError("no room")
 """
     with serving("can0,can1") as server:
-        passes(server, "/usr/bin/python3", "-c", text, options=["--interfaces", "can0,can1"])
+        passes(server, "/usr/bin/python3", "-c", text)
         assert none_left(server)
         server.end()
 
@@ -455,7 +487,6 @@ def test_stored_files():
         (["--a"], "--address"),
         (["--address", "x", "--w"], "--wait"),
         (["--wait", "--", "canbusd-no"], ""),
-        (["--interfaces", "can0", "tru"], "true"),
         (["tru"], "true"),
     ],
 )

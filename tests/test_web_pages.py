@@ -101,7 +101,6 @@ def sent(server):
     return int(counts[5])
 
 
-# To be taken away once the server closes a connection that begins with a request of HTTP.
 @pytest.mark.browser
 def test_a_page_sends_no_frames(server, tmp_path):
     text = PAGE.replace("ADDRESS", server.address).replace("TEXT", json.dumps(MESSAGES))
@@ -120,7 +119,6 @@ REQUESTS = [
 ]
 
 
-# To be taken away with the one above.
 @pytest.mark.parametrize("cut", [False, True], ids=["whole", "cut"])
 @pytest.mark.parametrize("request_line", REQUESTS)
 def test_a_request_ends_the_connection(server, request_line, cut):

@@ -8,8 +8,9 @@
 /* The most interfaces of a server, 16 buses of 16, and the room for their names, joined by commas. */
 #define INTERFACE_MOST 256
 #define INTERFACE_NAMES (INTERFACE_MOST * IFNAMSIZ)
-/* The index of the first; the others follow in the server's order. The kernel numbers its own from 1. */
-#define INTERFACE_FIRST 0x10000
+/* The index of the first; the others follow in the server's order. The kernel numbers its own from 1, and canplayer has
+ * 65536 for standard output. */
+#define INTERFACE_FIRST 0x100000
 
 /* The index of the interface of this name; 0 where the server has none. */
 int interface_index(const char *name);
