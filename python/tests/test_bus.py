@@ -12,7 +12,7 @@ import can
 import pytest
 from conftest import WAIT, message, shape
 
-from canbusd.bus import CanbusdBus, Self
+from canbusd.bus import CanbusdBus, Self, interfaces
 from canbusd.faults import Faults
 from canbusd.server import Server
 
@@ -347,6 +347,45 @@ def test_a_wrong_filter(pair, server, wrong):
             call([wrong])
     with pytest.raises(ValueError, match="filter"):
         pair[0].set_filters(["123:7FF"])
+
+
+def test_whose_a_message_is(server):
+    """equal messages of two buses of an interface, and of another interface"""
+    with server.bus("can0", receive_own_messages=True) as own, server.bus("can0") as beside, server.bus("can1") as other:
+        for sender in (own, beside, other, beside, own, own, other):
+            sender.send(message(7, b"7"))
+            got = own.recv(WAIT)
+            assert shape(got) == shape(message(7, b"7")) and got.is_rx == (sender is not own)
+        own.send(message(8, dlc=2, is_remote_frame=True))
+        assert own.recv(WAIT).is_rx is False
+    # What was sent before by the same interface is not one's own.
+    with server.bus("can0", receive_own_messages=True, fd=True) as own, server.bus("can0") as beside:
+        beside.send(message(9))
+        own.send(message(9, bytes(12), is_fd=True))
+        assert sorted((one.is_fd, one.is_rx) for one in (own.recv(WAIT), own.recv(WAIT))) == [(False, True), (True, False)]
+
+
+def test_many_messages_are_own_ones_among_others(server):
+    with server.bus("can0", receive_own_messages=True) as own, server.bus("can0") as beside:
+        own.send_many([message(1)] * 30)
+        beside.send_many([message(1)] * 30)
+        own.send_many([message(1)] * 30)
+        got = [own.recv(WAIT).is_rx for _ in range(90)]
+        assert got == [False] * 30 + [True] * 30 + [False] * 30
+
+
+def test_interfaces(monkeypatch):
+    long = [f"a-long-name-{number:03}" for number in range(14 * 16)]
+    buses = ["can0,can1", "car0", *(",".join(long[start : start + 16]) for start in range(0, len(long), 16))]
+    names = ",".join(buses).split(",")
+    with Server(*buses) as server:
+        monkeypatch.setenv("CANBUSD_ADDRESS", server.address)
+        configs = can.detect_available_configs("canbusd")
+        assert configs == [{"interface": "canbusd", "channel": name} for name in names]
+        with can.Bus(**configs[2]) as bus:
+            assert bus.channel == "car0"
+        assert server.interfaces == interfaces() == interfaces(server.address) == names
+    assert can.detect_available_configs("canbusd") == []
 
 
 def test_own_messages_and_loopback(server):

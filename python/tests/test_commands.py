@@ -309,6 +309,7 @@ def test_status_of_interfaces():
         while sender.recv(WAIT).arbitration_id != 0x40:
             pass
         status, written, said = call("status", "can0", "can1", server=server)
+        assert call("status", server=server) == (status, written, said)
     assert (status, said) == (0, "")
     assert written.splitlines() == [
         "interface  state   TEC  REC  sent  done  waiting  lost  refused",

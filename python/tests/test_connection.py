@@ -10,7 +10,7 @@ import can
 import pytest
 from conftest import WAIT, message, shape
 
-from canbusd.bus import CanbusdBus
+from canbusd.bus import CanbusdBus, interfaces
 from canbusd.server import Server
 
 
@@ -152,6 +152,13 @@ def test_what_is_written(play, old, end):
             "filter 1 123 800007FF",
             "echo",
         ]
+
+
+def test_an_older_server_has_no_list_of_interfaces(play, monkeypatch):
+    with pytest.raises(can.CanInitializationError, match="is older, and can't say which interfaces it has"):
+        interfaces(play(old=True).address)
+    monkeypatch.setenv("CANBUSD_ADDRESS", play(old=True).address)
+    assert can.detect_available_configs("canbusd") == []
 
 
 def test_whose_a_frame_is(play):
