@@ -207,9 +207,16 @@ def test_options_of_a_session():
         own.send(0x123)
         own.send(0x200)
         bench.run()
-        assert [str(frame) for frame in own.receive()] == ["123#", "200#"]
-        assert [str(frame) for frame in quiet.receive()] == ["123#", "200#"]
-        assert [str(frame) for frame in joined.receive()] == ["200#"]
+        beside = bench.open("can0")
+        beside.send(0x7FF)
+        bench.run()
+        assert [(str(frame), frame.is_rx) for frame in own.receive()] == [
+            ("123#", False), ("200#", False), ("7FF#", True)
+        ]  # fmt: skip
+        assert [(str(frame), frame.is_rx) for frame in quiet.receive()] == [
+            ("123#", True), ("200#", True), ("7FF#", True)
+        ]  # fmt: skip
+        assert [str(frame) for frame in joined.receive()] == ["200#", "7FF#"]
         for wrong in ("all", 1 << 32):
             with pytest.raises(ValueError, match="^error_frames "):
                 bench.open("can0", error_frames=wrong)

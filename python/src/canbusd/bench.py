@@ -16,6 +16,7 @@ import re
 import select
 import threading
 from collections.abc import Sequence
+from dataclasses import replace
 from pathlib import Path
 from typing import TYPE_CHECKING, Optional, Union
 
@@ -34,7 +35,7 @@ from canbusd._protocol import (
 from canbusd._process import RUNNING, ProgramRun, check_names, option_words
 from canbusd._summary import write_page
 from canbusd.faults import Script, plan_of, rules_of, script_text
-from canbusd.frames import Frame, MessageLike, command_of, frame_of, frame_like, identifier_word
+from canbusd.frames import Frame, MessageLike, command_of, frame_like, frame_of, identifier_word, without_origin
 from canbusd.log import read_log
 from canbusd.record import Attempt, Record, read_record
 from canbusd.rules import MOST_RULES, check_rules, parse_rule
@@ -79,6 +80,8 @@ class Session(InjectsFaults):
     def __init__(self, bench: "Bench", number: int, channel: str) -> None:
         self._bench, self._number = bench, number
         self._closed = False
+        # The numbers at its interface of the frames that it has sent.
+        self._own: set[int] = set()
         #: The name of its interface.
         self.channel = channel
 
@@ -114,11 +117,12 @@ class Session(InjectsFaults):
             except Refused:
                 accepted.pop()
                 raise
+            self._own.add(len(accepted) - 1)
 
     def receive(self) -> list[Frame]:
         """Takes what the socket has received, oldest first; error message frames too, if they were asked for."""
         number = self._live()
-        frames = (frame_of(message) for message in self._bench._ask(f"drain {number}\nfeed {number} < echo >"))
+        frames = (self._frame(message) for message in self._bench._ask(f"drain {number}\nfeed {number} < echo >"))
         return [frame for frame in frames if frame is not None]
 
     def status(self) -> ErrorCounters:
@@ -166,6 +170,12 @@ class Session(InjectsFaults):
             raise Refused(line.partition("< error ")[2].rstrip(" >") or line)
         self._closed = True
         return int(counts[1]), int(counts[2])
+
+    def _frame(self, message: str) -> Optional[Frame]:
+        """The frame that a message hands over; None for an answer."""
+        text, number = without_origin(message)
+        frame = frame_of(text)
+        return replace(frame, is_rx=False) if frame is not None and number in self._own else frame
 
     def _answer(self, message: str) -> str:
         answer = self.call(message)[0]
@@ -249,6 +259,7 @@ class Bench(ProgramRun):
             error_frames=error_frames,
             join_filters=join_filters,
         )
+        messages += ["origin 1"] if receive_own_messages else []
         if channel not in self.names:
             raise Refused(f"no such interface {channel!r}; the bench has {', '.join(self.names)}")
         with self._turn:

@@ -35,8 +35,8 @@ ERROR_FRAME = "[23][0-9A-F]{7}#[0-9A-F]{16}"
 
 # cansend's spelling: an FD frame has a second # and a digit of flags.
 SPELLING = re.compile("([0-9A-Fa-f]+)#(?:#([0-9A-Fa-f]))?([0-9A-Fa-fRr.]*)")
-# A session's message with a frame or an error message frame, where it was asked for with the sender's interface and the
-# number there. In answers no moment follows `error`.
+# A session's message with a frame or an error message frame; where asked for with whether the same interface has sent it,
+# and its number there. In answers no moment follows `error`.
 MESSAGE = re.compile(
     "(frame|fdframe|remote|error) ([0-9A-F]+) ([0-9]+[.][0-9]{6})(?: +([0-9A-F]*))?(?: +(?:same|other) [0-9]+)?"
 )
@@ -54,7 +54,7 @@ class Frame:
     """A frame that is sent or was received, with the names that python-can's `Message` has.
 
     `str()` of it is candump's spelling, `123#1122`, which `Frame.parse` reads. Unlike a `Message` it has an 11-bit
-    identifier unless told otherwise. Two frames are equal whatever their timestamps are.
+    identifier unless told otherwise. Two frames are equal whatever their timestamps are, and whoever sent them.
     """
 
     arbitration_id: int
@@ -66,6 +66,8 @@ class Frame:
     #: The number of bytes; of a remote frame the number that it asks for.
     dlc: int = 0
     timestamp: float = field(default=0.0, compare=False)
+    #: False where the session that received it has sent it.
+    is_rx: bool = field(default=True, compare=False)
 
     def __post_init__(self) -> None:
         object.__setattr__(self, "data", bytes(self.data))
@@ -169,6 +171,10 @@ class MessageLike(Protocol):
     def timestamp(self) -> float:
         ...
 
+    @property
+    def is_rx(self) -> bool:
+        ...
+
 
 def frame_like(message: MessageLike) -> Frame:
     """Returns the frame that a message of python-can is."""
@@ -183,6 +189,7 @@ def frame_like(message: MessageLike) -> Frame:
         message.is_fd,
         message.dlc,
         message.timestamp,
+        message.is_rx,
     )
 
 
