@@ -21,7 +21,7 @@ import canbusd
 from canbusd.faults import Faults
 from canbusd.frames import Frame
 from canbusd.server import Server
-from canbusd.commands.watch import MOST_FRAMES, MOST_TICKS, Board, Senders, fault_of
+from canbusd.commands.watch import MOST_FRAMES, MOST_TICKS, Board, Watcher, fault_of
 
 WAIT = 30
 
@@ -54,42 +54,17 @@ def test_frames_and_bus_errors_push_out_no_bus_off():
     assert len(start["frames"]) == 1 + 2 * MOST_FRAMES
 
 
-def senders(*looks):
-    """What is known after looks, each of which has the identifiers that came and the counts after it."""
-    known, moment, rows = Senders(), 0, []
-    known.add([], [0, 0, 0])
-    for identifiers, done in looks:
-        for one in identifiers:
-            moment += 1
-            rows.append([moment, f"{one}#", 7, "", -1])
-        known.add(rows, done)
-    return {row[1]: row[4] for row in known.named(dict(enumerate(rows)))}
-
-
-def test_the_only_interface_that_can_have_sent_is_the_sender():
-    assert senders((["100"], [1, 0, 0])) == {"100#": 0}
-    # One of two, and then one of two others.
-    assert senders((["100", "200"], [1, 1, 0])) == {"100#": -1, "200#": -1}
-    assert senders((["100", "200"], [1, 1, 0]), (["200", "300"], [1, 2, 1])) == {"100#": -1, "200#": 1, "300#": -1}
-
-
-def test_where_an_interface_is_not_watched_no_sender_is_made_up():
-    # More frames came than the watched ones have sent.
-    assert senders((["100", "400"], [1, 0, 0])) == {"100#": -1, "400#": -1}
-    assert senders((["400"], [0, 0, 0])) == {"400#": -1}
-
-
-def test_an_identifier_of_two_interfaces_has_no_sender():
-    assert senders((["100"], [1, 0, 0]), (["100"], [1, 1, 0])) == {"100#": -1}
-    # And where that is only seen in the numbers, what was known is given up.
-    assert senders((["100"], [1, 0, 0]), (["100", "100"], [2, 1, 0])) == {"100#": -1}
-
-
-def test_a_frame_that_comes_before_its_count_misleads_nobody():
-    looks = [(["100"], [1, 0, 0]), (["200"], [1, 1, 0])]
-    # 200 comes again before it is counted; at the next look it is counted, and 300 of another has not been.
-    looks += [(["200"], [1, 1, 0]), (["300"], [1, 2, 0]), ([], [1, 2, 1]), (["300"], [1, 2, 2])]
-    assert senders(*looks) == {"100#": 0, "200#": 1, "300#": 2}
+def test_the_sender_is_the_interface_that_has_sent_the_frame():
+    """though identifiers are the same, and one of the bus is not watched"""
+    with Server("can0,can1,can2") as server:
+        watcher = Watcher(["can0", "can1"], server.address)
+        for sender in ("can0", "can1", "can2", "can1", "can0"):
+            with server.bus(sender) as bus:
+                bus.send(can.Message(arbitration_id=0x100, is_extended_id=False))
+        _, rows = watcher.tick(1)
+        for bus in watcher.buses:
+            bus.shutdown()
+    assert [(row[1], row[2], row[4]) for row in sorted(rows)] == [("100#", 3, sender) for sender in (0, 1, -1, 1, 0)]
 
 
 def test_a_page_that_reads_slowly_begins_anew():

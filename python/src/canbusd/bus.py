@@ -374,8 +374,12 @@ class CanbusdBus(InjectsFaults, BusABC):
             return received(self._make, *text.split()[1:])
         text, number = without_origin(text)
         message = received(self._make, *text.split()[1:])
-        message.is_rx = number is None or not self._connection.is_own(number)
+        message.is_rx = number is None or not self._is_own(number)
         return message
+
+    def _is_own(self, number: int) -> bool:
+        """Whether a frame that this interface has sent, with this number there, is one's own."""
+        return self._connection.is_own(number)
 
     def _passes(self, message: Message) -> bool:
         """Whether a message passes the filters, where the server did not apply them to it."""

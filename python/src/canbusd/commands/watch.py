@@ -8,8 +8,8 @@ import operator
 import select
 import threading
 import time
-from collections import Counter, deque
-from collections.abc import Iterable, Iterator, Sequence
+from collections import deque
+from collections.abc import Iterator, Sequence
 from http import HTTPStatus
 from http.server import BaseHTTPRequestHandler, ThreadingHTTPServer
 from typing import Any, Optional
@@ -18,8 +18,7 @@ import canbusd._python_can  # noqa: F401  it says what is missing, so it comes f
 
 from can.exceptions import CanOperationError
 
-from canbusd.bus import CanbusdBus, seconds
-from canbusd._protocol import Stats
+from canbusd.bus import CanbusdBus, interfaces, seconds
 from canbusd.commands import add_address, add_database, database_of
 from canbusd.frames import SENDING, Frame, frame_like
 from canbusd.report import filled
@@ -27,19 +26,15 @@ from canbusd.signals import Database
 
 EPILOG = """\
 The page is served on 127.0.0.1 only. It shows on a time line how many frames each interface sent, its state, error
-counts and queue; and lists the last frames, with senders as far as the counts show them, changes of state, and each
-identifier with its last data. Destroyed and unacknowledged frames are shown where the server was started with --report. A session on each interface receives everything: each frame that it gets is
-an entry of the record.
+counts and queue; and lists the last frames, with the watched interfaces that sent them, changes of state, and each
+identifier with its last data. Destroyed and unacknowledged frames are shown where the server was started with --report.
+A session on each interface receives everything: each frame that it gets is an entry of the record.
 
-  python3 -m canbusd watch can0 can1
+  python3 -m canbusd watch
   python3 -m canbusd watch --port 0 -a ./bench.socket can0
 """
 # How much a page gets that is opened later: ticks, and frames.
 MOST_TICKS, MOST_FRAMES = 2400, 4000
-# Seconds between two looks at the counts while there are frames whose sender is not known.
-LOOK = 0.01
-# How many looks have to pass before frames are taken for those of an interface that is not watched.
-LOOKS = 20
 # Seconds in which pages are sent that the server has ended, after which a silent connection is closed, and between two looks
 # for a file descriptor where there are no more.
 CLOSE_TIMEOUT, REQUEST_TIMEOUT, PAUSE = 2.0, 10.0, 0.2
@@ -185,43 +180,39 @@ class Request(BaseHTTPRequestHandler):
         """Requests are not logged."""
 
 
+class Watched(CanbusdBus):
+    """A bus on which all that its interface has sent is its own, whichever session has sent it."""
+
+    def _is_own(self, number: int) -> bool:
+        return True
+
+
 class Watcher:
     """The sessions on the interfaces."""
 
     def __init__(self, names: Sequence[str], address: Optional[str], database: Optional[Database] = None) -> None:
         self.database = database
-        self.buses = [CanbusdBus(name, address=address, fd=True) for name in names]
-        self.senders = Senders()
+        self.buses = [Watched(name, address=address, fd=True, receive_own_messages=True) for name in names]
 
     def tick(self, seconds: float) -> tuple[Json, list[Row]]:
         """Collects frames for so long; then how the interfaces are, and the frames."""
         rows: dict[tuple[float, str, int], Row] = {}
         faults = [[0, 0, 0] for _ in self.buses]
         deadline = time.monotonic() + seconds
-        looked = 0.0
         while True:
             ready = select.select(self.buses, [], [], max(0.0, deadline - time.monotonic()))[0]
             for number, bus in enumerate(self.buses):
                 if bus in ready:
                     self.take(number, rows, faults[number])
-            now = time.monotonic()
-            if now >= deadline:
+            if time.monotonic() >= deadline:
                 break
-            if now - looked >= LOOK and self.senders.wants(rows.values()):
-                looked = now
-                self.look(rows, faults)
-        stats = self.look(rows, faults)
-        ifaces = [[*bus.error_counters(), *one[3:]] for bus, one in zip(self.buses, stats)]
-        missed = sum(one.dropped for one in stats)
-        return {"time": time.time(), "ifaces": ifaces, "faults": faults, "missed": missed}, self.senders.named(rows)
-
-    def look(self, rows: dict[tuple[float, str, int], Row], faults: list[list[int]]) -> list[Stats]:
-        """Looks at the counts, and takes what came before them."""
         stats = [bus.stats() for bus in self.buses]
         for number in range(len(self.buses)):
+            # What came before the counts.
             self.take(number, rows, faults[number])
-        self.senders.add(rows.values(), [one.done for one in stats])
-        return stats
+        ifaces = [[*bus.error_counters(), *one[3:]] for bus, one in zip(self.buses, stats)]
+        missed = sum(one.dropped for one in stats)
+        return {"time": time.time(), "ifaces": ifaces, "faults": faults, "missed": missed}, list(rows.values())
 
     def take(self, number: int, rows: dict[tuple[float, str, int], Row], faults: list[int]) -> None:
         """Takes what an interface has received. A row is moment, frame, interfaces, what it says, sender."""
@@ -237,6 +228,7 @@ class Watcher:
             key = frame.timestamp, str(frame), number if frame.is_error_frame else -1
             row = rows.setdefault(key, [frame.timestamp, str(frame), 0, self.meaning(frame), -1])
             row[2] |= 1 << number
+            row[4] = row[4] if frame.is_rx else number
 
     def meaning(self, frame: Frame) -> str:
         """What an error message frame says, or one that a file knows."""
@@ -244,70 +236,9 @@ class Watcher:
         return str(decoded) if decoded is not None else frame.meaning
 
 
-class Senders:
-    """Which interface sent a frame, as far as the counts say it.
-
-    A session is not told who sent what it receives. But where as many frames came since the last look as the
-    interfaces have done, one of those that have done some sent each of them. The sender of an identifier is the only
-    interface that is possible at all such looks.
-    """
-
-    def __init__(self) -> None:
-        self.done: list[int] = []
-        # The frames up to the last look.
-        self.seen: set[tuple[float, str]] = set()
-        # By how many the frames that came exceed those that were done, at the last looks. A frame that comes before its
-        # interface is counted raises it until the next look, a frame of an interface that is not watched for good.
-        self.excess = deque([0], maxlen=LOOKS)
-        # Who may send an identifier; nobody where it came from several.
-        self.possible: dict[str, frozenset[int]] = {}
-
-    def wants(self, rows: Iterable[Row]) -> bool:
-        """Whether there is a frame whose sender another look could show."""
-        possible = (self.possible.get(identifier_of(text)) for _, text, *_ in filter(is_frame, rows))
-        return any(one is None or len(one) > 1 for one in possible)
-
-    def add(self, rows: Iterable[Row], done: list[int]) -> None:
-        """Learns from the rows and the counts after them."""
-        grown = [after - before for after, before in zip(done, self.done or done)]
-        frames = {(moment, text) for moment, text, *_ in filter(is_frame, rows)}
-        new = [identifier_of(text) for _, text in frames - self.seen] if self.done else []
-        before = self.excess[-1]
-        self.done, self.seen = done, frames
-        self.excess.append(before + len(new) - sum(grown))
-        if before == self.excess[-1] == min(self.excess):
-            self.learn(new, grown)
-
-    def learn(self, identifiers: list[str], grown: list[int]) -> None:
-        """Learns from identifiers that came, and how many frames each interface has done meanwhile."""
-        active = frozenset(number for number, count in enumerate(grown) if count)
-        for one in identifiers:
-            self.possible[one] = self.possible.get(one, active) & active
-        known = Counter(next(iter(self.possible[one])) for one in identifiers if len(self.possible[one]) == 1)
-        for one in identifiers:
-            if any(known[number] > grown[number] for number in self.possible[one]):
-                self.possible[one] = frozenset()
-
-    def sender(self, text: str) -> int:
-        """The only possible sender of a frame's identifier, or -1."""
-        possible = self.possible.get(identifier_of(text), frozenset())
-        return next(iter(possible)) if len(possible) == 1 else -1
-
-    def named(self, rows: dict[tuple[float, str, int], Row]) -> list[Row]:
-        """The rows, with senders as far as they are known."""
-        for row in rows.values():
-            row[4] = self.sender(row[1])
-        return list(rows.values())
-
-
 def is_frame(row: Row) -> bool:
     """Whether a row is not an error message frame, whose first digit has bit 29."""
     return not (row[1][8:9] == "#" and row[1][0] in "23")
-
-
-def identifier_of(text: str) -> str:
-    """The identifier in a frame's text."""
-    return text.split("#", 1)[0]
 
 
 def fault_of(frame: Frame) -> Optional[int]:
@@ -322,7 +253,9 @@ def fault_of(frame: Frame) -> Optional[int]:
 
 def add_arguments(parser: argparse.ArgumentParser) -> None:
     """Adds the words of the command."""
-    parser.add_argument("interfaces", nargs="+", metavar="INTERFACE", help="an interface of the server")
+    parser.add_argument(
+        "interfaces", nargs="*", metavar="INTERFACE", help="an interface of the server (default: all of them)"
+    )
     parser.add_argument(
         "--port", type=int, default=8029, metavar="N", help="the port of the page; 0 is any free one (default 8029)"
     )
@@ -342,7 +275,7 @@ def run(options: argparse.Namespace) -> None:
     interval = seconds("--interval", options.interval)
     if not 0 <= options.port <= 65535:
         raise ValueError(f"--port is a number from 0 to 65535, not {options.port}")
-    names: list[str] = options.interfaces
+    names: list[str] = options.interfaces or interfaces(options.address)
     watcher, board = Watcher(names, options.address, database_of(options)), Board()
     with opened(options.port, board, names, watcher.buses[0].address, watcher.database is not None) as pages:
         threading.Thread(target=pages.serve_forever, daemon=True).start()
