@@ -39,7 +39,8 @@ LONGEST_WAIT = 3600.0
 # Seconds after which a thread looks for what another one has read, if that was interrupted before it woke it.
 LONGEST_NAP = 1.0
 
-# How an answer ends: with an echo, or as the verdict on a frame, which is one message; and what is written after a message.
+# How an answer ends: with an echo, or as the verdict on a frame, which is one message; and what is written for that after
+# a command.
 ECHO, VERDICT = "e", "v"
 TAILS = {ECHO: "< echo >", VERDICT: ""}
 # The verdict that accepts a frame. A record has fewer entries than 10**8, and so have numbers.
