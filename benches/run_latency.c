@@ -1,7 +1,8 @@
-/* How long a frame takes from one program with a CAN socket to another, in microseconds: run_latency SENDER RECEIVER COUNT.
+/* How long a frame takes from one program with a CAN socket to another, in microseconds: run_latency SENDER RECEIVER
+ * COUNT.
  *
- * The frame has the moment of its write; the receiver, a process of its own, asks for the next. Prints the median and the
- * 99th percentile. */
+ * The frame has the moment of its write; the receiver, a process of its own, asks for the next. Prints the median and
+ * the 99th percentile. */
 #include <linux/can.h>
 #include <net/if.h>
 #include <stdint.h>
