@@ -30,7 +30,7 @@ def test_help():
     """--help shows each option, --version the version"""
     shown = alone("--help")
     assert shown.returncode == 0 and shown.stderr == ""
-    for word in ("--address", "--wait", "CANBUSD_ADDRESS", "CANBUSD_RUN_DEBUG", "125", "126", "127"):
+    for word in ("--address", "--interfaces", "--wait", "CANBUSD_ADDRESS", "CANBUSD_RUN_DEBUG", "125", "126", "127"):
         assert word in shown.stdout, word
     assert re.fullmatch(r"canbusd-run \d+\.\d+\.\d+\n", alone("--version").stdout)
 
@@ -121,6 +121,21 @@ def test_interfaces():
         shown, numbers = passes(server, "/usr/bin/python3", "-c", text).splitlines()
         assert shown.split() == names
         assert numbers == f"1048576 1048593 1048831 {names[0]} {names[-1]}"
+        server.end()
+
+
+def test_some_interfaces():
+    """a program finds those that are named; the server has to have each"""
+    text = "import socket; print(*(n for i, n in socket.if_nameindex() if i >= 1 << 20))"
+    with serving("can0,can1,can2", "far0") as server:
+        shown = passes(server, "/usr/bin/python3", "-c", text, options=["--interfaces", "far0,can1"])
+        assert shown.split() == ["far0", "can1"]
+        for names in ("can0,can9", "can0,", "", "can0,,can1"):
+            ended = alone("--address", server.address, "--interfaces", names, "true")
+            assert (ended.returncode, ended.stderr) == (
+                125,
+                f"canbusd-run: --interfaces: the server has no such interface; names are joined by commas: {names}\n",
+            )
         server.end()
 
 
@@ -488,6 +503,7 @@ def test_stored_files():
         (["--address", "x", "--w"], "--wait"),
         (["--wait", "--", "canbusd-no"], ""),
         (["tru"], "true"),
+        (["--interfaces", "can0", "tru"], "true"),
     ],
 )
 def test_completions_of_bash(words, wanted):

@@ -4,6 +4,7 @@
 #include "server.h"
 
 #include "../shared/address.h"
+#include "../shared/interfaces.h"
 
 #include <errno.h>
 #include <stdio.h>
@@ -17,24 +18,25 @@ enum { STATUS_FAULT = 125, STATUS_NOT_RUN = 126, STATUS_NOT_FOUND = 127 };
 
 /* clang-format off */
 static const char HELP[] =
-    "usage: canbusd-run [--address ADDR] [--wait] [--] PROGRAM [ARGUMENT ..]\n"
+    "usage: canbusd-run [--address ADDR] [--interfaces NAME,..] [--wait] [--] PROGRAM [ARGUMENT ..]\n"
     "       canbusd-run --help | --version\n"
     "\n"
     "Runs PROGRAM, and what it starts, so that CAN sockets (CAN_RAW, CAN_BCM, CAN_ISOTP) are sockets of a canbusd\n"
     "server: candump, cansend, python-can's socketcan interface, or a program of your own. It needs no root, kernel\n"
     "module or vcan.\n"
     "\n"
-    "  --address ADDR  the server: HOST:PORT, [V6]:PORT, or a Unix path that begins with / or .\n"
-    "                  (default: $CANBUSD_ADDRESS, else " ADDRESS_DEFAULT ")\n"
-    "  --wait          wait for a server that is not there yet, and in each write for room in a full\n"
-    "                  transmit queue; without it the run fails, and the write with ENOBUFS\n"
+    "  --address ADDR        the server: HOST:PORT, [V6]:PORT, or a Unix path that begins with / or .\n"
+    "                        (default: $CANBUSD_ADDRESS, else " ADDRESS_DEFAULT ")\n"
+    "  --interfaces NAME,..  the interfaces that PROGRAM finds, which `any` is too (default: all of the server)\n"
+    "  --wait                wait for a server that is not there yet, and in each write for room in a full\n"
+    "                        transmit queue; without it the run fails, and the write with ENOBUFS\n"
     "\n"
     "CANBUSD_RUN_DEBUG=1 in the environment writes each call that is refused, and why, to standard error.\n"
     "The status is the program's; 125 where canbusd-run fails, 126 where PROGRAM can't be run, 127 where there is none.\n";
 /* clang-format on */
 
 struct words {
-    const char *address;
+    const char *address, *interfaces;
     int waits;
     char **program;
 };
@@ -68,6 +70,8 @@ static int read_words(char **at, struct words *words) {
             words->waits = 1;
         } else if ((value = value_of("--address", &at))) {
             words->address = value;
+        } else if ((value = value_of("--interfaces", &at))) {
+            words->interfaces = value;
         } else {
             return fault("no such option (--help shows all)", *at);
         }
@@ -77,6 +81,23 @@ static int read_words(char **at, struct words *words) {
     }
     words->program = at;
     return *at ? 0 : fault("which program? --help shows how it is used", NULL);
+}
+
+/* Has the program find these interfaces, which the server has to have; returns 0, or a status after a line. */
+static int show_interfaces(const char *list) {
+    for (const char *at = list;; at++) {
+        char name[IFNAMSIZ] = "";
+        size_t length = strcspn(at, ",");
+        memcpy(name, at, length < IFNAMSIZ ? length : 0);
+        if (!interface_index(name)) {
+            return fault("--interfaces: the server has no such interface; names are joined by commas", list);
+        }
+        at += length;
+        if (!*at) {
+            setenv("CANBUSD_INTERFACES", list, 1);
+            return 0;
+        }
+    }
 }
 
 /* Puts a text in front of a list of the environment, unless it is there. */
@@ -151,6 +172,7 @@ int main(int count, char **all) {
     if (words.waits) {
         setenv("CANBUSD_RUN_WAIT", "1", 1);
     }
-    status = preload();
+    status = words.interfaces ? show_interfaces(words.interfaces) : 0;
+    status = status ? status : preload();
     return status ? status : become(words.program);
 }
