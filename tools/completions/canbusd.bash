@@ -10,12 +10,7 @@ _canbusd() {
     # A file follows a redirection.
     *,*[\<\>]*,*) compopt -o default ;;
     1,*) _canbusd_offer "bench serve audit help --help --version" ;;
-    *,audit)
-        case $text in
-        -*) _canbusd_offer "--cut --help" ;;
-        *) compopt -o default ;;
-        esac
-        ;;
+    *,audit) compopt -o default ;;
     *,help) _canbusd_offer "bench serve audit" ;;
     *,bench) _canbusd_word "$options --record --log --strict" ;;
     *,serve) _canbusd_word "$options --listen --sessions --pace --write --out --until-eof --verbose" ;;
