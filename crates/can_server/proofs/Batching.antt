@@ -70,12 +70,6 @@ module _ {P : Type 0} (step : P → (call : Call) → Reply call → P → Type 
     pub used_rooms : Gives step most stage p (texts_of front) q (items == most)
     used_rooms = used_as (items == most) (λ e. eqb-true items most e) (λ e. (let other : items ≢ most = eqb-false items most e in omega (arith, other, within)))
 
--- the first rooms are the same, whatever comes after them
-pub take_front : {X : Type 0} (n : ℕ) (xs ys : List X) → n ≤ length xs → take n (xs ++ ys) ≡ take n xs
-take_front zero xs ys le = refl
-take_front (suc n) [] ys le = absurd (omega (arith, le))
-take_front {X = X} (suc n) (x ∷ xs) ys le = ap (λ (l : List X). x ∷ l) (take_front n xs ys (omega (arith, le)))
-
 module _ {W : Type 0} (contents : W → Option (List ℕ)) (old : W) (rooms : List Room) where
   -- the texts of some rooms: those that a writer took, and those that wait for it
   abbrev pub Waits : ℕ → W → List ℕ → Type 0

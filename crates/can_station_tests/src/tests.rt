@@ -11,7 +11,6 @@ mod passes;
 mod restarts;
 mod rests;
 mod rolls;
-mod rules;
 mod threads;
 mod twins;
 mod waits;

@@ -1,7 +1,8 @@
-use Rattle.std.proofs.Common.{◌≡◌, ◌==◌, ◌++◌, ℕ, Bool, length, take, drop, min, sym, subst, arith}
+use Rattle.std.proofs.Common.{◌≡◌, ◌==◌, ◌++◌, ℕ, length, take, drop, sym, ap, subst, ◌∙◌, arith}
+use Rattle.std.proofs.Math.Seq.{take-append_seam}
 use Rattle.can_dialog.specs.Deliveries.{Gives}
 use Rattle.can_server.specs.Batches.{texts_of}
-use Rattle.can_server.proofs.Batching.{take_front, used_rooms}
+use Rattle.can_server.proofs.Batching.{used_rooms}
 use Rattle.can_server.proofs.batch.Batch.take.Goals as goal
 
 pub returns-clause-takes : goal.returns-clause-takes
@@ -12,6 +13,8 @@ returns-clause-takes g c =
     let used = c.min.result in
     let others = drop (length rooms) c.args.self.now.rooms.items in
     let len : length rooms ≡ c.args.self.now.rooms.len = omega (arith, c.receive-items.auto.rooms, c.as_mut_slice.ensures.len) in
-    subst (λ (n : ℕ). Gives step n stage c.args.port.now (texts_of (take used (rooms ++ others))) c.receive-items.new.port (c.receive-items.result == c.min-most.result)) c.min-most.ensures
-    (used_rooms step stage c.args.port.now c.receive-items.new.port c.min-most.result c.receive-items.result used rooms (take used (rooms ++ others))
-    (take_front used rooms others (omega (arith, len, c.min.ensures, c.args.self.all_rooms))) c.min.ensures c.receive-items.ensures.within c.receive-items.ensures.all c.receive-items.ensures.few)
+    let seen = take c.args.self.now.rooms.len (rooms ++ others) in
+    let same : seen ≡ rooms = ap (λ (n : ℕ). take n (rooms ++ others)) (sym len) ∙ take-append_seam rooms others in
+    subst (λ (n : ℕ). Gives step n stage c.args.port.now (texts_of (take used seen)) c.receive-items.new.port (c.receive-items.result == c.min-most.result)) c.min-most.ensures
+    (used_rooms step stage c.args.port.now c.receive-items.new.port c.min-most.result c.receive-items.result used rooms (take used seen)
+    (ap (take used) same) c.min.ensures c.receive-items.ensures.within c.receive-items.ensures.all c.receive-items.ensures.few)
