@@ -31,7 +31,9 @@ done-kept contents (job.Serve o) input old mid new done kept = record {
   named = done.named;
   settled = done.settled;
   each = done.each;
+  configured = done.configured;
   legal = done.legal;
   heard = done.heard;
+  address = done.address;
   wrote = Appends-kept (contents old) (contents mid) (contents new) _ done.wrote kept;
 }
