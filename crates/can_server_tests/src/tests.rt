@@ -15,7 +15,6 @@ mod peers;
 mod ports;
 mod restarts;
 mod rows;
-mod rules;
 mod statuses;
 
 use can_attempt::AckMode;

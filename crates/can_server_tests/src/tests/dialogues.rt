@@ -30,27 +30,6 @@ fn dialogue<N: RollName + MeterName, R: Wait + Abort>(
     second.hear("< frame 124 23.424242  other 1 >");
 }
 
-/// A session that asks for the names of all buses' interfaces, before it opens one and after.
-fn asks_for_names<N: RollName + MeterName, R: Wait + Abort>(
-    rt: &R,
-    alloc: Global,
-    benches: Vec<Bench<Perfect, Open>>,
-)
-    requires { NamedFrom N.roll N.meter 0 benches.items }
-{
-    let hub = made::<N, _, _, _>(rt, alloc, benches);
-    let mut client = LocalClient::new(rt, alloc, &hub);
-    client.ask("< interfaces >", "< interfaces can0 can1 far0 far1 >");
-    let after = "< ok >< ok >< interfaces can0 can1 far0 far1 >";
-    client.ask("< open far1 >< rawmode >< interfaces >", after);
-}
-
-#[test]
-fn a_session_is_told_the_names_of_all_buses(rt: HostRuntime) {
-    let benches = two_buses(&rt, rt.alloc());
-    asks_for_names::<Brand, _>(&rt, rt.alloc(), benches);
-}
-
 /// A frame goes from a session on can0 to one on can1.
 #[test]
 fn a_frame_goes_from_one_session_to_the_other(rt: HostRuntime) {
