@@ -59,8 +59,9 @@ def test_the_sender_is_the_interface_that_has_sent_the_frame():
     with Server("can0,can1,can2") as server:
         watcher = Watcher(["can0", "can1"], server.address)
         for sender in ("can0", "can1", "can2", "can1", "can0"):
-            with server.bus(sender) as bus:
+            with server.bus(sender, receive_own_messages=True) as bus:
                 bus.send(can.Message(arbitration_id=0x100, is_extended_id=False))
+                assert bus.recv(5), "the frame before the next one"
         _, rows = watcher.tick(1)
         for bus in watcher.buses:
             bus.shutdown()
