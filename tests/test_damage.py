@@ -1,7 +1,7 @@
 """Damaged records, and what `canbusd audit` says of each beside an independent replay, that of the Python package.
 
 Each byte of the record in docs/RECORD.md is changed, to 30 others or, with --all-bytes, to all 255; it is cut at
-each byte. So is one with an automatic restart, whose text is version 2, and one with FD frames, whose text is
+each byte, and audited with and without `--cut`. So is one with an automatic restart, whose text is version 2, and one with FD frames, whose text is
 version 3. Records of the examples and of random runs, which have every kind of line, have bytes changed, and lines
 left out, doubled, exchanged, moved, and given other words and replies. Both have to name the same first wrong line
 or entry, and `ok` the same records. With --beside another program that audits as canbusd does has to say the same.
@@ -43,7 +43,28 @@ class Tried:
                 path = self.folder / "damaged.rec"
                 path.write_bytes(data)
                 pytest.fail(f"{program}: {first}, status {done.returncode}, and not {wanted}: {path}")
-        kind = re.sub(r"\d+", "N", wanted.removeprefix("canbusd: "))
+        self.count(wanted)
+
+    def cut(self, data):
+        """The same with `--cut`, of a record that may be cut off, and of its torn end."""
+        self.one(data)
+        wanted = audit(data, cut=True)
+        done = subprocess.run(
+            [self.program, "audit", "--cut", "/dev/stdin"], input=data, capture_output=True, timeout=WAIT, check=False
+        )
+        torn = len(data) - data.rfind(b"\n") - 1
+        note = f"note: {torn} bytes of a line without its end were not looked at\n" if torn else ""
+        if wanted.startswith("ok"):
+            said, status = (f"{wanted}\n", note), 0
+        else:
+            said, status = ("", f"{wanted}\n"), 1
+        if not (done.stdout.decode() == said[0] and done.stderr.decode().startswith(said[1])):
+            pytest.fail(f"--cut: {done.stdout!r}, {done.stderr!r}, and not {said}: {data!r}")
+        assert done.returncode == status, f"--cut: status {done.returncode}: {data!r}"
+        self.count(wanted)
+
+    def count(self, said):
+        kind = re.sub(r"\d+", "N", said.removeprefix("canbusd: "))
         self.said[kind] = self.said.get(kind, 0) + 1
 
     def __str__(self):
@@ -219,10 +240,10 @@ def change_bytes(tried, data, skip_from=0, skip_to=0):
         for other in range(256) if tried.changes_all else {*SEEN, *near}:
             if other != byte:
                 tried.one(data[:place] + bytes([other]) + data[place + 1 :])
-        tried.one(data[:place])
+        tried.cut(data[:place])
         tried.one(data[:place] + data[place + 1 :])
-    for end in (b"\n", b"x", b" ", b"\0", b"end 7\n", data):
-        tried.one(data + end)
+    for end in (b"", b"\n", b"x", b" ", b"\0", b"end 7\n", data):
+        tried.cut(data + end)
 
 
 def test_named_damages_of_the_example(tried):
@@ -266,7 +287,82 @@ def test_named_damages_of_the_example(tried):
     ]
     for damaged, fault in damages:
         assert audit(damaged.encode()) == f"canbusd: {fault}", f"the replay: {fault}"
-        tried.one(damaged.encode())
+        tried.cut(damaged.encode())
+
+
+def test_named_cuts(tried):
+    """what is said of a record that is cut off, without the replay's help"""
+    lines = example().splitlines(True)
+    wrong = [line.replace(b"done 0002", b"done 0000") for line in lines]
+    bad = [line.replace(b"123#01FF", b"123#01ff") for line in lines]
+    needless = b"canbus record 3\nbus 1 always 0000 10 100 0\nopen 0 1 = socket 0\n"
+    cuts = [
+        (b"".join(lines), "ok 7 entries"),
+        (b"".join(lines[:-1]), "ok 7 entries, then cut off"),
+        (b"".join(lines)[:-1], "ok 7 entries, then cut off"),
+        (b"".join(lines[:5]), "ok 3 entries, then cut off"),
+        (b"".join([*lines[:5], lines[5][:-1]]), "ok 3 entries, then cut off"),
+        (b"".join([*lines[:5], b"\xFF\0"]), "ok 3 entries, then cut off"),
+        (b"".join(lines[:2]), "ok 0 entries, then cut off"),
+        (b"".join(wrong[:6]), "canbusd: entry 3: wrong"),
+        (b"".join(wrong[:7])[:-2], "canbusd: entry 3: wrong"),
+        (b"".join(wrong[:6])[:-2], "ok 3 entries, then cut off"),
+        (b"".join(bad[:7]), "canbusd: line 5: bad line"),
+        (b"".join(bad[:5])[:-1], "ok 2 entries, then cut off"),
+        (b"".join(lines[:2])[:-1], "canbusd: line 2: bad line"),
+        (lines[0], "canbusd: line 2: bad line"),
+        (lines[0][:-1], "canbusd: bad version"),
+        (b"", "canbusd: bad version"),
+        (b"".join([*lines, b"x"]), "canbusd: line 11: bad line"),
+        (b"".join([*lines, b"x\n"]), "canbusd: line 11: bad line"),
+        # An FD frame may have come later.
+        (needless, "ok 1 entries, then cut off"),
+        (needless + b"end 1\n", "canbusd: bad version"),
+    ]
+    for data, said in cuts:
+        assert audit(data, cut=True) == said, f"the replay: {data!r}"
+        tried.cut(data)
+
+
+def test_files_of_one_record(tried):
+    """a record in several files, cut anywhere between them, and what is said of a file that is not there"""
+    data = example()
+    first, second = tried.folder / "1.rec", tried.folder / "2.rec"
+    for place in range(len(data) + 1):
+        first.write_bytes(data[:place])
+        second.write_bytes(data[place:])
+        for option in ([], ["--cut"]):
+            command = [tried.program, "audit", *option, first, second]
+            done = subprocess.run(command, capture_output=True, text=True, timeout=WAIT, check=False)
+            assert (done.stdout, done.stderr, done.returncode) == ("ok 7 entries\n", "", 0), f"{place}: {done}"
+    command = [tried.program, "audit", first, tried.folder / "3.rec"]
+    done = subprocess.run(command, capture_output=True, text=True, timeout=WAIT, check=False)
+    assert done.returncode == 1 and done.stderr.startswith(f"canbusd: cannot open {tried.folder / '3.rec'}\n")
+    first.write_bytes(data[:100])
+    second.write_bytes(data[100:])
+    command = [tried.program, "audit", second, first]
+    done = subprocess.run(command, capture_output=True, text=True, timeout=WAIT, check=False)
+    assert done.returncode == 1 and done.stderr.startswith("canbusd: ")
+
+
+def test_what_cut_would_do_is_said(tried):
+    """where a record ends without its last line, and only there"""
+    text = example()
+    cut = "  with --cut the {} entries before it are audited\n"
+    ends = [
+        (text[: text.index(b"end 7")], cut.format(7)),
+        (text[:-1], cut.format(7)),
+        (text[: text.index(b"0 123#01FF")], cut.format(2)),
+        (text.replace(b"end 7", b"end 8"), None),
+        (text + b"x", None),
+        (b"canbus record 1\nbus 2", None),
+        (b"", None),
+    ]
+    for data, note in ends:
+        command = [tried.program, "audit", "/dev/stdin"]
+        done = subprocess.run(command, input=data, capture_output=True, timeout=WAIT, check=False)
+        errors = done.stderr.decode()
+        assert ("--cut" in errors) == (note is not None) and errors.endswith(note or "\n"), errors
 
 
 def test_lines_of_other_records(tried):

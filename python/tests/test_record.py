@@ -164,3 +164,28 @@ def test_idle_attempts_are_counted():
         bench.attempt()
     run = bench.record().replay
     assert ([step.idle for step in run.steps], run.idle_since, run.idle) == ([2, 0, 1], 1, 4)
+
+
+def test_a_record_that_is_cut_off(tmp_path):
+    path = tmp_path / "can0.rec"
+    whole = EXAMPLE.encode()
+    lines = whole.splitlines(True)
+    for place in range(len(whole)):
+        path.write_bytes(whole[:place])
+        with pytest.raises(BadRecord):
+            read_record(path)
+        count = whole[:place].count(b"\n") - 2
+        if count < 0:
+            with pytest.raises(BadRecord, match="record|line 2"):
+                read_record(path, cut=True)
+            continue
+        record = read_record(path, cut=True)
+        assert record.is_cut and record.lines == [line.decode()[:-1] for line in lines[2 : 2 + count]]
+        assert audit(whole[:place], cut=True) == f"ok {count} entries, then cut off"
+        assert len(record.attempts) == (count > 3)
+    path.write_bytes(whole)
+    assert not read_record(path, cut=True).is_cut and read_record(path, cut=True) == read_record(path)
+    assert audit(whole, cut=True) == audit(whole) == "ok 7 entries"
+    assert audit(b"".join(lines[:5]) + b"\xff", cut=True) == "ok 3 entries, then cut off"
+    assert audit(whole + b"x", cut=True) == "canbusd: line 11: bad line"
+    assert audit(EXAMPLE.replace("done 0002", "done 0000").encode()[:-3], cut=True) == "canbusd: entry 3: wrong"

@@ -10,7 +10,12 @@ _canbusd() {
     # A file follows a redirection.
     *,*[\<\>]*,*) compopt -o default ;;
     1,*) _canbusd_offer "bench serve audit help --help --version" ;;
-    *,audit) compopt -o default ;;
+    *,audit)
+        case $text in
+        -*) _canbusd_offer "--cut --help" ;;
+        *) compopt -o default ;;
+        esac
+        ;;
     *,help) _canbusd_offer "bench serve audit" ;;
     *,bench) _canbusd_word "$options --record --log --strict" ;;
     *,serve) _canbusd_word "$options --listen --sessions --pace --write --out --until-eof --verbose" ;;

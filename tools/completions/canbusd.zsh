@@ -48,7 +48,11 @@ _canbusd() {
             '--verbose[report clients and bus off on standard error]' \
             '*:bus:_canbusd_bus'
         ;;
-    audit) _arguments '(- *)--help[show the help]' '1:record:_files' ;;
+    audit)
+        _arguments '(- *)--help[show the help]' \
+            '--cut[audit a record that is cut off]' \
+            '*:record:_files'
+        ;;
     help) _arguments '1:command:(bench serve audit)' ;;
     esac
 }

@@ -1,11 +1,21 @@
-use Rattle.std.proofs.Common.{List, ℕ, Option}
+use Rattle.std.proofs.Common.{Bool, true, false, List, ℕ, Option, inl, inr}
 use Rattle.std.specs.Io.KnownBytes.{Keeps}
 use Rattle.std.proofs.KnownBytes.{Appends-kept, Keeps-trans}
 use Rattle.canbusd_options.specs.declared.command_line.Job.{Job}
 use Rattle.canbusd_options.specs.declared.command_line.Job.TheVariants as job
+use Rattle.canbusd_audit.specs.Audited.{IsAudited, IsAuditedBy}
 use Rattle.canbusd.specs.Outcomes.{IsDone}
 
 -- A job that was done, and what is written after it.
+
+-- an audit whose line was written stays so
+whole-kept : (text : List ℕ) (old mid new : Option (List ℕ)) → IsAudited text old mid → Keeps mid new → IsAudited text old new
+whole-kept text old mid new done kept = record { config = done.config; entries = done.entries; whole = done.whole; legal = done.legal; wrote = Appends-kept old mid new _ done.wrote kept }
+
+audited-kept : (is_cut : Bool) (text : List ℕ) (old mid new : Option (List ℕ)) → IsAuditedBy is_cut text old mid → Keeps mid new → IsAuditedBy is_cut text old new
+audited-kept false text old mid new done kept = whole-kept text old mid new done kept
+audited-kept true text old mid new (inl done) kept = inl (whole-kept text old mid new done kept)
+audited-kept true text old mid new (inr done) kept = inr (record { config = done.config; entries = done.entries; front = done.front; legal = done.legal; wrote = Appends-kept old mid new _ done.wrote kept })
 
 -- it stays done where what was put out stays
 pub done-kept : {W : Type 0} (contents : W → Option (List ℕ)) (j : Job) (input : Option (List ℕ)) (old mid new : W) → IsDone contents j input old mid → Keeps (contents mid) (contents new) → IsDone contents j input old new
@@ -17,16 +27,7 @@ done-kept contents (job.Bench o) input old mid new done kept = record {
   flushed = Keeps-trans (contents done.written) (contents mid) (contents new) done.flushed kept;
   strict = done.strict;
 }
-done-kept contents (job.Audit path) input old mid new done kept = (
-  done.0,
-  record {
-    config = done.1.config;
-    entries = done.1.entries;
-    whole = done.1.whole;
-    legal = done.1.legal;
-    wrote = Appends-kept (contents old) (contents mid) (contents new) _ done.1.wrote kept;
-  },
-)
+done-kept contents (job.Audit o) input old mid new done kept = (done.0, audited-kept o.is_cut done.0 (contents old) (contents mid) (contents new) done.1 kept)
 done-kept contents (job.Serve o) input old mid new done kept = record {
   named = done.named;
   settled = done.settled;

@@ -4,17 +4,17 @@ use Rattle.canbusd_options.specs.declared.command_line.Job.{Job}
 use Rattle.canbusd_options.specs.declared.command_line.Job.TheVariants as job
 use Rattle.canbusd_options.specs.Program.{IsAsked}
 use Rattle.canbusd_options.specs.Help.{AskHelp}
-use Rattle.canbusd_audit.specs.Audited.{IsAudited}
+use Rattle.canbusd_audit.specs.Audited.{AuditsFiles}
 use Rattle.canbusd_bench.specs.Benched.{IsBenched}
 use Rattle.canbusd_serve.specs.Served.{IsServed}
 
 -- What a command line comes to that ends with status 0 (own choice).
 
 -- a job was done over the rest of an input, and what it puts out was written: the bench that its options describe, an audit of
--- a text that is a legal record's, or a server whose records are legal
+-- a text that is a legal record's, or its front where it may be cut off, or a server whose records are legal
 abbrev pub IsDone : {W : Type 0} → (W → Option (List ℕ)) → Job → Option (List ℕ) → W → W → Type 0
 IsDone contents (job.Bench o) input old new = IsBenched contents o input old new
-IsDone contents (job.Audit path) input old new = (text : List ℕ) × IsAudited text (contents old) (contents new)
+IsDone contents (job.Audit o) input old new = AuditsFiles o.is_cut contents old new
 IsDone contents (job.Serve o) input old new = IsServed contents o old new
 
 -- the job that words ask for was done

@@ -1,7 +1,7 @@
 //! canbusd: simulated CAN buses in user space.
 //!
 //! `canbusd bench BUS` reads lines that open sessions, feed them commands and put frames on one bus, and
-//! writes the texts of the sessions; `canbusd serve BUS..` serves clients over sockets; `canbusd audit FILE` checks the
+//! writes the texts of the sessions; `canbusd serve BUS..` serves clients over sockets; `canbusd audit FILE..` checks the
 //! record of such a run. `program` carries out a command line and returns its status; its words are canbusd_options', its
 //! jobs canbusd_bench's, canbusd_serve's and canbusd_audit's.
 //!

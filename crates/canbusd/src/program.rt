@@ -6,7 +6,7 @@ ghost use Rattle.canbusd_options.specs.Help.{IsNoMemory, ShowsHelp};
 ghost use Rattle.canbusd_options.specs.Program.{AskJob};
 
 use can_session::Unheard;
-use canbusd_audit::audit_file;
+use canbusd_audit::audit_files;
 use canbusd_bench::{run_bench, tell_unheard};
 use canbusd_faults::{Failure, Fault};
 use canbusd_files::{OUTPUT, write_failure};
@@ -93,7 +93,7 @@ fn do_job<'a, H: ServerRuntime, R: Read + Drop + Send + 'static, W: Write + Drop
 {
     match job {
         Job::Bench(options) => run_bench(rt, alloc, options, input, output, unheard)?,
-        Job::Audit(path) => audit_file(rt, alloc, path, output)?,
+        Job::Audit(options) => audit_files(rt, alloc, &options, output, errors)?,
         Job::Serve(options) => return run_serve(rt, alloc, &options, input, output, errors),
     }
     Ok(true)

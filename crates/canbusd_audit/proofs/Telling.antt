@@ -1,24 +1,33 @@
 -- What is told of a text that has ended.
-use Rattle.std.proofs.Common.{◌≡◌, ℕ, inr, Bool, true, false, nat_le, List, Option, Some, None, Result, Ok, Err, IfErr, OnOk, if◌then◌else◌, rules, sym, ◌∙◌, subst}
+use Rattle.std.proofs.Common.{◌≡◌, ℕ, inl, inr, Bool, true, false, nat_le, List, [], ◌++◌, Option, Some, None, Result, Ok, Err, IfErr, OnOk, if◌then◌else◌, rules, sym, ◌∙◌, subst}
+use denote.Ref.{Bor}
+use Rattle.std.specs.List.{Contains}
 use Rattle.std.specs.Io.KnownBytes.{Appends}
 use Rattle.std.proofs.lemmas.List.Elements.{All-get_or}
 use Rattle.std.proofs.lemmas.Option.{get_or_from_slice_get, slice_get_within}
+use Rattle.can_event.specs.declared.bus_config.BusConfig.{BusConfig}
 use Rattle.can_event.specs.declared.entry.Entry.{Entry}
 use Rattle.can_event.specs.declared.reply.Reply.{Reply}
 use Rattle.can_event.specs.Spelled.{FitsReply}
 use Rattle.can_bus.specs.Legal.{legal_reply}
 use Rattle.can_bus.proofs.Fitting.{legal_is_spelled}
+use Rattle.can_record_text.specs.declared.version.Version.{Version}
 use Rattle.can_record_text.specs.Spelling.{version_of}
-use Rattle.can_record_text.specs.Values.{HasLine}
+use Rattle.can_record_text.specs.Values.{HasLine, HasLines}
 use Rattle.can_replay.specs.Histories.{before}
+use Rattle.can_text_audit.specs.declared.fault.Cut.{Cut}
+use Rattle.can_text_audit.specs.declared.fault.Cut.TheVariants as cut
 use Rattle.can_text_audit.specs.declared.fault.TextFault.{TextFault}
 use Rattle.can_text_audit.specs.declared.fault.TextFault.TheVariants as found
 use Rattle.can_text_audit.specs.declared.fault.WrongLine.{WrongLine}
-use Rattle.can_text_audit.specs.TextAudits.{AreTaken, IsWrongText, Tells}
+use Rattle.can_text_audit.specs.TextAudits.{AreTaken, EndsNoLine, Tells, TellsCut}
+use Rattle.can_text_audit.specs.inner.Bodies.{IsWrongIn}
 use Rattle.can_text_audit.specs.declared.text_audit.TextAudit.{TextAudit}
 use Rattle.canbusd_faults.specs.declared.fault.Failure.{Failure}
 use Rattle.canbusd_faults.specs.declared.fault.Fault.{Fault}
-use Rattle.canbusd_audit.specs.Audited.{Faults, FaultsFile, FaultsInput, FitsLines, HasNote, IsAudited, IsInputTaken, IsTextIn, IsTold, IsWritten, entries_line}
+use Rattle.canbusd_faults.specs.declared.fault.Fault.TheVariants as fault
+use Rattle.canbusd_files.specs.Files.{IsOfFile}
+use Rattle.canbusd_audit.specs.Audited.{AuditsFiles, Faults, FaultsBy, FaultsCut, FaultsFiles, FaultsInput, FaultsLast, FitsLines, HasNote, IsAudited, IsAuditedBy, IsBlamedCut, IsCutWritten, IsInputTaken, IsOfFiles, IsTextIn, IsTold, IsWritten, TakesLast, cut_line, entries_line}
 
 -- a reply that is told is the legal one
 told-lawful : (past_limit : Bool) (law r : Reply) → Some r ≡ (if past_limit then None else Some law) → r ≡ law
@@ -26,23 +35,28 @@ told-lawful true law r e = grind rules
 told-lawful false law r e = grind rules
 
 -- the lines of a wrong entry
-fits : (text : List ℕ) (w : WrongLine) → IsWrongText text w → FitsLines w
-fits text w h =
-    let t = h.wrong.told in
+fits : (v : Version) (c : BusConfig) (entries : List Entry) (w : WrongLine) → HasLines v c entries → IsWrongIn c entries w → FitsLines w
+fits v c entries w good wrong =
+    let t = wrong.told in
     let e = t.first.entry in
-    let v = version_of h.config h.entries in
-    let here : HasLine v h.config e = subst (HasLine v h.config) (get_or_from_slice_get h.entries w.place e e t.first.there) (All-get_or (HasLine v h.config) h.entries w.place e (slice_get_within h.entries w.place e t.first.there) h.whole.0.lines) in
+    let here : HasLine v c e = subst (HasLine v c) (get_or_from_slice_get entries w.place e e t.first.there) (All-get_or (HasLine v c) entries w.place e (slice_get_within entries w.place e t.first.there) good.lines) in
     record {
-      entry = subst (λ (x : Entry). FitsReply x.event x.reply) (sym h.wrong.entry) here.spelled.fits;
+      entry = subst (λ (x : Entry). FitsReply x.event x.reply) (sym wrong.entry) here.spelled.fits;
       legal = λ r is.
-          let lawful = told-lawful (nat_le h.config.limit w.place) (legal_reply h.config (before h.entries w.place) e.event) r (sym is ∙ t.is_allowed) in
-          subst (λ (x : Entry). FitsReply x.event r) (sym h.wrong.entry) (legal_is_spelled h.config (before h.entries w.place) e.event r lawful);
+          let lawful = told-lawful (nat_le c.limit w.place) (legal_reply c (before entries w.place) e.event) r (sym is ∙ t.is_allowed) in
+          subst (λ (x : Entry). FitsReply x.event r) (sym wrong.entry) (legal_is_spelled c (before entries w.place) e.event r lawful);
     }
 
 pub noted : (text : List ℕ) (r : Result ℕ TextFault) → Tells text r → IfErr r HasNote
 noted text (Ok count) h = tt
 noted text (Err (found.Read why)) h = tt
-noted text (Err (found.Wrong w)) h = fits text w h
+noted text (Err (found.Wrong w)) h = fits (version_of h.config h.entries) h.config h.entries w h.whole.0 h.wrong
+
+pub noted_cut : (text : List ℕ) (r : Result Cut TextFault) → TellsCut text r → IfErr r HasNote
+noted_cut text (Ok how) h = tt
+noted_cut text (Err (found.Read why)) h = tt
+noted_cut text (Err (found.Wrong w)) (inl h) = fits (version_of h.config h.entries) h.config h.entries w h.whole.0 h.wrong
+noted_cut text (Err (found.Wrong w)) (inr h) = fits h.front.version h.config h.entries w h.front.good h.wrong
 
 written : (text : List ℕ) (r : Result ℕ TextFault) (old new : Option (List ℕ)) → Tells text r → IsWritten r old new → IsAudited text old new
 written text (Ok count) old new h wrote = record { config = h.config; entries = h.entries; whole = h.whole; legal = h.legal; wrote = subst (λ (n : ℕ). Appends old new (entries_line n)) h.counted wrote }
@@ -53,19 +67,83 @@ told text (Ok count) why h is = subst (Faults text) (sym is) (record { config = 
 told text (Err (found.Read what)) why h is = subst (Faults text) (sym is) h
 told text (Err (found.Wrong w)) why h is = subst (Faults text) (sym is) (record { config = h.config; entries = h.entries; whole = h.whole; says = h.wrong.told.first })
 
+-- the same of a text that may be cut off
+written_cut : (text : List ℕ) (r : Result Cut TextFault) (old new : Option (List ℕ)) → TellsCut text r → IsCutWritten r old new → IsAuditedBy true text old new
+written_cut text (Ok (cut.Whole count)) old new h wrote = inl (written text (Ok count) old new h wrote)
+written_cut text (Ok (cut.Off count)) old new h wrote = inr (record { config = h.config; entries = h.entries; front = h.front; legal = h.legal; wrote = subst (λ (n : ℕ). Appends old new (cut_line n)) h.counted wrote })
+written_cut text (Err why) old new h wrote = absurd wrote
+
+told_cut : (text : List ℕ) (r : Result Cut TextFault) (why : Fault) → TellsCut text r → IsTold r why → FaultsBy true text why
+told_cut text (Ok (cut.Whole count)) why h is = inl (told text (Ok count) why h is)
+told_cut text (Ok (cut.Off count)) why h is = inr (subst (IsBlamedCut text) (sym is) (record { config = h.config; entries = h.entries; front = h.front; says = tt }))
+told_cut text (Err (found.Read what)) why h is = inl (told text (Err (found.Read what)) why h is)
+told_cut text (Err (found.Wrong w)) why (inl h) is = inl (told text (Err (found.Wrong w)) why h is)
+told_cut text (Err (found.Wrong w)) why (inr h) is = inr (subst (IsBlamedCut text) (sym is) (record { config = h.config; entries = h.entries; front = h.front; says = h.wrong.told.first }))
+
 -- ---- what is told, of the text that a reader had
 
-pub all_written : (first old new : Option (List ℕ)) (audit : TextAudit) (found : Result ℕ TextFault) (r : Result (Unit {0}) Failure) → IsInputTaken first audit → ((text : List ℕ) → AreTaken text audit → Tells text found)
-    → OnOk r (IsWritten found old new) → OnOk r ((text : List ℕ) × IsTextIn first text × IsAudited text old new)
-all_written first old new audit found (Ok u) t tells h = (t.0, t.1, written t.0 found old new (tells t.0 t.2) h)
-all_written first old new audit found (Err why) t tells h = tt
+pub all_written : (first old new : Option (List ℕ)) (torn : List ℕ) (before audit : TextAudit) (found : Result ℕ TextFault) (r : Result (Unit {0}) Failure) → IsInputTaken first before torn → TakesLast before torn audit
+    → ((text : List ℕ) → AreTaken text audit → Tells text found) → OnOk r (IsWritten found old new) → OnOk r ((text : List ℕ) × IsTextIn first text × IsAudited text old new)
+all_written first old new torn before audit found (Ok u) t last tells h = (t.lines ++ torn, t.is_text, written (t.lines ++ torn) found old new (tells (t.lines ++ torn) (last t.lines t.taken)) h)
+all_written first old new torn before audit found (Err why) t last tells h = tt
 
-pub all_told : (first : Option (List ℕ)) (audit : TextAudit) (found : Result ℕ TextFault) (r : Result (Unit {0}) Failure) → IsInputTaken first audit → ((text : List ℕ) → AreTaken text audit → Tells text found)
-    → IfErr r (λ failure. IsTold found failure.fault) → IfErr r (λ failure. FaultsInput first failure.fault)
-all_told first audit found (Ok u) t tells h = tt
-all_told first audit found (Err failure) t tells h = (t.0, t.1, told t.0 found failure.fault (tells t.0 t.2) h)
+pub all_told : (first : Option (List ℕ)) (torn : List ℕ) (before audit : TextAudit) (found : Result ℕ TextFault) (r : Result (Unit {0}) Failure) → IsInputTaken first before torn → TakesLast before torn audit
+    → ((text : List ℕ) → AreTaken text audit → Tells text found) → IfErr r (λ failure. IsTold found failure.fault) → IfErr r (λ failure. FaultsInput first failure.fault)
+all_told first torn before audit found (Ok u) t last tells h = tt
+all_told first torn before audit found (Err failure) t last tells h = (t.lines ++ torn, t.is_text, told (t.lines ++ torn) found failure.fault (tells (t.lines ++ torn) (last t.lines t.taken)) h)
 
--- the same of the file with this path
-pub told_of_file : (path : List ℕ) (first : Option (List ℕ)) (r : Result (Unit {0}) Failure) → IfErr r (λ failure. FaultsInput first failure.fault) → IfErr r (λ failure. FaultsFile path failure.fault)
-told_of_file path first (Ok u) h = tt
-told_of_file path first (Err failure) h = inr (h.0, h.2)
+-- the last line is at fault
+pub last_told : (first : Option (List ℕ)) (torn : List ℕ) (audit : TextAudit) (why : Fault) → IsInputTaken first audit torn → FaultsLast audit torn why → FaultsInput first why
+last_told first torn audit why t h = (t.lines ++ torn, t.is_text, h t.lines t.taken)
+
+-- the same of a text that may be cut off
+pub cut_written : (first old new : Option (List ℕ)) (torn : List ℕ) (audit : TextAudit) (found : Result Cut TextFault) (r : Result (Unit {0}) Failure) → IsInputTaken first audit torn → ((text : List ℕ) → AreTaken text audit → EndsNoLine torn → TellsCut (text ++ torn) found)
+    → OnOk r (IsCutWritten found old new) → OnOk r ((text : List ℕ) × IsTextIn first text × IsAuditedBy true text old new)
+cut_written first old new torn audit found (Ok u) t tells h = (t.lines ++ torn, t.is_text, written_cut (t.lines ++ torn) found old new (tells t.lines t.taken t.unended) h)
+cut_written first old new torn audit found (Err why) t tells h = tt
+
+pub all_told_cut : (first : Option (List ℕ)) (torn : List ℕ) (audit : TextAudit) (found : Result Cut TextFault) (r : Result (Unit {0}) Failure) → IsInputTaken first audit torn → ((text : List ℕ) → AreTaken text audit → EndsNoLine torn → TellsCut (text ++ torn) found)
+    → IfErr r (λ failure. IsTold found failure.fault) → IfErr r (λ failure. FaultsCut first failure.fault)
+all_told_cut first torn audit found (Ok u) t tells h = tt
+all_told_cut first torn audit found (Err failure) t tells h = (t.lines ++ torn, t.is_text, told_cut (t.lines ++ torn) found failure.fault (tells t.lines t.taken t.unended) h)
+
+pub input_told_cut : (first : Option (List ℕ)) (why : Fault) → FaultsInput first why → FaultsCut first why
+input_told_cut first why h = (h.0, h.1, inl h.2)
+
+-- ---- the same of files
+
+pub files_written : {W : Type 0} (is_cut : Bool) (first : Option (List ℕ)) (contents : W → Option (List ℕ)) (old new : W) (r : Result (Unit {0}) Failure) → is_cut ≡ false
+    → OnOk r ((text : List ℕ) × IsTextIn first text × IsAudited text (contents old) (contents new)) → OnOk r (AuditsFiles is_cut contents old new)
+files_written true first contents old new r is h = absurd cc
+files_written false first contents old new (Ok u) is h = (h.0, h.2)
+files_written false first contents old new (Err why) is h = tt
+
+pub cut_files_written : {W : Type 0} (is_cut : Bool) (first : Option (List ℕ)) (contents : W → Option (List ℕ)) (old new : W) (r : Result (Unit {0}) Failure) → is_cut ≡ true
+    → OnOk r ((text : List ℕ) × IsTextIn first text × IsAuditedBy true text (contents old) (contents new)) → OnOk r (AuditsFiles is_cut contents old new)
+cut_files_written false first contents old new r is h = absurd cc
+cut_files_written true first contents old new (Ok u) is h = (h.0, h.2)
+cut_files_written true first contents old new (Err why) is h = tt
+
+pub files_told : (is_cut : Bool) (paths : List (List ℕ)) (first : Option (List ℕ)) (r : Result (Unit {0}) Failure) → is_cut ≡ false → IfErr r (λ failure. FaultsInput first failure.fault) → IfErr r (λ failure. FaultsFiles is_cut paths failure.fault)
+files_told true paths first r is h = absurd cc
+files_told false paths first (Ok u) is h = tt
+files_told false paths first (Err failure) is h = inr (h.0, h.2)
+
+pub cut_files_told : (is_cut : Bool) (paths : List (List ℕ)) (first : Option (List ℕ)) (r : Result (Unit {0}) Failure) → is_cut ≡ true → IfErr r (λ failure. FaultsCut first failure.fault) → IfErr r (λ failure. FaultsFiles is_cut paths failure.fault)
+cut_files_told false paths first r is h = absurd cc
+cut_files_told true paths first (Ok u) is h = tt
+cut_files_told true paths first (Err failure) is h = inr (h.0, h.2)
+
+-- memory was refused
+pub no_memory : (is_cut : Bool) (paths : List (List ℕ)) (why : Fault) → why ≡ fault.NoMemory → FaultsFiles is_cut paths why
+no_memory is_cut paths why is = inr ([], subst (FaultsBy is_cut []) (sym is) (says is_cut))
+  where
+    says : (b : Bool) → FaultsBy b [] fault.NoMemory
+    says false = tt
+    says true = inl tt
+
+pub of_file : (paths : List (List ℕ)) (path : List ℕ) (named : Bor (List ℕ)) (why : Fault) → Contains paths path → why ≡ fault.CannotOpen named → named.now ≡ path → IsOfFiles paths why
+of_file paths path named why there is same = (path, there, subst (IsOfFile path) (sym is) same)
+
+pub of_memory : (paths : List (List ℕ)) (path : List ℕ) (why : Fault) → Contains paths path → why ≡ fault.NoMemory → IsOfFiles paths why
+of_memory paths path why there is = (path, there, subst (IsOfFile path) (sym is) tt)

@@ -1,19 +1,20 @@
 -- The lines of a text, as they are read.
-use Rattle.std.proofs.Common.{◌≡◌, ◌≢◌, ◌+◌, ℕ, List, [], ◌∷◌, ◌++◌, length, Option, Some, None, Err, inl, inr, append_assoc, refl, sym, ap, subst, ◌∙◌, arith}
-use Rattle.std.specs.Prelude.{IfSome}
+use Rattle.std.proofs.Common.{◌≡◌, ◌≢◌, ◌==◌, ◌-◌, ℕ, suc, Bool, true, false, cond, IsTrue, All, List, [], ◌∷◌, ◌++◌, length, take, Option, Some, None, Err, inl, inr, append_assoc, eqb-true, refl, sym, ap, subst, ◌∙◌, arith}
+use Rattle.std.specs.Prelude.{IfSome, slice_get}
 use Rattle.std.specs.Io.{StopsAt, appended_bytes}
 use Rattle.std.specs.Io.BufRead.{take_through}
 use Rattle.std.specs.Io.KnownBytes.{Consumes, IsAtEnd}
 use Rattle.std.proofs.lemmas.List.{append-nil}
+use Rattle.std.proofs.lemmas.List.Elements.{All-cons, All-head, All-nil, All-tail, All-take}
 use Rattle.can_record_text.specs.declared.fault.ReadFault.{ReadFault}
 use Rattle.can_record_text.specs.RecordFaults.{Reads}
 use Rattle.can_text_audit.specs.declared.text_audit.TextAudit.{TextAudit}
-use Rattle.can_text_audit.specs.TextAudits.{AreTaken, IsLine, MayFollow}
+use Rattle.can_text_audit.specs.TextAudits.{AreTaken, EndsNoLine, IsLine, MayFollow}
 use Rattle.can_text_audit.proofs.LineEnds.{nothing_more}
 use Rattle.canbusd_faults.specs.declared.fault.Fault.{Fault}
 use Rattle.canbusd_faults.specs.declared.fault.Fault.TheVariants as fault
 use Rattle.canbusd_files.specs.Files.{IsOfReading}
-use Rattle.canbusd_audit.specs.Audited.{Faults, FaultsInput, IsAtFault, IsBefore, IsInputTaken, IsOfLine, IsRead, IsTextIn, IsUnderway}
+use Rattle.canbusd_audit.specs.Audited.{Faults, FaultsInput, FaultsLast, IsAtFault, IsBefore, IsInputTaken, IsNextLine, IsOfLine, IsRead, IsTextIn, IsUnderway, TakesLast}
 
 nothing_read : (o : Option (List ℕ)) → Consumes o o []
 nothing_read None = tt
@@ -43,8 +44,22 @@ text_is (Some all) None text h end = absurd h
 text_is (Some all) (Some rest) text h end = sym (h ∙ ap (λ (x : List ℕ). text ++ x) end ∙ append-nil text)
 
 -- the text has ended
-pub ends : (first now : Option (List ℕ)) (audit : TextAudit) → IsUnderway first now audit → IsAtEnd now → IsInputTaken first audit
-ends first now audit u end = (u.text, text_is first now u.text u.consumed end, u.taken)
+pub ends : (first now : Option (List ℕ)) (audit : TextAudit) → IsUnderway first now audit → IsAtEnd now → IsInputTaken first audit []
+ends first now audit u end = record {
+  lines = u.text;
+  is_text = subst (IsTextIn first) (sym (append-nil u.text)) (text_is first now u.text u.consumed end);
+  taken = u.taken;
+  unended = All-nil (λ b. b ≢ 10);
+}
+
+text_then : (first now : Option (List ℕ)) (text line : List ℕ) → Consumes first now text → IsTextIn now line → IsTextIn first (text ++ line)
+text_then None now text line h is = tt
+text_then (Some all) None text line h is = absurd h
+text_then (Some all) (Some rest) text line h is = sym (h ∙ ap (λ (x : List ℕ). text ++ x) (sym is))
+
+-- the same with bytes that end no line
+pub ends_torn : (first now : Option (List ℕ)) (audit : TextAudit) (torn : List ℕ) → IsUnderway first now audit → IsTextIn now torn → EndsNoLine torn → IsInputTaken first audit torn
+ends_torn first now audit torn u is unended = record { lines = u.text; is_text = text_then first now u.text torn u.consumed is; taken = u.taken; unended = unended }
 
 -- a line was at fault
 fails : (first now after : Option (List ℕ)) (line : List ℕ) (audit : TextAudit) (why : ReadFault) → IsUnderway first now audit → IsRead now after line
@@ -83,11 +98,51 @@ through None new line h k = tt
 through (Some xs) None line h k = tt
 through (Some xs) (Some ys) line h k = ap (take_through 10) (sym k) ∙ sym h
 
-pub read_next : (old new : Option (List ℕ)) (start line : List ℕ) (n : ℕ) → start ≡ [] → length line ≡ length start + n → n ≢ 0 → StopsAt (appended_bytes start line) 10
-    → IfSome old (λ xs. line ≡ start ++ take_through 10 xs) → Consumes old new (appended_bytes start line) → IsRead old new line
-read_next old new [] line n empty long some stops through_lf consumed = record {
-  is_line = record { some = λ is. some (omega (arith, long, ap length is)); stops = stops };
+-- bytes whose last one ends no line
+unended : (xs : List ℕ) → StopsAt xs 10 → slice_get xs (length xs - 1) ≢ Some 10 → EndsNoLine xs
+unended [] stops last = All-nil (λ b. b ≢ 10)
+unended (x ∷ []) stops last = All-cons (λ b. b ≢ 10) x [] (λ is. last (ap Some is)) (All-nil (λ b. b ≢ 10))
+unended (x ∷ y ∷ ys) stops last =
+    let short : length (x ∷ y ∷ ys) - 1 ≡ suc (length (y ∷ ys) - 1) = omega arith in
+    let all = subst (λ (n : ℕ). All (λ z. z ≢ 10) (take n (x ∷ y ∷ ys))) short stops in
+    All-cons (λ b. b ≢ 10) x (y ∷ ys) (All-head (λ z. z ≢ 10) x (take (length (y ∷ ys) - 1) (y ∷ ys)) all)
+    (unended (y ∷ ys) (All-tail (λ z. z ≢ 10) x (take (length (y ∷ ys) - 1) (y ∷ ys)) all) (subst (λ (n : ℕ). slice_get (x ∷ y ∷ ys) n ≢ Some 10) short last))
+
+whole_through : (xs : List ℕ) → EndsNoLine (take_through 10 xs) → take_through 10 xs ≡ xs
+whole_through [] h = refl
+whole_through (x ∷ xs) h = when (x == 10) refl h
+  where
+    when : (b : Bool) → (x == 10) ≡ b → EndsNoLine (cond b (x ∷ []) (x ∷ take_through 10 xs)) → cond b (x ∷ []) (x ∷ take_through 10 xs) ≡ x ∷ xs
+    when true is h = absurd (All-head (λ z. z ≢ 10) x [] h (eqb-true x 10 is))
+    when false is h = ap (λ (zs : List ℕ). x ∷ zs) (whole_through xs (All-tail (λ z. z ≢ 10) x (take_through 10 xs) h))
+
+rest_is : (old : Option (List ℕ)) (line : List ℕ) → EndsNoLine line → IfSome old (λ xs. line ≡ take_through 10 xs) → IsTextIn old line
+rest_is None line h is = tt
+rest_is (Some xs) line h is = is ∙ whole_through xs (subst EndsNoLine is h)
+
+pub next_is : (b : Bool) (old new : Option (List ℕ)) (start line : List ℕ) → start ≡ [] → StopsAt (appended_bytes start line) 10 → IfSome old (λ xs. line ≡ start ++ take_through 10 xs) → Consumes old new (appended_bytes start line)
+    → (IsTrue b → line ≢ []) → (b ≡ false → slice_get line (length line - 1) ≢ Some 10) → IsNextLine b old new line
+next_is true old new [] line empty stops through_lf consumed yes no = record {
+  is_line = record { some = yes tt; stops = stops };
   consumed = consumed;
   before = through old new line through_lf consumed;
 }
-read_next old new (x ∷ xs) line n empty long some stops through_lf consumed = absurd cc
+next_is false old new [] line empty stops through_lf consumed yes no =
+    let torn = unended line stops (no refl) in
+    (rest_is old line torn through_lf, torn)
+next_is b old new (x ∷ xs) line empty stops through_lf consumed yes no = absurd cc
+
+-- ---- bytes behind the last line
+
+pub last_line : (torn : List ℕ) → torn ≢ [] → EndsNoLine torn → IsLine torn
+last_line torn some h = record { some = some; stops = All-take (λ b. b ≢ 10) (length torn - 1) torn h }
+
+pub nothing_last : (torn : List ℕ) (audit : TextAudit) → torn ≡ [] → TakesLast audit torn audit
+nothing_last torn audit none = λ lines taken. subst (λ (x : List ℕ). AreTaken x audit) (sym (ap (λ (x : List ℕ). lines ++ x) none ∙ append-nil lines)) taken
+
+pub fails_last : (torn : List ℕ) (audit : TextAudit) (what : ReadFault) (why : Fault) → IsOfLine what why → torn ≢ [] → EndsNoLine torn
+    → ((text rest : List ℕ) → AreTaken text audit → IsLine torn → MayFollow torn rest → Reads (text ++ (torn ++ rest)) (Err what)) → FaultsLast audit torn why
+fails_last torn audit what why (inl is) some h step = λ lines taken.
+    let line = last_line torn some h in
+    subst (Faults (lines ++ torn)) (sym is) (subst (λ (x : List ℕ). Reads (lines ++ x) (Err what)) (append-nil torn) (step lines [] taken line (nothing_more torn line)))
+fails_last torn audit what why (inr reading) some h step = λ lines taken. of_reading (lines ++ torn) why reading

@@ -1,4 +1,5 @@
 use Rattle.std.specs.Prelude.{◌≡◌, ◌⊎◌, ℕ, Bool, true, false, List, [], ◌∷◌, ◌++◌, length, reverse, codes, decimal, Option, Some, None, Result, Ok, Err}
+use Rattle.std.specs.List.{Contains}
 use Rattle.std.specs.Io.KnownBytes.{Appends, Consumes, IsAtEnd}
 use Rattle.can_event.specs.declared.bus_config.BusConfig.{BusConfig}
 use Rattle.can_event.specs.declared.entry.Entry.{Entry}
@@ -8,11 +9,13 @@ use Rattle.can_bus.specs.Legal.{IsLegal}
 use Rattle.can_record_text.specs.declared.fault.ReadFault.{ReadFault}
 use Rattle.can_record_text.specs.RecordFaults.{IsTextOf, Reads}
 use Rattle.can_replay.specs.Audits.{IsFirstWrong}
+use Rattle.can_text_audit.specs.declared.fault.Cut.{Cut}
+use Rattle.can_text_audit.specs.declared.fault.Cut.TheVariants as cut
 use Rattle.can_text_audit.specs.declared.fault.TextFault.{TextFault}
 use Rattle.can_text_audit.specs.declared.fault.TextFault.TheVariants as found
 use Rattle.can_text_audit.specs.declared.fault.WrongLine.{WrongLine}
 use Rattle.can_text_audit.specs.declared.text_audit.TextAudit.{TextAudit}
-use Rattle.can_text_audit.specs.TextAudits.{AreTaken, IsLine, MayFollow}
+use Rattle.can_text_audit.specs.TextAudits.{AreTaken, EndsNoLine, IsFrontOf, IsLine, MayFollow}
 use Rattle.canbusd_faults.specs.declared.fault.Fault.{Fault}
 use Rattle.canbusd_faults.specs.declared.fault.Fault.TheVariants as fault
 use Rattle.canbusd_files.specs.Files.{IsOfFile, IsOfReading}
@@ -33,9 +36,26 @@ pub record IsAudited (text : List ℕ) (old new : Option (List ℕ)) : Type 0 wh
   pub legal : IsLegal config (reverse entries)
   pub wrote : Appends old new (entries_line (length entries))
 
--- a text that a file may hold is that of a legal history, and how many entries it has was written
-abbrev pub AuditsFile : {W : Type 0} → (W → Option (List ℕ)) → W → W → Type 0
-AuditsFile contents old new = (text : List ℕ) × IsAudited text (contents old) (contents new)
+-- the line that tells how many entries a record has that is cut off
+abbrev pub cut_line : ℕ → List ℕ
+cut_line n = codes "ok " ++ decimal n ++ codes " entries, then cut off" ++ 10 ∷ []
+
+-- the text is cut off, and as far as it reaches that of a legal history; how many entries it has was written
+pub record IsAuditedCut (text : List ℕ) (old new : Option (List ℕ)) : Type 0 where
+  pub config : BusConfig
+  pub entries : List Entry
+  pub front : IsFrontOf text config entries
+  pub legal : IsLegal config (reverse entries)
+  pub wrote : Appends old new (cut_line (length entries))
+
+-- the text was audited: as a whole one, or where it may be cut off as either
+abbrev pub IsAuditedBy : Bool → List ℕ → Option (List ℕ) → Option (List ℕ) → Type 0
+IsAuditedBy false text old new = IsAudited text old new
+IsAuditedBy true text old new = IsAudited text old new ⊎ IsAuditedCut text old new
+
+-- a text that files may hold was audited, one that may be cut off or not
+abbrev pub AuditsFiles : {W : Type 0} → Bool → (W → Option (List ℕ)) → W → W → Type 0
+AuditsFiles is_cut contents old new = (text : List ℕ) × IsAuditedBy is_cut text (contents old) (contents new)
 
 -- what a fault says of a record's entries: the first wrong one is told; of the writer and of memory it says nothing
 abbrev pub SaysOf : BusConfig → List Entry → Fault → Type 0
@@ -51,12 +71,24 @@ pub record IsBlamed (text : List ℕ) (why : Fault) : Type 0 where
   pub whole : IsTextOf text config entries
   pub says : SaysOf config entries why
 
+-- the text is the front of a record's, and a fault says this of its entries
+pub record IsBlamedCut (text : List ℕ) (why : Fault) : Type 0 where
+  pub config : BusConfig
+  pub entries : List Entry
+  pub front : IsFrontOf text config entries
+  pub says : SaysOf config entries why
+
 -- what a fault says of a text: it is no record's, or a record's that is wrong; of reading and of memory it says nothing
 abbrev pub Faults : List ℕ → Fault → Type 0
 Faults text (fault.Record why) = Reads text (Err why)
 Faults text fault.Read = Unit {0}
 Faults text fault.NoMemory = Unit {0}
 Faults text why = IsBlamed text why
+
+-- what a fault says of a text that may be cut off
+abbrev pub FaultsBy : Bool → List ℕ → Fault → Type 0
+FaultsBy false text why = Faults text why
+FaultsBy true text why = Faults text why ⊎ IsBlamedCut text why
 
 -- the text is what a reader had, where that is known
 abbrev pub IsTextIn : Option (List ℕ) → List ℕ → Type 0
@@ -67,17 +99,40 @@ IsTextIn (Some all) text = text ≡ all
 abbrev pub Audits : {W : Type 0} → Option (List ℕ) → (W → Option (List ℕ)) → W → W → Type 0
 Audits input contents old new = (text : List ℕ) × IsTextIn input text × IsAudited text (contents old) (contents new)
 
+-- the same of a text that may be cut off
+abbrev pub AuditsCut : {W : Type 0} → Option (List ℕ) → (W → Option (List ℕ)) → W → W → Type 0
+AuditsCut input contents old new = (text : List ℕ) × IsTextIn input text × IsAuditedBy true text (contents old) (contents new)
+
 -- what a fault says of the text that a reader had
 abbrev pub FaultsInput : Option (List ℕ) → Fault → Type 0
 FaultsInput input why = (text : List ℕ) × IsTextIn input text × Faults text why
 
--- a fault of the file with this path, or of a text that it may hold
-abbrev pub FaultsFile : List ℕ → Fault → Type 0
-FaultsFile path why = IsOfFile path why ⊎ ((text : List ℕ) × Faults text why)
+-- the same of a text that may be cut off
+abbrev pub FaultsCut : Option (List ℕ) → Fault → Type 0
+FaultsCut input why = (text : List ℕ) × IsTextIn input text × FaultsBy true text why
 
--- the lines of the text that a reader had were taken
-abbrev pub IsInputTaken : Option (List ℕ) → TextAudit → Type 0
-IsInputTaken input audit = (text : List ℕ) × IsTextIn input text × AreTaken text audit
+-- a fault of one of the files with these paths
+abbrev pub IsOfFiles : List (List ℕ) → Fault → Type 0
+IsOfFiles paths why = (path : List ℕ) × Contains paths path × IsOfFile path why
+
+-- a fault of one of the files with these paths, or of memory, or of a text that they may hold
+abbrev pub FaultsFiles : Bool → List (List ℕ) → Fault → Type 0
+FaultsFiles is_cut paths why = IsOfFiles paths why ⊎ ((text : List ℕ) × FaultsBy is_cut text why)
+
+-- the lines of the text that a reader had were taken, up to bytes that end no line
+pub record IsInputTaken (input : Option (List ℕ)) (audit : TextAudit) (torn : List ℕ) : Type 0 where
+  pub lines : List ℕ
+  pub is_text : IsTextIn input (lines ++ torn)
+  pub taken : AreTaken lines audit
+  pub unended : EndsNoLine torn
+
+-- bytes that end no line were taken as the last line, if there are any
+abbrev pub TakesLast : TextAudit → List ℕ → TextAudit → Type 0
+TakesLast before torn after = (lines : List ℕ) → AreTaken lines before → AreTaken (lines ++ torn) after
+
+-- they are at fault
+abbrev pub FaultsLast : TextAudit → List ℕ → Fault → Type 0
+FaultsLast audit torn why = (lines : List ℕ) → AreTaken lines audit → Faults (lines ++ torn) why
 
 -- an audit takes these lines too
 abbrev pub TakesMore : TextAudit → List ℕ → TextAudit → Type 0
@@ -102,10 +157,10 @@ pub record IsRead (old new : Option (List ℕ)) (line : List ℕ) : Type 0 where
   pub consumed : Consumes old new line
   pub before : IsBefore old line new
 
--- the next line was read, or there is none
+-- the next line was read, or what is left, which ends no line
 abbrev pub IsNextLine : Bool → Option (List ℕ) → Option (List ℕ) → List ℕ → Type 0
 IsNextLine true old new line = IsRead old new line
-IsNextLine false old new line = IsAtEnd old
+IsNextLine false old new line = IsTextIn old line × EndsNoLine line
 
 -- the lines of a text were read and taken
 pub record IsUnderway (first now : Option (List ℕ)) (audit : TextAudit) : Type 0 where
@@ -142,8 +197,18 @@ abbrev pub IsWritten : Result ℕ TextFault → Option (List ℕ) → Option (Li
 IsWritten (Ok count) old new = Appends old new (entries_line count)
 IsWritten (Err why) old new = ⊥
 
+-- the same of a record that may be cut off
+abbrev pub IsCutWritten : Result Cut TextFault → Option (List ℕ) → Option (List ℕ) → Type 0
+IsCutWritten (Ok (cut.Whole count)) old new = Appends old new (entries_line count)
+IsCutWritten (Ok (cut.Off count)) old new = Appends old new (cut_line count)
+IsCutWritten (Err why) old new = ⊥
+
+-- a fault is that of the text
+abbrev pub IsToldFault : TextFault → Fault → Type 0
+IsToldFault (found.Read what) why = why ≡ fault.Record what
+IsToldFault (found.Wrong w) why = why ≡ fault.WrongEntry w.place
+
 -- a fault is that which was found, or of the writer
-abbrev pub IsTold : Result ℕ TextFault → Fault → Type 0
+abbrev pub IsTold : {A : Type 0} → Result A TextFault → Fault → Type 0
 IsTold (Ok count) why = why ≡ fault.Write
-IsTold (Err (found.Read what)) why = why ≡ fault.Record what
-IsTold (Err (found.Wrong w)) why = why ≡ fault.WrongEntry w.place
+IsTold (Err what) why = IsToldFault what why

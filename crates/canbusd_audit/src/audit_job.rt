@@ -1,30 +1,73 @@
-ghost use Rattle.std.specs.Prelude.{IfErr, OnOk};
-ghost use Rattle.canbusd_audit.specs.Audited.{Audits, AuditsFile, FaultsFile, FaultsInput};
+ghost use Rattle.std.specs.Prelude.{[], IfErr, IfOk, OnOk, map};
+ghost use Rattle.can_text_audit.specs.TextAudits.{EndsNoLine};
+ghost use Rattle.canbusd_audit.specs.Audited.{Audits, AuditsCut, AuditsFiles, FaultsCut, FaultsFiles, FaultsInput, IsInputTaken, IsOfFiles};
 
-use crate::ends::tell_end;
-use crate::line_taking::take_lines;
+use crate::ends::{tell_cut, tell_end};
+use crate::joined::Joined;
+use crate::line_taking::{take_last, take_lines};
 use can_text_audit::TextAudit;
 use canbusd_faults::{Failure, Fault};
-use canbusd_files::open_file;
-use std::alloc::Global;
+use canbusd_files::{FewReads, open_file};
+use canbusd_options::AuditOptions;
+use std::alloc::{AllocError, Global};
 use std::io::{BufRead, BufReader, Write};
 use std::rt::Files;
 
-/// Audits the record in the file with this path, and writes how many entries it has where it is a legal history.
-pub fn audit_file<'a, H: Files, W: Write>(
+/// Audits the record whose text the files of the options have, one after another, and writes how many entries it has
+/// where it is a legal history.
+pub fn audit_files<'a, H: Files, W: Write, E: Write>(
     rt: &H,
     alloc: Global,
-    path: &'a str,
+    options: &AuditOptions<'a>,
     output: &mut W,
+    errors: &mut E,
 ) -> Result<(), Failure<'a>>
-    ensures legal { OnOk result (AuditsFile W.contents output.old output.new) }
-    ensures fault { IfErr result (λ failure. FaultsFile path.now failure.fault) }
+    ensures legal { OnOk result (AuditsFiles options.now.is_cut W.contents output.old output.new) }
+    ensures fault { IfErr result (λ failure.
+        FaultsFiles options.now.is_cut (map (λ file. file.now) options.now.files.items) failure.fault) }
 {
-    let file = open_file(rt, alloc, path)?;
-    let Ok(mut input) = BufReader::new(alloc, file) else {
+    let files = open_files(rt, alloc, &options.files)?;
+    let Ok(name) = joined_name(alloc, &options.files) else {
         return Err(Failure::new(alloc, Fault::NoMemory));
     };
-    audit_lines(alloc, path, &mut input, output)
+    let Ok(mut input) = BufReader::new(alloc, Joined::new(files)) else {
+        return Err(Failure::new(alloc, Fault::NoMemory));
+    };
+    if options.is_cut {
+        audit_cut_lines(alloc, &name, &mut input, output, errors)
+    } else {
+        audit_lines(alloc, &name, &mut input, output)
+    }
+}
+
+// The files with these paths.
+fn open_files<'a, H: Files>(
+    rt: &H,
+    alloc: Global,
+    paths: &[&'a str],
+) -> Result<Vec<FewReads<H::File>>, Failure<'a>>
+    ensures { IfErr result (λ failure. IsOfFiles (map (λ path. path.now) paths.now) failure.fault) }
+{
+    let mut files = Vec::new(alloc);
+    for path in paths {
+        let file = open_file(rt, alloc, path)?;
+        if files.push(file).is_err() {
+            return Err(Failure::new(alloc, Fault::NoMemory));
+        }
+    }
+    Ok(files)
+}
+
+// What the text of these files is called where a line of it is shown.
+fn joined_name(alloc: Global, paths: &[&str]) -> Result<String, AllocError> {
+    let mut name = String::new(alloc);
+    for (place, path) in paths.iter().enumerate() {
+        if place > 0 {
+            name.push_str(" + ")?;
+        }
+        name.push_str(path)?;
+    }
+    Ok(name)
 }
 
 /// Audits the record of a text, which the file with this path has, and writes how many entries it has where it is a
@@ -41,6 +84,27 @@ pub fn audit_lines<'a, R: BufRead, W: Write>(
     ensures fault { IfErr result (λ failure. FaultsInput (R.remaining input.old) failure.fault) }
 {
     let mut audit = TextAudit::new(alloc);
-    let lines = take_lines(alloc, path, input, &mut audit)?;
+    let mut torn = Vec::new(alloc);
+    let lines = take_lines(alloc, path, input, &mut audit, &mut torn)?;
+    let lines = take_last(alloc, path, lines, &mut audit, &torn)?;
     tell_end(alloc, path, lines, audit.finish(), output)
+}
+
+/// The same of a text that may be cut off, as a run that was killed leaves it: writes how many entries it has, and
+/// that it is cut off, where the record is a legal history as far as it reaches.
+pub fn audit_cut_lines<'a, R: BufRead, W: Write, E: Write>(
+    alloc: Global,
+    path: &str,
+    input: &mut R,
+    output: &mut W,
+    errors: &mut E,
+) -> Result<(), Failure<'a>>
+    ensures legal { OnOk result (AuditsCut (R.remaining input.old) W.contents output.old output.new) }
+    ensures fault { IfErr result (λ failure. FaultsCut (R.remaining input.old) failure.fault) }
+{
+    let mut audit = TextAudit::new(alloc);
+    let mut torn = Vec::new(alloc);
+    let lines = take_lines(alloc, path, input, &mut audit, &mut torn)?;
+    let found = audit.finish_cut(&torn);
+    tell_cut(alloc, path, lines, found, &torn, output, errors)
 }

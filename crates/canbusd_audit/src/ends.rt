@@ -1,10 +1,12 @@
-ghost use Rattle.std.specs.Prelude.{IfErr, OnOk};
-ghost use Rattle.canbusd_audit.specs.Audited.{HasNote, IsTold, IsWritten};
+ghost use Rattle.std.specs.Prelude.{◌≡◌, IfErr, OnOk};
+ghost use Rattle.std.specs.Io.KnownBytes.{Appends};
+ghost use Rattle.canbusd_faults.specs.declared.fault.Fault.TheVariants as told;
+ghost use Rattle.canbusd_audit.specs.Audited.{FitsLines, HasNote, IsCutWritten, IsTold, IsWritten, cut_line};
 
-use crate::notes::record_note;
+use crate::notes::{record_note, with_cut_note};
 use crate::wrong_entries::wrong_note;
 use can_record_text::ReadFault;
-use can_text_audit::TextFault;
+use can_text_audit::{Cut, TextFault, WrongLine};
 use canbusd_faults::{Failure, Fault};
 use canbusd_files::{OUTPUT, write_failure};
 use std::alloc::Global;
@@ -27,21 +29,86 @@ pub fn tell_end<'a, W: Write>(
             alloc, OUTPUT, &error,
         )),
         Err(TextFault::Read(fault)) => {
-            let note = record_note(alloc, path, last_shown(lines, fault), fault);
-            Err(Failure::with(alloc, Fault::Record(fault), note))
+            let failure = text_failure(alloc, path, lines, b"", fault);
+            Err(with_cut_note(alloc, failure, fault))
         }
-        Err(TextFault::Wrong(wrong)) => {
-            let note = wrong_note(alloc, path, &wrong);
-            Err(Failure::with(alloc, Fault::WrongEntry(wrong.place), note))
-        }
+        Err(TextFault::Wrong(wrong)) => Err(wrong_failure(alloc, path, &wrong)),
     }
 }
 
-// The line of the text that a fault of the whole text is about. There is none where a line is missing; of a text that
-// is right line by line it is the first, that of version 3.
-fn last_shown(lines: u64, fault: ReadFault) -> &'static [u8] {
+/// The same of a text that may be cut off, before these bytes.
+pub fn tell_cut<'a, W: Write, E: Write>(
+    alloc: Global,
+    path: &str,
+    lines: u64,
+    found: Result<Cut, TextFault>,
+    torn: &[u8],
+    output: &mut W,
+    errors: &mut E,
+) -> Result<(), Failure<'a>>
+    requires { IfErr found HasNote }
+    ensures legal { OnOk result (IsCutWritten found (W.contents output.old) (W.contents output.new)) }
+    ensures fault { IfErr result (λ failure. IsTold found failure.fault) }
+{
+    match found {
+        Ok(Cut::Whole(count)) => tell_end(alloc, path, lines, Ok(count), output),
+        Ok(Cut::Off(count)) => tell_off(alloc, count, torn, output, errors),
+        Err(TextFault::Read(fault)) => Err(text_failure(alloc, path, lines, torn, fault)),
+        Err(TextFault::Wrong(wrong)) => Err(wrong_failure(alloc, path, &wrong)),
+    }
+}
+
+// Writes how many entries a record has that is cut off before these bytes, and how many bytes these are.
+fn tell_off<'a, W: Write, E: Write>(
+    alloc: Global,
+    count: usize,
+    torn: &[u8],
+    output: &mut W,
+    errors: &mut E,
+) -> Result<(), Failure<'a>>
+    ensures legal { OnOk result (Appends (W.contents output.old) (W.contents output.new) (cut_line count)) }
+    ensures fault { IfErr result (λ failure. failure.fault ≡ told.Write) }
+{
+    if !torn.is_empty() {
+        let bytes = torn.len();
+        let _ = writeln!(
+            errors,
+            "note: {bytes} bytes of a line without its end were not looked at"
+        );
+    }
+    writeln!(output, "ok {count} entries, then cut off").map_err(|error| write_failure(
+        alloc, OUTPUT, &error,
+    ))
+}
+
+// What is reported of a text that is no record's, and ends in these bytes without LF.
+fn text_failure<'a>(
+    alloc: Global,
+    path: &str,
+    lines: u64,
+    torn: &[u8],
+    fault: ReadFault,
+) -> Failure<'a>
+    ensures { result.fault ≡ told.Record fault }
+{
+    let note = record_note(alloc, path, last_shown(lines, torn, fault), fault);
+    Failure::with(alloc, Fault::Record(fault), note)
+}
+
+// What is reported of a record with a wrong entry.
+fn wrong_failure<'a>(alloc: Global, path: &str, wrong: &WrongLine) -> Failure<'a>
+    requires { FitsLines wrong.now }
+    ensures { result.fault ≡ told.WrongEntry wrong.now.place }
+{
+    let note = wrong_note(alloc, path, wrong);
+    Failure::with(alloc, Fault::WrongEntry(wrong.place), note)
+}
+
+// The line of the text that a fault of the whole text is about: its last bytes, which there are none of where a line is
+// missing; of a text that is right line by line it is the first, that of version 3.
+fn last_shown(lines: u64, torn: &[u8], fault: ReadFault) -> &[u8] {
     match fault {
         ReadFault::BadVersion if lines > 0 => b"canbus record 3",
-        _ => b"",
+        _ => torn,
     }
 }

@@ -2,7 +2,8 @@
 //!
 //! The audit itself is `can_text_audit`, which is given the lines as they are read. What is proved here: `ok N entries`
 //! is written only of the text of a legal record with N entries, and a fault says what the audit says: the first wrong
-//! line, or the first wrong entry. A fault of the reader, of the writer or of memory says nothing of the record. What a
+//! line, or the first wrong entry; `ok N entries, then cut off` only of a text that is the front of such a record's, up to
+//! the lines of N entries. A fault of the reader, of the writer or of memory says nothing of the record. What a
 //! file holds is not known to any contract: the fault of an audit is one of the file with its path, or of a text that
 //! it may hold.
 #![tactic(auto)]
@@ -10,8 +11,9 @@
 mod audit_job;
 mod ends;
 mod held;
+mod joined;
 mod line_taking;
 mod notes;
 mod wrong_entries;
 
-pub use audit_job::{audit_file, audit_lines};
+pub use audit_job::{audit_cut_lines, audit_files, audit_lines};

@@ -1,10 +1,10 @@
-ghost use Rattle.std.specs.Prelude.{[], IfErr, IfOk, OnOk};
-ghost use Rattle.can_text_audit.specs.TextAudits.{AreTaken};
-ghost use Rattle.canbusd_audit.specs.Audited.{FaultsInput, IsInputTaken, IsNextLine, IsOfLine};
+ghost use Rattle.std.specs.Prelude.{◌≡◌, ◌≢◌, ◌-◌, [], IfErr, IfOk, IsTrue, OnOk, Some, false, length, slice_get};
+ghost use Rattle.can_text_audit.specs.TextAudits.{AreTaken, EndsNoLine};
+ghost use Rattle.canbusd_audit.specs.Audited.{FaultsInput, FaultsLast, IsInputTaken, IsNextLine, IsOfLine, TakesLast};
 ghost use Rattle.canbusd_files.specs.Files.{IsOfReading};
 
 use crate::held::{Held, take_held};
-use crate::notes::record_note;
+use crate::notes::{record_note, with_cut_note};
 use can_record_text::ReadFault;
 use can_text_audit::TextAudit;
 use canbusd_faults::{Failure, Fault};
@@ -13,7 +13,7 @@ use std::alloc::Global;
 use std::io::BufRead;
 use std::str;
 
-/// Takes the lines of an input to its end: how many there were.
+/// Takes the lines of an input to its end: how many there were. The bytes after the last LF are left.
 ///
 /// Where a line is at fault, what follows is read all the same: an input that is no UTF-8 text is reported as such,
 /// wherever it is not.
@@ -22,36 +22,87 @@ pub fn take_lines<'a, R: BufRead>(
     path: &str,
     input: &mut R,
     audit: &mut TextAudit,
+    torn: &mut Vec<u8>,
 ) -> Result<u64, Failure<'a>>
     requires { AreTaken [] audit.old }
-    ensures taken { OnOk result (IsInputTaken (R.remaining input.old) audit.new) }
+    ensures taken { OnOk result (IsInputTaken (R.remaining input.old) audit.new torn.new.items) }
     ensures fault { IfErr result (λ failure. FaultsInput (R.remaining input.old) failure.fault) }
 {
-    let mut line = Vec::new(alloc);
     let mut lines = 0;
     for _ in 0..u64::MAX {
         match take_held(alloc, input, audit, &mut lines) {
             Ok(Held::Lines) => {}
-            Ok(Held::End) => return Ok(lines),
+            Ok(Held::End) => {
+                torn.clear();
+                return Ok(lines);
+            }
             Ok(Held::Wrong(fault)) => {
-                return Err(held_failure(alloc, path, lines, input, &mut line, fault));
+                return Err(held_failure(alloc, path, lines, input, torn, fault));
             }
             Err(error) => return Err(read_failure(alloc, path, &error)),
         }
-        match next_line(alloc, path, input, &mut line) {
+        match next_line(alloc, path, input, torn) {
             Ok(true) => {}
             Ok(false) => return Ok(lines),
             Err(failure) => return Err(failure),
         }
         lines = lines.saturating_add(1);
-        match audit.carry(alloc, &line) {
+        match audit.carry(alloc, torn) {
             Ok(()) => {}
             Err(fault) => {
-                return Err(line_failure(alloc, path, lines, input, &mut line, fault));
+                return Err(line_failure(alloc, path, lines, input, torn, fault));
             }
         }
     }
     Err(Failure::new(alloc, Fault::Read))
+}
+
+/// Takes the bytes after the last LF as the last line, if there are any: how many lines there are then.
+pub fn take_last<'a>(
+    alloc: Global,
+    path: &str,
+    lines: u64,
+    audit: &mut TextAudit,
+    torn: &[u8],
+) -> Result<u64, Failure<'a>>
+    requires { EndsNoLine torn.now }
+    ensures taken { OnOk result (TakesLast audit.old torn.now audit.new) }
+    ensures fault { IfErr result (λ failure. FaultsLast audit.old torn.now failure.fault) }
+{
+    if torn.is_empty() {
+        return Ok(lines);
+    }
+    let has_ended = audit.has_ended();
+    let lines = lines.saturating_add(1);
+    match audit.carry(alloc, torn) {
+        Ok(()) => Ok(lines),
+        Err(fault) => {
+            let failure = torn_failure(alloc, path, lines, torn, fault);
+            if has_ended {
+                Err(failure)
+            } else {
+                Err(with_cut_note(alloc, failure, fault))
+            }
+        }
+    }
+}
+
+// What is reported of a last line that is at fault.
+fn torn_failure<'a>(
+    alloc: Global,
+    path: &str,
+    number: u64,
+    torn: &[u8],
+    fault: ReadFault,
+) -> Failure<'a>
+    ensures { IsOfLine fault result.fault }
+{
+    if str::from_utf8(torn).is_err() {
+        let note = utf8_note(alloc, path, number, torn);
+        return Failure::with(alloc, Fault::Read, note);
+    }
+    let note = record_note(alloc, path, torn, fault);
+    Failure::with(alloc, Fault::Record(fault), note)
 }
 
 // What is reported of a line at fault that the input still holds, and that follows this many others.
@@ -112,7 +163,7 @@ fn read_rest<'a, R: BufRead>(
     Err(Failure::new(alloc, Fault::Read))
 }
 
-// Reads the next line, with its LF if it has one: whether there is one.
+// Reads the next line, with its LF: whether there is one. Else what is left of the input was read, which has no LF.
 fn next_line<'a, R: BufRead>(
     alloc: Global,
     path: &str,
@@ -124,8 +175,18 @@ fn next_line<'a, R: BufRead>(
 {
     line.clear();
     match input.read_until(b'\n', line) {
-        Ok(0) => Ok(false),
-        Ok(_) => Ok(true),
+        Ok(_) => Ok(has_end(line)),
         Err(error) => Err(read_failure(alloc, path, &error)),
+    }
+}
+
+// Whether bytes end in LF.
+fn has_end(bytes: &[u8]) -> bool
+    ensures yes { IsTrue result → bytes.now ≢ [] }
+    ensures no { result ≡ false → slice_get bytes.now (length bytes.now - 1) ≢ Some 10 }
+{
+    match bytes.last() {
+        Some(last) => *last == b'\n',
+        None => false,
     }
 }

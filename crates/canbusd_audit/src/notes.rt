@@ -1,7 +1,12 @@
 //! The lines of a text that is no record's, as they are reported.
+ghost use Rattle.std.specs.Prelude.{◌≡◌};
+
 use can_record_text::ReadFault;
-use canbusd_faults::{Line, WITH_CR};
+use canbusd_faults::{Failure, Line, WITH_CR};
 use std::alloc::{AllocError, Global};
+
+/// How many lines of a record's text come before those of its entries.
+pub const HEAD: u64 = 2;
 
 /// A line of a record's text that is wrong, and what a record has in its place.
 pub fn record_note(
@@ -40,4 +45,22 @@ fn entry_form(line: &[u8]) -> &'static str {
     } else {
         "the text ends here, in a line without LF"
     }
+}
+
+/// The fault of a text that ends before its last line, with what `--cut` does of it, if it has the lines before its entries.
+pub fn with_cut_note<'a>(alloc: Global, failure: Failure<'a>, fault: ReadFault) -> Failure<'a>
+    ensures { result.fault ≡ failure.entry.fault }
+{
+    match fault {
+        ReadFault::BadLine(number) if number > HEAD => match cut_note(alloc, number - HEAD - 1) {
+            Ok(note) => failure.and(&note),
+            Err(_) => failure,
+        },
+        _ => failure,
+    }
+}
+
+// What `--cut` does of a text with this many entries.
+fn cut_note(alloc: Global, entries: u64) -> Result<String, AllocError> {
+    format!(in alloc; "  with --cut the {entries} entries before it are audited\n")
 }

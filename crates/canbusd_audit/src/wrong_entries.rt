@@ -1,14 +1,12 @@
 ghost use Rattle.can_event.specs.Spelled.{FitsReply};
 ghost use Rattle.canbusd_audit.specs.Audited.{FitsLines};
 
+use crate::notes::HEAD;
 use can_bus::{Event, Reply};
 use can_record_text::line_text;
 use can_text_audit::WrongLine;
 use canbusd_faults::{Line, Shown};
 use std::alloc::{AllocError, Global};
-
-/// How many lines of a record's text come before those of its entries.
-const HEAD: u64 = 2;
 
 /// The line of a wrong entry in the text of a record, and the one that would be legal there.
 pub fn wrong_note(alloc: Global, path: &str, wrong: &WrongLine) -> Result<String, AllocError>

@@ -48,12 +48,12 @@ asked_by words j p none met asks = (none, subst (λ o. Asks o j) (sym met) asks)
 bench_given : (j : Job) (rows : List Row) → Asks (Some (codes "bench", rows)) j → GiveBenchOptions rows
 bench_given (job.Bench o) rows asks = (o, asks.1)
 bench_given (job.Serve o) rows asks = absurd (search (rules, asks.0))
-bench_given (job.Audit path) rows asks = absurd (search (rules, asks.0))
+bench_given (job.Audit o) rows asks = absurd (search (rules, asks.0))
 
 serve_given : (j : Job) (rows : List Row) → Asks (Some (codes "serve", rows)) j → GiveServeOptions rows
 serve_given (job.Bench o) rows asks = absurd (search (rules, asks.0))
 serve_given (job.Serve o) rows asks = (o, asks.1)
-serve_given (job.Audit path) rows asks = absurd (search (rules, asks.0))
+serve_given (job.Audit o) rows asks = absurd (search (rules, asks.0))
 
 pub gives_bench : (words : List Text) (rows : List Row) → subcommand_of program words ≡ Some (codes "bench", rows) → AskJob words → GiveBenchOptions rows
 gives_bench words rows met (j, (none, asks)) = bench_given j rows (subst (λ o. Asks o j) met asks)
@@ -67,7 +67,7 @@ names_one : (o : Option (Text × List Row)) (j : Job) → Asks o j
 names_one None j asks = absurd asks
 names_one (Some p) (job.Bench o) asks = inl (ap Some asks.0)
 names_one (Some p) (job.Serve o) asks = inr (inl (ap Some asks.0))
-names_one (Some p) (job.Audit path) asks = inr (inr (ap Some asks.0))
+names_one (Some p) (job.Audit o) asks = inr (inr (ap Some asks.0))
 
 pub asks_nothing : (words : List Text) (m : ArgMatches) → subcommand_rows_of m ≡ subcommand_of program words
     → (subcommand_name_of m ≡ Some (codes "bench") → ⊥) → (subcommand_name_of m ≡ Some (codes "serve") → ⊥) → (subcommand_name_of m ≡ Some (codes "audit") → ⊥) → AskJob words → ⊥

@@ -8,6 +8,7 @@ use Rattle.clap.specs.declared.parser.matches.ArgMatches.{ArgMatches}
 use Rattle.clap.specs.Words.{Row, all_of, first_of, found_of, one_of, rows_of}
 use Rattle.canbusd_options.specs.declared.bus_options.BusSettings.{BusSettings}
 use Rattle.canbusd_options.specs.declared.bus_word.BusWord.{BusWord}
+use Rattle.canbusd_options.specs.declared.audit_options.AuditOptions.{AuditOptions}
 use Rattle.canbusd_options.specs.declared.bench_options.BenchOptions.{BenchOptions}
 use Rattle.canbusd_options.specs.declared.serve_options.ServeOptions.{ServeOptions}
 use Rattle.canbusd_options.specs.BusWords.{names_part, path_of, script_part}
@@ -124,3 +125,13 @@ pub record AreServeOptions (rows : List Row) (o : ServeOptions) : Type 0 where
 -- rows give the options of a server
 abbrev pub GiveServeOptions : List Row → Type 0
 GiveServeOptions rows = (o : ServeOptions) × AreServeOptions rows o
+
+-- the files that an audit was given
+abbrev pub files_given : List Row → List (List ℕ)
+files_given rows = unwrap_or (all_of (codes "FILE") rows) []
+
+-- the options of an audit are those that its words give
+pub record AreAuditOptions (rows : List Row) (o : AuditOptions) : Type 0 where
+  pub files : map (λ file. file.now) o.files.items ≡ files_given rows
+  pub cut : one_of (codes "cut") rows ≡ Some (codes "true") → o.is_cut ≡ true
+  pub whole : one_of (codes "cut") rows ≡ Some (codes "false") → o.is_cut ≡ false

@@ -4,7 +4,7 @@ use Rattle.clap.specs.Words.{App, Row, Rule, Text, fault_of, new_app, new_rule, 
 use Rattle.clap.specs.declared.builder.ArgAction.TheVariants.{SetTrue}
 use Rattle.canbusd_options.specs.declared.command_line.Job.{Job}
 use Rattle.canbusd_options.specs.declared.command_line.Job.TheVariants as job
-use Rattle.canbusd_options.specs.Options.{AreBenchOptions, AreServeOptions, given}
+use Rattle.canbusd_options.specs.Options.{AreAuditOptions, AreBenchOptions, AreServeOptions}
 
 -- The command line of canbusd: its commands, and the arguments and defaults of each (own choice). How words are read by
 -- them is clap's definition `subcommand_of`.
@@ -25,7 +25,7 @@ flag_rule name = record (new_rule name) { long = Some name; action = Some SetTru
 abbrev pub word_rule : Text → Rule
 word_rule name = record (new_rule name) { required = true }
 
--- the words BUS.. of serve: one or more
+-- words, one or more: BUS.. of serve, FILE.. of audit
 abbrev pub words_rule : Text → Rule
 words_rule name = record (word_rule name) { range = Some (record { start_inclusive = 1; end_inclusive = usize_max }) }
 
@@ -59,7 +59,7 @@ serve_app =
     (words_rule (codes "BUS"))
 
 abbrev pub audit_app : App
-audit_app = with_rule (new_app (codes "audit")) (word_rule (codes "FILE"))
+audit_app = with_rule (with_rule (new_app (codes "audit")) (flag_rule (codes "cut"))) (words_rule (codes "FILE"))
 
 -- a command that has a version, and needs a command below it
 abbrev pub with_commands : App → App
@@ -76,7 +76,7 @@ abbrev pub Asks : Option (Text × List Row) → Job → Type 0
 Asks None j = ⊥
 Asks (Some p) (job.Bench o) = (p.0 ≡ codes "bench") × AreBenchOptions p.1 o
 Asks (Some p) (job.Serve o) = (p.0 ≡ codes "serve") × AreServeOptions p.1 o
-Asks (Some p) (job.Audit path) = (p.0 ≡ codes "audit") × (path.now ≡ given p.1 (codes "FILE"))
+Asks (Some p) (job.Audit o) = (p.0 ≡ codes "audit") × AreAuditOptions p.1 o
 
 -- a job is what words ask for in which clap finds no fault
 abbrev pub IsAsked : List Text → Job → Type 0

@@ -1,17 +1,16 @@
 //! What a command line asks for.
-ghost use Rattle.std.specs.Prelude.{◌≡◌, codes, false, map, string_bytes, IfErr, IfOk};
-ghost use Rattle.clap.specs.Words.{app_of, fault_of, rule_of};
+ghost use Rattle.std.specs.Prelude.{◌≡◌, map, string_bytes, IfErr, IfOk};
+ghost use Rattle.clap.specs.Words.{app_of, fault_of};
 ghost use Rattle.canbusd_options.specs.Help.{AskHelp, IsOfFaults, IsNoMemory, ShowsHelp};
-ghost use Rattle.canbusd_options.specs.Program.{AskJob, IsAsked, audit_app, program, word_rule};
+ghost use Rattle.canbusd_options.specs.Program.{AskJob, IsAsked, program};
 
+use crate::audit_options::{AuditOptions, audit_command, audit_options};
 use crate::bench_options::{BenchOptions, bench_command, bench_options};
 use crate::bus_options::Verb;
-use crate::help::{AUDIT_HELP, PROGRAM_HELP};
+use crate::help::PROGRAM_HELP;
 use crate::serve_options::{ServeOptions, serve_command, serve_options};
-use clap::{Arg, Command, Error};
+use clap::{Command, Error};
 use std::alloc::{AllocError, Global};
-
-const FILE: &str = "FILE";
 
 /// What a command line asks for.
 #[derive(Debug, Drop)]
@@ -20,8 +19,8 @@ pub enum Job<'a> {
     Bench(BenchOptions<'a>),
     /// To serve clients.
     Serve(ServeOptions<'a>),
-    /// To audit the record in the file with this path.
-    Audit(&'a str),
+    /// To audit a record.
+    Audit(AuditOptions<'a>),
 }
 
 /// What the words of a command line ask for, the program's name among them. An error is a fault of the
@@ -40,7 +39,7 @@ pub fn read_options<'a>(alloc: Global, words: &'a [String]) -> Result<Job<'a>, E
         return Ok(Job::Serve(serve_options(alloc, serve)?));
     }
     match matches.subcommand_matches("audit") {
-        Some(audit) => Ok(Job::Audit(audit.get_str(FILE).unwrap_or(""))),
+        Some(audit) => Ok(Job::Audit(audit_options(alloc, audit)?)),
         None => Err(Verb::Bench.error(alloc, "no command was given")?),
     }
 }
@@ -56,22 +55,4 @@ fn program_command<'a>(alloc: Global) -> Result<Command<'a>, AllocError>
         .subcommand(bench_command(alloc)?)?
         .subcommand(serve_command(alloc)?)?
         .subcommand(audit_command(alloc)?)
-}
-
-fn audit_command<'a>(alloc: Global) -> Result<Command<'a>, AllocError>
-    ensures { IfOk result (λ c. app_of c ≡ audit_app) }
-{
-    Command::new(alloc, "audit")
-        .about("Check that a record is a legal history of a bus")
-        .after_help(AUDIT_HELP)
-        .arg(file_argument(alloc))
-}
-
-fn file_argument<'a>(alloc: Global) -> Arg<'a>
-    ensures rule { rule_of result ≡ word_rule (codes "FILE") }
-    ensures local { result.global ≡ false }
-{
-    Arg::new(alloc, FILE)
-        .required(true)
-        .help("A record that bench or serve wrote")
 }

@@ -100,6 +100,10 @@ pub const AUDIT_HELP: &str =
 Else it reports the first line that no record may have, or the first entry (from 0) whose reply is wrong,
 with the reply that would be legal.
 
+Several FILEs are read as one text. With --cut the text may end before its last line, as a run leaves it that was
+killed: then it prints `ok N entries, then cut off` where the N entries that are there are right. A torn last line is
+no entry; a note on standard error says how many bytes it has.
+
 Example, with what it writes:
   $ printf '%s\\n' 'session 1' 'feed 1 < open can0 >< rawmode >' | canbusd bench --record run.rec can0
   1 < hi >

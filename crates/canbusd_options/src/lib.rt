@@ -5,6 +5,7 @@
 //! that ask for a job are refused only for want of memory.
 #![tactic(auto)]
 
+mod audit_options;
 mod bench_options;
 mod bus_options;
 mod bus_word;
@@ -12,6 +13,7 @@ mod command_line;
 mod help;
 mod serve_options;
 
+pub use audit_options::AuditOptions;
 pub use bench_options::BenchOptions;
 pub use bus_options::BusSettings;
 pub use bus_word::BusWord;

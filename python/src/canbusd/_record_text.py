@@ -1,5 +1,6 @@
 """The text of a record, as docs/RECORD.md describes it: its grammar, and the bus and the entries that it spells."""
 
+import dataclasses
 import re
 from collections.abc import Iterator
 from dataclasses import dataclass
@@ -103,6 +104,8 @@ class RecordText:
     #: In which attempt after bus off an interface is restarted; 0 where none is.
     auto_restart: int
     lines: list[str]
+    #: Whether the text ends before its line `end`.
+    is_cut: bool
 
     def entries(self) -> Iterator[tuple[list[str], list[str]]]:
         """Yields each entry: the words of its event, and those of its reply."""
@@ -111,23 +114,26 @@ class RecordText:
             yield event.split(" "), reply.split(" ")
 
 
-def parse_text(data: bytes) -> RecordText:
-    """Returns what these bytes spell; BadRecord at the first line that is none of a record."""
+def parse_text(data: bytes, cut: bool = False) -> RecordText:
+    """Returns what these bytes spell; BadRecord at the first line that is none of a record.
+
+    With `cut` the text may end before its line `end`; what follows its last LF is not looked at then.
+    """
+    data, lf, torn = data.rpartition(b"\n")
     try:
-        text = data.decode()
+        text = (data + lf).decode()
+        # What follows the last LF, which is nothing in a whole record.
+        tail = torn.decode(errors="replace" if cut else "strict")
     except UnicodeDecodeError:
         raise BadRecord("no record: it is no UTF-8 text", "read fault") from None
     if not any(text.startswith(f"{line}\n") for line in VERSIONS):
         first = " or ".join(f"`{line}`" for line in VERSIONS)
         raise BadRecord(f"no record: its first line is not {first}", "bad version")
-    lines = text.split("\n")
-    # What follows the last LF, which is nothing.
-    tail = lines.pop()
-    return read_lines(lines, tail)
+    return read_lines(text.split("\n")[:-1], tail, cut)
 
 
-def read_lines(lines: list[str], tail: str) -> RecordText:
-    """Returns what these lines spell, of which `tail` is the last, cut off."""
+def read_lines(lines: list[str], tail: str, cut: bool) -> RecordText:
+    """Returns what these lines spell, of which `tail` is the last, cut off; with `cut` the last may be missing."""
     if len(lines) < 2:
         raise bad_line(2, "cut off before its end" if tail else "the line of the bus is missing")
     version = VERSIONS[lines[0]]
@@ -140,6 +146,8 @@ def read_lines(lines: list[str], tail: str) -> RecordText:
         if not entry.fullmatch(line) or (line.startswith("filters ") and not has_its_filters(line)):
             raise bad_line(number, f"no entry of a record: {shown(line)}")
     else:
+        if cut:
+            return dataclasses.replace(record, lines=lines[2:], is_cut=True)
         missing = "cut off before its end" if tail else f"the line `end {len(lines) - 2}` is missing"
         raise bad_line(len(lines) + 1, missing)
     if not re.fullmatch("end (?:0|[1-9][0-9]*)", line):
@@ -175,4 +183,4 @@ def bus_of(version: Version, line: str, entries: list[str]) -> RecordText:
     if not (1 <= ifaces <= 16 and 1 <= tx_capacity <= 1024 and 1 <= limit <= 1 << 24 and auto_restart <= 1000000):
         raise bad_line(2, f"a number out of range: {shown(line)}")
     reporting = int(words[3], 16)
-    return RecordText(ifaces, words[2] == "always", reporting, tx_capacity, limit, auto_restart, entries)
+    return RecordText(ifaces, words[2] == "always", reporting, tx_capacity, limit, auto_restart, entries, is_cut=False)

@@ -127,20 +127,23 @@ class Record(RecordText):
         return tuple(self.names[number] for number in numbers)
 
 
-def read_record(path: Path, names: Optional[Sequence[str]] = None) -> Record:
+def read_record(path: Path, names: Optional[Sequence[str]] = None, cut: bool = False) -> Record:
     """Returns the record in this file.
 
     `names` names the interfaces, as a list or as `can0,can1`. Without it they have the names in the log beside the
     record (can0.log beside can0.rec), as far as they won an attempt there; the others are called `interface 0` and so
-    on.
+    on. With `cut` a record may end before its last line, as a run that was killed leaves it; `is_cut` says whether it
+    does, and its entries are those whose lines are whole.
     """
     with open(path, "rb") as file:
-        return parse_record(file.read(), path, names)
+        return parse_record(file.read(), path, names, cut)
 
 
-def parse_record(data: bytes, path: Optional[Path] = None, names: Optional[Sequence[str]] = None) -> Record:
+def parse_record(
+    data: bytes, path: Optional[Path] = None, names: Optional[Sequence[str]] = None, cut: bool = False
+) -> Record:
     """Returns the record that these bytes spell, as read_record does; `path` says beside which file a log may be."""
-    text = parse_text(data)
+    text = parse_text(data, cut)
     return Record(**vars(text), names=names_of(text, path, names))
 
 
@@ -172,13 +175,14 @@ def fault_named(verdict: str, names: Sequence[str]) -> str:
     return " ".join([*kind.split("-"), *([",".join(members_of(verdict, names))] if colon else [])])
 
 
-def audit(data: bytes) -> str:
-    """Returns what `canbusd audit` has to say first of these bytes, by the replay and without the program.
+def audit(data: bytes, cut: bool = False) -> str:
+    """Returns what `canbusd audit`, or with `cut` `canbusd audit --cut`, has to say first of these bytes.
 
-    It is `ok 7 entries`, or `canbusd: ` and the fault: `entry 3: wrong`, `line 5: bad line`, `bad version`, `read
-    fault`.
+    It is `ok 7 entries`, maybe with `, then cut off`, or `canbusd: ` and the fault: `entry 3: wrong`, `line 5: bad
+    line`, `bad version`, `read fault`. It is found by the replay and without the program.
     """
     try:
-        return f"ok {len(parse_record(data).replay.record.lines)} entries"
+        record = parse_record(data, cut=cut).replay.record
+        return f"ok {len(record.lines)} entries{', then cut off' if record.is_cut else ''}"
     except BadRecord as fault:
         return f"canbusd: {fault.verdict}"

@@ -68,7 +68,7 @@ fn reads_command_lines(rt: HostRuntime) -> Result<(), Fail> {
         "canbusd serve --record run.rec can0",
         "canbusd serve --log run.log can0",
         "canbusd audit",
-        "canbusd audit a b",
+        "canbusd audit --cut",
     ];
     for line in faulty {
         tells(&rt, alloc, line, ("", "error: ", 2))?;

@@ -1,18 +1,20 @@
-use Rattle.std.proofs.Common.{◌++◌, Bool, Err, List, ℕ, subst, sym}
+use Rattle.std.proofs.Common.{◌++◌, Bool, Err, List, [], ℕ, subst, sym}
 use Rattle.can_record_text.specs.RecordFaults.{Reads}
+use Rattle.can_text_audit.specs.declared.text_audit.TextAudit.{TextAudit}
 use Rattle.can_text_audit.specs.TextAudits.{AreTaken, IsLine, MayFollow}
 use Rattle.canbusd_files.specs.Files.{IsOfReading}
-use Rattle.canbusd_audit.specs.Audited.{BecomesOf, IsNextLine}
+use Rattle.canbusd_audit.specs.Audited.{BecomesOf, IsInputTaken, IsNextLine}
 use Rattle.canbusd_audit.specs.declared.held.Held.{Held}
-use Rattle.canbusd_audit.proofs.Underway.{ends, fails_held, fails_so, goes_on, stops}
+use Rattle.canbusd_audit.proofs.Underway.{ends, ends_torn, fails_held, fails_so, goes_on, stops}
 use Rattle.canbusd_audit.proofs.line_taking.take_lines.Goals as goal
 
 pub returns-in-Ok-End-clause-taken : goal.returns-in-Ok-End-clause-taken
 returns-in-Ok-End-clause-taken g c =
     let now = g.R.Read.remaining c.loop.input in
     let ended = subst (λ (h : Held). BecomesOf h now (g.R.Read.remaining c.take_held.new.input) c.loop.audit c.take_held.new.audit) c.in-Ok-End.field-0-is c.in-Ok-End.ensures in
-    let all = ends (g.R.Read.remaining c.args.input.now) now c.loop.audit c.loop.invariant ended.0 in
-    (all.0, all.1, subst (AreTaken all.0) (sym ended.1) all.2)
+    let first = g.R.Read.remaining c.args.input.now in
+    let all = ends first now c.loop.audit c.loop.invariant ended.0 in
+    subst (IsInputTaken first c.take_held.new.audit) (sym c.clear.ensures.items) (subst (λ (a : TextAudit). IsInputTaken first a []) (sym ended.1) all)
 
 pub returns-in-Ok-Wrong-clause-fault : goal.returns-in-Ok-Wrong-clause-fault
 returns-in-Ok-Wrong-clause-fault g c =
@@ -28,8 +30,10 @@ returns-in-Ok-false-clause-taken g c =
     let first = g.R.Read.remaining c.args.input.now in
     let held = g.R.Read.remaining c.take_held.new.input in
     let after = g.R.Read.remaining c.next_line.new.input in
-    ends first held c.take_held.new.audit (subst (λ (h : Held). BecomesOf h (g.R.Read.remaining c.loop.input) held c.loop.audit c.take_held.new.audit) c.in-Ok-Lines.field-0-is c.in-Ok-Lines.ensures first c.loop.invariant)
-    (subst (λ (b : Bool). IsNextLine b held after c.next_line.new.line.items) c.in-Ok-false.field-0-test c.in-Ok-false.ensures.read)
+    let line = c.next_line.new.line.items in
+    let rest = subst (λ (b : Bool). IsNextLine b held after line) c.in-Ok-false.field-0-test c.in-Ok-false.ensures.read in
+    ends_torn first held c.take_held.new.audit line (subst (λ (h : Held). BecomesOf h (g.R.Read.remaining c.loop.input) held c.loop.audit c.take_held.new.audit) c.in-Ok-Lines.field-0-is c.in-Ok-Lines.ensures first c.loop.invariant)
+    rest.0 rest.1
 
 pub returns-in-Err-next_line-clause-fault : goal.returns-in-Err-next_line-clause-fault
 returns-in-Err-next_line-clause-fault g c = stops (g.R.Read.remaining c.args.input.now) c.in-Err-next_line.failure.fault c.in-Err-next_line.ensures.fault
