@@ -1,4 +1,4 @@
-use Rattle.std.specs.Prelude.{◌≡◌, ◌<◌, ℕ, ◌/◌, ◌%◌, Bool, true, false, List, [], ◌∷◌, ◌++◌, length, take, map, slice_get, Option, Some, None, Result, Ok, Err, codes}
+use Rattle.std.specs.Prelude.{◌≡◌, ◌<◌, ℕ, ◌/◌, ◌%◌, List, [], ◌∷◌, ◌++◌, length, take, map, reverse, slice_get, Option, Some, None, Result, Ok, Err, codes}
 use Rattle.std.specs.Option.{unwrap_or}
 use Rattle.std.specs.List.{flat_map}
 use Rattle.std.specs.Io.KnownBytes.{Appends}
@@ -54,10 +54,13 @@ log_lines names past = map (log_line names) (tape past)
 abbrev pub joined : List (List ℕ) → List ℕ
 joined lines = flat_map (λ line. line) lines
 
--- a line went out whole, or only a proper front of it
-abbrev pub LineGoesOut : Option (List ℕ) → Option (List ℕ) → List ℕ → Bool → Type 0
-LineGoesOut old new line true = Appends old new line
-LineGoesOut old new line false = (front : ℕ) × (front < length line) × Appends old new (take front line)
+-- the entries of blocks, one after another
+abbrev pub entries_in : List (List Entry) → List Entry
+entries_in blocks = flat_map (λ (block : List Entry). block) blocks
+
+-- the lines of the frames tried in blocks of entries, one block after another
+abbrev pub lines_of_blocks : List (List ℕ) → List (List Entry) → List (List ℕ)
+lines_of_blocks names blocks = flat_map (λ (block : List Entry). log_lines names (reverse block)) blocks
 
 -- this many whole lines went out, and a proper front of the next line
 pub record TornAfter (old new : Option (List ℕ)) (lines : List (List ℕ)) (whole : ℕ) : Type 0 where

@@ -1,10 +1,14 @@
-ghost use Rattle.std.specs.Prelude.{◌≡◌, reverse, slice_get};
-ghost use Rattle.can_logfile.specs.Log.{log_lines, tried_in, LineGoesOut, LinesGoOut};
+ghost use Rattle.std.specs.Prelude.{◌≡◌, ◌<◌, ◌+◌, ◌^◌, IfErr, IfOk, List, reverse, slice_get, ℕ};
+ghost use Rattle.can_frame.specs.Names.{AreNames};
+ghost use Rattle.can_lines.specs.Lines.{LineGoesOut};
+ghost use Rattle.can_event.specs.declared.entry.Entry.{Entry as AnEntry};
+ghost use Rattle.can_logfile.specs.Log.{entries_in, lines_of_blocks, log_line, log_lines, tried_in, tried_of, LinesGoOut};
 
 use crate::lines::log_line;
 use can_event::{Reply, Tried};
 use can_frame::Names;
-use can_record::Record;
+use can_lines::write_line;
+use can_record::{PackedRecord, Record};
 use std::io::Write;
 use thiserror::Error;
 
@@ -35,37 +39,82 @@ pub fn write_tape<W: Write>(names: &Names, record: &Record, writer: &mut W) -> R
     let mut whole_lines = 0;
     for place in 0..record.len() {
         if let Some(tried) = tried_at(record, place) {
-            let line = log_line(names, &tried);
-            if !write_line(writer, line.as_bytes()) {
-                return Err(LogFault { whole_lines });
-            }
-            whole_lines += 1;
+            whole_lines = write_tried(names, &tried, whole_lines, writer)?;
         }
     }
     Ok(whole_lines)
 }
 
-/// The frame that was tried in the entry at a place.
-fn tried_at(record: &Record, place: usize) -> Option<Tried>
-    ensures { result ≡ tried_in (slice_get (reverse «record».now.history) place) }
+/// Writes the lines of the frames that were tried in these entries, which are the next ones of a history. Returns how
+/// many lines.
+///
+/// They are lines of the tape, and go out as `write_tape` says.
+pub fn write_entries<W: Write>(
+    names: &Names,
+    entries: &PackedRecord,
+    writer: &mut W,
+) -> Result<u64, LogFault>
+    ensures { LinesGoOut (W.contents writer.old) (W.contents writer.new)
+        (log_lines names.now (reverse entries.now.entries)) result }
 {
-    let looked = record.entry(place)?;
-    match &looked.entry().reply {
-        Reply::Tried(tried) => Some(*tried),
-        _ => None,
+    // Counting the names shows that none is long.
+    let _count = names.count();
+    let mut whole_lines = 0;
+    for place in 0..entries.len() {
+        if let Some(tried) = tried_among(entries, place) {
+            whole_lines = write_tried(names, &tried, whole_lines, writer)?;
+        }
+    }
+    Ok(whole_lines)
+}
+
+/// The lines of blocks of entries, one block after another, are those of all their entries.
+pub fn blocks_make_the_log()
+    ensures { (names : List (List ℕ)) (blocks : List (List AnEntry)) →
+        log_lines names (reverse (entries_in blocks)) ≡ lines_of_blocks names blocks }
+{}
+
+/// Writes the line of a frame that was tried, after so many whole lines. Returns how many there are with it.
+fn write_tried<W: Write>(
+    names: &Names,
+    tried: &Tried,
+    whole_lines: u64,
+    writer: &mut W,
+) -> Result<u64, LogFault>
+    requires names { AreNames names.now }
+    requires few { whole_lines < 2 ^ 63 }
+    ensures more { IfOk result (λ n. n ≡ whole_lines + 1) }
+    ensures torn { IfErr result (λ fault. fault.whole_lines ≡ whole_lines) }
+    ensures line { LineGoesOut (W.contents writer.old) (W.contents writer.new)
+        (log_line names.now tried.now) result }
+{
+    let line = log_line(names, tried);
+    match write_line(writer, line.as_bytes()) {
+        Ok(()) => Ok(whole_lines + 1),
+        Err(_) => Err(LogFault { whole_lines }),
     }
 }
 
-/// Writes a line. Returns false if the writer failed: then only a proper front of the line is out.
-fn write_line<W: Write>(writer: &mut W, line: &[u8]) -> bool
-    ensures { LineGoesOut (W.contents writer.old) (W.contents writer.new) line.now result }
+/// The frame that was tried in the entry of a record at a place.
+fn tried_at(record: &Record, place: usize) -> Option<Tried>
+    ensures { result ≡ tried_in (slice_get (reverse «record».now.history) place) }
 {
-    let mut done = 0;
-    while done < line.len() {
-        match writer.write(&line[done..]) {
-            Ok(0) | Err(_) => return false,
-            Ok(taken) => done += taken,
-        }
+    tried_of(&record.entry(place)?.entry().reply)
+}
+
+/// The same of entries.
+fn tried_among(entries: &PackedRecord, place: usize) -> Option<Tried>
+    ensures { result ≡ tried_in (slice_get entries.now.entries place) }
+{
+    tried_of(&entries.look(place)?.entry().reply)
+}
+
+/// The frame that was tried, where one was.
+fn tried_of(reply: &Reply) -> Option<Tried>
+    ensures { result ≡ tried_of reply.now }
+{
+    match reply {
+        Reply::Tried(tried) => Some(*tried),
+        _ => None,
     }
-    true
 }

@@ -2,6 +2,7 @@ use Rattle.std.specs.Prelude.{◌≡◌, ◌≢◌, false, ℕ, ◌+◌, ◌⊎�
 use Rattle.std.specs.List.{list_any}
 use Rattle.can_event.specs.declared.bus_config.BusConfig.{BusConfig}
 use Rattle.can_event.specs.declared.entry.Entry.{Entry}
+use Rattle.can_event.specs.Events.{IsConfig}
 use Rattle.can_record.specs.Journal.{Kept}
 use Rattle.can_record_text.specs.declared.fault.ReadFault.{ReadFault}
 use Rattle.can_record_text.specs.declared.fault.ReadFault.TheVariants as fault
@@ -90,12 +91,22 @@ Ends count rest (Err (fault.BadLine n)) = ((n ≡ count + 3) × LacksEnd count r
 Ends count rest (Err fault.NoMemory) = Unit {0}
 Ends count rest (Err fault.BadVersion) = ⊥
 
--- what reading a text answers
+-- what reading a text of any version answers
 abbrev pub Reads : List ℕ → Result Kept ReadFault → Type 0
 Reads text (Ok r) = IsTextOf text r.config (reverse r.history)
 Reads text (Err fault.BadVersion) = IsOfNoVersion text
 Reads text (Err (fault.BadLine n)) = IsFirstWrong text n
 Reads text (Err fault.NoMemory) = Unit {0}
+
+-- the text begins as that of a long run
+abbrev pub IsOfLongRun : List ℕ → Type 0
+IsOfLongRun text = (rest : List ℕ) × (text ≡ first_line version.Four ++ rest)
+
+-- what reading the text of a record answers, which is that of no long run
+abbrev pub ReadsRecord : List ℕ → Result Kept ReadFault → Type 0
+ReadsRecord text (Err fault.BadVersion) = IsOfNoVersion text ⊎ IsOfLongRun text
+ReadsRecord text (Err (fault.BadLine n)) = IsFirstWrong text n × ¬ IsOfLongRun text
+ReadsRecord text result = Reads text result
 
 -- the record of this configuration and these entries, unless memory was refused
 abbrev pub IsRecordOf : BusConfig → List Entry → Result Kept ReadFault → Type 0
@@ -104,4 +115,4 @@ IsRecordOf c entries (Err why) = why ≡ fault.NoMemory
 
 -- of the text of a record: reading gives that record, unless memory is refused
 abbrev pub ReadsBack : List ℕ → Result Kept ReadFault → Type 0
-ReadsBack text result = (c : BusConfig) (entries : List Entry) → IsTextOf text c entries → IsRecordOf c entries result
+ReadsBack text result = (c : BusConfig) (entries : List Entry) → IsConfig c → IsTextOf text c entries → IsRecordOf c entries result

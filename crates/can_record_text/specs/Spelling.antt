@@ -1,4 +1,4 @@
-use Rattle.std.specs.Prelude.{ℕ, ◌==◌, ◌||◌, Bool, true, false, List, [], ◌∷◌, ◌++◌, length, codes, decimal, Some, None, if◌then◌else◌}
+use Rattle.std.specs.Prelude.{ℕ, ◌==◌, ◌||◌, nat_lt, Bool, true, false, List, [], ◌∷◌, ◌++◌, length, codes, decimal, Some, None, if◌then◌else◌}
 use Rattle.std.specs.List.{list_any}
 use Rattle.can_frame.specs.Frames.{is_fd}
 use Rattle.can_frame.specs.declared.iface.IfaceSet.{IfaceSet}
@@ -27,6 +27,7 @@ use Rattle.can_event.specs.declared.reply.Reply.{Reply}
 use Rattle.can_event.specs.declared.reply.Reply.TheVariants as reply
 use Rattle.can_event.specs.declared.entry.Entry.{Entry}
 use Rattle.can_event.specs.declared.socket_id.SocketId.{SocketId}
+use Rattle.can_event.specs.Events.{max_limit}
 use Rattle.can_event.specs.Replies.{entry_of}
 use Rattle.can_record_text.specs.declared.version.Version.{Version}
 use Rattle.can_record_text.specs.declared.version.Version.TheVariants as version
@@ -182,14 +183,21 @@ answers_with_fd (reply.Received (Some r)) = is_fd_item r.item
 answers_with_fd (reply.Tried t) = is_fd t.frame.payload
 answers_with_fd _ = false
 
--- an entry that version 3 alone has a line for
+-- an entry that only versions 3 and 4 have a line for
 abbrev pub has_fd : Entry → Bool
 has_fd e = asks_for_fd e.event || answers_with_fd e.reply
 
--- the version for a bus: 3 where an FD frame or the option for such stands in its record, and else 2 exactly where interfaces
--- are restarted automatically
+-- a version that has lines for such entries
+abbrev pub takes_fd : Version → Bool
+takes_fd version.One = false
+takes_fd version.Two = false
+takes_fd version.Three = true
+takes_fd version.Four = true
+
+-- the version for a bus: 4 for a limit that only a long run has; else 3 where an FD frame or the option for such stands in its
+-- record, and else 2 exactly where interfaces are restarted automatically
 abbrev pub version_for : BusConfig → Bool → Version
-version_for c fd = if fd then version.Three else if c.auto_restart == 0 then version.One else version.Two
+version_for c fd = if nat_lt max_limit c.limit then version.Four else if fd then version.Three else if c.auto_restart == 0 then version.One else version.Two
 
 -- the version of a record's text
 abbrev pub version_of : BusConfig → List Entry → Version
@@ -200,12 +208,14 @@ abbrev pub first_line : Version → List ℕ
 first_line version.One = codes "canbus record 1" ++ 10 ∷ []
 first_line version.Two = codes "canbus record 2" ++ 10 ∷ []
 first_line version.Three = codes "canbus record 3" ++ 10 ∷ []
+first_line version.Four = codes "canbus record 4" ++ 10 ∷ []
 
--- from version 2 on: how many attempts after it went off an interface is restarted; in version 3 this may be 0
+-- from version 2 on: how many attempts after it went off an interface is restarted; from version 3 on this may be 0
 abbrev pub auto_restart_words : Version → BusConfig → List (List ℕ)
 auto_restart_words version.One c = []
 auto_restart_words version.Two c = decimal c.auto_restart ∷ []
 auto_restart_words version.Three c = decimal c.auto_restart ∷ []
+auto_restart_words version.Four c = decimal c.auto_restart ∷ []
 
 -- the bus: how many interfaces, who acknowledges, the interfaces with reporting on, the room of a transmit queue, the limit
 abbrev pub bus_words : Version → BusConfig → List (List ℕ)

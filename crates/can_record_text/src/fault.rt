@@ -3,7 +3,7 @@ use thiserror::Error;
 /// Why a text was not read as a record.
 #[derive(Debug, Clone, Copy, PartialEq, Eq, Error)]
 pub enum ReadFault {
-    /// The text does not begin with the first line of a version, or it is right line by line in version 3, and nothing in it
+    /// The text does not begin with the first line of a version that the reader knows, or it is right line by line in version 3, and nothing in it
     /// takes this version.
     #[error("bad version")]
     BadVersion,

@@ -10,6 +10,7 @@ pub mod fault;
 mod fields;
 mod kept_lines;
 pub mod lines;
+pub mod long_writing;
 mod numbers;
 pub mod record_reading;
 pub mod record_writing;
@@ -24,5 +25,6 @@ mod words;
 mod writing;
 
 pub use fault::ReadFault;
+pub use long_writing::{Torn, write_block, write_end, write_front};
 pub use record_reading::{read_record, read_record_bytes};
 pub use record_writing::{line_text, record_text, write_record};

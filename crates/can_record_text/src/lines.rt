@@ -104,7 +104,7 @@ pub(crate) fn put_bus(
     put_count(out, u64::from(config.tx_capacity), b' ')?;
     match version {
         Version::One => put_count(out, u64::from(config.limit), b'\n')?,
-        Version::Two | Version::Three => {
+        Version::Two | Version::Three | Version::Four => {
             put_count(out, u64::from(config.limit), b' ')?;
             put_count(out, u64::from(config.auto_restart), b'\n')?;
         }
@@ -155,7 +155,7 @@ fn has_line(version: Version, config: BusConfig, entry: &Entry) -> bool
 {
     hold_event(&entry.event);
     hold_reply(&entry.reply);
-    is_spelled(config, entry) && (version == Version::Three || !has_fd(&entry.event, &entry.reply))
+    is_spelled(config, entry) && (version.takes_fd() || !has_fd(&entry.event, &entry.reply))
 }
 
 /// The version whose first line the text begins with.
@@ -171,6 +171,9 @@ pub fn read_version(text: &[u8]) -> Option<Version>
     }
     if begins(text, Version::Three.first_line()) {
         return Some(Version::Three);
+    }
+    if begins(text, Version::Four.first_line()) {
+        return Some(Version::Four);
     }
     None
 }
@@ -257,7 +260,7 @@ fn has_bus_line(version: Version, config: BusConfig) -> bool
     ensures yes { IsTrue result → HasBusLine version config }
     ensures no { HasBusLine version config → IsTrue result }
 {
-    config.is_proper() && version.restarts(config)
+    config.is_long_proper() && version.limits(config) && version.restarts(config)
 }
 
 /// A configuration as its line seems to spell it in this version.
@@ -289,7 +292,7 @@ fn auto_restart_field(version: Version, text: &[u8]) -> Option<(u32, &[u8])>
 {
     match version {
         Version::One => Some((0, text)),
-        Version::Two | Version::Three => short_field(text),
+        Version::Two | Version::Three | Version::Four => short_field(text),
     }
 }
 

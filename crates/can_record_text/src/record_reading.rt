@@ -1,7 +1,7 @@
 ghost use Rattle.std.specs.Prelude.{◌≡◌, [], All, Err, IfErr, IfOk, ◌<◌, ◌^◌};
 ghost use Rattle.can_record_text.specs.Values.{HasLine};
 ghost use Rattle.can_record_text.specs.Spelling.{entry_lines};
-ghost use Rattle.can_record_text.specs.RecordFaults.{LacksEntry, Ends, Reads, ReadsBack};
+ghost use Rattle.can_record_text.specs.RecordFaults.{IsOfLongRun, LacksEntry, Ends, ReadsBack, ReadsRecord};
 ghost use Rattle.can_record_text.specs.inner.Fronts.{HasFront};
 
 use crate::fault::{ReadFault, Unread};
@@ -14,12 +14,13 @@ use std::alloc::{AllocError, Global};
 
 /// The record of a text, as `record_text` writes it: no other text is taken.
 ///
-/// `BadVersion` where the text does not begin with the first line of a version, and otherwise `BadLine` with the first
+/// `BadVersion` where the text does not begin with the first line of version 1, 2 or 3 (4 is that of a run longer than a
+/// `Record`), and otherwise `BadLine` with the first
 /// line that is wrong or missing, from 1; where the text goes on after its end, that is the line after the end. Last,
 /// `BadVersion` where a text of version 3 has neither an FD frame nor the option for such.
 /// The time is linear in the text, and nothing is allocated for a line but the filters that it sets.
 pub fn read_record(alloc: Global, text: &str) -> Result<Record, ReadFault>
-    ensures reads { Reads text.now result }
+    ensures reads { ReadsRecord text.now result }
     ensures back { ReadsBack text.now result }
 {
     read_record_bytes(alloc, text.as_bytes())
@@ -27,14 +28,14 @@ pub fn read_record(alloc: Global, text: &str) -> Result<Record, ReadFault>
 
 /// The same of the bytes of a text, which need not be UTF-8.
 pub fn read_record_bytes(alloc: Global, text: &[u8]) -> Result<Record, ReadFault>
-    ensures reads { Reads text.now result }
+    ensures reads { ReadsRecord text.now result }
     ensures back { ReadsBack text.now result }
 {
     read_text(alloc, text)
 }
 
 fn read_text(alloc: Global, text: &[u8]) -> Result<Record, ReadFault>
-    ensures { Reads text.now result }
+    ensures { ReadsRecord text.now result }
 {
     let mut buffer = Vec::new(alloc);
     let (version, config, rest) = match read_front(&mut buffer, text) {
@@ -61,10 +62,12 @@ fn read_front<'a>(
     text: &'a [u8],
 ) -> Result<(Version, BusConfig, &'a [u8]), ReadFault>
     ensures front { IfOk result (λ x. HasFront text.now x.0 x.1 x.2.now) }
-    ensures fault { IfErr result (λ why. Reads text.now (Err why)) }
+    ensures short { IfOk result (λ x. ¬ IsOfLongRun text.now) }
+    ensures fault { IfErr result (λ why. ReadsRecord text.now (Err why)) }
 {
-    let Some(version) = read_version(text) else {
-        return Err(ReadFault::BadVersion);
+    let version = match read_version(text) {
+        None | Some(Version::Four) => return Err(ReadFault::BadVersion),
+        Some(version) => version,
     };
     let rest = behind(text, version.first_line().len());
     let config = match read_bus(buffer, version, rest) {

@@ -1,6 +1,7 @@
 ghost use Rattle.std.specs.Prelude.{◌≡◌, ◌≤◌, ◌++◌, [], length, IfOk, IsTrue, OnOk};
 ghost use Rattle.std.specs.Io.KnownBytes.{Appends};
 ghost use Rattle.can_event.specs.Spelled.{FitsReply};
+ghost use Rattle.can_lines.specs.Lines.{LineGoesOut};
 ghost use Rattle.can_record.specs.Kept.{entry_in, frames_needed, IsSmall};
 ghost use Rattle.can_record.specs.Stored.{entry_stored, IsStored};
 ghost use Rattle.can_record_text.specs.Spelling.{answered_line, entry_line, front_lines};
@@ -13,6 +14,7 @@ use crate::short_words::ShortLine;
 use crate::version::{Version, record_has_fd};
 use can_event::{BusConfig, Event, Reply};
 use can_frame::{Frame, Text};
+use can_lines::write_line;
 use can_record::{Kept, Record, Stored, event_in, reply_in};
 use std::alloc::{AllocError, Global};
 use std::io;
@@ -66,7 +68,7 @@ pub fn write_record<W: Write>(alloc: Global, record: &Record, writer: &mut W) ->
 }
 
 /// The first two lines.
-fn put_front(out: &mut Vec<u8>, version: Version, config: BusConfig) -> Result<(), AllocError>
+pub(crate) fn put_front(out: &mut Vec<u8>, version: Version, config: BusConfig) -> Result<(), AllocError>
     ensures { OnOk result (out.new.items ≡ out.old.items ++ front_lines version config []) }
 {
     out.extend_from_slice(version.first_line())?;
@@ -80,26 +82,29 @@ fn write_lines<W: Write>(line: &mut Vec<u8>, record: &Record, writer: &mut W) ->
 {
     for place in 0..record.len() {
         let stored = record.stored(place).unwrap();
-        write_line(line, &stored, writer)?;
+        write_stored(line, &stored, writer)?;
     }
     Ok(())
 }
 
-/// Writes the line of an entry.
-fn write_line<W: Write>(line: &mut Vec<u8>, stored: &Stored<'_>, writer: &mut W) -> io::Result<()>
+/// Writes the line of an entry as it is stored. After a fault only a proper front of it is out.
+pub(crate) fn write_stored<W: Write>(
+    line: &mut Vec<u8>,
+    stored: &Stored<'_>,
+    writer: &mut W,
+) -> io::Result<()>
     requires stored { IsStored stored.now }
     requires fits { HasFittingReply (entry_stored stored.now) }
-    ensures { OnOk result (Appends (W.contents writer.old) (W.contents writer.new)
-        (stored_line stored.now)) }
+    ensures { LineGoesOut (W.contents writer.old) (W.contents writer.new)
+        (stored_line stored.now) result }
 {
     let mut short = Text::new();
     if push_stored(&mut short, stored) {
-        return writer.write_all(short.as_bytes());
+        return write_line(writer, short.as_bytes());
     }
     line.clear();
     put_stored(line, stored)?;
-    writer.write_all(line)?;
-    Ok(())
+    write_line(writer, line)
 }
 
 /// The line of an entry as it is stored, if it is packed and of a usual kind; else what is in the room means nothing.

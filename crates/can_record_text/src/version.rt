@@ -4,10 +4,10 @@ ghost use Rattle.can_event.specs.Replies.{entry_of};
 ghost use Rattle.can_record.specs.Kept.{entry_in, frames_needed, IsSmall};
 ghost use Rattle.can_record.specs.Stored.{entry_stored, IsStored};
 ghost use Rattle.can_record_text.specs.declared.version.Version.TheVariants as version;
-ghost use Rattle.can_record_text.specs.Spelling.{asks_for_fd, answers_with_fd, first_line, has_fd, is_fd_item, version_for};
-ghost use Rattle.can_record_text.specs.Values.{Restarts};
+ghost use Rattle.can_record_text.specs.Spelling.{asks_for_fd, answers_with_fd, first_line, has_fd, is_fd_item, takes_fd, version_for};
+ghost use Rattle.can_record_text.specs.Values.{HasLimit, Restarts};
 
-use can_event::{BusConfig, Entry, Event, Opt, Reply};
+use can_event::{BusConfig, Entry, Event, MAX_LIMIT, Opt, Reply};
 use can_frame::{Frame, Item};
 use can_record::{Kept, Record, Stored};
 
@@ -20,6 +20,8 @@ pub enum Version {
     Two,
     /// The record with an FD frame, or with the option for such.
     Three,
+    /// The record of a long run, whose limit no other version has.
+    Four,
 }
 
 impl Version {
@@ -27,7 +29,9 @@ impl Version {
     pub(crate) fn of(config: BusConfig, fd: bool) -> Version
         ensures { result ≡ version_for config fd }
     {
-        if fd {
+        if config.limit > MAX_LIMIT {
+            Version::Four
+        } else if fd {
             Version::Three
         } else if config.auto_restart == 0 {
             Version::One
@@ -44,11 +48,33 @@ impl Version {
             Version::One => b"canbus record 1\n",
             Version::Two => b"canbus record 2\n",
             Version::Three => b"canbus record 3\n",
+            Version::Four => b"canbus record 4\n",
+        }
+    }
+
+    /// Whether it has lines with FD frames, and with the option for such.
+    pub fn takes_fd(self) -> bool
+        ensures { result ≡ takes_fd self }
+    {
+        match self {
+            Version::One | Version::Two => false,
+            Version::Three | Version::Four => true,
+        }
+    }
+
+    /// Whether a bus may have this one's limit: above 16,777,216 in version 4, and within that in the others.
+    pub(crate) fn limits(self, config: BusConfig) -> bool
+        ensures yes { IsTrue result → HasLimit self config }
+        ensures no { HasLimit self config → IsTrue result }
+    {
+        match self {
+            Version::One | Version::Two | Version::Three => config.limit <= MAX_LIMIT,
+            Version::Four => config.limit > MAX_LIMIT,
         }
     }
 
     /// Whether a bus may restart its interfaces as this one does: by a call alone in version 1, automatically in version 2,
-    /// and either way in version 3.
+    /// and either way in versions 3 and 4.
     pub(crate) fn restarts(self, config: BusConfig) -> bool
         ensures yes { IsTrue result → Restarts self config }
         ensures no { Restarts self config → IsTrue result }
@@ -56,7 +82,7 @@ impl Version {
         match self {
             Version::One => config.auto_restart == 0,
             Version::Two => config.auto_restart != 0,
-            Version::Three => true,
+            Version::Three | Version::Four => true,
         }
     }
 
@@ -126,7 +152,7 @@ fn entries_have_fd(entries: &[Entry]) -> bool
         .any(|entry| has_fd(&entry.event, &entry.reply))
 }
 
-/// Whether the line of an event with this reply has an FD frame or the option for such: only version 3 has one.
+/// Whether the line of an event with this reply has an FD frame or the option for such: only versions 3 and 4 have one.
 pub fn has_fd(event: &Event, reply: &Reply) -> bool
     ensures { result ≡ has_fd (entry_of event.now reply.now) }
 {

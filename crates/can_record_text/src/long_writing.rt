@@ -1,0 +1,88 @@
+ghost use Rattle.std.specs.Prelude.{◌≡◌, ◌++◌, ◌<◌, [], All, List, length};
+ghost use Rattle.can_event.specs.declared.bus_config.BusConfig.{BusConfig as AConfig};
+ghost use Rattle.can_event.specs.declared.entry.Entry.{Entry as AnEntry};
+ghost use Rattle.can_event.specs.Events.{max_limit};
+ghost use Rattle.can_lines.specs.Lines.{LineGoesOut};
+ghost use Rattle.can_record_text.specs.declared.version.Version.TheVariants as version;
+ghost use Rattle.can_record_text.specs.LongRuns.{BlockGoesOut, entries_in, lines_of_blocks};
+ghost use Rattle.can_record_text.specs.Spelling.{end_words, front_lines, record_spelling, spell};
+ghost use Rattle.can_record_text.specs.inner.Stored.{HasFittingReply};
+
+use crate::lines::put_end;
+use crate::record_writing::{put_front, write_stored};
+use crate::version::Version;
+use can_event::BusConfig;
+use can_lines::write_line;
+use can_record::PackedRecord;
+use std::alloc::Global;
+use std::io;
+use std::io::Write;
+use thiserror::Error;
+
+/// A block did not go out whole.
+#[derive(Debug, Drop, Error)]
+#[error("write fault")]
+pub struct Torn {
+    /// How many whole lines of the block went out before. A part of the next line may be out too, but not all of it.
+    pub whole_lines: u64,
+    /// What the writer reported, `WriteZero` of a write that took no byte, or that memory was refused.
+    pub why: io::Error,
+}
+
+/// Writes the first two lines of the record of a long run. It is for a limit above 16,777,216, of which a record has
+/// version 4: so these lines are known before its entries.
+///
+/// After a fault only a proper front of the two lines is out.
+pub fn write_front<W: Write>(alloc: Global, config: BusConfig, writer: &mut W) -> io::Result<()>
+    ensures { LineGoesOut (W.contents writer.old) (W.contents writer.new)
+        (front_lines version.Four config []) result }
+{
+    let mut front = Vec::new(alloc);
+    put_front(&mut front, Version::Four, config)?;
+    write_line(writer, &front)
+}
+
+/// Writes the lines of the entries that come next in the record of a long run.
+///
+/// Each line goes out in one write if the writer takes it whole. So a writer to a file should be a buffered one, and it
+/// is the caller's to flush.
+pub fn write_block<W: Write>(
+    alloc: Global,
+    block: &PackedRecord,
+    writer: &mut W,
+) -> Result<(), Torn>
+    requires { All HasFittingReply block.now.entries }
+    ensures { BlockGoesOut (W.contents writer.old) (W.contents writer.new) block.now.entries result }
+{
+    let mut line = Vec::new(alloc);
+    for place in 0..block.len() {
+        let stored = block.stored(place).unwrap();
+        if let Err(why) = write_stored(&mut line, &stored, writer) {
+            return Err(Torn {
+                whole_lines: place as u64,
+                why,
+            });
+        }
+    }
+    Ok(())
+}
+
+/// Writes the last line of the record of a long run, which had this many entries.
+///
+/// After a fault only a proper front of the line is out.
+pub fn write_end<W: Write>(alloc: Global, count: u64, writer: &mut W) -> io::Result<()>
+    ensures { LineGoesOut (W.contents writer.old) (W.contents writer.new)
+        (spell (end_words count) []) result }
+{
+    let mut line = Vec::new(alloc);
+    put_end(&mut line, count)?;
+    write_line(writer, &line)
+}
+
+/// The front, the lines of blocks and the end are the text of the record of all their entries.
+pub fn pieces_make_the_text()
+    ensures { (c : AConfig) (blocks : List (List AnEntry)) → max_limit < c.limit →
+        front_lines version.Four c []
+            ++ (lines_of_blocks blocks ++ spell (end_words (length (entries_in blocks))) [])
+        ≡ record_spelling c (entries_in blocks) }
+{}
