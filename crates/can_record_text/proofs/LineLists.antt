@@ -5,6 +5,7 @@ use Rattle.can_event.specs.declared.bus_config.BusConfig.{BusConfig}
 use Rattle.can_event.specs.declared.entry.Entry.{Entry}
 use Rattle.can_record_text.specs.declared.version.Version.{Version}
 use Rattle.can_record_text.specs.Values.{HasLine}
+use Rattle.can_record_text.specs.LongRuns.{entries_in, lines_of_blocks}
 use Rattle.can_record_text.specs.Spelling.{entry_words, entry_line, entry_lines}
 use Rattle.can_record_text.proofs.Again.{spell-rest, line_some}
 
@@ -47,3 +48,20 @@ line_shorter text buffer v c e good b within = omega (arith, length-drop (length
 pub lines_go_on : (text rest buffer : List ℕ) (es more : List Entry) (e : Entry) → text ≡ entry_lines es rest → buffer ≡ entry_line e [] → rest ≡ entry_line e [] ++ drop (length (entry_line e [])) rest → more ≡ es ++ e ∷ [] → text ≡ entry_lines more (drop (length buffer) rest)
 lines_go_on text rest buffer es more e so_far b is kept =
     so_far ∙ ap (entry_lines es) (line_behind rest buffer e b is) ∙ sym (lines-push es e (drop (length buffer) rest)) ∙ ap (λ (x : List Entry). entry_lines x (drop (length buffer) rest)) (sym kept)
+
+-- ---- blocks of entries
+
+lines-join : (es more : List Entry) (rest : List ℕ) → entry_lines (es ++ more) rest ≡ entry_lines es (entry_lines more rest)
+unfolding entry_lines
+lines-join [] more rest = refl
+lines-join (e ∷ es) more rest = ap (λ (x : List ℕ). entry_line e x) (lines-join es more rest)
+
+-- the lines of blocks are those of their entries
+pub blocks-rest : (blocks : List (List Entry)) (rest : List ℕ) → lines_of_blocks blocks ++ rest ≡ entry_lines (entries_in blocks) rest
+unfolding entry_lines
+blocks-rest [] rest = refl
+blocks-rest (b ∷ blocks) rest =
+    append_assoc (entry_lines b []) (lines_of_blocks blocks) rest
+    ∙ ap (λ (x : List ℕ). entry_lines b [] ++ x) (blocks-rest blocks rest)
+    ∙ lines-rest b (entry_lines (entries_in blocks) rest)
+    ∙ sym (lines-join b (entries_in blocks) rest)

@@ -1,5 +1,5 @@
 -- The text of a record.
-use Rattle.std.proofs.Common.{◌≡◌, inl, inr, ℕ, ◌+◌, true, false, List, [], ◌∷◌, ◌++◌, length, drop, get_or, Result, Ok, Err, append_assoc, refl, sym, ap, subst, ◌∙◌, arith}
+use Rattle.std.proofs.Common.{◌≡◌, ◌≢◌, ◌≤◌, inl, inr, ℕ, ◌+◌, true, false, List, [], ◌∷◌, ◌++◌, length, drop, get_or, Result, Ok, Err, append_assoc, refl, sym, ap, subst, ◌∙◌, arith}
 use Rattle.std.specs.Prelude.{All, reverse}
 use Rattle.std.specs.List.{list_any}
 use Rattle.std.proofs.lemmas.List.{append_cancel_left, length-reverse, reverse-reverse}
@@ -7,6 +7,7 @@ use Rattle.std.proofs.lemmas.List.Elements.{All-head, All-tail}
 use Rattle.std.proofs.lemmas.Option.{none-some, same_Some}
 use Rattle.can_event.specs.declared.bus_config.BusConfig.{BusConfig}
 use Rattle.can_event.specs.declared.entry.Entry.{Entry}
+use Rattle.can_event.specs.Events.{IsConfig, max_limit}
 use Rattle.can_record.specs.Journal.{Kept}
 use Rattle.can_record_text.specs.declared.fault.ReadFault.{ReadFault}
 use Rattle.can_record_text.specs.declared.fault.ReadFault.TheVariants as fault
@@ -15,7 +16,7 @@ use Rattle.can_record_text.specs.declared.version.Version.TheVariants as version
 use Rattle.can_record_text.specs.Spelling.{gap_before, spell, has_fd, version_of, first_line, bus_words, front_lines, end_words, entry_words, entry_line, entry_lines, text_in, record_spelling}
 use Rattle.can_record_text.specs.Values.{HasLine, HasBusLine, HasLines}
 use Rattle.can_record_text.specs.inner.Reading.{entry_at, config_at}
-use Rattle.can_record_text.specs.RecordFaults.{NeedsNoThree, IsOfNoVersion, IsTextOf, LacksBus, LacksEntry, BusIsWrong, LineIsWrong, GoesOn, IsFirstWrong, Ends, Reads, ReadsBack}
+use Rattle.can_record_text.specs.RecordFaults.{NeedsNoThree, IsOfLongRun, IsOfNoVersion, IsTextOf, LacksBus, LacksEntry, BusIsWrong, LineIsWrong, GoesOn, IsFirstWrong, Ends, Reads, ReadsBack, ReadsRecord}
 use Rattle.can_record_text.proofs.Again.{spell-rest, entry_again, config_again, end_is_none}
 use Rattle.can_record_text.proofs.LineLists.{lines-rest}
 use Rattle.can_record_text.proofs.Versioning.{not_three, version_is}
@@ -84,27 +85,37 @@ abbrev version_digit : Version → ℕ
 version_digit version.One = 49
 version_digit version.Two = 50
 version_digit version.Three = 51
+version_digit version.Four = 52
 
 digit_of : (v : Version) (a : List ℕ) → get_or (first_line v ++ a) 14 0 ≡ version_digit v
 digit_of version.One a = refl
 digit_of version.Two a = refl
 digit_of version.Three a = refl
+digit_of version.Four a = refl
 
 same_digit : (v w : Version) → version_digit v ≡ version_digit w → v ≡ w
 same_digit version.One version.One e = refl
 same_digit version.One version.Two e = absurd (omega (arith, e))
 same_digit version.One version.Three e = absurd (omega (arith, e))
+same_digit version.One version.Four e = absurd (omega (arith, e))
 same_digit version.Two version.One e = absurd (omega (arith, e))
 same_digit version.Two version.Two e = refl
 same_digit version.Two version.Three e = absurd (omega (arith, e))
+same_digit version.Two version.Four e = absurd (omega (arith, e))
 same_digit version.Three version.One e = absurd (omega (arith, e))
 same_digit version.Three version.Two e = absurd (omega (arith, e))
 same_digit version.Three version.Three e = refl
+same_digit version.Three version.Four e = absurd (omega (arith, e))
+same_digit version.Four version.One e = absurd (omega (arith, e))
+same_digit version.Four version.Two e = absurd (omega (arith, e))
+same_digit version.Four version.Three e = absurd (omega (arith, e))
+same_digit version.Four version.Four e = refl
 
 behind_first : (v : Version) (a : List ℕ) → drop 16 (first_line v ++ a) ≡ a
 behind_first version.One a = refl
 behind_first version.Two a = refl
 behind_first version.Three a = refl
+behind_first version.Four a = refl
 
 -- one text is of one version
 one_version : (v w : Version) (a b : List ℕ) → first_line v ++ a ≡ first_line w ++ b → (v ≡ w) × (a ≡ b)
@@ -208,12 +219,49 @@ has_version text c es is (inr h) =
     let met = whole_texts_meet version.Three (version_of c es) h.config c h.entries es h.whole is.0 (sym h.is_text ∙ is.1) in
     not_three c (list_any has_fd es) (ap (list_any has_fd) (sym met.2) ∙ h.none) (sym met.0)
 
+-- ---- a record, which is that of no long run
+
+-- a text of another version than the fourth is of no long run
+pub not_long : (v : Version) (text rest : List ℕ) → v ≢ version.Four → text ≡ first_line v ++ rest → IsOfLongRun text → ⊥
+not_long v text rest other is long = other ((one_version v version.Four rest long.0 (sym is ∙ long.1)).0)
+
+pub short_fault : (v : Version) (text rest : List ℕ) (why : ReadFault) → v ≢ version.Four → text ≡ first_line v ++ rest → Reads text (Err why) → ReadsRecord text (Err why)
+short_fault v text rest fault.BadVersion other is h = inl h
+short_fault v text rest (fault.BadLine n) other is h = (h, not_long v text rest other is)
+short_fault v text rest fault.NoMemory other is h = tt
+
+-- lines of another version than the fourth make a record
+short_config : (v : Version) (c : BusConfig) → v ≢ version.Four → HasBusLine v c → c.limit ≤ max_limit
+short_config version.One c other h = h.limit
+short_config version.Two c other h = h.limit
+short_config version.Three c other h = h.limit
+short_config version.Four c other h = absurd (other refl)
+
+pub proper_config : (v : Version) (c : BusConfig) → v ≢ version.Four → HasBusLine v c → IsConfig c
+proper_config v c other h = record {
+  some_ifaces = h.proper.some_ifaces;
+  few_ifaces = h.proper.few_ifaces;
+  some_frames = h.proper.some_frames;
+  few_frames = h.proper.few_frames;
+  some_entries = h.proper.some_entries;
+  few_entries = short_config v c other h;
+  few_attempts = h.proper.few_attempts;
+}
+
+-- the text of a record is of no long run
+short_text : (text : List ℕ) (c : BusConfig) (es : List Entry) → IsConfig c → IsTextOf text c es → IsOfLongRun text → ⊥
+short_text text c es proper is long =
+    let four = (one_version (version_of c es) version.Four _ long.0 (sym is.1 ∙ long.1)).0 in
+    let bus = subst (λ (v : Version). HasBusLine v c) four is.0.bus in
+    absurd (omega (arith, bus.limit, proper.few_entries))
+
 -- what was written is read
-pub reads_back : (text : List ℕ) (result : Result Kept ReadFault) → Reads text result → ReadsBack text result
-reads_back text (Ok r) reads c es is = one_record text r.config c (reverse r.history) es reads is
-reads_back text (Err fault.BadVersion) reads c es is = absurd (has_version text c es is reads)
-reads_back text (Err (fault.BadLine n)) reads c es is = absurd (nothing_wrong text n c es is reads)
-reads_back text (Err fault.NoMemory) reads c es is = refl
+pub reads_back : (text : List ℕ) (result : Result Kept ReadFault) → ReadsRecord text result → ReadsBack text result
+reads_back text (Ok r) reads c es proper is = one_record text r.config c (reverse r.history) es reads is
+reads_back text (Err fault.BadVersion) (inl none) c es proper is = absurd (has_version text c es is none)
+reads_back text (Err fault.BadVersion) (inr long) c es proper is = absurd (short_text text c es proper is long)
+reads_back text (Err (fault.BadLine n)) reads c es proper is = absurd (nothing_wrong text n c es is reads.0)
+reads_back text (Err fault.NoMemory) reads c es proper is = refl
 
 -- ---- what is written
 

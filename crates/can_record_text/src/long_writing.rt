@@ -57,11 +57,14 @@ pub fn write_block<W: Write>(
     let mut line = Vec::new(alloc);
     for place in 0..block.len() {
         let stored = block.stored(place).unwrap();
-        if let Err(why) = write_stored(&mut line, &stored, writer) {
-            return Err(Torn {
-                whole_lines: place as u64,
-                why,
-            });
+        match write_stored(&mut line, &stored, writer) {
+            Ok(()) => {}
+            Err(why) => {
+                return Err(Torn {
+                    whole_lines: place as u64,
+                    why,
+                });
+            }
         }
     }
     Ok(())

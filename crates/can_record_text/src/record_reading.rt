@@ -1,7 +1,9 @@
-ghost use Rattle.std.specs.Prelude.{◌≡◌, [], All, Err, IfErr, IfOk, ◌<◌, ◌^◌};
+ghost use Rattle.std.specs.Prelude.{◌≡◌, ◌≢◌, ◌<◌, ◌^◌, ◌⊎◌, [], All, Err, IfErr, IfOk, IfSome, IsNone};
 ghost use Rattle.can_record_text.specs.Values.{HasLine};
-ghost use Rattle.can_record_text.specs.Spelling.{entry_lines};
-ghost use Rattle.can_record_text.specs.RecordFaults.{IsOfLongRun, LacksEntry, Ends, ReadsBack, ReadsRecord};
+ghost use Rattle.can_record_text.specs.Spelling.{entry_lines, first_line};
+ghost use Rattle.can_record_text.specs.RecordFaults.{IsOfLongRun, LacksEntry, LacksFirst, Ends, ReadsBack, ReadsRecord};
+ghost use Rattle.can_record_text.specs.Texts.{StartsWith};
+ghost use Rattle.can_record_text.specs.declared.version.Version.TheVariants as version;
 ghost use Rattle.can_record_text.specs.inner.Fronts.{HasFront};
 
 use crate::fault::{ReadFault, Unread};
@@ -62,12 +64,11 @@ fn read_front<'a>(
     text: &'a [u8],
 ) -> Result<(Version, BusConfig, &'a [u8]), ReadFault>
     ensures front { IfOk result (λ x. HasFront text.now x.0 x.1 x.2.now) }
-    ensures short { IfOk result (λ x. ¬ IsOfLongRun text.now) }
+    ensures short { IfOk result (λ x. x.0 ≢ version.Four) }
     ensures fault { IfErr result (λ why. ReadsRecord text.now (Err why)) }
 {
-    let version = match read_version(text) {
-        None | Some(Version::Four) => return Err(ReadFault::BadVersion),
-        Some(version) => version,
+    let Some(version) = record_version(text) else {
+        return Err(ReadFault::BadVersion);
     };
     let rest = behind(text, version.first_line().len());
     let config = match read_bus(buffer, version, rest) {
@@ -76,6 +77,18 @@ fn read_front<'a>(
         Err(Unread::NoMemory) => return Err(ReadFault::NoMemory),
     };
     Ok((version, config, behind(rest, buffer.len())))
+}
+
+/// The version that the first line of a record names, which is not that of a long run.
+fn record_version(text: &[u8]) -> Option<Version>
+    ensures found { IfSome result (λ v. StartsWith (first_line v) text.now) }
+    ensures short { IfSome result (λ v. v ≢ version.Four) }
+    ensures only { IsNone result → LacksFirst text.now ⊎ IsOfLongRun text.now }
+{
+    match read_version(text) {
+        Some(Version::Four) => None,
+        found => found,
+    }
 }
 
 /// Whether the text ends here, after this many entries.

@@ -13,5 +13,5 @@ loop-place-preserved g c =
     let es = reverse c.args.record.now.history in
     let e = entry_stored c.unwrap-stored.result in
     let there = sym c.stored.ensures.entry ∙ ap (option_map entry_stored) c.unwrap-stored.ensures in
-    line_more (g.W.Write.contents c.args.writer.now) (g.W.Write.contents c.loop-place.writer) (g.W.Write.contents c.write_line.new.writer) es c.loop-place.place e
-    c.loop-place.invariant c.in_ok-write_line.ensures (slice_get_within es c.loop-place.place e there) (sym (get_or_from_slice_get es c.loop-place.place e e there))
+    line_more (g.W.Write.contents c.args.writer.now) (g.W.Write.contents c.loop-place.writer) (g.W.Write.contents c.write_stored.new.writer) es c.loop-place.place e
+    c.loop-place.invariant c.in_ok-write_stored.ensures (slice_get_within es c.loop-place.place e there) (sym (get_or_from_slice_get es c.loop-place.place e e there))

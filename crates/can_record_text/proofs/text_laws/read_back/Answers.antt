@@ -2,6 +2,7 @@ use Rattle.std.proofs.Common.{◌≡◌, ◌∙◌, List, ap, sym, subst}
 use Rattle.std.specs.Prelude.{reverse}
 use Rattle.std.proofs.lemmas.List.{reverse-reverse}
 use Rattle.can_event.specs.declared.entry.Entry.{Entry}
+use Rattle.can_event.specs.Events.{IsConfig}
 use Rattle.can_record_text.specs.declared.version.Version.TheVariants as version
 use Rattle.can_record_text.specs.Values.{HasBusLine, HasText}
 use Rattle.can_record_text.proofs.Versioning.{has_text}
@@ -13,7 +14,7 @@ whole : (c : After-drop-text) → HasText c.args.kept.now.config (reverse c.args
 whole c = has_text c.args.kept.now.config (reverse c.args.kept.now.history) (subst (HasBusLine version.Three) c.config.ensures.config c.hold_config.ensures) c.hold_lines.ensures
 
 same : (c : After-drop-text) → (c.in-Ok.read.config ≡ c.args.kept.now.config) × (reverse c.in-Ok.read.history ≡ reverse c.args.kept.now.history)
-same c = c.in-Ok.ensures.back c.args.kept.now.config (reverse c.args.kept.now.history) (whole c, c.deref.ensures.value ∙ c.in_ok-text.ensures)
+same c = c.in-Ok.ensures.back c.args.kept.now.config (reverse c.args.kept.now.history) (subst IsConfig c.config.ensures.config c.config.ensures.proper) (whole c, c.deref.ensures.value ∙ c.in_ok-text.ensures)
 
 same_list : (xs ys : List Entry) → reverse xs ≡ reverse ys → xs ≡ ys
 same_list xs ys e = sym (reverse-reverse xs) ∙ ap reverse e ∙ reverse-reverse ys
