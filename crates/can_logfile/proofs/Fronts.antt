@@ -9,7 +9,7 @@ use Rattle.can_event.specs.declared.attempt.Tried.{Tried}
 use Rattle.can_event.specs.declared.reply.Reply.{Reply}
 use Rattle.can_event.specs.declared.reply.Reply.TheVariants as reply
 use Rattle.can_record.specs.Tapes.{tape, tape_after}
-use Rattle.can_logfile.specs.Log.{log_line, log_lines, tried_of, tried_in, joined, LineGoesOut, TornAfter}
+use Rattle.can_logfile.specs.Log.{entries_in, lines_of_blocks, log_line, log_lines, tried_of, tried_in, joined, TornAfter}
 use Rattle.std.proofs.KnownBytes.{Appends-trans}
 
 -- The oldest entries of a history, and their lines.
@@ -80,10 +80,10 @@ lines-cut names k past e t lt at is =
     let whole : tape past ≡ base ++ t ∷ grown.0 = grown.1 ∙ ap (λ (x : List Tried). x ++ grown.0) (tried-more k past e t lt at is) ∙ append_assoc base (t ∷ []) grown.0 in
     (map (log_line names) grown.0, ap (map (log_line names)) whole ∙ map-append (log_line names) base (t ∷ grown.0))
 
-pub torn : (a b c : Option (List ℕ)) (names : List (List ℕ)) (k whole : ℕ) (past : List Entry) (e : Entry) (t : Tried) (line : List ℕ) →
-    k < length past → e ≡ get_or (reverse past) k e → e.reply ≡ reply.Tried t → line ≡ log_line names t → whole ≡ length (tape (front k past)) →
-    Appends a b (joined (log_lines names (front k past))) → LineGoesOut b c line false → TornAfter a c (log_lines names past) whole
-torn a b c names k whole past e t line lt at is made count out part =
+pub torn : (a b c : Option (List ℕ)) (names : List (List ℕ)) (k whole : ℕ) (past : List Entry) (e : Entry) (t : Tried) →
+    k < length past → e ≡ get_or (reverse past) k e → e.reply ≡ reply.Tried t → whole ≡ length (tape (front k past)) →
+    Appends a b (joined (log_lines names (front k past))) → (part : ℕ) × (part < length (log_line names t)) × Appends b c (take part (log_line names t)) → TornAfter a c (log_lines names past) whole
+torn a b c names k whole past e t lt at is count out part =
     let cut = lines-cut names k past e t lt at is in
     let base = log_lines names (front k past) in
     let long : length base ≡ whole = length-map (tape (front k past)) (log_line names) ∙ sym count in
@@ -91,10 +91,10 @@ torn a b c names k whole past e t line lt at is made count out part =
       next = log_line names t;
       there = ap (λ (ls : List (List ℕ)). slice_get ls whole) cut.1 ∙ ap (λ (n : ℕ). slice_get (base ++ log_line names t ∷ cut.0) n) (sym long) ∙ there base (log_line names t) cut.0;
       front = part.0;
-      proper = subst (λ (l : List ℕ). part.0 < length l) made part.1;
+      proper = part.1;
       out =
           let taken : take whole (log_lines names past) ≡ base = ap (take whole) cut.1 ∙ take_at base (log_line names t ∷ cut.0) whole long in
-          subst (λ (ls : List (List ℕ)). Appends a c (joined ls ++ take part.0 (log_line names t))) (sym taken) (Appends-trans a b c (joined base) (take part.0 (log_line names t)) out (subst (λ (l : List ℕ). Appends b c (take part.0 l)) made part.2));
+          subst (λ (ls : List (List ℕ)). Appends a c (joined ls ++ take part.0 (log_line names t))) (sym taken) (Appends-trans a b c (joined base) (take part.0 (log_line names t)) out part.2);
     }
 
 stays : (r : Reply) (before : List Tried) → ((t : Tried) → r ≡ reply.Tried t → ⊥) → tape_after r before ≡ before
@@ -111,11 +111,11 @@ stays (reply.Refused s) before never = refl
 pub same-tape : (k : ℕ) (past : List Entry) (e : Entry) → k < length past → e ≡ get_or (reverse past) k e → ((t : Tried) → e.reply ≡ reply.Tried t → ⊥) → tape (front (k + 1) past) ≡ tape (front k past)
 same-tape k past e lt at never = ap tape (front-more k past e lt at) ∙ stays e.reply (tape (front k past)) never
 
-pub line-more : (a b c : Option (List ℕ)) (names : List (List ℕ)) (k : ℕ) (past : List Entry) (e : Entry) (t : Tried) (line : List ℕ) →
-    k < length past → e ≡ get_or (reverse past) k e → e.reply ≡ reply.Tried t → line ≡ log_line names t →
-    Appends a b (joined (log_lines names (front k past))) → Appends b c line → Appends a c (joined (log_lines names (front (k + 1) past)))
-line-more a b c names k past e t line lt at is made out part =
-    subst (Appends a c) (sym (lines-more names k past e t lt at is)) (Appends-trans a b c (joined (log_lines names (front k past))) (log_line names t) out (subst (Appends b c) made part))
+pub line-more : (a b c : Option (List ℕ)) (names : List (List ℕ)) (k : ℕ) (past : List Entry) (e : Entry) (t : Tried) →
+    k < length past → e ≡ get_or (reverse past) k e → e.reply ≡ reply.Tried t →
+    Appends a b (joined (log_lines names (front k past))) → Appends b c (log_line names t) → Appends a c (joined (log_lines names (front (k + 1) past)))
+line-more a b c names k past e t lt at is out part =
+    subst (Appends a c) (sym (lines-more names k past e t lt at is)) (Appends-trans a b c (joined (log_lines names (front k past))) (log_line names t) out part)
 
 -- ---- the entry at a place
 
@@ -149,3 +149,35 @@ seen k past o lt is =
           }
       | inr (past_end, there) ↦ absurd (omega (arith, lt, past_end, length-reverse past))
     ]
+
+-- the same in entries, the oldest of them first
+pub seen_in : (k : ℕ) (entries : List Entry) (o : Option Tried) → k < length entries → o ≡ tried_in (slice_get entries k) → Seen k (reverse entries) o
+seen_in k entries o lt is = seen k (reverse entries) o (omega (arith, length-reverse entries, lt)) (is ∙ ap (λ (es : List Entry). tried_in (slice_get es k)) (sym (reverse-reverse entries)))
+
+-- ---- the log of blocks
+
+-- the tape of a history goes on
+tape-join : (later past : List Entry) → tape (later ++ past) ≡ tape past ++ tape later
+tape-join [] past = sym (append-nil (tape past))
+tape-join (e ∷ later) past = ap (tape_after e.reply) (tape-join later past) ∙ after e.reply (tape past) (tape later)
+  where
+    after : (r : Reply) (base more : List Tried) → tape_after r (base ++ more) ≡ base ++ tape_after r more
+    after (reply.Tried t) base more = append_assoc base more (t ∷ [])
+    after (reply.Opened s) base more = refl
+    after (reply.Closed s) base more = refl
+    after reply.Done base more = refl
+    after (reply.Sent s) base more = refl
+    after (reply.Received s) base more = refl
+    after (reply.Idle restarted) base more = refl
+    after (reply.Refused s) base more = refl
+
+lines-join : (names : List (List ℕ)) (block more : List Entry) → log_lines names (reverse (block ++ more)) ≡ log_lines names (reverse block) ++ log_lines names (reverse more)
+lines-join names block more =
+    ap (log_lines names) (reverse-append block more)
+    ∙ ap (map (log_line names)) (tape-join (reverse more) (reverse block))
+    ∙ map-append (log_line names) (tape (reverse block)) (tape (reverse more))
+
+-- the lines of blocks are those of their entries
+pub blocks-log : (names : List (List ℕ)) (blocks : List (List Entry)) → log_lines names (reverse (entries_in blocks)) ≡ lines_of_blocks names blocks
+blocks-log names [] = refl
+blocks-log names (b ∷ blocks) = lines-join names b (entries_in blocks) ∙ ap (λ (ls : List (List ℕ)). log_lines names (reverse b) ++ ls) (blocks-log names blocks)

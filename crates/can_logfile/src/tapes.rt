@@ -39,7 +39,10 @@ pub fn write_tape<W: Write>(names: &Names, record: &Record, writer: &mut W) -> R
     let mut whole_lines = 0;
     for place in 0..record.len() {
         if let Some(tried) = tried_at(record, place) {
-            whole_lines = write_tried(names, &tried, whole_lines, writer)?;
+            match write_tried(names, &tried, whole_lines, writer) {
+                Ok(lines) => whole_lines = lines,
+                Err(fault) => return Err(fault),
+            }
         }
     }
     Ok(whole_lines)
@@ -62,7 +65,10 @@ pub fn write_entries<W: Write>(
     let mut whole_lines = 0;
     for place in 0..entries.len() {
         if let Some(tried) = tried_among(entries, place) {
-            whole_lines = write_tried(names, &tried, whole_lines, writer)?;
+            match write_tried(names, &tried, whole_lines, writer) {
+                Ok(lines) => whole_lines = lines,
+                Err(fault) => return Err(fault),
+            }
         }
     }
     Ok(whole_lines)
@@ -82,7 +88,7 @@ fn write_tried<W: Write>(
     writer: &mut W,
 ) -> Result<u64, LogFault>
     requires names { AreNames names.now }
-    requires few { whole_lines < 2 ^ 63 }
+    requires few { whole_lines + 1 < 2 ^ 64 }
     ensures more { IfOk result (λ n. n ≡ whole_lines + 1) }
     ensures torn { IfErr result (λ fault. fault.whole_lines ≡ whole_lines) }
     ensures line { LineGoesOut (W.contents writer.old) (W.contents writer.new)

@@ -15,7 +15,7 @@ use Rattle.can_bus.specs.Lean.{Lean, Stands}
 use Rattle.can_bus.specs.Legal.{IsLegal, legal_reply}
 use Rattle.can_record_text.specs.declared.version.Version.{Version}
 use Rattle.can_record_text.specs.declared.version.Version.TheVariants as version
-use Rattle.can_record_text.specs.Spelling.{entry_line, entry_lines, front_lines, has_fd}
+use Rattle.can_record_text.specs.Spelling.{entry_line, entry_lines, front_lines, has_fd, takes_fd}
 use Rattle.can_record_text.specs.Values.{HasLine}
 use Rattle.can_record_text.specs.inner.Reading.{entry_at}
 use Rattle.can_record_text.specs.RecordFaults.{LacksEntry}
@@ -117,7 +117,7 @@ settled_none c es (Some w) is h = absurd cc
 
 -- the line of one more legal entry
 pub legal_more : (text line : List ℕ) (b : Body) (bus : Lean) (fd : Bool) → IsGoing text b → b.wrong ≡ None → b.is_ended ≡ false → IsLine line → bus.config ≡ b.bus.config
-    → ((past : List Entry) → Stands b.bus past → IsNext b.bus.config past line fd bus) → (fd ≡ true → b.version ≡ version.Three) → IsGoing (text ++ line) (record b { bus = bus; count = b.count + 1; fd = b.fd || fd })
+    → ((past : List Entry) → Stands b.bus past → IsNext b.bus.config past line fd bus) → (fd ≡ true → takes_fd b.version ≡ true) → IsGoing (text ++ line) (record b { bus = bus; count = b.count + 1; fd = b.fd || fd })
 unfolding read_more
 legal_more text line b bus fd g none going is config step may =
     let es = g.read.entries in
@@ -162,11 +162,15 @@ wrong_here text line rest b fd e d legal limit read none going config is other g
 pub spells_none : (v : Version) (c : BusConfig) (line : List ℕ) → entry_at line ≡ None → LacksEntry v c line
 spells_none v c line none e more good is = none-some e (sym none ∙ ap entry_at is ∙ entry_again v c e more good)
 
--- a line with FD stands in version 3 alone
-pub of_three : (v : Version) (c : BusConfig) (past : List Entry) (line : List ℕ) (fd : Bool) (bus : Lean) → IsNext c past line fd bus → fd ≡ true → v ≢ version.Three → LacksEntry v c line
-of_three v c past line fd bus one has other e more good is =
+-- a line with FD stands only in a version that takes it
+pub of_fd : (v : Version) (c : BusConfig) (past : List Entry) (line : List ℕ) (fd : Bool) (bus : Lean) → IsNext c past line fd bus → fd ≡ true → takes_fd v ≡ false → LacksEntry v c line
+of_fd v c past line fd bus one has other e more good is =
     let same : e ≡ one.entry = same_Some e one.entry (sym (entry_again v c e more good) ∙ ap entry_at (sym is ∙ one.stands) ∙ entry_again version.Three c one.entry one.rest one.good) in
-    other (good.version (ap has_fd same ∙ sym one.is_fd ∙ has))
+    never (takes_fd v) other (good.version (ap has_fd same ∙ sym one.is_fd ∙ has))
+  where
+    never : (b : Bool) → b ≡ false → b ≡ true → ⊥
+    never true no yes = absurd cc
+    never false no yes = absurd cc
 
 -- ---- a body after one more line
 

@@ -1,5 +1,5 @@
-ghost use Rattle.std.specs.Prelude.{◌≡◌, ◌≢◌, ◌↔◌, ◌+◌, ◌-◌, ◌^◌, ◌<◌, ◌||◌, ◌++◌, Err, IfErr, IfOk, IsSome, IsTrue, List, None, OnOk, Some, false, true, ℕ};
-ghost use Rattle.can_record_text.specs.Spelling.{first_line};
+ghost use Rattle.std.specs.Prelude.{◌≡◌, ◌↔◌, ◌+◌, ◌-◌, ◌^◌, ◌<◌, ◌||◌, ◌++◌, Err, IfErr, IfOk, IsSome, IsTrue, List, None, OnOk, Some, false, true, ℕ};
+ghost use Rattle.can_record_text.specs.Spelling.{first_line, takes_fd};
 ghost use Rattle.can_record_text.specs.inner.Reading.{SeemsToBe};
 ghost use Rattle.can_text_audit.specs.TextAudits.{EndsNoLine, FailsAfter, FailsNext, IsLine, TakesOn, Tells, TellsCut};
 ghost use Rattle.can_text_audit.specs.inner.Bodies.{IsGoing};
@@ -364,10 +364,10 @@ impl Body {
 
 /// Whether a line with an FD frame or the option for such, or one without, is allowed in this version.
 fn may_stand(version: Version, fd: bool) -> bool
-    ensures yes { IsTrue result → fd ≡ true → version ≡ Version.Three }
-    ensures no { result ≡ false → (fd ≡ true) × (version ≢ Version.Three) }
+    ensures yes { IsTrue result → fd ≡ true → takes_fd version ≡ true }
+    ensures no { result ≡ false → (fd ≡ true) × (takes_fd version ≡ false) }
 {
-    !fd || version == Version::Three
+    !fd || version.takes_fd()
 }
 
 /// Whether a text of this version, with an FD frame or the option for such, or without, has nothing that takes it.

@@ -1,20 +1,20 @@
-use Rattle.std.proofs.Common.{◌+◌, ◌<◌, List, ℕ, length, sym, ap, subst, ◌∙◌, arith}
+use Rattle.std.proofs.Common.{◌<◌, ◌+◌, ℕ, List, length, sym, ap, subst, ◌∙◌, arith}
 use Rattle.std.specs.Prelude.{map}
 use Rattle.std.specs.Io.KnownBytes.{Appends}
 use Rattle.can_event.specs.declared.attempt.Tried.{Tried}
-use Rattle.can_logfile.specs.Log.{log_line, joined}
+use Rattle.can_logfile.specs.Log.{log_line, log_lines, joined, TornAfter}
 use Rattle.can_logfile.proofs.Fronts.{seen, torn, count-more, line-more, same-tape}
-use Rattle.can_logfile.proofs.tapes.write_tape.Goals.{in-Some+else-not-write_line, in_default}
+use Rattle.can_logfile.proofs.tapes.write_tape.Goals.{in-Some+in-Ok, in_default}
 use Rattle.can_logfile.proofs.tapes.write_tape.Goals as goal
 
-pub returns-then-not-write_line : goal.returns-then-not-write_line
-returns-then-not-write_line g c =
+pub returns-in-Err : goal.returns-in-Err
+returns-in-Err g c =
     let past = c.args.record.now.history in
     let lt : c.loop-place.place < length past = omega (arith, c.loop-place-test.true, c.len-place-end.ensures) in
     let s = seen c.loop-place.place past c.tried_at.result lt c.tried_at.ensures in
-    torn (g.W.Write.contents c.args.writer.now) (g.W.Write.contents c.loop-place.writer) (g.W.Write.contents c.write_line.new.writer) c.args.names.now
-    c.loop-place.place c.loop-place.whole_lines past s.entry c.in-Some.tried c.as_bytes.result.now
-    lt s.read (s.tried _ c.in-Some.is) (c.as_bytes.ensures ∙ c.log_line-line.ensures) c.loop-place.invariant.count c.loop-place.invariant.out c.if-not-write_line.ensures
+    subst (TornAfter (g.W.Write.contents c.args.writer.now) (g.W.Write.contents c.write_tried.new.writer) (log_lines c.args.names.now past)) (sym c.in-Err.ensures.torn)
+    (torn (g.W.Write.contents c.args.writer.now) (g.W.Write.contents c.loop-place.writer) (g.W.Write.contents c.write_tried.new.writer) c.args.names.now
+    c.loop-place.place c.loop-place.whole_lines past s.entry c.in-Some.tried lt s.read (s.tried _ c.in-Some.is) c.loop-place.invariant.count c.loop-place.invariant.out c.in-Err.ensures.line)
 
 pub loop-place-preserved : goal.loop-place-preserved
 loop-place-preserved g c =
@@ -22,14 +22,15 @@ loop-place-preserved g c =
     let lt : c.loop-place.place < length past = omega (arith, c.loop-place-test.true, c.len-place-end.ensures) in
     let s = seen c.loop-place.place past c.tried_at.result lt c.tried_at.ensures in
     elim c.match-tried_at.branch [
-      | in-Some+else-not-write_line w ↦ record {
-        few = omega (arith, w.whole_lines-is, c.loop-place.invariant.few);
-        count = w.whole_lines-is ∙ ap (λ (n : ℕ). n + 1) c.loop-place.invariant.count ∙ sym (count-more c.loop-place.place past s.entry w.in-Some.tried lt s.read (s.tried _ w.in-Some.is));
-        out =
-            rw w.writer-is (line-more (g.W.Write.contents c.args.writer.now) (g.W.Write.contents c.loop-place.writer) (g.W.Write.contents w.write_line.new.writer) c.args.names.now
-            c.loop-place.place past s.entry w.in-Some.tried w.as_bytes.result.now
-            lt s.read (s.tried _ w.in-Some.is) (w.as_bytes.ensures ∙ w.log_line-line.ensures) c.loop-place.invariant.out w.if-not-write_line.ensures);
-      }
+      | in-Some+in-Ok w ↦
+          let more = w.whole_lines-is ∙ w.in-Ok.ensures.more in
+          record {
+            few = omega (arith, more, c.loop-place.invariant.few);
+            count = more ∙ ap (λ (n : ℕ). n + 1) c.loop-place.invariant.count ∙ sym (count-more c.loop-place.place past s.entry w.in-Some.tried lt s.read (s.tried _ w.in-Some.is));
+            out =
+                rw w.writer-is (line-more (g.W.Write.contents c.args.writer.now) (g.W.Write.contents c.loop-place.writer) (g.W.Write.contents w.write_tried.new.writer) c.args.names.now
+                c.loop-place.place past s.entry w.in-Some.tried lt s.read (s.tried _ w.in-Some.is) c.loop-place.invariant.out w.in-Ok.ensures.line);
+          }
       | in_default w ↦
           let same = same-tape c.loop-place.place past s.entry lt s.read (s.never w.in_default.not-Some) in
           record {

@@ -7,7 +7,7 @@ use Rattle.can_record_text.proofs.Again.{starts-with-line}
 use Rattle.can_text_audit.specs.inner.Bodies.{IsGoing}
 use Rattle.can_text_audit.specs.inner.Carried.{IsNext}
 use Rattle.can_text_audit.proofs.Answering.{next_is, other_past, other_reply}
-use Rattle.can_text_audit.proofs.Taking.{legal_more, of_three, takes_blamed}
+use Rattle.can_text_audit.proofs.Taking.{legal_more, of_fd, takes_blamed}
 use Rattle.can_text_audit.proofs.body.Body.carry_event.Goals as goal
 
 never : (b : Bool) → IsTrue b → b ≡ false → ⊥
@@ -41,7 +41,7 @@ returns-then-not-may_stand c = (
       next_is old.bus.config past line c.args.event.now c.answer-reply.result c.has_fd-fd.result c.answer-reply.new.self enters (c.answer-reply.ensures.spelled enters) c.hold_event.ensures c.hold_reply.ensures c.has_fd-fd.ensures
       (c.in-Ok-true.ensures.0 c.in-Ok-true.field-0-test) (c.answer-reply.ensures.after past (g.stands going c.requires.legal)) in
       let no = c.may_stand.ensures.no c.if-not-may_stand.true in
-      of_three old.version old.config past line c.has_fd-fd.result c.answer-reply.new.self (subst (λ (d : BusConfig). IsNext d past line c.has_fd-fd.result c.answer-reply.new.self) (g.config going) one) no.0 no.1,
+      of_fd old.version old.config past line c.has_fd-fd.result c.answer-reply.new.self (subst (λ (d : BusConfig). IsNext d past line c.has_fd-fd.result c.answer-reply.new.self) (g.config going) one) no.0 no.1,
 )
 
 pub returns : goal.returns
