@@ -2,6 +2,7 @@ mod auditing;
 mod events;
 mod fd_frames;
 mod line_audits;
+mod long_runs;
 mod reaching;
 mod replying;
 mod restarting;

@@ -14,13 +14,13 @@ type Parts = (Reply, Item, Received, Tried);
 
 /// What is reported of a text.
 #[derive(Debug, Clone, Copy, PartialEq, Eq)]
-enum Told {
+pub enum Told {
     Legal(usize),
     Bad(ReadFault),
     Wrong(usize, Option<Reply>),
 }
 
-fn told_by_lines(rt: &impl AllocGlobal, text: &[u8]) -> Told {
+pub fn told_by_lines(rt: &impl AllocGlobal, text: &[u8]) -> Told {
     match audit_by_lines(rt, text) {
         Ok(count) => Told::Legal(count),
         Err(TextFault::Read(fault)) => Told::Bad(fault),

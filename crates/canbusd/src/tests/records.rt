@@ -138,12 +138,12 @@ fn tells_what_is_wrong_with_records(rt: HostRuntime) -> Result<(), Fail> {
         (
             "record 1",
             "record 9",
-            "canbusd: bad version\n  damaged.rec:1: canbus record 9\n  the first line of a record is canbus record 1 or 2, or, with an FD frame or the option fd, canbus record 3\n",
+            "canbusd: bad version\n  damaged.rec:1: canbus record 9\n  the first line of a record is canbus record 1 or 2, or, with an FD frame or the option fd, canbus record 3, or, of a long run, canbus record 4\n",
         ),
         (
             "bus 2",
             "bus 17",
-            "canbusd: line 2: bad line\n  damaged.rec:2: bus 17 always 0000 10 100\n  the second line is bus IFACES ACK REPORTING TXCAPACITY LIMIT, followed by RESTART in versions 2 and 3\n",
+            "canbusd: line 2: bad line\n  damaged.rec:2: bus 17 always 0000 10 100\n  the second line is bus IFACES ACK REPORTING TXCAPACITY LIMIT, followed by RESTART in versions 2 to 4\n",
         ),
         (
             "send 0 123#01FF",
@@ -179,7 +179,7 @@ fn tells_what_is_wrong_with_records(rt: HostRuntime) -> Result<(), Fail> {
         (
             "record 1\nbus 2 always 0000 10 100\n",
             "record 3\nbus 2 always 0000 10 100 0\n",
-            "canbusd: bad version\n  damaged.rec:1: canbus record 3\n  the first line of a record is canbus record 1 or 2, or, with an FD frame or the option fd, canbus record 3\n",
+            "canbusd: bad version\n  damaged.rec:1: canbus record 3\n  the first line of a record is canbus record 1 or 2, or, with an FD frame or the option fd, canbus record 3, or, of a long run, canbus record 4\n",
         ),
         (
             "end 7\n",
