@@ -86,6 +86,6 @@ pub fn write_end<W: Write>(alloc: Global, count: u64, writer: &mut W) -> io::Res
 pub fn pieces_make_the_text()
     ensures { (c : AConfig) (blocks : List (List AnEntry)) → max_limit < c.limit →
         front_lines version.Four c []
-            ++ (lines_of_blocks blocks ++ spell (end_words (length (entries_in blocks))) [])
+        ++ (lines_of_blocks blocks ++ spell (end_words (length (entries_in blocks))) [])
         ≡ record_spelling c (entries_in blocks) }
 {}

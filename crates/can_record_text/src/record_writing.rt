@@ -68,7 +68,11 @@ pub fn write_record<W: Write>(alloc: Global, record: &Record, writer: &mut W) ->
 }
 
 /// The first two lines.
-pub(crate) fn put_front(out: &mut Vec<u8>, version: Version, config: BusConfig) -> Result<(), AllocError>
+pub(crate) fn put_front(
+    out: &mut Vec<u8>,
+    version: Version,
+    config: BusConfig,
+) -> Result<(), AllocError>
     ensures { OnOk result (out.new.items ≡ out.old.items ++ front_lines version config []) }
 {
     out.extend_from_slice(version.first_line())?;

@@ -169,8 +169,8 @@ of_fd v c past line fd bus one has other e more good is =
     never (takes_fd v) other (good.version (ap has_fd same ∙ sym one.is_fd ∙ has))
   where
     never : (b : Bool) → b ≡ false → b ≡ true → ⊥
-    never true no yes = absurd cc
-    never false no yes = absurd cc
+    never true e h = absurd cc
+    never false e h = absurd cc
 
 -- ---- a body after one more line
 

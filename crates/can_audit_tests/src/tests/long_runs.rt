@@ -74,7 +74,11 @@ fn the_record_of_a_long_run_is_legal(rt: HostRuntime) -> Result<(), Fail> {
 fn it_is_no_record_of_those_that_are_held_whole(rt: HostRuntime) -> Result<(), Fail> {
     same(&rt, fault(&rt, RUN), Some(ReadFault::BadVersion));
     same(&rt, fault(&rt, CLASSIC), Some(ReadFault::BadVersion));
-    same(&rt, fault(&rt, "canbus record 4\n"), Some(ReadFault::BadVersion));
+    same(
+        &rt,
+        fault(&rt, "canbus record 4\n"),
+        Some(ReadFault::BadVersion),
+    );
     Ok(())
 }
 
@@ -111,7 +115,13 @@ fn a_limit_is_of_one_version_alone(rt: HostRuntime) -> Result<(), Fail> {
 
 #[test]
 fn each_damage_of_the_first_line_is_told(rt: HostRuntime) -> Result<(), Fail> {
-    for to in ["record 5\n", "record 04\n", "record 4 \n", "record 4\r\n", "record 44\n"] {
+    for to in [
+        "record 5\n",
+        "record 04\n",
+        "record 4 \n",
+        "record 4\r\n",
+        "record 44\n",
+    ] {
         let text = changed(&rt, RUN, "record 4\n", to)?;
         same_at(&rt, to, told(&rt, &text), Told::Bad(ReadFault::BadVersion));
     }
@@ -120,7 +130,12 @@ fn each_damage_of_the_first_line_is_told(rt: HostRuntime) -> Result<(), Fail> {
 
 #[test]
 fn a_wrong_entry_of_a_long_run_is_told(rt: HostRuntime) -> Result<(), Fail> {
-    let text = changed(&rt, RUN, "123##00102030405060708090A0B0C done 0002", "123##00102030405060708090A0B0C done 0000")?;
+    let text = changed(
+        &rt,
+        RUN,
+        "123##00102030405060708090A0B0C done 0002",
+        "123##00102030405060708090A0B0C done 0000",
+    )?;
     match told_cut(&rt, text.as_bytes()) {
         Err(TextFault::Wrong(wrong)) => same(&rt, (wrong.place, wrong.limit), (6, 4_294_967_294)),
         _ => return Err(Fail::from("no wrong entry")),
