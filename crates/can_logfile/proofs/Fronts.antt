@@ -1,5 +1,5 @@
 use Rattle.std.proofs.Common.{◌≡◌, ℕ, ◌+◌, ◌<◌, ◌≤◌, List, [], ◌∷◌, ◌++◌, length, take, drop, get_or, Option, Some, inl, inr, refl, sym, ap, subst, ◌∙◌, arith, append_assoc, take-append-drop, length-append}
-use Rattle.std.specs.Prelude.{reverse, map, false, slice_get}
+use Rattle.std.specs.Prelude.{reverse, map, slice_get}
 use Rattle.std.specs.Io.KnownBytes.{Appends}
 use Rattle.std.proofs.lemmas.List.{reverse-append, reverse-reverse, length-reverse, take_more, take_all, take_at, append-nil, map-append, length-map}
 use Rattle.std.proofs.lemmas.Grind.{flat_map-append}

@@ -14,7 +14,7 @@ use Rattle.can_event.specs.Events.{max_limit}
 use Rattle.can_record_text.specs.declared.version.Version.{Version}
 use Rattle.can_record_text.specs.declared.version.Version.TheVariants as version
 use Rattle.can_record_text.specs.Spelling.{has_fd, takes_fd, version_for, version_of}
-use Rattle.can_record_text.specs.Values.{HasLine, HasBusLine, HasLines, HasText, Restarts}
+use Rattle.can_record_text.specs.Values.{HasLine, HasBusLine, HasLines, HasText}
 
 -- a frame of a word, a length and eight bytes is no FD frame
 pub classic : (word len : ℕ) (bytes : List ℕ) → is_fd (payload_in word len bytes) ≡ false

@@ -19,8 +19,6 @@ use Rattle.can_record_text.proofs.LineLists.{lines-rest}
 use Rattle.can_record_text.proofs.Versioning.{version_is}
 use Rattle.can_record_text.proofs.Whole.{first_is_wrong, front-then, needs_no_three}
 use Rattle.can_text_audit.specs.declared.body.Body.{Body}
-use Rattle.can_text_audit.specs.declared.fault.Cut.{Cut}
-use Rattle.can_text_audit.specs.declared.fault.Cut.TheVariants as cut
 use Rattle.can_text_audit.specs.declared.fault.TextFault.{TextFault}
 use Rattle.can_text_audit.specs.declared.fault.TextFault.TheVariants as found
 use Rattle.can_text_audit.specs.declared.fault.WrongLine.{WrongLine}

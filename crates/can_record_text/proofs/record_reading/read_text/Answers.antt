@@ -1,7 +1,7 @@
 use Rattle.std.proofs.Common.{◌∙◌, Err, IsTrue, [], ℕ, ap, arith, inl, inr, subst, sym}
 use Rattle.std.specs.List.{list_any}
 use Rattle.can_record_text.specs.RecordFaults.{Ends}
-use Rattle.can_record_text.specs.Spelling.{bus_words, end_words, entry_lines, front_lines, has_fd, spell}
+use Rattle.can_record_text.specs.Spelling.{bus_words, end_words, front_lines, has_fd, spell}
 use Rattle.can_record_text.proofs.Whole.{whole_text, end_is_wrong, made_text, needs_no_three, short_fault}
 use Rattle.can_record_text.proofs.record_reading.read_text.Goals as goal
 

@@ -1,8 +1,6 @@
-use Rattle.std.proofs.Common.{◌≡◌, ◌++◌, IsTrue, Bool, Some, None, List, refl, reverse, subst, sym, true, false, arith}
+use Rattle.std.proofs.Common.{◌≡◌, ◌++◌, IsTrue, Bool, Some, None, refl, reverse, subst, sym, true, false, arith}
 use Rattle.can_event.specs.declared.bus_config.BusConfig.{BusConfig}
-use Rattle.can_event.specs.declared.entry.Entry.{Entry}
 use Rattle.can_event.specs.Replies.{Enters}
-use Rattle.can_bus.specs.Lean.{Stands}
 use Rattle.can_record_text.proofs.Again.{starts-with-line}
 use Rattle.can_text_audit.specs.inner.Bodies.{IsGoing}
 use Rattle.can_text_audit.specs.inner.Carried.{IsNext}
