@@ -1,11 +1,11 @@
-ghost use Rattle.std.specs.Prelude.{◌≡◌, ◌≢◌, ◌<◌, ℕ, true, Ok, length};
+ghost use Rattle.std.specs.Prelude.{◌≡◌, ◌≢◌, ◌<◌, [], ℕ, true, Ok, length};
 ghost use Rattle.can_bus.specs.Answer.{Answers};
 ghost use Rattle.can_bus.specs.Attempts.{winner};
 ghost use Rattle.can_bus.specs.AutoRestart.{is_counting};
 ghost use Rattle.can_bus.specs.Heads.{next_head};
 ghost use Rattle.can_record.specs.Journal.{Journal};
 ghost use Rattle.can_bus.specs.Legal.{IsLegal};
-ghost use Rattle.can_bus.specs.Long.{journal_of, places_left};
+ghost use Rattle.can_bus.specs.Long.{HasTail, journal_of, places_left};
 ghost use Rattle.can_bus.specs.Run.{IsAnswered};
 ghost use Rattle.can_bus.specs.Stats.{socket_stats_of, iface_stats_of, all_counts};
 ghost use Rattle.can_record.specs.Tapes.{tape};
@@ -18,7 +18,7 @@ use crate::long_bus::{LongEnd, LongRingBus};
 use can_confine::Counters;
 use can_event::{Event, IfaceStats, Received, Refusal, Reply, SocketId, SocketStats};
 use can_frame::{Frame, Iface};
-use can_record::Record;
+use can_record::{PackedRecord, Record};
 use std::alloc::Global;
 
 /// A bus that others share. Contracts see its journal, and how many entries more it takes.
@@ -58,6 +58,13 @@ pub trait Journaled: Drop {
         ensures answer { Answers (taken_reply room.new) (journal self.old) (event.Receive id) result
             (journal self.new) }
         ensures stays { result ≢ Ok true → room.new ≡ room.old };
+
+    /// Hands out the entries that were not handed out yet, in order, for an empty block, and returns how many came before
+    /// them. A bus with its whole record keeps them all: it hands out none.
+    fn hand_out(&mut self, block: &mut PackedRecord) -> u64
+        requires { block.old.entries ≡ [] }
+        ensures handed { HasTail (journal self.old).history block.new.entries result }
+        ensures same { journal self.new ≡ journal self.old };
 
     /// What it leaves.
     fn into_left(self) -> Self::Left
@@ -120,6 +127,10 @@ impl Journaled for RingBus {
         RingBus::receive_into(self, id, room)
     }
 
+    fn hand_out(&mut self, _block: &mut PackedRecord) -> u64 {
+        RingBus::len(self)
+    }
+
     fn into_left(self) -> Record {
         self.into_record()
     }
@@ -176,6 +187,11 @@ impl Journaled for LongRingBus {
 
     fn receive_into(&mut self, id: SocketId, room: &mut Received) -> Result<bool, Refusal> {
         LongRingBus::receive_into(self, id, room)
+    }
+
+    fn hand_out(&mut self, block: &mut PackedRecord) -> u64 {
+        self.take_entries(block);
+        LongRingBus::len(self) - block.len() as u64
     }
 
     fn into_left(self) -> LongEnd {

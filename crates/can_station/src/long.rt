@@ -65,9 +65,16 @@ impl<N: RollName + MeterName, F: FaultSource + Drop, G: Gate + Drop> Station<N, 
         let plan = Plan::new(alloc);
         Station::over(alloc, blanks, number, bus, config, source, plan, gate)
     }
+}
 
+impl<N: RollName + MeterName, F: FaultSource + Drop, G: Gate + Drop, B: Journaled> Station<
+    N,
+    F,
+    G,
+    B,
+> {
     /// Takes the entries that were not taken yet, in order, into a block, whose own are let go. Calls that wait for a
-    /// place go on.
+    /// place go on. A bus with its whole record gives none.
     ///
     /// The lock is held while two pointers are swapped, and no memory is taken: from then on the station's entries go
     /// where the block had memory for its own. Where that is none, each call is refused with `NoMemory`.
@@ -80,14 +87,7 @@ impl<N: RollName + MeterName, F: FaultSource + Drop, G: Gate + Drop> Station<N, 
         self.room.notify_all();
         self.work.notify_all();
     }
-}
 
-impl<N: RollName + MeterName, F: FaultSource + Drop, G: Gate + Drop, B: Journaled> Station<
-    N,
-    F,
-    G,
-    B,
-> {
     /// Waits until there are this many entries that were not taken yet, or too few places for a call, or so long.
     /// `Stopped` after `end_entries`, else `Ready`. A bus with its whole record always has places.
     pub fn wait_entries<R: Wait + Clock>(&self, rt: &R, many: u64, duration: Duration) -> Wake {

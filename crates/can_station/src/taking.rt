@@ -5,7 +5,7 @@ ghost use Rattle.can_station.specs.Waits.{work_wake};
 use crate::long::Block;
 use crate::station_state::StationState;
 use crate::waits::Wake;
-use can_bus::{Journaled, LongRingBus};
+use can_bus::Journaled;
 use can_fault::FaultSource;
 use can_meter::MeterName;
 use can_roll::RollName;
@@ -103,18 +103,14 @@ impl<N: RollName + MeterName, F: FaultSource + Drop, B: Journaled> StationState<
     {
         self.taking.is_over = true;
     }
-}
 
-impl<N: RollName + MeterName, F: FaultSource + Drop> StationState<N, F, LongRingBus> {
     /// Hands out the entries that were not handed out yet, in order, for a block without entries.
     pub(crate) fn take_entries(&mut self, block: &mut Block)
         requires { block.old.entries.entries ≡ [] }
         ensures taken { HasTail self.old.journal.history block.new.entries.entries block.new.start }
         ensures same { self.new ≡ self.old }
     {
-        self.bus.take_entries(&mut block.entries);
-        let count = self.bus.len();
-        block.start = count - block.entries.len() as u64;
-        self.taking.taken = count;
+        block.start = self.bus.hand_out(&mut block.entries);
+        self.taking.taken = self.bus.len();
     }
 }
