@@ -9,6 +9,7 @@ mod logs;
 mod messages;
 mod packed;
 mod queues;
+mod wire;
 
 use std::fmt::Debug;
 use std::process::Abort;

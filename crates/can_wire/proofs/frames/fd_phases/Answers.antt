@@ -1,0 +1,27 @@
+use Rattle.std.proofs.Common.{◌≡◌, ◌∷◌, ◌++◌, List, ℕ, length, refl, sym, ◌∙◌, append_assoc, arith}
+use Rattle.can_frame.specs.Frames.{payload_len, payload_bytes}
+use Rattle.can_frame.specs.Arbitration.{low_bits}
+use Rattle.can_wire.specs.FrameBits.{byte_bits, bit_of, fd_head, fd_code, fd_rest, fd_data_end}
+use Rattle.can_wire.proofs.Fields.{sent_two, inside_count}
+use Rattle.can_wire.proofs.frames.fd_phases.Goals as goal
+
+pub returns-clause-before : goal.returns-clause-before
+returns-clause-before c =
+    let f = c.args.frame.now in
+    let head = rw (c.fd_head.ensures.bits, c.new-counter.ensures) at c.send.ensures.sent in
+    c.count-before.ensures ∙ inside_count (fd_head f c.args.flags) _ head
+
+pub returns-clause-whole : goal.returns-clause-whole
+returns-clause-whole c =
+    let f = c.args.frame.now in
+    let flags = c.args.flags in
+    let first : List ℕ = fd_head f flags in
+    let control : List ℕ = bit_of flags.esi ∷ low_bits 4 (fd_code (payload_len f.payload)) in
+    let bytes : List ℕ = byte_bits (payload_bytes f.payload) in
+    let head = rw (c.fd_head.ensures.bits, c.new-counter.ensures) at c.send.ensures.sent in
+    let next = rw c.fd_control.ensures.bits at c.send-2.ensures.sent in
+    let carried = rw c.bytes.ensures at c.send_bytes.ensures.sent in
+    let both = sent_two first control (first ++ control) _ _ head next refl in
+    let whole = sent_two (first ++ control) bytes (first ++ fd_rest f flags) _ _ both carried (sym (append_assoc first control bytes)) in
+    let all : c.count-all.result ≡ length (fd_data_end f flags) = c.count-all.ensures ∙ inside_count (first ++ fd_rest f flags) _ whole in
+    omega (arith, all, c.send-2.ensures.rises, c.send_bytes.ensures.rises, c.count-before.ensures)

@@ -1,0 +1,109 @@
+use Rattle.std.specs.Prelude.{ℕ, ◌+◌, ◌-◌, ◌/◌, ◌%◌, bit_xor, nat_le, ◌==◌, Bool, List, [], ◌∷◌, ◌++◌, length, replicate, if◌then◌else◌}
+use Rattle.can_frame.specs.Frames.{CanFrame, payload_len, payload_bytes, is_fd}
+use Rattle.can_frame.specs.Arbitration.{arbitration_bits, low_bits}
+use Rattle.can_wire.specs.Stuffing.{stuffed, stuffed_inside, then_fixed_stuffed}
+use Rattle.can_wire.specs.Division.{check_of, check_from_one, generator_15, generator_17, generator_21}
+use Rattle.can_wire.specs.declared.flags.FdFlags.{FdFlags}
+use Rattle.can_wire.specs.declared.wire_bits.WireBits.{WireBits}
+
+-- The bits of frames on the wire, the first sent first: 0 is dominant (Bosch CAN Specification 2.0, section 3.2.1; for FD
+-- frames ISO 11898-1:2015).
+
+-- the bits of bytes, in each the highest first
+abbrev pub byte_bits : List ℕ → List ℕ
+byte_bits [] = []
+byte_bits (b ∷ bytes) = low_bits 8 b ++ byte_bits bytes
+
+-- a flag as a bit
+abbrev pub bit_of : Bool → ℕ
+bit_of flag = if flag then 1 else 0
+
+-- CRC delimiter, ACK slot, ACK delimiter and seven bits of end of frame: a receiver makes the ACK slot dominant
+abbrev pub end_bits : List ℕ
+end_bits = 1 ∷ 0 ∷ 1 ∷ replicate 7 1
+
+-- ---- classic frames
+
+-- the reserved bits of a classic frame: with 29 bits of identifier r1 and r0, else r0, which follows IDE
+abbrev pub reserved_bits : Bool → List ℕ
+reserved_bits extended = if extended then 0 ∷ 0 ∷ [] else 0 ∷ []
+
+-- a classic frame from start of frame to its data length code
+unfoldable pub classic_head : CanFrame → List ℕ
+classic_head f = 0 ∷ arbitration_bits f ++ reserved_bits f.id.extended ++ low_bits 4 (payload_len f.payload)
+
+-- the bits that the CRC of a classic frame covers: also its data
+abbrev pub covered_bits : CanFrame → List ℕ
+covered_bits f = classic_head f ++ byte_bits (payload_bytes f.payload)
+
+-- the bits of a classic frame that are stuffed: the CRC sequence is, too
+abbrev pub checked_bits : CanFrame → List ℕ
+checked_bits f = covered_bits f ++ check_of generator_15 (covered_bits f)
+
+-- ---- FD frames
+
+-- an FD frame from start of frame to BRS, the bit that says whether it switches to the data bit rate: FDF is 1, res 0
+unfoldable pub fd_head : CanFrame → FdFlags → List ℕ
+fd_head f flags = 0 ∷ arbitration_bits f ++ 1 ∷ 0 ∷ bit_of flags.brs ∷ []
+
+-- the data length code of an FD frame of so many bytes (ISO 11898-1; linux/can.h, struct canfd_frame)
+abbrev pub fd_code : ℕ → ℕ
+fd_code n = if nat_le n 8 then n else if n == 12 then 9 else if n == 16 then 10 else if n == 20 then 11 else if n == 24 then 12 else if n == 32 then 13 else if n == 48 then 14 else 15
+
+-- the rest of it to its last data bit: ESI, the data length code and the data
+abbrev pub fd_rest : CanFrame → FdFlags → List ℕ
+fd_rest f flags = bit_of flags.esi ∷ low_bits 4 (fd_code (payload_len f.payload)) ++ byte_bits (payload_bytes f.payload)
+
+-- the whole to its last data bit, as it is sent
+abbrev pub fd_data_end : CanFrame → FdFlags → List ℕ
+fd_data_end f flags = stuffed_inside (fd_head f flags ++ fd_rest f flags)
+
+-- how many of these are stuff bits
+abbrev pub fd_stuff_bits : CanFrame → FdFlags → ℕ
+fd_stuff_bits f flags = length (fd_data_end f flags) - length (fd_head f flags ++ fd_rest f flags)
+
+-- the stuff count: a number of stuff bits modulo 8 in Gray code, and a bit that makes the number of its ones even
+abbrev pub stuff_count : ℕ → List ℕ
+stuff_count n = low_bits 3 (bit_xor (n % 8) (n % 8 / 2)) ++ n % 2 ∷ []
+
+-- the generator of the CRC of an FD frame of so many bytes
+abbrev pub fd_generator : ℕ → List ℕ
+fd_generator n = if nat_le n 16 then generator_17 else generator_21
+
+-- its stuff count, and its CRC, which covers the bits as they are sent, and the stuff count
+unfoldable pub fd_check : CanFrame → FdFlags → List ℕ
+fd_check f flags = stuff_count (fd_stuff_bits f flags) ++ check_from_one (fd_generator (payload_len f.payload)) (fd_data_end f flags ++ stuff_count (fd_stuff_bits f flags))
+
+-- an FD frame to the end of its CRC, as it is sent
+abbrev pub fd_check_end : CanFrame → FdFlags → List ℕ
+fd_check_end f flags = then_fixed_stuffed (fd_data_end f flags) (fd_check f flags)
+
+-- ---- any frame
+
+-- a frame from start of frame to end of frame, as it is on the wire
+abbrev pub wire_of : CanFrame → FdFlags → List ℕ
+wire_of f flags = (if is_fd f.payload then fd_check_end f flags else stuffed (checked_bits f)) ++ end_bits
+
+-- bits before the switch and after it: those after it go at the data bit rate where the frame switches
+abbrev pub rated : Bool → ℕ → ℕ → WireBits
+rated switches before after = if switches then record { nominal = before; fast = after } else record { nominal = before + after; fast = 0 }
+
+-- bits at the nominal bit rate after these
+abbrev pub then_nominal : WireBits → ℕ → WireBits
+then_nominal bits n = record { nominal = bits.nominal + n; fast = bits.fast }
+
+-- how many bits an FD frame has to BRS
+abbrev pub fd_before : CanFrame → FdFlags → ℕ
+fd_before f flags = length (stuffed_inside (fd_head f flags))
+
+-- how many bits go from start of frame to the last data bit, or to the data length code where there is no data
+unfoldable pub data_end_of : CanFrame → FdFlags → WireBits
+data_end_of f flags = if is_fd f.payload then rated flags.brs (fd_before f flags) (length (fd_data_end f flags) - fd_before f flags) else record { nominal = length (stuffed_inside (covered_bits f)); fast = 0 }
+
+-- how many go to the end of the CRC
+unfoldable pub check_end_of : CanFrame → FdFlags → WireBits
+check_end_of f flags = if is_fd f.payload then rated flags.brs (fd_before f flags) (length (fd_check_end f flags) - fd_before f flags) else record { nominal = length (stuffed (checked_bits f)); fast = 0 }
+
+-- how many go to end of frame
+abbrev pub frame_bits_of : CanFrame → FdFlags → WireBits
+frame_bits_of f flags = then_nominal (check_end_of f flags) (length end_bits)

@@ -1,0 +1,7 @@
+pub mod Stuffing
+pub mod Division
+pub mod FrameBits
+pub mod AttemptBits
+pub mod Known
+pub mod Times
+pub mod inner

@@ -1,0 +1,61 @@
+ghost use Rattle.std.specs.Prelude.{◌≡◌, ◌≤◌, ◌<◌, ◌+◌, ◌-◌, ◌*◌, ◌/◌, ◌∷◌, ◌++◌, ℕ, List, Bool, length, replicate, true, false};
+ghost use Rattle.can_frame.specs.Frames.{CanFrame, payload_bytes, is_fd};
+ghost use Rattle.can_wire.specs.Stuffing.{stuffed, stuffed_inside, unstuffed};
+ghost use Rattle.can_frame.specs.Arbitration.{low_bits};
+ghost use Rattle.can_wire.specs.Division.{check_of, generator_15, generator_17, generator_21};
+ghost use Rattle.can_wire.specs.FrameBits.{byte_bits, wire_of, frame_bits_of};
+ghost use Rattle.can_wire.specs.Known.{known_bytes};
+ghost use Rattle.can_wire.specs.Times.{BitRates, AreBitRates, nanos_of, billionths};
+ghost use Rattle.can_wire.specs.declared.flags.FdFlags.{FdFlags};
+ghost use Rattle.can_wire.specs.declared.wire_bits.WireBits.{WireBits};
+
+/// The bits that are counted, at both rates, are those of the frame.
+pub fn every_bit_is_counted()
+    ensures { (f : CanFrame) (flags : FdFlags) →
+        (frame_bits_of f flags).nominal + (frame_bits_of f flags).fast
+        ≡ length (wire_of f flags) }
+{}
+
+/// The check sequences of the bytes of "123456789" are those that catalogues of CRCs give for CRC-15/CAN, CRC-17/CAN-FD and
+/// CRC-21/CAN-FD, whose registers begin with zeros.
+pub fn check_values_are_known()
+    ensures classic { check_of generator_15 (byte_bits known_bytes) ≡ low_bits 15 0x059E }
+    ensures short { check_of generator_17 (byte_bits known_bytes) ≡ low_bits 17 0x04F03 }
+    ensures long { check_of generator_21 (byte_bits known_bytes) ≡ low_bits 21 0x0ED841 }
+{}
+
+/// No six bits in a row are equal where they are stuffed.
+pub fn no_six_equal_bits_are_sent()
+    ensures all { (bits before after : List ℕ) (b : ℕ) →
+        stuffed bits ≡ before ++ replicate 6 b ++ after → ⊥ }
+    ensures inside { (bits before after : List ℕ) (b : ℕ) →
+        stuffed_inside bits ≡ before ++ replicate 6 b ++ after → ⊥ }
+{}
+
+/// Who drops the bit after each five equal ones has the bits before they were stuffed.
+pub fn unstuffing_gives_the_bits_back()
+    ensures all { (bits : List ℕ) → unstuffed (stuffed bits) ≡ bits }
+    ensures inside { (bits : List ℕ) → unstuffed (stuffed_inside bits) ≡ bits }
+{}
+
+/// How few and how many bits a classic frame of n bytes can have, with intermission (Davis, Burns, Bril and Lukkien,
+/// Real-Time Systems 35, 2007).
+pub fn classic_frames_have_bounds()
+    ensures standard { (f : CanFrame) (flags : FdFlags) (n : ℕ) →
+        is_fd f.payload ≡ false → f.id.extended ≡ false → length (payload_bytes f.payload) ≡ n →
+        (47 + 8 * n ≤ (frame_bits_of f flags).nominal + 3)
+        × ((frame_bits_of f flags).nominal + 3 ≤ 47 + 8 * n + (34 + 8 * n - 1) / 4) }
+    ensures extended { (f : CanFrame) (flags : FdFlags) (n : ℕ) →
+        is_fd f.payload ≡ false → f.id.extended ≡ true → length (payload_bytes f.payload) ≡ n →
+        (67 + 8 * n ≤ (frame_bits_of f flags).nominal + 3)
+        × ((frame_bits_of f flags).nominal + 3 ≤ 67 + 8 * n + (54 + 8 * n - 1) / 4) }
+    ensures one_rate { (f : CanFrame) (flags : FdFlags) →
+        is_fd f.payload ≡ false → (frame_bits_of f flags).fast ≡ 0 }
+{}
+
+/// The nanoseconds of bits are not too few, and less than one too many.
+pub fn times_are_rounded_up()
+    ensures { (bits : WireBits) (rates : BitRates) → AreBitRates rates →
+        (billionths bits rates ≤ nanos_of bits rates * (rates.nominal * rates.fast))
+        × (nanos_of bits rates * (rates.nominal * rates.fast) < billionths bits rates + rates.nominal * rates.fast) }
+{}
