@@ -4,7 +4,7 @@ use Rattle.can_frame.specs.Frames.Payload.{Data, Remote, Fd}
 use Rattle.can_frame.specs.Arbitration.{arbitration_bits, standard_bits, extended_bits}
 use Rattle.can_wire.specs.Stuffing.{stuffed}
 use Rattle.can_wire.specs.Division.{check_of, generator_15}
-use Rattle.can_wire.specs.FrameBits.{byte_bits, classic_head, covered_bits, checked_bits, check_end_of, frame_bits_of}
+use Rattle.can_wire.specs.FrameBits.{byte_bits, classic_head, covered_bits, checked_bits, bits_to_check_end, frame_bits_of}
 use Rattle.can_wire.specs.declared.flags.FdFlags.{FdFlags}
 use Rattle.can_wire.proofs.Stuffed.{stuffed_least, stuffed_most}
 use Rattle.can_wire.proofs.Divided.{length-check_of, length-generator, length-byte_bits}
@@ -40,11 +40,11 @@ length-checked f head h =
 
 -- a classic frame's bits at the nominal bit rate, and at the other
 pub classic_nominal : (f : CanFrame) (flags : FdFlags) → is_fd f.payload ≡ false → (frame_bits_of f flags).nominal ≡ length (stuffed (checked_bits f)) + 10
-unfolding check_end_of
+unfolding bits_to_check_end
 classic_nominal f flags h = rw h refl
 
 pub classic_fast : (f : CanFrame) (flags : FdFlags) → is_fd f.payload ≡ false → (frame_bits_of f flags).fast ≡ 0
-unfolding check_end_of
+unfolding bits_to_check_end
 classic_fast f flags h = rw h refl
 
 -- few and many bits of a frame with so many before its data

@@ -6,7 +6,7 @@ use Rattle.can_fault.specs.declared.verdict.GlobalKind.TheVariants as global
 use Rattle.can_fault.specs.declared.verdict.LocalKind.TheVariants as local
 use Rattle.can_attempt.specs.declared.class.Class.{Class}
 use Rattle.can_attempt.specs.declared.class.Class.TheVariants as class
-use Rattle.can_wire.specs.FrameBits.{data_end_of, check_end_of, frame_bits_of, then_nominal}
+use Rattle.can_wire.specs.FrameBits.{bits_to_data_end, bits_to_check_end, frame_bits_of, then_nominal}
 use Rattle.can_wire.specs.declared.flags.FdFlags.{FdFlags}
 use Rattle.can_wire.specs.declared.wire_bits.WireBits.{WireBits}
 
@@ -47,5 +47,5 @@ intermission = 3
 abbrev pub attempt_bits_of : CanFrame → FdFlags → Class → Verdict → WireBits
 attempt_bits_of f flags class.Done v = then_nominal (frame_bits_of f flags) intermission
 attempt_bits_of f flags class.LastBit v = then_nominal (frame_bits_of f flags) (overload_answered_flag + delimiter + intermission)
-attempt_bits_of f flags class.NoAck v = then_nominal (check_end_of f flags) (2 + flag + delimiter + intermission)
-attempt_bits_of f flags class.Destroyed v = if is_early v then then_nominal (data_end_of f flags) (answered_flag + delimiter + intermission) else then_nominal (check_end_of f flags) (3 + answered_flag + delimiter + intermission)
+attempt_bits_of f flags class.NoAck v = then_nominal (bits_to_check_end f flags) (2 + flag + delimiter + intermission)
+attempt_bits_of f flags class.Destroyed v = if is_early v then then_nominal (bits_to_data_end f flags) (answered_flag + delimiter + intermission) else then_nominal (bits_to_check_end f flags) (3 + answered_flag + delimiter + intermission)

@@ -1,4 +1,4 @@
-use Rattle.std.specs.Prelude.{ℕ, ◌+◌, ◌-◌, ◌/◌, ◌%◌, bit_xor, nat_le, ◌==◌, Bool, List, [], ◌∷◌, ◌++◌, length, replicate, if◌then◌else◌}
+use Rattle.std.specs.Prelude.{ℕ, ◌+◌, ◌-◌, ◌/◌, ◌%◌, bit_xor, nat_le, ◌==◌, ◌&&◌, Bool, List, [], ◌∷◌, ◌++◌, length, replicate, if◌then◌else◌}
 use Rattle.can_frame.specs.Frames.{CanFrame, payload_len, payload_bytes, is_fd}
 use Rattle.can_frame.specs.Arbitration.{arbitration_bits, low_bits}
 use Rattle.can_wire.specs.Stuffing.{stuffed, stuffed_inside, then_fixed_stuffed}
@@ -55,12 +55,12 @@ abbrev pub fd_rest : CanFrame → FdFlags → List ℕ
 fd_rest f flags = bit_of flags.esi ∷ low_bits 4 (fd_code (payload_len f.payload)) ++ byte_bits (payload_bytes f.payload)
 
 -- the whole to its last data bit, as it is sent
-abbrev pub fd_data_end : CanFrame → FdFlags → List ℕ
-fd_data_end f flags = stuffed_inside (fd_head f flags ++ fd_rest f flags)
+abbrev pub fd_to_data_end : CanFrame → FdFlags → List ℕ
+fd_to_data_end f flags = stuffed_inside (fd_head f flags ++ fd_rest f flags)
 
 -- how many of these are stuff bits
 abbrev pub fd_stuff_bits : CanFrame → FdFlags → ℕ
-fd_stuff_bits f flags = length (fd_data_end f flags) - length (fd_head f flags ++ fd_rest f flags)
+fd_stuff_bits f flags = length (fd_to_data_end f flags) - length (fd_head f flags ++ fd_rest f flags)
 
 -- the stuff count: a number of stuff bits modulo 8 in Gray code, and a bit that makes the number of its ones even
 abbrev pub stuff_count : ℕ → List ℕ
@@ -72,38 +72,50 @@ fd_generator n = if nat_le n 16 then generator_17 else generator_21
 
 -- its stuff count, and its CRC, which covers the bits as they are sent, and the stuff count
 unfoldable pub fd_check : CanFrame → FdFlags → List ℕ
-fd_check f flags = stuff_count (fd_stuff_bits f flags) ++ check_from_one (fd_generator (payload_len f.payload)) (fd_data_end f flags ++ stuff_count (fd_stuff_bits f flags))
+fd_check f flags = stuff_count (fd_stuff_bits f flags) ++ check_from_one (fd_generator (payload_len f.payload)) (fd_to_data_end f flags ++ stuff_count (fd_stuff_bits f flags))
 
 -- an FD frame to the end of its CRC, as it is sent
-abbrev pub fd_check_end : CanFrame → FdFlags → List ℕ
-fd_check_end f flags = then_fixed_stuffed (fd_data_end f flags) (fd_check f flags)
+abbrev pub fd_to_check_end : CanFrame → FdFlags → List ℕ
+fd_to_check_end f flags = then_fixed_stuffed (fd_to_data_end f flags) (fd_check f flags)
 
 -- ---- any frame
 
--- a frame from start of frame to end of frame, as it is on the wire
-abbrev pub wire_of : CanFrame → FdFlags → List ℕ
-wire_of f flags = (if is_fd f.payload then fd_check_end f flags else stuffed (checked_bits f)) ++ end_bits
+-- a frame from start of frame to its last data bit, or to its data length code where it has no data, as it is sent
+abbrev pub to_data_end : CanFrame → FdFlags → List ℕ
+to_data_end f flags = if is_fd f.payload then fd_to_data_end f flags else stuffed_inside (covered_bits f)
 
--- bits before the switch and after it: those after it go at the data bit rate where the frame switches
-abbrev pub rated : Bool → ℕ → ℕ → WireBits
-rated switches before after = if switches then record { nominal = before; fast = after } else record { nominal = before + after; fast = 0 }
+-- to the end of its CRC
+abbrev pub to_check_end : CanFrame → FdFlags → List ℕ
+to_check_end f flags = if is_fd f.payload then fd_to_check_end f flags else stuffed (checked_bits f)
+
+-- to end of frame, as it is on the wire
+abbrev pub wire_of : CanFrame → FdFlags → List ℕ
+wire_of f flags = to_check_end f flags ++ end_bits
+
+-- ---- how many bits there are, by their rates
+
+-- so many bits of a frame: if it switches those after the first few go at the data bit rate
+abbrev pub by_rates : Bool → ℕ → ℕ → WireBits
+by_rates switches few n = if switches then record { nominal = few; fast = n - few } else record { nominal = n; fast = 0 }
 
 -- bits at the nominal bit rate after these
 abbrev pub then_nominal : WireBits → ℕ → WireBits
 then_nominal bits n = record { nominal = bits.nominal + n; fast = bits.fast }
 
 -- how many bits an FD frame has to BRS
-abbrev pub fd_before : CanFrame → FdFlags → ℕ
-fd_before f flags = length (stuffed_inside (fd_head f flags))
+abbrev pub fd_bits_to_brs : CanFrame → FdFlags → ℕ
+fd_bits_to_brs f flags = length (stuffed_inside (fd_head f flags))
 
--- how many bits go from start of frame to the last data bit, or to the data length code where there is no data
-unfoldable pub data_end_of : CanFrame → FdFlags → WireBits
-data_end_of f flags = if is_fd f.payload then rated flags.brs (fd_before f flags) (length (fd_data_end f flags) - fd_before f flags) else record { nominal = length (stuffed_inside (covered_bits f)); fast = 0 }
+-- so many bits of this frame: an FD frame with BRS switches
+abbrev pub rated : CanFrame → FdFlags → ℕ → WireBits
+rated f flags n = by_rates (is_fd f.payload && flags.brs) (fd_bits_to_brs f flags) n
 
--- how many go to the end of the CRC
-unfoldable pub check_end_of : CanFrame → FdFlags → WireBits
-check_end_of f flags = if is_fd f.payload then rated flags.brs (fd_before f flags) (length (fd_check_end f flags) - fd_before f flags) else record { nominal = length (stuffed (checked_bits f)); fast = 0 }
+-- how many go to the last data bit, to the end of the CRC, and to end of frame
+unfoldable pub bits_to_data_end : CanFrame → FdFlags → WireBits
+bits_to_data_end f flags = rated f flags (length (to_data_end f flags))
 
--- how many go to end of frame
+unfoldable pub bits_to_check_end : CanFrame → FdFlags → WireBits
+bits_to_check_end f flags = rated f flags (length (to_check_end f flags))
+
 abbrev pub frame_bits_of : CanFrame → FdFlags → WireBits
-frame_bits_of f flags = then_nominal (check_end_of f flags) (length end_bits)
+frame_bits_of f flags = then_nominal (bits_to_check_end f flags) (length end_bits)

@@ -2,7 +2,7 @@ ghost use Rattle.std.specs.Prelude.{◌≡◌};
 ghost use Rattle.can_wire.specs.AttemptBits.{is_early, attempt_bits_of};
 
 use crate::flags::FdFlags;
-use crate::frames::{check_end, data_end, frame_bits};
+use crate::frames::{bits_to_check_end, bits_to_data_end, frame_bits};
 use crate::wire_bits::WireBits;
 use can_attempt::Class;
 use can_fault::{GlobalKind, LocalKind, Verdict};
@@ -43,11 +43,13 @@ pub fn attempt_bits(frame: &Frame, flags: FdFlags, class: Class, verdict: Verdic
     let tried = match class {
         Class::Done => frame_bits(frame, flags),
         Class::LastBit => frame_bits(frame, flags).then_nominal(OVERLOAD_ANSWERED_FLAG + DELIMITER),
-        Class::NoAck => check_end(frame, flags).then_nominal(2 + FLAG + DELIMITER),
-        Class::Destroyed if is_early(verdict) => data_end(frame, flags).then_nominal(
+        Class::NoAck => bits_to_check_end(frame, flags).then_nominal(2 + FLAG + DELIMITER),
+        Class::Destroyed if is_early(verdict) => bits_to_data_end(frame, flags).then_nominal(
             ANSWERED_FLAG + DELIMITER,
         ),
-        Class::Destroyed => check_end(frame, flags).then_nominal(3 + ANSWERED_FLAG + DELIMITER),
+        Class::Destroyed => bits_to_check_end(frame, flags).then_nominal(
+            3 + ANSWERED_FLAG + DELIMITER,
+        ),
     };
     tried.then_nominal(INTERMISSION)
 }

@@ -44,8 +44,18 @@ impl Counter {
         self.count
     }
 
+    /// How many bits were sent, with the stuff bit that is due.
+    pub fn finish(mut self) -> u32
+        requires { self.count + 1 < 2 ^ 32 }
+        ensures bits { result ≡ (flushed self).count }
+        ensures few { result ≤ self.count + 1 }
+    {
+        self.flush();
+        self.count
+    }
+
     /// Sends the stuff bit that is due.
-    pub fn flush(&mut self)
+    fn flush(&mut self)
         requires { self.old.count + 1 < 2 ^ 32 }
         ensures sent { self.new ≡ flushed self.old }
         ensures rises { self.old.count ≤ self.new.count }

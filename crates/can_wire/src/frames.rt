@@ -1,10 +1,10 @@
 ghost use Rattle.std.specs.Prelude.{◌≡◌, ◌≤◌, ◌<◌, ◌+◌, ◌^◌, ◌∷◌, length, false};
 ghost use Rattle.can_frame.specs.Frames.{is_fd, payload_len, payload_bytes};
 ghost use Rattle.can_frame.specs.Arbitration.{arbitration_bits, low_bits, standard_bits, extended_bits};
-ghost use Rattle.can_wire.specs.Stuffing.{stuffed, stuffed_inside};
-ghost use Rattle.can_wire.specs.FrameBits.{bit_of, classic_head, covered_bits, checked_bits, fd_head, fd_code, fd_data_end};
-ghost use Rattle.can_wire.specs.FrameBits.{fd_before, rated, data_end_of, check_end_of, frame_bits_of};
-ghost use Rattle.can_wire.specs.inner.Sending.{bits_of, fd_check_width};
+ghost use Rattle.can_wire.specs.Stuffing.{stuffed};
+ghost use Rattle.can_wire.specs.FrameBits.{bit_of, classic_head, covered_bits, checked_bits, fd_head, fd_code, fd_to_data_end};
+ghost use Rattle.can_wire.specs.FrameBits.{fd_bits_to_brs, by_rates, bits_to_data_end, bits_to_check_end, frame_bits_of};
+ghost use Rattle.can_wire.specs.inner.Sending.{bits_of, nothing_sent, sent_all, fd_check_width};
 
 use crate::bits::Bits;
 use crate::checksum::check_sequence;
@@ -79,31 +79,25 @@ fn classic_head(frame: &Frame) -> Bits
         .then(4, u32::from(frame.len()))
 }
 
-/// How many bits a classic frame has to its last data bit.
-fn classic_data_end(frame: &Frame) -> u32
-    requires { is_fd frame.now.payload ≡ false }
-    ensures bits { result ≡ length (stuffed_inside (covered_bits frame.now)) }
-    ensures few { result ≤ 1200 }
+/// Sends the bits of a classic frame that its CRC covers.
+fn send_covered(frame: &Frame) -> Counter
+    ensures sent { result ≡ sent_all (covered_bits frame.now) nothing_sent }
+    ensures few { result.count ≤ 1110 }
 {
     let mut counter = Counter::new();
     counter.send(classic_head(frame));
     counter.send_bytes(frame.bytes());
-    counter.count()
+    counter
 }
 
-/// How many it has to the end of its CRC, which is stuffed like what it covers.
-fn classic_check_end(frame: &Frame) -> u32
-    requires { is_fd frame.now.payload ≡ false }
+/// How many bits a classic frame has to the end of its CRC, which is stuffed like what it covers.
+fn classic_to_check_end(frame: &Frame) -> u32
     ensures bits { result ≡ length (stuffed (checked_bits frame.now)) }
     ensures few { result ≤ 1200 }
 {
-    let head = classic_head(frame);
-    let mut counter = Counter::new();
-    counter.send(head);
-    counter.send_bytes(frame.bytes());
-    counter.send(check_sequence(head, frame.bytes()));
-    counter.flush();
-    counter.count()
+    let mut counter = send_covered(frame);
+    counter.send(check_sequence(classic_head(frame), frame.bytes()));
+    counter.finish()
 }
 
 /// The data length code of an FD frame.
@@ -151,87 +145,92 @@ fn fd_control(frame: &Frame, flags: FdFlags) -> Bits
         .then(4, fd_code(frame.len()))
 }
 
-/// How many bits an FD frame has to the one that says whether it switches, and from there to its last data bit.
+/// How many bits of an FD frame are sent to BRS, and to its last data bit.
 #[derive(Drop)]
-struct Phases {
-    before: u32,
-    after: u32,
+struct FdSent {
+    to_brs: u32,
+    to_data_end: u32,
 }
 
-/// The phases of an FD frame.
-fn fd_phases(frame: &Frame, flags: FdFlags) -> Phases
-    ensures before { result.before ≡ fd_before frame.now flags }
-    ensures whole { result.before + result.after ≡ length (fd_data_end frame.now flags) }
-    ensures few { result.before + result.after ≤ 1200 }
+/// Sends the bits of an FD frame to its last data bit.
+fn send_fd(frame: &Frame, flags: FdFlags) -> FdSent
+    ensures brs { result.to_brs ≡ fd_bits_to_brs frame.now flags }
+    ensures whole { result.to_data_end ≡ length (fd_to_data_end frame.now flags) }
+    ensures rises { result.to_brs ≤ result.to_data_end }
+    ensures few { result.to_data_end ≤ 1200 }
 {
     let mut counter = Counter::new();
     counter.send(fd_head(frame, flags));
-    let before = counter.count();
+    let to_brs = counter.count();
     counter.send(fd_control(frame, flags));
     counter.send_bytes(frame.bytes());
-    let all = counter.count();
-    Phases {
-        before,
-        after: all - before,
+    FdSent {
+        to_brs,
+        to_data_end: counter.count(),
     }
 }
 
-/// Bits before the switch and after it, at their rates.
-fn rated(switches: bool, before: u32, after: u32) -> WireBits
-    requires { before + after < 2 ^ 32 }
-    ensures { result ≡ rated switches before after }
+/// So many bits of an FD frame, where those after the first few go at the data bit rate if it switches.
+fn by_rates(switches: bool, few: u32, all: u32) -> WireBits
+    requires { few ≤ all }
+    ensures { result ≡ by_rates switches few all }
 {
     if switches {
         WireBits {
-            nominal: before,
-            fast: after,
+            nominal: few,
+            fast: all - few,
         }
     } else {
         WireBits {
-            nominal: before + after,
+            nominal: all,
             fast: 0,
         }
     }
 }
 
 /// How many bits a frame has to its last data bit.
-#[tactic(auto, unfolding(crate::specs::FrameBits::data_end_of))]
-pub(crate) fn data_end(frame: &Frame, flags: FdFlags) -> WireBits
-    ensures bits { result ≡ data_end_of frame.now flags }
+#[tactic(auto, unfolding(crate::specs::FrameBits::bits_to_data_end))]
+pub(crate) fn bits_to_data_end(frame: &Frame, flags: FdFlags) -> WireBits
+    ensures bits { result ≡ bits_to_data_end frame.now flags }
     ensures few { result.nominal ≤ 1200 }
 {
     if frame.is_fd() {
-        let phases = fd_phases(frame, flags);
-        rated(flags.brs, phases.before, phases.after)
+        let sent = send_fd(frame, flags);
+        by_rates(flags.brs, sent.to_brs, sent.to_data_end)
     } else {
-        rated(false, classic_data_end(frame), 0)
+        WireBits {
+            nominal: send_covered(frame).count(),
+            fast: 0,
+        }
     }
 }
 
 /// How many it has to the end of its CRC.
-#[tactic(auto, unfolding(crate::specs::FrameBits::check_end_of))]
-pub(crate) fn check_end(frame: &Frame, flags: FdFlags) -> WireBits
-    ensures bits { result ≡ check_end_of frame.now flags }
+#[tactic(auto, unfolding(crate::specs::FrameBits::bits_to_check_end))]
+pub(crate) fn bits_to_check_end(frame: &Frame, flags: FdFlags) -> WireBits
+    ensures bits { result ≡ bits_to_check_end frame.now flags }
     ensures few { result.nominal ≤ 1300 }
 {
     if frame.is_fd() {
-        let phases = fd_phases(frame, flags);
-        rated(
+        let sent = send_fd(frame, flags);
+        by_rates(
             flags.brs,
-            phases.before,
-            phases.after + fd_check_width(frame.len()),
+            sent.to_brs,
+            sent.to_data_end + fd_check_width(frame.len()),
         )
     } else {
-        rated(false, classic_check_end(frame), 0)
+        WireBits {
+            nominal: classic_to_check_end(frame),
+            fast: 0,
+        }
     }
 }
 
-/// How many bits a frame has on the wire, from start of frame to end of frame, with its stuff bits. An FD frame that
-/// switches sends those from ESI to the end of its CRC at the data bit rate; all others go at the nominal one. Classic
-/// frames never switch.
+/// How many bits a frame has on the wire, from start of frame to end of frame, with its stuff bits. An FD frame with BRS sends
+/// those after it, to the end of its CRC, at the data bit rate; all others go at the nominal one.
 pub fn frame_bits(frame: &Frame, flags: FdFlags) -> WireBits
     ensures bits { result ≡ frame_bits_of frame.now flags }
     ensures few { result.nominal ≤ 1400 }
 {
-    check_end(frame, flags).then_nominal(AFTER_CHECK)
+    bits_to_check_end(frame, flags).then_nominal(AFTER_CHECK)
 }

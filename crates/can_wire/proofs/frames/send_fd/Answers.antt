@@ -1,15 +1,14 @@
-use Rattle.std.proofs.Common.{◌≡◌, ◌∷◌, ◌++◌, List, ℕ, length, refl, sym, ◌∙◌, append_assoc, arith}
+use Rattle.std.proofs.Common.{◌∷◌, ◌++◌, List, ℕ, refl, sym, ◌∙◌, append_assoc}
 use Rattle.can_frame.specs.Frames.{payload_len, payload_bytes}
 use Rattle.can_frame.specs.Arbitration.{low_bits}
-use Rattle.can_wire.specs.FrameBits.{byte_bits, bit_of, fd_head, fd_code, fd_rest, fd_data_end}
+use Rattle.can_wire.specs.FrameBits.{byte_bits, bit_of, fd_head, fd_code, fd_rest}
 use Rattle.can_wire.proofs.Fields.{sent_two, inside_count}
-use Rattle.can_wire.proofs.frames.fd_phases.Goals as goal
+use Rattle.can_wire.proofs.frames.send_fd.Goals as goal
 
-pub returns-clause-before : goal.returns-clause-before
-returns-clause-before c =
-    let f = c.args.frame.now in
+pub returns-clause-brs : goal.returns-clause-brs
+returns-clause-brs c =
     let head = rw (c.fd_head.ensures.bits, c.new-counter.ensures) at c.send.ensures.sent in
-    c.count-before.ensures ∙ inside_count (fd_head f c.args.flags) _ head
+    c.count-to_brs.ensures ∙ inside_count (fd_head c.args.frame.now c.args.flags) _ head
 
 pub returns-clause-whole : goal.returns-clause-whole
 returns-clause-whole c =
@@ -23,5 +22,4 @@ returns-clause-whole c =
     let carried = rw c.bytes.ensures at c.send_bytes.ensures.sent in
     let both = sent_two first control (first ++ control) _ _ head next refl in
     let whole = sent_two (first ++ control) bytes (first ++ fd_rest f flags) _ _ both carried (sym (append_assoc first control bytes)) in
-    let all : c.count-all.result ≡ length (fd_data_end f flags) = c.count-all.ensures ∙ inside_count (first ++ fd_rest f flags) _ whole in
-    omega (arith, all, c.send-2.ensures.rises, c.send_bytes.ensures.rises, c.count-before.ensures)
+    c.count.ensures ∙ inside_count (first ++ fd_rest f flags) _ whole
