@@ -1,0 +1,85 @@
+"""The bits of frames on the wire: the model that our numbers come from, and the places that have these numbers.
+
+The model is compared with what catalogues of CRCs say, with long division, and with the bounds of Davis, Burns, Bril and
+Lukkien (Real-Time Systems 35, 2007). The tests of can_unit_tests and the laws of can_wire have its numbers.
+"""
+
+from __future__ import annotations
+
+import os
+import random
+import re
+from collections.abc import Sequence
+
+import pytest
+
+from serving import ROOT
+from wire_model import Frame, bit_counts, crc, data_bits, number_bits, random_frames, sent
+
+CRCS = [(15, 0x4599, 0x059E), (17, 0x1685B, 0x04F03), (21, 0x102899, 0x0ED841)]
+# The frames of the law `known_frames_have_their_bits`.
+KNOWN = [
+    Frame.read("123#11223344"),
+    Frame.read("1ABCDEF0##0000102", brs=True, esi=True),
+    Frame.read("555##0" + 4 * "00" + 16 * "55", brs=True),
+]
+
+
+def read(*path: str) -> str:
+    with open(os.path.join(ROOT, "crates", *path), encoding="utf-8") as file:
+        return file.read()
+
+
+def remainder(bits: Sequence[int], width: int, polynomial: int) -> list[int]:
+    """What long division leaves of the bits with zeros after them."""
+    rest = int("".join(map(str, bits)), 2) << width
+    for place in reversed(range(len(bits))):
+        if rest >> (place + width) & 1:
+            rest ^= (1 << width | polynomial) << place
+    return number_bits(rest, width)
+
+
+@pytest.mark.parametrize("width, polynomial, check", CRCS)
+def test_crcs(width: int, polynomial: int, check: int) -> None:
+    assert crc(data_bits(Frame(0, False, b"123456789")), width, polynomial) == number_bits(check, width)
+    maker = random.Random(3)
+    for _ in range(500):
+        bits = [maker.getrandbits(1) for _ in range(maker.randrange(1, 120))]
+        assert crc(bits, width, polynomial) == remainder(bits, width, polynomial)
+
+
+def test_bounds_of_classic_frames() -> None:
+    for frame in random_frames(4, 5000, is_fd=False, longest=8):
+        covered = (54 if frame.extended else 34) + 8 * len(frame.data)
+        least = covered + 13
+        total = sum(bit_counts(frame)) + 3
+        assert least <= total <= least + (covered - 1) // 4, str(frame)
+
+
+def test_stuffed_bits() -> None:
+    """No six bits in a row are equal before the end of the CRC."""
+    for frame in [*random_frames(5, 1000, False, 8), *random_frames(6, 1000, True, 64)]:
+        text = "".join(map(str, sent(frame).bits[:-10]))
+        assert not re.search("0{6}|1{6}", text), str(frame)
+
+
+def test_tables() -> None:
+    """The random frames of the tests have the numbers of the model."""
+    text = read("can_unit_tests", "src", "tests", "wire.rt")
+    classic = re.findall(r'\("([0-9A-FR#]+)", (\d+)\),', text)
+    for frame, nominal in classic:
+        assert bit_counts(Frame.read(frame)) == (int(nominal), 0), frame
+    fd = re.findall(r'\("([0-9A-F#]+)", (true|false), (true|false), (\d+), (\d+)\),', text)
+    for frame, brs, esi, nominal, fast in fd:
+        counts = bit_counts(Frame.read(frame, brs == "true", esi == "true"))
+        assert counts == (int(nominal), int(fast)), frame
+    assert len(classic) >= 48 and len(fd) == 40
+
+
+def test_known_frames() -> None:
+    """The law has the bits of the model."""
+    law = read("can_wire", "src", "laws.rt").split("known_frames_have_their_bits")[1].split("{}")[0]
+    texts = re.findall(r"≡ low_bits (\d+) 0x([0-9A-F]+)", law)
+    assert [number_bits(int(number, 16), int(count)) for count, number in texts] == [
+        sent(frame).bits for frame in KNOWN
+    ]
