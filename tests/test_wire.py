@@ -1,7 +1,7 @@
 """The bits of frames on the wire: the model that our numbers come from, and the places that have these numbers.
 
-The model is compared with what catalogues of CRCs say, with long division, and with the bounds of Davis, Burns, Bril and
-Lukkien (Real-Time Systems 35, 2007). The tests of can_unit_tests and the laws of can_wire have its numbers.
+The model is compared with what catalogues of CRCs say, with long division, and with the bounds of Davis, Burns, Bril
+and Lukkien (Real-Time Systems 35, 2007). The tests of can_unit_tests and the laws of can_wire have its numbers.
 """
 
 from __future__ import annotations
@@ -17,7 +17,7 @@ from serving import ROOT
 from wire_model import Frame, bit_counts, crc, data_bits, number_bits, random_frames, sent
 
 CRCS = [(15, 0x4599, 0x059E), (17, 0x1685B, 0x04F03), (21, 0x102899, 0x0ED841)]
-# The frames of the law `known_frames_have_their_bits`.
+# The frames of the law `known_frames_have_their_bits` (specs/Known.antt).
 KNOWN = [
     Frame.read("123#11223344"),
     Frame.read("1ABCDEF0##0000102", brs=True, esi=True),
@@ -69,7 +69,7 @@ def test_tables() -> None:
     classic = re.findall(r'\("([0-9A-FR#]+)", (\d+)\),', text)
     for frame, nominal in classic:
         assert bit_counts(Frame.read(frame)) == (int(nominal), 0), frame
-    fd = re.findall(r'\("([0-9A-F#]+)", (true|false), (true|false), (\d+), (\d+)\),', text)
+    fd = re.findall(r'\(\s*"([0-9A-F#]+)",\s+(true|false),\s+(true|false),\s+(\d+),\s+(\d+),?\s*\),', text)
     for frame, brs, esi, nominal, fast in fd:
         counts = bit_counts(Frame.read(frame, brs == "true", esi == "true"))
         assert counts == (int(nominal), int(fast)), frame
@@ -79,7 +79,7 @@ def test_tables() -> None:
 def test_known_frames() -> None:
     """The law has the bits of the model."""
     law = read("can_wire", "src", "laws.rt").split("known_frames_have_their_bits")[1].split("{}")[0]
-    texts = re.findall(r"≡ low_bits (\d+) 0x([0-9A-F]+)", law)
+    texts = re.findall(r"low_bits (\d+) 0x([0-9A-F]+)", law)
     assert [number_bits(int(number, 16), int(count)) for count, number in texts] == [
         sent(frame).bits for frame in KNOWN
     ]

@@ -1,7 +1,7 @@
 use Rattle.std.specs.Prelude.{ℕ, zero, suc, ◌==◌, List, [], ◌∷◌, ◌++◌, length, replicate, if◌then◌else◌}
 
--- Division of polynomials over two elements, the highest coefficient first (Bosch CAN Specification 2.0, section 3.2.1: the
--- CRC sequence is the remainder of the bits that it covers, with zeros after them, by the generator polynomial).
+-- Division of polynomials over two elements, the highest coefficient first (Bosch CAN Specification 2.0, section 3.2.1:
+-- the CRC sequence is the remainder of the bits that it covers, with zeros after them, by the generator polynomial).
 
 -- the sum of two bits, which is their difference too
 abbrev pub xor : ℕ → ℕ → ℕ
@@ -19,18 +19,18 @@ remainder g zero bits = bits
 remainder g (suc n) [] = []
 remainder g (suc n) (b ∷ bits) = if b == 0 then remainder g n bits else remainder g n (subtracted g bits)
 
--- the check sequence of bits: what is left of them with as many zeros after them as the generator has coefficients after
--- the first
+-- the check sequence of bits: what is left of them with as many zeros after them as the generator has coefficients
+-- after the first
 unfoldable pub check_of : List ℕ → List ℕ → List ℕ
 check_of g bits = remainder g (length bits) (bits ++ replicate (length g) 0)
 
--- the same, by a register that begins with a one and not with zeros: the first bit counts as its opposite (ISO 11898-1:2015,
--- FD frames)
+-- the same, by a register that begins with a one and not with zeros: the first bit counts as its opposite (ISO
+-- 11898-1:2015, FD frames)
 abbrev pub check_from_one : List ℕ → List ℕ → List ℕ
 check_from_one g bits = check_of g (subtracted (1 ∷ []) bits)
 
--- the generator of classic frames, x^15 + x^14 + x^10 + x^8 + x^7 + x^4 + x^3 + 1, without its first term (Bosch, section
--- 3.2.1)
+-- the generator of classic frames, x^15 + x^14 + x^10 + x^8 + x^7 + x^4 + x^3 + 1, without its first term (Bosch,
+-- section 3.2.1)
 unfoldable pub generator_15 : List ℕ
 generator_15 = 1 ∷ 0 ∷ 0 ∷ 0 ∷ 1 ∷ 0 ∷ 1 ∷ 1 ∷ 0 ∷ 0 ∷ 1 ∷ 1 ∷ 0 ∷ 0 ∷ 1 ∷ []
 

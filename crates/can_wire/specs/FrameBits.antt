@@ -6,8 +6,8 @@ use Rattle.can_wire.specs.Division.{check_of, check_from_one, generator_15, gene
 use Rattle.can_wire.specs.declared.flags.FdFlags.{FdFlags}
 use Rattle.can_wire.specs.declared.wire_bits.WireBits.{WireBits}
 
--- The bits of frames on the wire, the first sent first: 0 is dominant (Bosch CAN Specification 2.0, section 3.2.1; for FD
--- frames ISO 11898-1:2015).
+-- The bits of frames on the wire, the first sent first: 0 is dominant (Bosch CAN Specification 2.0, section 3.2.1; for
+-- FD frames ISO 11898-1:2015).
 
 -- the bits of bytes, in each the highest first
 abbrev pub byte_bits : List ℕ → List ℕ

@@ -1,7 +1,21 @@
-use Rattle.std.specs.Prelude.{ℕ, List, [], ◌∷◌}
+use Rattle.std.specs.Prelude.{ℕ, true, false, List, [], ◌∷◌, ◌++◌, replicate}
+use Rattle.can_frame.specs.Frames.{CanFrame}
+use Rattle.can_frame.specs.Frames.Payload.{Data, Fd}
 
--- What catalogues of CRCs compare them by.
+-- What others know the bits of.
 
--- the bytes of "123456789"
+-- the bytes of "123456789", by which catalogues compare CRCs
 abbrev pub known_bytes : List ℕ
 known_bytes = 49 ∷ 50 ∷ 51 ∷ 52 ∷ 53 ∷ 54 ∷ 55 ∷ 56 ∷ 57 ∷ []
+
+-- 123#11223344
+abbrev pub known_classic : CanFrame
+known_classic = record { id = record { extended = false; number = 0x123 }; payload = Data (0x11 ∷ 0x22 ∷ 0x33 ∷ 0x44 ∷ []) }
+
+-- an FD frame with the short CRC: 1ABCDEF0 with bytes 00 01 02
+abbrev pub known_short_fd : CanFrame
+known_short_fd = record { id = record { extended = true; number = 0x1ABCDEF0 }; payload = Fd (0x00 ∷ 0x01 ∷ 0x02 ∷ []) }
+
+-- one with the long CRC: 555 with 4 bytes 00 and 16 bytes 55
+abbrev pub known_long_fd : CanFrame
+known_long_fd = record { id = record { extended = false; number = 0x555 }; payload = Fd (replicate 4 0x00 ++ replicate 16 0x55) }

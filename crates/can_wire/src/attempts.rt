@@ -35,8 +35,9 @@ fn is_early(verdict: Verdict) -> bool
     }
 }
 
-/// How many bits an attempt to send a frame takes, from start of frame until the next one may be sent, if it was struck by
-/// this verdict and ended in this class. A verdict names no bit, so where a failed attempt ends is a choice of this project.
+/// How many bits an attempt to send a frame takes, from start of frame until the next one may be sent, if it was struck
+/// by this verdict and ended in this class. A verdict names no bit, so where a failed attempt ends is a choice of this
+/// project.
 pub fn attempt_bits(frame: &Frame, flags: FdFlags, class: Class, verdict: Verdict) -> WireBits
     ensures { result ≡ attempt_bits_of frame.now flags class verdict }
 {

@@ -5,8 +5,8 @@ ghost use Rattle.can_wire.specs.inner.Sending.{bits_of, nothing_sent, flushed, a
 use crate::bits::Bits;
 use std::marker::Model;
 
-/// The bits that were sent, counted with their stuff bits. The one that is due after five equal bits is counted with the
-/// bit that follows it.
+/// The bits that were sent, counted with their stuff bits. The one that is due after five equal bits is counted with
+/// the bit that follows it.
 #[derive(Debug, Drop)]
 pub(crate) struct Counter {
     last: u8,

@@ -2,8 +2,9 @@ ghost use Rattle.std.specs.Prelude.{◌≡◌, ◌≤◌, ◌<◌, ◌+◌, ◌^
 ghost use Rattle.can_frame.specs.Frames.{is_fd, payload_len, payload_bytes};
 ghost use Rattle.can_frame.specs.Arbitration.{arbitration_bits, low_bits, standard_bits, extended_bits};
 ghost use Rattle.can_wire.specs.Stuffing.{stuffed};
-ghost use Rattle.can_wire.specs.FrameBits.{bit_of, classic_head, covered_bits, checked_bits, fd_head, fd_code, fd_to_data_end};
-ghost use Rattle.can_wire.specs.FrameBits.{fd_bits_to_brs, by_rates, bits_to_data_end, bits_to_check_end, frame_bits_of};
+ghost use Rattle.can_wire.specs.FrameBits.{bit_of, classic_head, covered_bits, checked_bits};
+ghost use Rattle.can_wire.specs.FrameBits.{fd_head, fd_code, fd_to_data_end, fd_bits_to_brs};
+ghost use Rattle.can_wire.specs.FrameBits.{by_rates, bits_to_data_end, bits_to_check_end, frame_bits_of};
 ghost use Rattle.can_wire.specs.inner.Sending.{bits_of, nothing_sent, sent_all, fd_check_width};
 
 use crate::bits::Bits;
@@ -116,8 +117,8 @@ fn fd_code(len: u8) -> u32
     }
 }
 
-/// How many bits of an FD frame follow its data to the end of its CRC: a stuff count of four bits and a CRC of 17 or 21, with
-/// six or seven fixed stuff bits.
+/// How many bits of an FD frame follow its data to the end of its CRC: a stuff count of four bits and a CRC of 17 or
+/// 21, with six or seven fixed stuff bits.
 fn fd_check_width(len: u8) -> u32
     ensures width { result ≡ fd_check_width len }
     ensures few { result ≤ 32 }
@@ -136,7 +137,8 @@ fn fd_head(frame: &Frame, flags: FdFlags) -> Bits
 /// Its bits after that one and before its data.
 #[tactic(auto, using(crate::proofs::Bounds::bytes_within))]
 fn fd_control(frame: &Frame, flags: FdFlags) -> Bits
-    ensures bits { bits_of result ≡ bit_of flags.esi ∷ low_bits 4 (fd_code (payload_len frame.now.payload)) }
+    ensures bits { bits_of result
+        ≡ bit_of flags.esi ∷ low_bits 4 (fd_code (payload_len frame.now.payload)) }
     ensures count { result.count ≡ 5 }
     ensures bytes { length (payload_bytes frame.now.payload) ≤ 64 }
 {
@@ -226,8 +228,8 @@ pub(crate) fn bits_to_check_end(frame: &Frame, flags: FdFlags) -> WireBits
     }
 }
 
-/// How many bits a frame has on the wire, from start of frame to end of frame, with its stuff bits. An FD frame with BRS sends
-/// those after it, to the end of its CRC, at the data bit rate; all others go at the nominal one.
+/// How many bits a frame has on the wire, from start of frame to end of frame, with its stuff bits. An FD frame with
+/// BRS sends those after it, to the end of its CRC, at the data bit rate; all others go at the nominal one.
 pub fn frame_bits(frame: &Frame, flags: FdFlags) -> WireBits
     ensures bits { result ≡ frame_bits_of frame.now flags }
     ensures few { result.nominal ≤ 1400 }

@@ -1,11 +1,11 @@
-ghost use Rattle.std.specs.Prelude.{◌≡◌, ◌≤◌, ◌<◌, ◌+◌, ◌-◌, ◌*◌, ◌/◌, ◌∷◌, ◌++◌, [], ℕ, List, Bool, length, replicate, true, false};
+ghost use Rattle.std.specs.Prelude.{◌≡◌, ◌≤◌, ◌<◌, ◌+◌, ◌-◌, ◌*◌, ◌/◌, ◌∷◌, ◌++◌, []};
+ghost use Rattle.std.specs.Prelude.{ℕ, List, Bool, length, replicate, true, false};
 ghost use Rattle.can_frame.specs.Frames.{CanFrame, payload_bytes, is_fd};
-ghost use Rattle.can_frame.specs.Frames.Payload.{Data, Fd};
 ghost use Rattle.can_wire.specs.Stuffing.{stuffed, stuffed_inside, unstuffed};
 ghost use Rattle.can_frame.specs.Arbitration.{low_bits};
 ghost use Rattle.can_wire.specs.Division.{check_of, generator_15, generator_17, generator_21};
 ghost use Rattle.can_wire.specs.FrameBits.{byte_bits, wire_of, frame_bits_of};
-ghost use Rattle.can_wire.specs.Known.{known_bytes};
+ghost use Rattle.can_wire.specs.Known.{known_bytes, known_classic, known_short_fd, known_long_fd};
 ghost use Rattle.can_wire.specs.Times.{BitRates, AreBitRates, nanos_of, billionths};
 ghost use Rattle.can_wire.specs.declared.flags.FdFlags.{FdFlags};
 ghost use Rattle.can_wire.specs.declared.wire_bits.WireBits.{WireBits};
@@ -17,27 +17,21 @@ pub fn every_bit_is_counted()
         ≡ length (wire_of f flags) }
 {}
 
-/// The check sequences of the bytes of "123456789" are those that catalogues of CRCs give for CRC-15/CAN, CRC-17/CAN-FD and
-/// CRC-21/CAN-FD, whose registers begin with zeros.
+/// The check sequences of the bytes of "123456789" are those that catalogues of CRCs give for CRC-15/CAN, CRC-17/CAN-FD
+/// and CRC-21/CAN-FD, whose registers begin with zeros.
 pub fn check_values_are_known()
     ensures classic { check_of generator_15 (byte_bits known_bytes) ≡ low_bits 15 0x059E }
     ensures short { check_of generator_17 (byte_bits known_bytes) ≡ low_bits 17 0x04F03 }
     ensures long { check_of generator_21 (byte_bits known_bytes) ≡ low_bits 21 0x0ED841 }
 {}
 
-/// Three frames bit by bit, as a model sends them that was written apart (tests/wire_model.py): 123#11223344; 1ABCDEF0 with
-/// bytes 00 01 02 of FD, BRS and ESI; 555 with 4 bytes 00 and 16 bytes 55 of FD, and BRS.
+/// Three frames are bit by bit as a model sends them that was written apart (tests/wire_model.py).
 pub fn known_frames_have_their_bits()
     ensures classic { (flags : FdFlags) →
-        wire_of (record { id = record { extended = false; number = 0x123 }; payload = Data (0x11 ∷ 0x22 ∷ 0x33 ∷ 0x44 ∷ []) }) flags
-        ≡ low_bits 77 0x2461062446688476AFF }
-    ensures short_crc { wire_of
-        (record { id = record { extended = true; number = 0x1ABCDEF0 }; payload = Fd (0 ∷ 1 ∷ 2 ∷ []) })
-        (record { brs = true; esi = true })
+        wire_of known_classic flags ≡ low_bits 77 0x2461062446688476AFF }
+    ensures short_crc { wire_of known_short_fd (record { brs = true; esi = true })
         ≡ low_bits 108 0x6AFA6F783660820C15AE7D676FF }
-    ensures long_crc { wire_of
-        (record { id = record { extended = false; number = 0x555 }; payload = Fd (replicate 4 0 ++ replicate 16 0x55) })
-        (record { brs = true; esi = false })
+    ensures long_crc { wire_of known_long_fd (record { brs = true; esi = false })
         ≡ low_bits 230 0x1554AB04104104115555555555555555555555555555555558E7D1B6FF }
 {}
 

@@ -214,8 +214,8 @@ fn filled(byte: u8, len: usize) -> Option<(u32, u32)> {
     Some(rates(frame_bits(&frame, flags)))
 }
 
-// By hand. Bytes 55 have no stuff bits: 27 bits to BRS and after the CRC, 5 from ESI to the length, the data, and 27 or 32.
-// Of 512 zeros each fifth has a stuff bit, and of 516 ones with those of the length.
+// By hand. Bytes 55 have no stuff bits: 27 bits to BRS and after the CRC, 5 from ESI to the length, the data, and 27 or
+// 32. Of 512 zeros each fifth has a stuff bit, and of 516 ones with those of the length.
 #[test]
 fn long_fd_frames_have_theirs(rt: HostRuntime) {
     let rows = [
