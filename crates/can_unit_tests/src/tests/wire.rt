@@ -6,9 +6,10 @@ use can_wire::{BadBitRates, FdFlags, Rates, WireBits, attempt_bits, frame_bits};
 
 /// The frame of a text.
 fn frame(text: &str) -> Option<Frame> {
-    match read_frame_text(text) {
-        Ok(Item::Data(frame)) => Some(frame),
-        _ => None,
+    let item = read_frame_text(text).ok()?;
+    match &item {
+        Item::Data(frame) => Some(*frame),
+        Item::Error(_) => None,
     }
 }
 
