@@ -48,23 +48,18 @@ counted (b ∷ bits) s h =
 pub counted_all : (bits : List ℕ) → (flushed (sent_all bits nothing_sent)).count ≡ length (stuffed bits)
 counted_all bits = omega (arith, counted bits nothing_sent (omega arith))
 
--- all but that one
-one_only : (xs : List ℕ) → length xs ≡ 1 → (x : ℕ) × (xs ≡ x ∷ [])
-one_only [] h = absurd (omega (arith, h))
-one_only (x ∷ []) h = (x, refl)
-one_only (x ∷ y ∷ xs) h = absurd (omega (arith, h))
-
-with_last : (front : List ℕ) (x : ℕ) → (sent_all (front ++ x ∷ []) nothing_sent).count ≡ length (stuffed front ++ x ∷ [])
-with_last front x = rw (sent_all-append front (x ∷ []) nothing_sent) (omega (arith, counted_all front, length-append (stuffed front) (x ∷ [])))
+-- all but the one after the last
+with_last : (front back : List ℕ) → length back ≡ 1 → (sent_all (front ++ back) nothing_sent).count ≡ length (stuffed front ++ back)
+with_last front [] one = absurd (omega (arith, one))
+with_last front (x ∷ []) one = rw (sent_all-append front (x ∷ []) nothing_sent) (omega (arith, counted_all front, length-append (stuffed front) (x ∷ [])))
+with_last front (x ∷ y ∷ back) one = absurd (omega (arith, one))
 
 pub counted_inside : (bits : List ℕ) → (sent_all bits nothing_sent).count ≡ length (stuffed_inside bits)
 counted_inside [] = refl
 counted_inside (b ∷ bits) =
-    let all : List ℕ = b ∷ bits in
-    let front : List ℕ = take (length all - 1) all in
-    let end = one_only (drop (length all - 1) all) (omega (arith, length-drop (length all - 1) all)) in
-    let whole : all ≡ front ++ end.0 ∷ [] = sym (take-append-drop (length all - 1) all) ∙ ap (λ (l : List ℕ). front ++ l) end.1 in
-    ap (λ (l : List ℕ). (sent_all l nothing_sent).count) whole ∙ (with_last front end.0 ∙ ap (λ (l : List ℕ). length (stuffed front ++ l)) (sym end.1))
+    let k : ℕ = length (b ∷ bits) - 1 in
+    let last : length (drop k (b ∷ bits)) ≡ 1 = omega (arith, length-drop k (b ∷ bits)) in
+    ap (λ (l : List ℕ). (sent_all l nothing_sent).count) (sym (take-append-drop k (b ∷ bits))) ∙ with_last (take k (b ∷ bits)) (drop k (b ∷ bits)) last
 
 -- ---- bits in front of others are no more
 

@@ -59,14 +59,13 @@ subtracted-zero (b ∷ r) [] bits h = refl
 subtracted-zero (b ∷ r) (x ∷ xs) bits h = ap (λ l. xor x b ∷ l) (subtracted-zero r xs bits.1 (omega (arith, h)))
 
 -- subtracting twice
-subtracted-twice : (g r xs : List ℕ) → IsBits g → IsBits r → IsBits xs → length g ≡ length r → length r ≤ length xs → subtracted g (subtracted r xs) ≡ subtracted (subtracted g r) xs
-subtracted-twice [] [] xs a b c same h = refl
-subtracted-twice [] (y ∷ r) xs a b c same h = absurd (omega (arith, same))
-subtracted-twice (x ∷ g) [] xs a b c same h = absurd (omega (arith, same))
-subtracted-twice (x ∷ g) (y ∷ r) [] a b c same h = absurd (omega (arith, h))
-subtracted-twice (x ∷ g) (y ∷ r) (z ∷ xs) a b c same h =
+subtracted-twice : (g r xs : List ℕ) → IsBits g → IsBits r → IsBits xs → length g ≤ length r → subtracted g (subtracted r xs) ≡ subtracted (subtracted g r) xs
+subtracted-twice [] r xs a b c within = refl
+subtracted-twice (x ∷ g) [] xs a b c within = absurd (omega (arith, within))
+subtracted-twice (x ∷ g) (y ∷ r) [] a b c within = refl
+subtracted-twice (x ∷ g) (y ∷ r) (z ∷ xs) a b c within =
     let here = xor_xor z y x c.0 b.0 a.0 in
-    let rest = subtracted-twice g r xs a.1 b.1 c.1 (omega (arith, same)) (omega (arith, h)) in
+    let rest = subtracted-twice g r xs a.1 b.1 c.1 (omega (arith, within)) in
     ap (λ w. w ∷ subtracted g (subtracted r xs)) here ∙ ap (λ l. xor z (xor y x) ∷ l) rest
 
 -- zeros that are subtracted change nothing, and what is subtracted from zeros is left
@@ -103,7 +102,7 @@ register g (b ∷ bits) (t ∷ r) n some bg bb br lg lr =
     let r0_long : length r0 ≡ n = omega (arith, lr, length-append r (0 ∷ [])) in
     let within : n ≤ length (bits ++ zeros) = omega (arith, length-append bits zeros, length-replicate n (zero)) in
     let here : subtracted r0 (bits ++ zeros) ≡ subtracted r (bits ++ zeros) = subtracted-zero r (bits ++ zeros) all_bits (omega (arith, within, lr)) in
-    let twice = subtracted-twice g r0 (bits ++ zeros) bg r0_bits all_bits (lg ∙ sym r0_long) (omega (arith, r0_long, within)) in
+    let twice = subtracted-twice g r0 (bits ++ zeros) bg r0_bits all_bits (omega (arith, lg, r0_long)) in
     let next_bits : IsBits (subtracted g r0) = bits-subtracted g r0 r0_bits in
     let next_long : length (subtracted g r0) ≡ n = length-subtracted g r0 ∙ r0_long in
     elim (cases_Bool (xor b t == 0)) [
@@ -111,7 +110,7 @@ register g (b ∷ bits) (t ∷ r) n some bg bb br lg lr =
       | inr one ↦ rw one (ap (λ l. remainder g (length bits) (subtracted g l)) (sym here) ∙ (ap (remainder g (length bits)) twice ∙ register g bits (subtracted g r0) n some bg bb.1 next_bits lg next_long))
     ]
 
-generator_bits : IsBits generator_15
+pub generator_bits : IsBits generator_15
 unfolding generator_15
 generator_bits = (omega arith, (omega arith, (omega arith, (omega arith, (omega arith, (omega arith, (omega arith, (omega arith, (omega arith, (omega arith, (omega arith, (omega arith, (omega arith, (omega arith, (omega arith, tt)))))))))))))))
 
@@ -143,6 +142,93 @@ unfolding check_of
 length-check_of g bits =
     let zeros : List ℕ = replicate (length g) 0 in
     omega (arith, length-remainder g (bits ++ zeros) (length bits) (omega (arith, length-append bits zeros)), length-append bits zeros, length-replicate (length g) zero)
+
+-- ---- with its check sequence nothing is left of bits
+
+xor_comm : (x y : ℕ) → x < 2 → y < 2 → xor x y ≡ xor y x
+xor_comm zero zero a b = refl
+xor_comm zero (suc zero) a b = refl
+xor_comm (suc zero) zero a b = refl
+xor_comm (suc zero) (suc zero) a b = refl
+xor_comm (suc (suc x)) y a b = absurd (omega (arith, a))
+xor_comm x (suc (suc y)) a b = absurd (omega (arith, b))
+
+xor_same : (x : ℕ) → xor x x ≡ 0
+xor_same x = rw ((Decides-eqb x x).1 refl) refl
+
+-- subtracting in either order
+subtracted-swapped : (g r xs : List ℕ) → IsBits g → IsBits r → IsBits xs → subtracted g (subtracted r xs) ≡ subtracted r (subtracted g xs)
+subtracted-swapped [] r xs a b c = refl
+subtracted-swapped (x ∷ g) [] xs a b c = refl
+subtracted-swapped (x ∷ g) (y ∷ r) [] a b c = refl
+subtracted-swapped (x ∷ g) (y ∷ r) (z ∷ xs) a b c =
+    let here : xor (xor z y) x ≡ xor (xor z x) y = xor_xor z y x c.0 b.0 a.0 ∙ (ap (xor z) (xor_comm y x b.0 a.0) ∙ sym (xor_xor z x y c.0 a.0 b.0)) in
+    ap (λ w. w ∷ subtracted g (subtracted r xs)) here ∙ ap (λ l. xor (xor z x) y ∷ l) (subtracted-swapped g r xs a.1 b.1 c.1)
+
+-- and the same twice
+subtracted-back : (g xs : List ℕ) → IsBits g → IsBits xs → subtracted g (subtracted g xs) ≡ xs
+subtracted-back [] xs a b = refl
+subtracted-back (x ∷ g) [] a b = refl
+subtracted-back (x ∷ g) (z ∷ xs) a b =
+    let here : xor (xor z x) x ≡ z = xor_xor z x x b.0 a.0 a.0 ∙ (ap (xor z) (xor_same x) ∙ xor_zero z b.0) in
+    ap (λ w. w ∷ subtracted g (subtracted g xs)) here ∙ ap (λ l. z ∷ l) (subtracted-back g xs a.1 b.1)
+
+subtracted-self : (xs : List ℕ) → subtracted xs xs ≡ replicate (length xs) 0
+subtracted-self [] = refl
+subtracted-self (x ∷ xs) = ap (λ w. w ∷ subtracted xs xs) (xor_same x) ∙ ap (λ l. 0 ∷ l) (subtracted-self xs)
+
+-- what is left of a sum is the sum of what is left
+remainder-sum : (g : List ℕ) (n : ℕ) (xs ys : List ℕ) → IsBits g → IsBits xs → IsBits ys → length xs ≡ length ys → n + length g ≤ length xs → remainder g n (subtracted xs ys) ≡ subtracted (remainder g n xs) (remainder g n ys)
+remainder-sum g zero xs ys a b c same long = refl
+remainder-sum g (suc n) [] ys a b c same long = absurd (omega (arith, long))
+remainder-sum g (suc n) (x ∷ xs) [] a b c same long = absurd (omega (arith, same))
+remainder-sum g (suc n) (zero ∷ xs) (zero ∷ ys) a b c same long = remainder-sum g n xs ys a b.1 c.1 (omega (arith, same)) (omega (arith, long))
+remainder-sum g (suc n) (zero ∷ xs) (suc zero ∷ ys) a b c same long =
+    let less = bits-subtracted g ys c.1 in
+    ap (remainder g n) (subtracted-swapped g xs ys a b.1 c.1) ∙ remainder-sum g n xs (subtracted g ys) a b.1 less (omega (arith, same, length-subtracted g ys)) (omega (arith, long))
+remainder-sum g (suc n) (suc zero ∷ xs) (zero ∷ ys) a b c same long =
+    let less = bits-subtracted g xs b.1 in
+    ap (remainder g n) (subtracted-twice g xs ys a b.1 c.1 (omega (arith, long))) ∙ remainder-sum g n (subtracted g xs) ys a less c.1 (omega (arith, same, length-subtracted g xs)) (omega (arith, long, length-subtracted g xs))
+remainder-sum g (suc n) (suc zero ∷ xs) (suc zero ∷ ys) a b c same long =
+    let less = bits-subtracted g xs b.1 in
+    let others = bits-subtracted g ys c.1 in
+    let both : subtracted (subtracted g xs) (subtracted g ys) ≡ subtracted xs ys = sym (subtracted-twice g xs (subtracted g ys) a b.1 others (omega (arith, long))) ∙ (ap (subtracted g) (sym (subtracted-swapped g xs ys a b.1 c.1)) ∙ subtracted-back g (subtracted xs ys) a (bits-subtracted xs ys c.1)) in
+    ap (remainder g n) (sym both) ∙ remainder-sum g n (subtracted g xs) (subtracted g ys) a less others (omega (arith, same, length-subtracted g xs, length-subtracted g ys)) (omega (arith, long, length-subtracted g xs))
+remainder-sum g (suc n) (suc (suc x) ∷ xs) (y ∷ ys) a b c same long = absurd (omega (arith, b.0))
+remainder-sum g (suc n) (x ∷ xs) (suc (suc y) ∷ ys) a b c same long = absurd (omega (arith, c.0))
+
+-- of zeros nothing is left but what comes after them
+remainder-zeros : (g : List ℕ) (n : ℕ) (q : List ℕ) → remainder g n (replicate n 0 ++ q) ≡ q
+remainder-zeros g zero q = refl
+remainder-zeros g (suc n) q = remainder-zeros g n q
+
+bits-remainder : (g : List ℕ) (n : ℕ) (xs : List ℕ) → IsBits xs → IsBits (remainder g n xs)
+bits-remainder g zero xs b = b
+bits-remainder g (suc n) [] b = tt
+bits-remainder g (suc n) (x ∷ xs) b = elim (cases_Bool (x == 0)) [
+  | inl none ↦ rw none (bits-remainder g n xs b.1)
+  | inr one ↦ rw one (bits-remainder g n (subtracted g xs) (bits-subtracted g xs b.1))
+]
+
+-- bits and others after them are a sum
+summed : (bits q : List ℕ) (m : ℕ) → IsBits bits → IsBits q → length q ≡ m → subtracted (replicate (length bits) 0 ++ q) (bits ++ replicate m 0) ≡ bits ++ q
+summed [] q m a b long = subtracted-zeros q m b long
+summed (x ∷ bits) q m a b long = ap (λ w. w ∷ subtracted (replicate (length bits) 0 ++ q) (bits ++ replicate m 0)) (xor_zero x a.0) ∙ ap (λ l. x ∷ l) (summed bits q m a.1 b long)
+
+pub nothing_left : (g bits : List ℕ) → IsBits g → IsBits bits → remainder g (length bits) (bits ++ check_of g bits) ≡ replicate (length g) 0
+unfolding check_of
+nothing_left g bits a b =
+    let k : ℕ = length bits in
+    let zeros : List ℕ = replicate (length g) 0 in
+    let all = IsBits-append bits zeros b (bits-zeros (length g)) in
+    let q : List ℕ = remainder g k (bits ++ zeros) in
+    let q_bits : IsBits q = bits-remainder g k (bits ++ zeros) all in
+    let q_long : length q ≡ length g = length-check_of g bits in
+    let front : List ℕ = replicate k 0 in
+    let front_bits = IsBits-append front q (bits-zeros k) q_bits in
+    let same : length (front ++ q) ≡ length (bits ++ zeros) = omega (arith, length-append front q, length-append bits zeros, length-replicate k zero, length-replicate (length g) zero, q_long) in
+    let within : k + length g ≤ length (front ++ q) = omega (arith, length-append front q, length-replicate k zero, q_long) in
+    ap (remainder g k) (sym (summed bits q (length g) b q_bits q_long)) ∙ (remainder-sum g k (front ++ q) (bits ++ zeros) a front_bits all same within ∙ (ap (λ l. subtracted l q) (remainder-zeros g k q) ∙ (subtracted-self q ∙ ap (λ n. replicate n 0) q_long)))
 
 -- ---- several bits, and bytes
 

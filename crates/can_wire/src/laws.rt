@@ -1,10 +1,10 @@
 ghost use Rattle.std.specs.Prelude.{◌≡◌, ◌≤◌, ◌<◌, ◌+◌, ◌-◌, ◌*◌, ◌/◌, ◌∷◌, ◌++◌, []};
-ghost use Rattle.std.specs.Prelude.{ℕ, List, Bool, length, replicate, true, false};
+ghost use Rattle.std.specs.Prelude.{ℕ, List, Bool, length, replicate, nat_le, true, false, if◌then◌else◌};
 ghost use Rattle.can_frame.specs.Frames.{CanFrame, payload_bytes, is_fd};
 ghost use Rattle.can_wire.specs.Stuffing.{stuffed, stuffed_inside, unstuffed};
 ghost use Rattle.can_frame.specs.Arbitration.{low_bits};
-ghost use Rattle.can_wire.specs.Division.{check_of, generator_15, generator_17, generator_21};
-ghost use Rattle.can_wire.specs.FrameBits.{byte_bits, wire_of, frame_bits_of};
+ghost use Rattle.can_wire.specs.Division.{check_of, remainder, generator_15, generator_17, generator_21};
+ghost use Rattle.can_wire.specs.FrameBits.{byte_bits, covered_bits, checked_bits, wire_of, frame_bits_of};
 ghost use Rattle.can_wire.specs.Known.{known_bytes, known_classic, known_short_fd, known_long_fd};
 ghost use Rattle.can_wire.specs.Times.{BitRates, AreBitRates, nanos_of, billionths};
 ghost use Rattle.can_wire.specs.declared.flags.FdFlags.{FdFlags};
@@ -23,6 +23,12 @@ pub fn check_values_are_known()
     ensures classic { check_of generator_15 (byte_bits known_bytes) ≡ low_bits 15 0x059E }
     ensures short { check_of generator_17 (byte_bits known_bytes) ≡ low_bits 17 0x04F03 }
     ensures long { check_of generator_21 (byte_bits known_bytes) ≡ low_bits 21 0x0ED841 }
+{}
+
+/// Division leaves nothing of the bits of a classic frame with their CRC, by which a receiver sees that they are whole.
+pub fn the_crc_leaves_nothing()
+    ensures { (f : CanFrame) →
+        remainder generator_15 (length (covered_bits f)) (checked_bits f) ≡ replicate 15 0 }
 {}
 
 /// Three frames are bit by bit as a model sends them that was written apart (tests/wire_model.py).
@@ -49,19 +55,33 @@ pub fn unstuffing_gives_the_bits_back()
     ensures inside { (bits : List ℕ) → unstuffed (stuffed_inside bits) ≡ bits }
 {}
 
-/// How few and how many bits a classic frame of n bytes can have, with intermission (Davis, Burns, Bril and Lukkien,
-/// Real-Time Systems 35, 2007).
+/// How few and how many bits a classic frame of n bytes can have, with intermission: those of its fields, and a stuff bit
+/// for each four of those that are stuffed, after the first.
 pub fn classic_frames_have_bounds()
     ensures standard { (f : CanFrame) (flags : FdFlags) (n : ℕ) →
         is_fd f.payload ≡ false → f.id.extended ≡ false → length (payload_bytes f.payload) ≡ n →
-        (47 + 8 * n ≤ (frame_bits_of f flags).nominal + 3)
-        × ((frame_bits_of f flags).nominal + 3 ≤ 47 + 8 * n + (34 + 8 * n - 1) / 4) }
+        (47 + 8 * n ≤ length (wire_of f flags) + 3)
+        × (length (wire_of f flags) + 3 ≤ 47 + 8 * n + (34 + 8 * n - 1) / 4) }
     ensures extended { (f : CanFrame) (flags : FdFlags) (n : ℕ) →
         is_fd f.payload ≡ false → f.id.extended ≡ true → length (payload_bytes f.payload) ≡ n →
-        (67 + 8 * n ≤ (frame_bits_of f flags).nominal + 3)
-        × ((frame_bits_of f flags).nominal + 3 ≤ 67 + 8 * n + (54 + 8 * n - 1) / 4) }
+        (67 + 8 * n ≤ length (wire_of f flags) + 3)
+        × (length (wire_of f flags) + 3 ≤ 67 + 8 * n + (54 + 8 * n - 1) / 4) }
     ensures one_rate { (f : CanFrame) (flags : FdFlags) →
         is_fd f.payload ≡ false → (frame_bits_of f flags).fast ≡ 0 }
+{}
+
+/// The same of an FD frame. Of what is stuffed the last bit has no stuff bit, and what follows has a fixed length.
+pub fn fd_frames_have_bounds()
+    ensures standard { (f : CanFrame) (flags : FdFlags) (n : ℕ) →
+        is_fd f.payload ≡ true → f.id.extended ≡ false → length (payload_bytes f.payload) ≡ n →
+        let few = 35 + 8 * n + (if nat_le n 16 then 27 else 32) in
+        (few ≤ length (wire_of f flags) + 3)
+        × (length (wire_of f flags) + 3 ≤ few + (20 + 8 * n) / 4) }
+    ensures extended { (f : CanFrame) (flags : FdFlags) (n : ℕ) →
+        is_fd f.payload ≡ true → f.id.extended ≡ true → length (payload_bytes f.payload) ≡ n →
+        let few = 54 + 8 * n + (if nat_le n 16 then 27 else 32) in
+        (few ≤ length (wire_of f flags) + 3)
+        × (length (wire_of f flags) + 3 ≤ few + (39 + 8 * n) / 4) }
 {}
 
 /// The nanoseconds of bits are not too few, and less than one too many.
