@@ -1,7 +1,7 @@
 """The bits of frames on the wire: the model that our numbers come from, and the places that have these numbers.
 
-The model is compared with what catalogues of CRCs say, with long division, and with the bounds of Davis, Burns, Bril
-and Lukkien (Real-Time Systems 35, 2007). The tests of can_unit_tests and the laws of can_wire have its numbers.
+The model is compared with what catalogues of CRCs say, with long division, and with the fewest and most bits that the
+fields of a frame allow. The tests of can_unit_tests and the laws of can_wire have its numbers.
 """
 
 from __future__ import annotations

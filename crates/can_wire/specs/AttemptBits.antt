@@ -10,9 +10,8 @@ use Rattle.can_wire.specs.FrameBits.{bits_to_data_end, bits_to_check_end, frame_
 use Rattle.can_wire.specs.declared.flags.FdFlags.{FdFlags}
 use Rattle.can_wire.specs.declared.wire_bits.WireBits.{WireBits}
 
--- How long attempts last, from start of frame until the next one may be sent (own choice, since a verdict names no
--- bit), resting on the Bosch CAN Specification 2.0, sections 3 and 7. Flags, delimiters and intermission go at the
--- nominal bit rate.
+-- How many bits attempts take, from start of frame until the next frame may begin (own choice, since a verdict names
+-- no bit), resting on the Bosch CAN Specification 2.0, sections 3 and 7. All after the CRC go at the nominal bit rate.
 
 -- the fault is seen by the end of the data: a bit that was read back otherwise, or six equal bits; others are seen
 -- after the CRC
@@ -25,29 +24,42 @@ is_early (verdict.Local set local.Form) = false
 is_early verdict.Good = false
 is_early verdict.LastBit = false
 
--- the bits of an error flag that nobody answers; of one that others answer by an overload flag, which begins a bit
--- later; of one that others answer by theirs, which begin after it
+-- from the end of the CRC to the ACK slot: CRC delimiter and ACK slot
+abbrev pub to_ack_slot : ℕ
+to_ack_slot = 2
+
+-- and to the ACK delimiter
+abbrev pub to_ack_delimiter : ℕ
+to_ack_delimiter = 3
+
+-- an error flag that nobody answers
 abbrev pub flag : ℕ
 flag = 6
 
+-- one that receivers answer by an overload flag, which begins a bit later
 abbrev pub overload_answered_flag : ℕ
 overload_answered_flag = 7
 
+-- one that others answer by theirs, which begin after it
 abbrev pub answered_flag : ℕ
 answered_flag = 12
 
--- the delimiter of an error or overload frame, and the intermission after it
+-- what ends an error frame or an overload frame
 abbrev pub delimiter : ℕ
 delimiter = 8
 
+-- what is between frames
 abbrev pub intermission : ℕ
 intermission = 3
 
--- how many bits an attempt takes: the frame; the frame and the answered flag of its sender; CRC delimiter, ACK slot,
--- and the sender's flag; what was sent of a destroyed frame, where the fault is seen after the CRC to the ACK
--- delimiter, and flags
+-- how many bits of a frame are sent before its fault is answered by flags: after a CRC error a flag begins after the ACK
+-- delimiter (Bosch, section 7.2)
+abbrev pub bits_to_fault : CanFrame → FdFlags → Verdict → WireBits
+bits_to_fault f flags v = if is_early v then bits_to_data_end f flags else then_nominal (bits_to_check_end f flags) to_ack_delimiter
+
+-- how many bits an attempt takes: at no acknowledgement its sender's flag begins after the ACK slot
 abbrev pub attempt_bits_of : CanFrame → FdFlags → Class → Verdict → WireBits
 attempt_bits_of f flags class.Done v = then_nominal (frame_bits_of f flags) intermission
 attempt_bits_of f flags class.LastBit v = then_nominal (frame_bits_of f flags) (overload_answered_flag + delimiter + intermission)
-attempt_bits_of f flags class.NoAck v = then_nominal (bits_to_check_end f flags) (2 + flag + delimiter + intermission)
-attempt_bits_of f flags class.Destroyed v = if is_early v then then_nominal (bits_to_data_end f flags) (answered_flag + delimiter + intermission) else then_nominal (bits_to_check_end f flags) (3 + answered_flag + delimiter + intermission)
+attempt_bits_of f flags class.NoAck v = then_nominal (bits_to_check_end f flags) (to_ack_slot + flag + delimiter + intermission)
+attempt_bits_of f flags class.Destroyed v = then_nominal (bits_to_fault f flags v) (answered_flag + delimiter + intermission)

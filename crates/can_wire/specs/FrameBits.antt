@@ -110,12 +110,14 @@ fd_bits_to_brs f flags = length (stuffed_inside (fd_head f flags))
 abbrev pub rated : CanFrame → FdFlags → ℕ → WireBits
 rated f flags n = by_rates (is_fd f.payload && flags.brs) (fd_bits_to_brs f flags) n
 
--- how many go to the last data bit, to the end of the CRC, and to end of frame
+-- how many go to the last data bit
 unfoldable pub bits_to_data_end : CanFrame → FdFlags → WireBits
 bits_to_data_end f flags = rated f flags (length (to_data_end f flags))
 
+-- how many go to the end of the CRC
 unfoldable pub bits_to_check_end : CanFrame → FdFlags → WireBits
 bits_to_check_end f flags = rated f flags (length (to_check_end f flags))
 
+-- how many go to end of frame
 abbrev pub frame_bits_of : CanFrame → FdFlags → WireBits
 frame_bits_of f flags = then_nominal (bits_to_check_end f flags) (length end_bits)

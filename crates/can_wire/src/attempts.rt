@@ -1,5 +1,5 @@
-ghost use Rattle.std.specs.Prelude.{◌≡◌};
-ghost use Rattle.can_wire.specs.AttemptBits.{is_early, attempt_bits_of};
+ghost use Rattle.std.specs.Prelude.{◌≡◌, ◌≤◌};
+ghost use Rattle.can_wire.specs.AttemptBits.{is_early, bits_to_fault, attempt_bits_of};
 
 use crate::flags::FdFlags;
 use crate::frames::{bits_to_check_end, bits_to_data_end, frame_bits};
@@ -7,6 +7,12 @@ use crate::wire_bits::WireBits;
 use can_attempt::Class;
 use can_fault::{GlobalKind, LocalKind, Verdict};
 use can_frame::Frame;
+
+/// From the end of the CRC to the ACK slot: CRC delimiter and ACK slot.
+const TO_ACK_SLOT: u32 = 2;
+
+/// And to the ACK delimiter.
+const TO_ACK_DELIMITER: u32 = 3;
 
 /// An error flag that nobody answers.
 const FLAG: u32 = 6;
@@ -17,7 +23,7 @@ const OVERLOAD_ANSWERED_FLAG: u32 = 7;
 /// One that others answer by theirs, which begin after it.
 const ANSWERED_FLAG: u32 = 12;
 
-/// An error or overload delimiter.
+/// What ends an error frame or an overload frame.
 const DELIMITER: u32 = 8;
 
 /// What is between frames.
@@ -35,22 +41,35 @@ fn is_early(verdict: Verdict) -> bool
     }
 }
 
-/// How many bits an attempt to send a frame takes, from start of frame until the next one may be sent, if it was struck
+/// How many bits of a frame are sent before its fault is answered by flags.
+fn bits_to_fault(frame: &Frame, flags: FdFlags, verdict: Verdict) -> WireBits
+    ensures bits { result ≡ bits_to_fault frame.now flags verdict }
+    ensures few { result.nominal ≤ 1400 }
+{
+    if is_early(verdict) {
+        bits_to_data_end(frame, flags)
+    } else {
+        bits_to_check_end(frame, flags).then_nominal(TO_ACK_DELIMITER)
+    }
+}
+
+/// How many bits an attempt to send a frame takes, from start of frame until the next one may begin, if it was struck
 /// by this verdict and ended in this class. A verdict names no bit, so where a failed attempt ends is a choice of this
-/// project.
+/// project. The 8 bits for which an error passive sender waits after it are not counted.
 pub fn attempt_bits(frame: &Frame, flags: FdFlags, class: Class, verdict: Verdict) -> WireBits
     ensures { result ≡ attempt_bits_of frame.now flags class verdict }
 {
-    let tried = match class {
-        Class::Done => frame_bits(frame, flags),
-        Class::LastBit => frame_bits(frame, flags).then_nominal(OVERLOAD_ANSWERED_FLAG + DELIMITER),
-        Class::NoAck => bits_to_check_end(frame, flags).then_nominal(2 + FLAG + DELIMITER),
-        Class::Destroyed if is_early(verdict) => bits_to_data_end(frame, flags).then_nominal(
+    let (sent, end) = match class {
+        Class::Done => (frame_bits(frame, flags), 0),
+        Class::LastBit => (frame_bits(frame, flags), OVERLOAD_ANSWERED_FLAG + DELIMITER),
+        Class::NoAck => (
+            bits_to_check_end(frame, flags),
+            TO_ACK_SLOT + FLAG + DELIMITER,
+        ),
+        Class::Destroyed => (
+            bits_to_fault(frame, flags, verdict),
             ANSWERED_FLAG + DELIMITER,
         ),
-        Class::Destroyed => bits_to_check_end(frame, flags).then_nominal(
-            3 + ANSWERED_FLAG + DELIMITER,
-        ),
     };
-    tried.then_nominal(INTERMISSION)
+    sent.then_nominal(end + INTERMISSION)
 }

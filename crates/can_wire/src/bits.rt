@@ -4,7 +4,7 @@ ghost use Rattle.can_frame.specs.Arbitration.{low_bits};
 ghost use Rattle.can_wire.specs.inner.Sending.{bits_of};
 
 /// At most 64 bits, the first sent first.
-#[derive(Debug, Clone, Copy)]
+#[derive(Clone, Copy)]
 pub(crate) struct Bits {
     pub count: u32,
     pub number: u64,

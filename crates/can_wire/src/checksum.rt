@@ -9,11 +9,11 @@ use std::marker::Model;
 /// How many bits the CRC of a classic frame has.
 const WIDTH: u32 = 15;
 
-/// Its generator_15 polynomial, x^15 + x^14 + x^10 + x^8 + x^7 + x^4 + x^3 + 1, without the first term.
+/// Its generator polynomial, x^15 + x^14 + x^10 + x^8 + x^7 + x^4 + x^3 + 1, without the first term.
 const GENERATOR: u16 = 0x4599;
 
 /// The shift register that makes the CRC of a classic frame: the lowest 15 bits count.
-#[derive(Debug, Drop)]
+#[derive(Drop)]
 struct Register {
     bits: u16,
 }

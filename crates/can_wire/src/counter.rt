@@ -7,7 +7,7 @@ use std::marker::Model;
 
 /// The bits that were sent, counted with their stuff bits. The one that is due after five equal bits is counted with
 /// the bit that follows it.
-#[derive(Debug, Drop)]
+#[derive(Drop)]
 pub(crate) struct Counter {
     last: u8,
     run: u8,

@@ -229,7 +229,8 @@ pub(crate) fn bits_to_check_end(frame: &Frame, flags: FdFlags) -> WireBits
 }
 
 /// How many bits a frame has on the wire, from start of frame to end of frame, with its stuff bits. An FD frame with
-/// BRS sends those after it, to the end of its CRC, at the data bit rate; all others go at the nominal one.
+/// BRS sends those after it, to the end of its CRC, at the data bit rate; all others go at the nominal one. A classic
+/// frame has no flags, whatever is passed.
 pub fn frame_bits(frame: &Frame, flags: FdFlags) -> WireBits
     ensures bits { result ≡ frame_bits_of frame.now flags }
     ensures few { result.nominal ≤ 1400 }
