@@ -1,8 +1,8 @@
 """Damaged records, and what `canbusd audit` says of each beside an independent replay, that of the Python package.
 
 Each byte of the record in docs/RECORD.md is changed, to 30 others or, with --all-bytes, to all 255; it is cut at
-each byte, and audited with and without `--cut`. So is one with an automatic restart, whose text is version 2, and one with FD frames, whose text is
-version 3. Records of the examples and of random runs, which have every kind of line, have bytes changed, and lines
+each byte, and audited with and without `--cut`. So is one with an automatic restart, whose text is version 2, one with FD
+frames, whose text is version 3, and one that was written while its run went on, version 4. Records of the examples and of random runs, which have every kind of line, have bytes changed, and lines
 left out, doubled, exchanged, moved, and given other words and replies. Both have to name the same first wrong line
 or entry, and `ok` the same records. With --beside another program that audits as canbusd does has to say the same.
 """
@@ -124,6 +124,14 @@ def with_fd():
     return "\n".join(["canbus record 3", "bus 2 always 0000 10 100 0", *lines, f"end {len(lines)}", ""]).encode()
 
 
+def live(data=None):
+    """A record as it is where it was written while its run went on; of one with an automatic restart, or another."""
+    first, bus, entries = (data or restarted()).split(b"\n", 2)
+    *words, capacity, limit, restart = [*bus.split(b" "), *([b"0"] if first.endswith(b"1") else [])]
+    assert (capacity, limit) == (b"10", b"100")
+    return b"\n".join([b"canbus record 4", b" ".join([*words, capacity, b"4294967294", restart]), entries])
+
+
 def recorded(tried, words, text):
     """The record of a run of the bench."""
     path = os.path.join(tried.folder, "run.rec")
@@ -230,6 +238,24 @@ def test_bytes_of_a_record_with_fd_frames(tried):
     change_bytes(tried, with_fd())
 
 
+def test_bytes_of_a_live_record(tried):
+    """each byte of the front of version 4 changed, and the record cut at each byte"""
+    data = live()
+    assert audit(data) == "ok 42 entries", f"the record: {audit(data)}"
+    lines = data.splitlines(True)
+    change_bytes(tried, data, len(b"".join(lines[:3])), len(b"".join(lines[:-1])))
+    for place in range(len(data)):
+        tried.cut(data[:place])
+
+
+@pytest.mark.slow
+def test_bytes_of_a_live_record_with_fd_frames(tried):
+    """the same for its entries, and those with FD frames"""
+    lines = live().splitlines(True)
+    change_bytes(tried, live(), len(b"".join(lines[:7])), len(b"".join(lines[:36])))
+    change_bytes(tried, live(with_fd()))
+
+
 def change_bytes(tried, data, skip_from=0, skip_to=0):
     """Each byte changed and left out, and the record cut at each, except a piece of it; and with text after it."""
     tried.one(data)
@@ -285,6 +311,19 @@ def test_named_damages_of_the_example(tried):
         (f"{without}\nend 2\n", "bad version"),
         (f"{without}\nend 3\n", "line 5: bad line"),
     ]
+    text = live().decode()
+    damages += [
+        (text.replace("4294967294", "4294967295"), "line 2: bad line"),
+        (text.replace("4294967294", "16777216"), "line 2: bad line"),
+        (text.replace("4294967294 2", "4294967294"), "line 2: bad line"),
+        (text.replace("4294967294 2", "4294967294 0"), "line 40: bad line"),
+        (text.replace("4294967294 2", "4294967294 1"), "entry 36: wrong"),
+        (text.replace("record 4", "record 3"), "line 2: bad line"),
+        (text.replace("record 4", "record 5"), "bad version"),
+        (restarted().decode().replace("10 100 2", "10 16777217 2"), "line 2: bad line"),
+        (with_fd().decode().replace("10 100 0", "10 16777217 0"), "line 2: bad line"),
+        (live(with_fd()).decode().replace("fd-off", "number 0"), "entry 3: wrong"),
+    ]
     for damaged, fault in damages:
         assert audit(damaged.encode()) == f"canbusd: {fault}", f"the replay: {fault}"
         tried.cut(damaged.encode())
@@ -318,6 +357,11 @@ def test_named_cuts(tried):
         # An FD frame may have come later.
         (needless, "ok 1 entries, then cut off"),
         (needless + b"end 1\n", "canbusd: bad version"),
+        # Version 4 needs none.
+        (live(example()), "ok 7 entries"),
+        (live(example())[:-1], "ok 7 entries, then cut off"),
+        (b"canbus record 4\nbus 2 always 0000 10 16777217 0\nend 0\n", "ok 0 entries"),
+        (b"canbus record 4\nbus 2 always 0000 10 16777217 0\nend 0", "ok 0 entries, then cut off"),
     ]
     for data, said in cuts:
         assert audit(data, cut=True) == said, f"the replay: {data!r}"

@@ -394,6 +394,21 @@ def test_replay_of_a_record(record):
     assert re.fullmatch(r"canbusd replay: .*can0\.rec: entry \d+: wrong: `tried .*`; legal is `tried .*`\n", said)
 
 
+def test_a_record_that_is_cut_off(record):
+    """As a server leaves it that was killed; its interfaces have the names in the log beside it."""
+    whole, cut = call("replay", record)[1], record.with_name("can0.rec.new")
+    cut.write_bytes(record.read_bytes()[:-4])
+    for command in ("replay", "report"):
+        status, written, said = call(command, cut)
+        assert (status, written) == (1, "") and re.fullmatch(
+            r"canbusd \w+: .*: line \d+: cut off before its end\n", said
+        )
+    assert call("replay", "--cut", cut) == (0, whole.replace(" entries", " entries, then cut off"), "")
+    assert call("replay", "--cut", record) == (0, whole, "")
+    status, page, said = call("report", "--cut", cut)
+    assert (status, said) == (0, "") and page.endswith("</html>\n")
+
+
 def test_report_of_a_record(record):
     status, page, said = call("report", record)
     assert (status, said) == (0, "") and page.endswith("</html>\n")

@@ -5,9 +5,10 @@ from pathlib import Path
 
 import pytest
 
+from canbusd._record_text import TextReader, parse_text
 from canbusd.bench import Bench
 from canbusd.frames import Frame
-from canbusd.record import Attempt, BadRecord, Item, audit, parse_record, read_record
+from canbusd.record import Attempt, BadRecord, Item, Record, audit, parse_record, read_record
 
 ROOT = Path(__file__).parents[2]
 # The worked example of docs/RECORD.md.
@@ -51,6 +52,22 @@ option 0 fd 1 = ok
 send 0 123##00102030405060708090A0B0C = number 0
 end 4
 """
+# A record that was written while its run went on: one that says `fd` to no frame, and whose interface is restarted.
+LIVE = """\
+canbus record 4
+bus 2 always 0000 10 4294967294 1
+open 0 256 = socket 0
+open 1 1 = socket 1
+option 1 fd 1 = ok
+send 0 123#01FF = number 0
+attempt 0.000001 good = tried 0 0 123#01FF done 0002 0000
+attempt 0.000002 good = idle
+receive 1 = data 0 0 123#01FF 0.000001
+end 7
+"""
+LIVE_CLASSIC = EXAMPLE.replace("record 1", "record 4").replace("10 100", "10 16777217 0")
+LIVE_RESTARTED = RESTARTED.replace("record 2", "record 4").replace("10 100 2", "10 4294967294 2")
+LIVE_WITH_FD = WITH_FD.replace("record 3", "record 4").replace("10 100 0", "10 4294967294 0")
 
 
 def test_the_example_is_the_one_of_the_documents():
@@ -90,6 +107,30 @@ def test_the_example_is_the_one_of_the_documents():
         (WITH_FD.replace("0A0B0C", "0A0B"), "line 6: bad line"),
         (WITH_FD.replace("record 3", "record 2").replace("100 0", "100 7"), "line 4: bad line"),
         (EXAMPLE.replace("record 1", "record 3").replace("10 100", "10 100 0"), "bad version"),
+        (LIVE, "ok 7 entries"),
+        (LIVE_CLASSIC, "ok 7 entries"),
+        (LIVE_RESTARTED, "ok 38 entries"),
+        (LIVE_WITH_FD, "ok 4 entries"),
+        ("canbus record 4\n", "line 2: bad line"),
+        ("canbus record 4\nbus 16 peers FFFF 1024 16777217 1000000\nend 0\n", "ok 0 entries"),
+        (LIVE.replace("4294967294", "4294967295"), "line 2: bad line"),
+        (LIVE.replace("4294967294", "16777216"), "line 2: bad line"),
+        (LIVE.replace("4294967294 1", "4294967294"), "line 2: bad line"),
+        (LIVE.replace("4294967294 1", "4294967294 1000001"), "line 2: bad line"),
+        (LIVE.replace("4294967294", "04294967294"), "line 2: bad line"),
+        (LIVE.replace("record 4", "record 5"), "bad version"),
+        (LIVE.replace("record 4", "record 3"), "line 2: bad line"),
+        (LIVE_CLASSIC.replace("record 4", "record 2"), "line 2: bad line"),
+        (LIVE_CLASSIC.replace("record 4", "record 1"), "line 2: bad line"),
+        (EXAMPLE.replace("10 100", "10 16777217"), "line 2: bad line"),
+        (RESTARTED.replace("10 100 2", "10 16777217 2"), "line 2: bad line"),
+        (WITH_FD.replace("10 100 0", "10 16777217 0"), "line 2: bad line"),
+        (LIVE_RESTARTED.replace(" restarted 0001", ""), "entry 36: wrong"),
+        (LIVE_RESTARTED.replace("4294967294 2", "4294967294 0"), "line 39: bad line"),
+        (LIVE_WITH_FD.replace("0A0B0C", "0A0B"), "line 6: bad line"),
+        (LIVE_WITH_FD.replace("fd-off", "number 0"), "entry 1: wrong"),
+        (LIVE[:-1], "line 10: bad line"),
+        (LIVE.replace("end 7", "end 6"), "line 10: bad line"),
     ],
 )
 def test_an_audit_names_the_first_fault(text, said):
@@ -102,7 +143,7 @@ def test_bytes_that_are_no_text():
         parse_record(b"\xff")
 
 
-@pytest.mark.parametrize("text", [EXAMPLE, RESTARTED, WITH_FD])
+@pytest.mark.parametrize("text", [EXAMPLE, RESTARTED, WITH_FD, LIVE], ids=["1", "2", "3", "4"])
 def test_a_record_cut_anywhere_is_refused(text):
     for end in range(len(text)):
         with pytest.raises(BadRecord) as fault:
@@ -166,9 +207,10 @@ def test_idle_attempts_are_counted():
     assert ([step.idle for step in run.steps], run.idle_since, run.idle) == ([2, 0, 1], 1, 4)
 
 
-def test_a_record_that_is_cut_off(tmp_path):
+@pytest.mark.parametrize("text", [EXAMPLE, WITH_FD, LIVE], ids=["1", "3", "4"])
+def test_a_record_that_is_cut_off(tmp_path, text):
     path = tmp_path / "can0.rec"
-    whole = EXAMPLE.encode()
+    whole = text.encode()
     lines = whole.splitlines(True)
     for place in range(len(whole)):
         path.write_bytes(whole[:place])
@@ -182,10 +224,54 @@ def test_a_record_that_is_cut_off(tmp_path):
         record = read_record(path, cut=True)
         assert record.is_cut and record.lines == [line.decode()[:-1] for line in lines[2 : 2 + count]]
         assert audit(whole[:place], cut=True) == f"ok {count} entries, then cut off"
-        assert len(record.attempts) == (count > 3)
+        assert len(record.attempts) == sum(" = tried " in line or " restarted " in line for line in record.lines)
     path.write_bytes(whole)
     assert not read_record(path, cut=True).is_cut and read_record(path, cut=True) == read_record(path)
-    assert audit(whole, cut=True) == audit(whole) == "ok 7 entries"
+    assert audit(whole, cut=True) == audit(whole) == f"ok {len(lines) - 3} entries"
     assert audit(b"".join(lines[:5]) + b"\xff", cut=True) == "ok 3 entries, then cut off"
-    assert audit(whole + b"x", cut=True) == "canbusd: line 11: bad line"
-    assert audit(EXAMPLE.replace("done 0002", "done 0000").encode()[:-3], cut=True) == "canbusd: entry 3: wrong"
+    assert audit(whole + b"x", cut=True) == f"canbusd: line {len(lines) + 1}: bad line"
+    assert audit(whole + lines[-1], cut=True) == f"canbusd: line {len(lines) + 1}: bad line"
+
+
+def test_faults_of_a_record_that_is_cut_off():
+    cut = EXAMPLE.encode()[:-3]
+    for text in (cut, cut.replace(b"record 1", b"record 4").replace(b"10 100", b"10 4294967294 0")):
+        assert audit(text, cut=True) == "ok 7 entries, then cut off"
+        assert audit(text.replace(b"done 0002", b"done 0000"), cut=True) == "canbusd: entry 3: wrong"
+        assert audit(text.replace(b"123#01FF", b"123#01ff"), cut=True) == "canbusd: line 5: bad line"
+        assert audit(text.replace(b"socket 0", b"socket \xff"), cut=True) == "canbusd: read fault"
+    # Whether version 3 is needed is not judged: an FD frame may have come later. Version 4 never needs one.
+    for version, limit in ((3, 100), (4, 16777217)):
+        text = f"canbus record {version}\nbus 1 always 0000 10 {limit} 0\nopen 0 1 = socket 0\n"
+        assert audit(text.encode(), cut=True) == "ok 1 entries, then cut off"
+        assert audit(f"{text}end 1\n".encode()) == ("canbusd: bad version" if version == 3 else "ok 1 entries")
+
+
+@pytest.mark.parametrize("ending", ["new", "cut"])
+def test_names_in_the_log_of_a_run_that_was_killed(tmp_path, ending):
+    path, log = tmp_path / f"can0.rec.{ending}", tmp_path / "can0.log"
+    path.write_text(LIVE[: LIVE.index("receive")])
+    log.write_text("(0000000000.000001) body 123#01FF\n(0000000000.000002) bo")
+    assert read_record(path, cut=True).names == ("body", "interface 1")
+    log.write_text("(0000000000.000001) bo")
+    assert read_record(path, cut=True).names == ("interface 0", "interface 1")
+
+
+@pytest.mark.parametrize("text", [EXAMPLE, LIVE, LIVE_RESTARTED, LIVE_WITH_FD], ids=["1", "4", "restarted", "fd"])
+def test_a_text_that_is_read_and_replayed_as_it_grows(text):
+    """Line by line, or two at a time, it is what it is at once."""
+    lines = text.splitlines()
+    for many in (1, 2):
+        reader, attempts = TextReader(), []
+        reader.take(lines[:2])
+        record = Record(**vars(reader.bus), names=("a", "b"))
+        for first in range(2, len(lines), many):
+            reader.take(lines[first : first + many])
+            steps = len(record.replay.steps)
+            record.replay.go_on()
+            attempts += record.attempts_from(steps)
+        assert reader.is_ended and reader.finish() == parse_text(text.encode())
+        whole = parse_record(text.encode(), names="a,b")
+        assert attempts == whole.attempts and record.items == whole.items
+    with pytest.raises(BadRecord, match=f"^line {len(lines) + 1}: text after the line `{lines[-1]}`$"):
+        reader.take(["open 0 1 = socket 9"])

@@ -79,6 +79,13 @@ def test_the_events_of_bus_off():
     assert facts_of(run) == "32 attempts: 32 destroyed. 2 idle attempts. 1 restart. 39 entries in the record."
 
 
+def test_the_facts_of_a_record_that_is_cut_off():
+    text = (
+        b"canbus record 4\nbus 1 always 0000 10 4294967294 0\nopen 0 256 = socket 0\nattempt 0.000001 good = idle\nend"
+    )
+    assert facts_of(parse_record(text, cut=True).replay) == "1 idle attempt. 2 entries in the record, which is cut off."
+
+
 def test_a_fault_in_the_last_bit_gives_a_second_copy():
     run = record_of(
         "open 0 256 = socket 0",

@@ -57,12 +57,15 @@ def add_record(parser: argparse.ArgumentParser) -> None:
         help="the names of the interfaces; without them those in the log beside the "
         "record (can0.log beside can0.rec), if there is one",
     )
+    parser.add_argument(
+        "--cut", action="store_true", help="the record may end before its last line, as that of a run that was killed"
+    )
 
 
-def replayed(path: str, names: Optional[str]) -> Record:
+def replayed(path: str, names: Optional[str], cut: bool = False) -> Record:
     """The record in this file, which was replayed."""
     try:
-        record = read_record(path, names)
+        record = read_record(path, names, cut)
         assert record.replay
         return record
     except BadRecord as fault:

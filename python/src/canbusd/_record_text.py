@@ -2,7 +2,7 @@
 
 import dataclasses
 import re
-from collections.abc import Iterator
+from collections.abc import Iterable, Iterator
 from dataclasses import dataclass
 from typing import Optional
 
@@ -35,11 +35,15 @@ NUMBER = "(0|[1-9][0-9]*)"
 BUS = f"bus {NUMBER} (always|peers) ({SET}) {NUMBER} {NUMBER}"
 
 
-class Version:
-    """A version of the text: the line of its bus, and for each kind of event its words and its replies."""
+# How many entries a record has at most that is written at the end of its run, and one that is written while it runs.
+MOST_ENTRIES, MOST_LIVE_ENTRIES = 1 << 24, (1 << 32) - 2
 
-    def __init__(self, bus: str, with_fd: bool = False) -> None:
-        self.bus, self.with_fd = re.compile(bus), with_fd
+
+class Version:
+    """A version of the text: the line of its bus and its limits, and for each kind of event its words and its replies."""
+
+    def __init__(self, bus: str, with_fd: bool = False, limits: range = range(1, MOST_ENTRIES + 1)) -> None:
+        self.bus, self.with_fd, self.limits = re.compile(bus), with_fd, limits
 
     def entries(self, restarts: bool) -> dict[str, re.Pattern[str]]:
         """Returns the entries' regular expressions, on a bus that restarts interfaces or one that does not."""
@@ -65,11 +69,14 @@ class Version:
         return {kind: re.compile(line) for kind, line in spelled.items()}
 
 
-# By the first line. From version 2 on a number after the limit says after how many attempts interfaces are restarted.
+# From version 2 on a number after the limit says after how many attempts interfaces are restarted.
+VERSION_3 = Version(f"{BUS} {NUMBER}", with_fd=True)
+# By the first line. Version 4 is the text of a record that is written while its run goes on, and of no other.
 VERSIONS = {
     "canbus record 1": Version(BUS),
     "canbus record 2": Version(f"{BUS} ([1-9][0-9]*)"),
-    "canbus record 3": Version(f"{BUS} {NUMBER}", with_fd=True),
+    "canbus record 3": VERSION_3,
+    "canbus record 4": Version(f"{BUS} {NUMBER}", with_fd=True, limits=range(MOST_ENTRIES + 1, MOST_LIVE_ENTRIES + 1)),
 }
 
 
@@ -107,10 +114,10 @@ class RecordText:
     #: Whether the text ends before its line `end`.
     is_cut: bool
 
-    def entries(self) -> Iterator[tuple[list[str], list[str]]]:
-        """Yields each entry: the words of its event, and those of its reply."""
-        for line in self.lines:
-            event, reply = line.split(" = ")
+    def entries(self, first: int = 0) -> Iterator[tuple[list[str], list[str]]]:
+        """Yields each entry from this number on: the words of its event, and those of its reply."""
+        for number in range(first, len(self.lines)):
+            event, reply = self.lines[number].split(" = ")
             yield event.split(" "), reply.split(" ")
 
 
@@ -119,50 +126,104 @@ def parse_text(data: bytes, cut: bool = False) -> RecordText:
 
     With `cut` the text may end before its line `end`; what follows its last LF is not looked at then.
     """
-    data, lf, torn = data.rpartition(b"\n")
+    whole, lf, torn = data.rpartition(b"\n")
+    reader = TextReader()
+    text = decoded(whole + lf)
+    if not cut:
+        decoded(torn)
+    reader.take(text.split("\n")[:-1])
+    return reader.finish(bool(torn), cut)
+
+
+def decoded(data: bytes) -> str:
+    """The text of these bytes."""
     try:
-        text = (data + lf).decode()
-        # What follows the last LF, which is nothing in a whole record.
-        tail = torn.decode(errors="replace" if cut else "strict")
+        return data.decode()
     except UnicodeDecodeError:
         raise BadRecord("no record: it is no UTF-8 text", "read fault") from None
-    if not any(text.startswith(f"{line}\n") for line in VERSIONS):
-        first = " or ".join(f"`{line}`" for line in VERSIONS)
-        raise BadRecord(f"no record: its first line is not {first}", "bad version")
-    return read_lines(text.split("\n")[:-1], tail, cut)
 
 
-def read_lines(lines: list[str], tail: str, cut: bool) -> RecordText:
-    """Returns what these lines spell, of which `tail` is the last, cut off; with `cut` the last may be missing."""
-    if len(lines) < 2:
-        raise bad_line(2, "cut off before its end" if tail else "the line of the bus is missing")
-    version = VERSIONS[lines[0]]
-    record = bus_of(version, lines[1], lines[2:-1])
-    entries = version.entries(restarts=record.auto_restart > 0)
-    for number, line in enumerate(lines[2:], 3):
-        entry = entries.get(line.split(" ", 1)[0])
-        if entry is None:
-            break
-        if not entry.fullmatch(line) or (line.startswith("filters ") and not has_its_filters(line)):
-            raise bad_line(number, f"no entry of a record: {shown(line)}")
-    else:
-        if cut:
-            return dataclasses.replace(record, lines=lines[2:], is_cut=True)
-        missing = "cut off before its end" if tail else f"the line `end {len(lines) - 2}` is missing"
-        raise bad_line(len(lines) + 1, missing)
-    if not re.fullmatch("end (?:0|[1-9][0-9]*)", line):
-        raise bad_line(number, f"no entry of a record: {shown(line)}")
-    if line != f"end {number - 3}":
-        raise bad_line(number, f"`{shown(line)}` after {number - 3} entries")
-    if number != len(lines) or tail:
-        raise bad_line(number + 1, f"text after the line `{line}`")
-    if version.with_fd and not any(map(needs_fd, lines)):
-        raise BadRecord("version 3, with neither an FD frame nor the option for such", "bad version")
-    return record
+class TextReader:
+    """Reads the lines of a record as they come, all at once or while they are written."""
+
+    def __init__(self) -> None:
+        #: The lines of the entries that were read.
+        self.lines: list[str] = []
+        #: Whether the line `end` was read.
+        self.is_ended = False
+        self._version: Optional[Version] = None
+        self._bus: Optional[RecordText] = None
+        self._entries: dict[str, re.Pattern[str]] = {}
+
+    @property
+    def bus(self) -> Optional[RecordText]:
+        """The bus, once its line was read; it has the list `lines`, which grows."""
+        return self._bus
+
+    def take(self, lines: Iterable[str]) -> None:
+        """Reads these lines, which are whole and without their LF; BadRecord at the first that is wrong."""
+        for line in lines:
+            if self._bus is not None:
+                self._take_entry(line)
+            elif self._version is not None:
+                self._bus = bus_of(self._version, line, self.lines)
+                self._entries = self._version.entries(restarts=self._bus.auto_restart > 0)
+            else:
+                self._version = version_of(line)
+
+    def _take_entry(self, line: str) -> None:
+        if self.is_ended:
+            raise self._text_after_the_end()
+        kind = line.split(" ", 1)[0]
+        entry = self._entries.get(kind)
+        if entry is not None and entry.fullmatch(line) and (kind != "filters" or has_its_filters(line)):
+            self.lines.append(line)
+        elif not re.fullmatch("end (?:0|[1-9][0-9]*)", line):
+            raise bad_line(len(self.lines) + 3, f"no entry of a record: {shown(line)}")
+        elif line != f"end {len(self.lines)}":
+            raise bad_line(len(self.lines) + 3, f"`{shown(line)}` after {len(self.lines)} entries")
+        else:
+            self.is_ended = True
+
+    def finish(self, is_torn: bool = False, cut: bool = False) -> RecordText:
+        """Returns what the lines spell; `is_torn` says whether bytes follow that end no line.
+
+        With `cut` the line `end` may be missing.
+        """
+        if self._version is None:
+            raise no_version()
+        if self._bus is None:
+            raise bad_line(2, "cut off before its end" if is_torn else "the line of the bus is missing")
+        if not self.is_ended:
+            if cut:
+                return dataclasses.replace(self._bus, is_cut=True)
+            missing = "cut off before its end" if is_torn else f"the line `end {len(self.lines)}` is missing"
+            raise bad_line(len(self.lines) + 3, missing)
+        if is_torn:
+            raise self._text_after_the_end()
+        if self._version is VERSION_3 and not any(map(needs_fd, self.lines)):
+            raise BadRecord("version 3, with neither an FD frame nor the option for such", "bad version")
+        return self._bus
+
+    def _text_after_the_end(self) -> BadRecord:
+        return bad_line(len(self.lines) + 4, f"text after the line `end {len(self.lines)}`")
+
+
+def no_version() -> BadRecord:
+    """The fault of a text whose first line is none of a record."""
+    first = " or ".join(f"`{line}`" for line in VERSIONS)
+    return BadRecord(f"no record: its first line is not {first}", "bad version")
+
+
+def version_of(line: str) -> Version:
+    """Returns the version of the text with this first line."""
+    if line not in VERSIONS:
+        raise no_version()
+    return VERSIONS[line]
 
 
 def needs_fd(line: str) -> bool:
-    """Whether only version 3 has such a line."""
+    """Whether neither version 1 nor version 2 has such a line."""
     return is_fd(line) or line.startswith("option ") and line.split(" ")[2] == "fd"
 
 
@@ -173,14 +234,14 @@ def has_its_filters(line: str) -> bool:
 
 
 def bus_of(version: Version, line: str, entries: list[str]) -> RecordText:
-    """Returns the bus that this line spells, with these entries."""
+    """Returns the bus that this line spells, with this list of entries."""
     words = version.bus.fullmatch(line)
     if not words:
         raise bad_line(2, f"no bus: {shown(line)}")
     ifaces = int(words[1])
     # Version 1 has no third number.
     tx_capacity, limit, auto_restart = map(int, [*words.groups()[3:], "0"][:3])
-    if not (1 <= ifaces <= 16 and 1 <= tx_capacity <= 1024 and 1 <= limit <= 1 << 24 and auto_restart <= 1000000):
+    if not (1 <= ifaces <= 16 and 1 <= tx_capacity <= 1024 and limit in version.limits and auto_restart <= 1000000):
         raise bad_line(2, f"a number out of range: {shown(line)}")
     reporting = int(words[3], 16)
     return RecordText(ifaces, words[2] == "always", reporting, tx_capacity, limit, auto_restart, entries, is_cut=False)

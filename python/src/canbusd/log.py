@@ -35,8 +35,9 @@ def read_log(path: Path) -> "list[Message]":
 
 
 def log_beside(path: Path) -> Optional[str]:
-    """The log that `canbusd serve` writes beside this record, or None."""
-    log = os.path.splitext(path)[0] + ".log"
+    """The log that `canbusd serve` writes beside this record, or None: can0.log beside can0.rec and can0.rec.new."""
+    stem, ending = os.path.splitext(path)
+    log = (os.path.splitext(stem)[0] if ending in (".new", ".cut") else stem) + ".log"
     return log if log != os.fspath(path) and os.path.isfile(log) else None
 
 
@@ -48,7 +49,9 @@ def names_in_log(record: RecordText, log: Path) -> dict[int, str]:
     tried = ((event[1], int(reply[1])) for event, reply in record.entries() if reply[0] == "tried")
     names: dict[int, str] = {}
     with open(log, encoding="ascii", errors="replace") as file:
-        for line, (moment, winner) in zip(file, tried):
+        # A line of a run that was killed may be torn.
+        whole = (line for line in file if line.endswith("\n"))
+        for line, (moment, winner) in zip(whole, tried):
             words = line.split()
             if len(words) != 3 or words[0] != f"({moment:0>17})" or names.setdefault(winner, words[1]) != words[1]:
                 return {}

@@ -78,13 +78,18 @@ class Record(RecordText):
     @property
     def attempts(self) -> list[Attempt]:
         """The attempts of the run; of the idle ones only those that restarted an interface."""
+        return self.attempts_from(0)
+
+    def attempts_from(self, first: int) -> list[Attempt]:
+        """Returns the attempts of the steps of the replay from this number on, which is the first of an entry."""
+        steps = self.replay.steps[first:]
         restarts: dict[int, list[int]] = {}
-        for step in self.replay.steps:
+        for step in steps:
             if step.kind == "restart":
                 restarts.setdefault(step.entry, []).append(step.iface)
         attempts: list[Attempt] = []
         seen: set[int] = set()
-        for step in self.replay.steps:
+        for step in steps:
             again = restarts.get(step.entry, [])
             if step.kind != "restart":
                 attempts.append(self.attempt_of(step, again))
@@ -182,7 +187,13 @@ def audit(data: bytes, cut: bool = False) -> str:
     line`, `bad version`, `read fault`. It is found by the replay and without the program.
     """
     try:
-        record = parse_record(data, cut=cut).replay.record
-        return f"ok {len(record.lines)} entries{', then cut off' if record.is_cut else ''}"
+        record = parse_record(data, cut=cut)
+        assert record.replay
+        return verdict_of(record)
     except BadRecord as fault:
         return f"canbusd: {fault.verdict}"
+
+
+def verdict_of(record: RecordText) -> str:
+    """Returns what an audit says of a record whose entries are right."""
+    return f"ok {len(record.lines)} entries{', then cut off' if record.is_cut else ''}"

@@ -210,12 +210,19 @@ class Replay:
         # How many attempts were idle since the last step.
         self.idle_since = 0
         self.moment = ""
-        for number, (event, reply) in enumerate(record.entries()):
-            if number >= record.limit:
-                raise wrong(number, f"past the limit of {record.limit} entries")
-            legal: list[str] = getattr(self, "on_" + event[0])(number, *event[1:])
+        # How many entries were replayed.
+        self.entries = 0
+        self.go_on()
+
+    def go_on(self) -> None:
+        """Replays the entries that the record has more than before: of one that is written while its run goes on."""
+        for event, reply in self.record.entries(self.entries):
+            if self.entries >= self.record.limit:
+                raise wrong(self.entries, f"past the limit of {self.record.limit} entries")
+            legal: list[str] = getattr(self, "on_" + event[0])(self.entries, *event[1:])
             if legal != reply:
-                raise wrong(number, f"wrong: `{' '.join(reply)}`; legal is `{' '.join(legal)}`")
+                raise wrong(self.entries, f"wrong: `{' '.join(reply)}`; legal is `{' '.join(legal)}`")
+            self.entries += 1
 
     def frame(self, text: str) -> WireFrame:
         """The frame of this text, one for all places where it is."""

@@ -192,7 +192,8 @@ def facts_of(run: Replay) -> str:
     facts = [f"{times(run.attempts, 'attempt')}: {joined(outcomes)}"] if outcomes else []
     facts += [times(run.idle, "idle attempt")] if run.idle else []
     facts += [times(counts["restart"], "restart")] if counts["restart"] else []
-    return ". ".join([*facts, f"{times(len(run.record.lines), 'entry', 'entries')} in the record."])
+    end = ", which is cut off" if run.record.is_cut else ""
+    return ". ".join([*facts, f"{times(len(run.record.lines), 'entry', 'entries')} in the record{end}."])
 
 
 def heading_of(run: Replay, names: Sequence[str], events: Sequence[Event]) -> tuple[str, int]:

@@ -6,7 +6,7 @@ import json
 from collections.abc import Iterator, Sequence
 
 from canbusd._command import add_record, replayed
-from canbusd.record import Attempt, Record
+from canbusd.record import Attempt, Record, verdict_of
 
 EPILOG = """\
 The program is not asked: this is an audit by a second implementation of the rules. The last line is that of
@@ -31,7 +31,7 @@ def add_arguments(parser: argparse.ArgumentParser) -> None:
 
 def run(options: argparse.Namespace) -> None:
     """Writes a line for each attempt and restart, and the verdict."""
-    record = replayed(options.record, options.names)
+    record = replayed(options.record, options.names, options.cut)
     if options.json:
         for fields in objects_of(record):
             print(json.dumps(fields))
@@ -39,7 +39,7 @@ def run(options: argparse.Namespace) -> None:
     if not options.quiet:
         for line in lines_of(record):
             print(line)
-    print(f"ok {len(record.lines)} entries")
+    print(verdict_of(record))
 
 
 def objects_of(record: Record) -> Iterator[dict[str, object]]:

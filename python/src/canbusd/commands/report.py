@@ -47,7 +47,7 @@ def add_arguments(parser: argparse.ArgumentParser) -> None:
 
 def run(options: argparse.Namespace) -> None:
     """Writes the page, or the drawings, on standard output."""
-    record = replayed(options.record, options.names)
+    record = replayed(options.record, options.names, options.cut)
     if options.text or options.counters or options.arbitration:
         if options.text:
             write(_summary.story(record, MOST_EVENTS))
