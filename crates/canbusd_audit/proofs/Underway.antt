@@ -100,21 +100,22 @@ through (Some xs) (Some ys) line h k = ap (take_through 10) (sym k) ∙ sym h
 
 -- bytes whose last one ends no line
 unended : (xs : List ℕ) → StopsAt xs 10 → slice_get xs (length xs - 1) ≢ Some 10 → EndsNoLine xs
-unended [] stops last = All-nil (λ b. b ≢ 10)
-unended (x ∷ []) stops last = All-cons (λ b. b ≢ 10) x [] (λ is. last (ap Some is)) (All-nil (λ b. b ≢ 10))
-unended (x ∷ y ∷ ys) stops last =
+unended [] stops_at last = All-nil (λ b. b ≢ 10)
+unended (x ∷ []) stops_at last = All-cons (λ b. b ≢ 10) x [] (λ is. last (ap Some is)) (All-nil (λ b. b ≢ 10))
+unended (x ∷ y ∷ ys) stops_at last =
     let short : length (x ∷ y ∷ ys) - 1 ≡ suc (length (y ∷ ys) - 1) = omega arith in
-    let all = subst (λ (n : ℕ). All (λ z. z ≢ 10) (take n (x ∷ y ∷ ys))) short stops in
+    let all = subst (λ (n : ℕ). All (λ z. z ≢ 10) (take n (x ∷ y ∷ ys))) short stops_at in
     All-cons (λ b. b ≢ 10) x (y ∷ ys) (All-head (λ z. z ≢ 10) x (take (length (y ∷ ys) - 1) (y ∷ ys)) all)
     (unended (y ∷ ys) (All-tail (λ z. z ≢ 10) x (take (length (y ∷ ys) - 1) (y ∷ ys)) all) (subst (λ (n : ℕ). slice_get (x ∷ y ∷ ys) n ≢ Some 10) short last))
 
+whole_when : (x : ℕ) (xs : List ℕ) (b : Bool) → (x == 10) ≡ b → (EndsNoLine (take_through 10 xs) → take_through 10 xs ≡ xs) → EndsNoLine (cond b (x ∷ []) (x ∷ take_through 10 xs))
+    → cond b (x ∷ []) (x ∷ take_through 10 xs) ≡ x ∷ xs
+whole_when x xs true is later h = absurd (All-head (λ z. z ≢ 10) x [] h (eqb-true x 10 is))
+whole_when x xs false is later h = ap (λ (zs : List ℕ). x ∷ zs) (later (All-tail (λ z. z ≢ 10) x (take_through 10 xs) h))
+
 whole_through : (xs : List ℕ) → EndsNoLine (take_through 10 xs) → take_through 10 xs ≡ xs
 whole_through [] h = refl
-whole_through (x ∷ xs) h = when (x == 10) refl h
-  where
-    when : (b : Bool) → (x == 10) ≡ b → EndsNoLine (cond b (x ∷ []) (x ∷ take_through 10 xs)) → cond b (x ∷ []) (x ∷ take_through 10 xs) ≡ x ∷ xs
-    when true is h = absurd (All-head (λ z. z ≢ 10) x [] h (eqb-true x 10 is))
-    when false is h = ap (λ (zs : List ℕ). x ∷ zs) (whole_through xs (All-tail (λ z. z ≢ 10) x (take_through 10 xs) h))
+whole_through (x ∷ xs) h = whole_when x xs (x == 10) refl (λ later. whole_through xs later) h
 
 rest_is : (old : Option (List ℕ)) (line : List ℕ) → EndsNoLine line → IfSome old (λ xs. line ≡ take_through 10 xs) → IsTextIn old line
 rest_is None line h is = tt
@@ -122,15 +123,15 @@ rest_is (Some xs) line h is = is ∙ whole_through xs (subst EndsNoLine is h)
 
 pub next_is : (b : Bool) (old new : Option (List ℕ)) (start line : List ℕ) → start ≡ [] → StopsAt (appended_bytes start line) 10 → IfSome old (λ xs. line ≡ start ++ take_through 10 xs) → Consumes old new (appended_bytes start line)
     → (IsTrue b → line ≢ []) → (b ≡ false → slice_get line (length line - 1) ≢ Some 10) → IsNextLine b old new line
-next_is true old new [] line empty stops through_lf consumed yes no = record {
-  is_line = record { some = yes tt; stops = stops };
+next_is true old new [] line empty stops_at through_lf consumed some torn = record {
+  is_line = record { some = some refl; stops = stops_at };
   consumed = consumed;
   before = through old new line through_lf consumed;
 }
-next_is false old new [] line empty stops through_lf consumed yes no =
-    let torn = unended line stops (no refl) in
-    (rest_is old line torn through_lf, torn)
-next_is b old new (x ∷ xs) line empty stops through_lf consumed yes no = absurd cc
+next_is false old new [] line empty stops_at through_lf consumed some torn =
+    let ends_no = unended line stops_at (torn refl) in
+    (rest_is old line ends_no through_lf, ends_no)
+next_is b old new (x ∷ xs) line empty stops_at through_lf consumed some torn = absurd cc
 
 -- ---- bytes behind the last line
 
