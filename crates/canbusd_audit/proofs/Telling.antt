@@ -1,8 +1,10 @@
 -- What is told of a text that has ended.
-use Rattle.std.proofs.Common.{◌≡◌, ℕ, inl, inr, Bool, true, false, nat_le, List, [], ◌++◌, Option, Some, None, Result, Ok, Err, IfErr, OnOk, if◌then◌else◌, rules, sym, ◌∙◌, subst}
+use Rattle.std.proofs.Common.{◌≡◌, ◌<◌, ℕ, inl, inr, Bool, true, false, nat_le, List, [], ◌∷◌, ◌++◌, Option, Some, None, Result, Ok, Err, IfErr, OnOk, arith, get_or, if◌then◌else◌, length, map, refl, rules, sym, ◌∙◌, subst}
+use Rattle.std.specs.Result.{IsErrAnd}
 use denote.Ref.{Bor}
 use Rattle.std.specs.List.{Contains}
 use Rattle.std.specs.Io.KnownBytes.{Appends}
+use Rattle.std.proofs.lemmas.List.{get_or-map, length-map}
 use Rattle.std.proofs.lemmas.List.Elements.{All-get_or}
 use Rattle.std.proofs.lemmas.Option.{get_or_from_slice_get, slice_get_within}
 use Rattle.can_event.specs.declared.bus_config.BusConfig.{BusConfig}
@@ -142,8 +144,24 @@ no_memory is_cut paths why is = inr ([], subst (FaultsBy is_cut []) (sym is) (sa
     says false = tt
     says true = inl tt
 
-pub of_file : (paths : List (List ℕ)) (path : List ℕ) (named : Bor (List ℕ)) (why : Fault) → Contains paths path → why ≡ fault.CannotOpen named → named.now ≡ path → IsOfFiles paths why
-of_file paths path named why there is same = (path, there, subst (IsOfFile path) (sym is) same)
+-- a failure is passed on
+pub passed_on : {A : Type 0} (P : Failure → Type 0) (failure : Failure) (r : Result A Failure) → IsErrAnd r (λ x. x ≡ failure) → P failure → IfErr r P
+passed_on P failure (Ok a) passed h = tt
+passed_on P failure (Err x) passed h = subst P (sym passed) h
 
-pub of_memory : (paths : List (List ℕ)) (path : List ℕ) (why : Fault) → Contains paths path → why ≡ fault.NoMemory → IsOfFiles paths why
-of_memory paths path why there is = (path, there, subst (IsOfFile path) (sym is) tt)
+-- ---- the files with some paths
+
+abbrev pub paths_of : List (Bor (List ℕ)) → List (List ℕ)
+paths_of named = map (λ (path : Bor (List ℕ)). path.now) named
+
+path_at : (named : List (Bor (List ℕ))) (i : ℕ) (d : Bor (List ℕ)) → i < length named → Contains (paths_of named) (get_or named i d).now
+path_at named i d low = (i, omega (arith, length-map named (λ (path : Bor (List ℕ)). path.now)), get_or-map (λ (path : Bor (List ℕ)). path.now) named i d (get_or named i d).now low)
+
+pub of_file : (named : List (Bor (List ℕ))) (i : ℕ) (d : Bor (List ℕ)) (why : Fault) → i < length named → why ≡ fault.CannotOpen (get_or named i d) → IsOfFiles (paths_of named) why
+of_file named i d why low is =
+    let path = (get_or named i d).now in
+    (path, path_at named i d low, subst (IsOfFile path) (sym is) refl)
+
+pub of_memory : (named : List (Bor (List ℕ))) (i : ℕ) (why : Fault) → i < length named → why ≡ fault.NoMemory → IsOfFiles (paths_of named) why
+of_memory [] i why low is = absurd (omega arith)
+of_memory (path ∷ more) i why low is = (path.now, (0, omega arith, refl), subst (IsOfFile path.now) (sym is) tt)

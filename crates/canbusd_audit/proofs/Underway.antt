@@ -135,6 +135,10 @@ next_is b old new (x ∷ xs) line empty stops_at through_lf consumed some torn =
 
 -- ---- bytes behind the last line
 
+pub some_of : (torn : List ℕ) → false ≡ (length torn == 0) → torn ≢ []
+some_of [] is none = absurd cc
+some_of (x ∷ xs) is none = cc
+
 pub last_line : (torn : List ℕ) → torn ≢ [] → EndsNoLine torn → IsLine torn
 last_line torn some h = record { some = some; stops = All-take (λ b. b ≢ 10) (length torn - 1) torn h }
 
