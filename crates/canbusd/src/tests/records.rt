@@ -158,12 +158,12 @@ fn tells_what_is_wrong_with_records(rt: HostRuntime) -> Result<(), Fail> {
         (
             "end 7\n",
             "end 7",
-            "canbusd: line 10: bad line\n  damaged.rec:10: end 7\n  the text ends here, in a line without LF\n",
+            "canbusd: line 10: bad line\n  damaged.rec:10: end 7\n  the text ends here, in a line without LF\n  with --cut the 7 entries before it are audited\n",
         ),
         (
             "end 7\n",
             "",
-            "canbusd: line 10: bad line\n  damaged.rec:10: \n  the text ends here, before its line end COUNT\n",
+            "canbusd: line 10: bad line\n  damaged.rec:10: \n  the text ends here, before its line end COUNT\n  with --cut the 7 entries before it are audited\n",
         ),
         (
             "record 1\n",
