@@ -109,9 +109,6 @@ pub all_told_cut : (first : Option (List ℕ)) (torn : List ℕ) (audit : TextAu
 all_told_cut first torn audit found (Ok u) t tells h = tt
 all_told_cut first torn audit found (Err failure) t tells h = (t.lines ++ torn, t.is_text, told_cut (t.lines ++ torn) found failure.fault (tells t.lines t.taken t.unended) h)
 
-pub input_told_cut : (first : Option (List ℕ)) (why : Fault) → FaultsInput first why → FaultsCut first why
-input_told_cut first why h = (h.0, h.1, inl h.2)
-
 -- ---- the same of files
 
 pub files_written : {W : Type 0} (is_cut : Bool) (first : Option (List ℕ)) (contents : W → Option (List ℕ)) (old new : W) (r : Result (Unit {0}) Failure) → is_cut ≡ false
@@ -135,14 +132,6 @@ pub cut_files_told : (is_cut : Bool) (paths : List (List ℕ)) (first : Option (
 cut_files_told false paths first r is h = absurd cc
 cut_files_told true paths first (Ok u) is h = tt
 cut_files_told true paths first (Err failure) is h = inr (h.0, h.2)
-
--- memory was refused
-pub no_memory : (is_cut : Bool) (paths : List (List ℕ)) (why : Fault) → why ≡ fault.NoMemory → FaultsFiles is_cut paths why
-no_memory is_cut paths why is = inr ([], subst (FaultsBy is_cut []) (sym is) (says is_cut))
-  where
-    says : (b : Bool) → FaultsBy b [] fault.NoMemory
-    says false = tt
-    says true = inl tt
 
 -- a failure is passed on
 pub passed_on : {A : Type 0} (P : Failure → Type 0) (failure : Failure) (r : Result A Failure) → IsErrAnd r (λ x. x ≡ failure) → P failure → IfErr r P

@@ -14,20 +14,13 @@ use Rattle.can_text_audit.proofs.LineEnds.{nothing_more}
 use Rattle.canbusd_faults.specs.declared.fault.Fault.{Fault}
 use Rattle.canbusd_faults.specs.declared.fault.Fault.TheVariants as fault
 use Rattle.canbusd_files.specs.Files.{IsOfReading}
-use Rattle.canbusd_audit.specs.Audited.{Faults, FaultsInput, FaultsLast, IsAtFault, IsBefore, IsInputTaken, IsNextLine, IsOfLine, IsRead, IsTextIn, IsUnderway, TakesLast}
-
-nothing_read : (o : Option (List ℕ)) → Consumes o o []
-nothing_read None = tt
-nothing_read (Some xs) = refl
+use Rattle.canbusd_audit.specs.Audited.{Faults, FaultsInput, FaultsLast, IsAtFault, IsBefore, IsInputTaken, IsNextLine, IsOfLine, IsRead, IsTextIn, IsUnderway}
 
 pub more_read : (a b c : Option (List ℕ)) (x y : List ℕ) → Consumes a b x → Consumes b c y → Consumes a c (x ++ y)
 more_read None b c x y h k = tt
 more_read (Some xs) None c x y h k = absurd h
 more_read (Some xs) (Some ys) None x y h k = absurd k
 more_read (Some xs) (Some ys) (Some zs) x y h k = h ∙ ap (λ (z : List ℕ). x ++ z) k ∙ sym (append_assoc x y zs)
-
-pub begun : (first : Option (List ℕ)) (audit : TextAudit) → AreTaken [] audit → IsUnderway first first audit
-begun first audit taken = record { text = []; consumed = nothing_read first; taken = taken }
 
 -- a line more was taken
 pub goes_on : (first now after : Option (List ℕ)) (line : List ℕ) (old new : TextAudit) → IsUnderway first now old → IsRead now after line
@@ -141,9 +134,6 @@ some_of (x ∷ xs) is none = cc
 
 pub last_line : (torn : List ℕ) → torn ≢ [] → EndsNoLine torn → IsLine torn
 last_line torn some h = record { some = some; stops = All-take (λ b. b ≢ 10) (length torn - 1) torn h }
-
-pub nothing_last : (torn : List ℕ) (audit : TextAudit) → torn ≡ [] → TakesLast audit torn audit
-nothing_last torn audit none = λ lines taken. subst (λ (x : List ℕ). AreTaken x audit) (sym (ap (λ (x : List ℕ). lines ++ x) none ∙ append-nil lines)) taken
 
 pub fails_last : (torn : List ℕ) (audit : TextAudit) (what : ReadFault) (why : Fault) → IsOfLine what why → torn ≢ [] → EndsNoLine torn
     → ((text rest : List ℕ) → AreTaken text audit → IsLine torn → MayFollow torn rest → Reads (text ++ (torn ++ rest)) (Err what)) → FaultsLast audit torn why

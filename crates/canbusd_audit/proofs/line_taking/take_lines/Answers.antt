@@ -14,7 +14,7 @@ returns-in-Ok-End-clause-taken g c =
     let ended = subst (λ (h : Held). BecomesOf h now (g.R.Read.remaining c.take_held.new.input) c.loop.audit c.take_held.new.audit) c.in-Ok-End.field-0-is c.in-Ok-End.ensures in
     let first = g.R.Read.remaining c.args.input.now in
     let all = ends first now c.loop.audit c.loop.invariant ended.0 in
-    subst (IsInputTaken first c.take_held.new.audit) (sym c.clear.ensures.items) (subst (λ (a : TextAudit). IsInputTaken first a []) (sym ended.1) all)
+    subst (IsInputTaken first c.take_held.new.audit) (sym {A = List ℕ} c.clear.ensures.items) (subst (λ (a : TextAudit). IsInputTaken first a []) (sym ended.1) all)
 
 pub returns-in-Ok-Wrong-clause-fault : goal.returns-in-Ok-Wrong-clause-fault
 returns-in-Ok-Wrong-clause-fault g c =
