@@ -1,6 +1,5 @@
 // Records of long runs: version 4 of the text, which only an audit line by line reads.
 
-use super::line_audits::{Told, told_by_lines};
 use super::texts::fault;
 use super::*;
 use can_audit::{Cut, ReadFault, TextAudit, TextFault};
@@ -38,10 +37,6 @@ fn changed(rt: &impl AllocGlobal, text: &str, from: &str, to: &str) -> Result<St
     Ok(text.replacen(rt.alloc(), from, to, 1)?)
 }
 
-fn told(rt: &impl AllocGlobal, text: &str) -> Told {
-    told_by_lines(rt, text.as_bytes())
-}
-
 /// What is reported of a text that may be cut off.
 fn told_cut(rt: &impl AllocGlobal, text: &[u8]) -> Result<Cut, TextFault> {
     let mut audit = TextAudit::new(rt.alloc());
@@ -58,6 +53,16 @@ fn told_cut(rt: &impl AllocGlobal, text: &[u8]) -> Result<Cut, TextFault> {
     audit.finish_cut(torn)
 }
 
+/// How many entries a whole text has, or its first wrong line. No entry of it is wrong.
+fn told(rt: &impl AllocGlobal, text: &str) -> Result<Result<usize, ReadFault>, Fail> {
+    match told_cut(rt, text.as_bytes()) {
+        Ok(Cut::Whole(count)) => Ok(Ok(count)),
+        Ok(Cut::Off(_)) => Err(Fail::from("a text is cut off")),
+        Err(TextFault::Read(why)) => Ok(Err(why)),
+        Err(TextFault::Wrong(_)) => Err(Fail::from("an entry is wrong")),
+    }
+}
+
 /// How many lines end in these bytes.
 fn whole_lines(bytes: &[u8]) -> usize {
     bytes.iter().filter(|byte| **byte == b'\n').count()
@@ -65,8 +70,8 @@ fn whole_lines(bytes: &[u8]) -> usize {
 
 #[test]
 fn the_record_of_a_long_run_is_legal(rt: HostRuntime) -> Result<(), Fail> {
-    same(&rt, told(&rt, RUN), Told::Legal(ENTRIES));
-    same(&rt, told(&rt, CLASSIC), Told::Legal(2));
+    same(&rt, told(&rt, RUN)?, Ok(ENTRIES));
+    same(&rt, told(&rt, CLASSIC)?, Ok(2));
     Ok(())
 }
 
@@ -90,7 +95,7 @@ fn a_limit_is_of_one_version_alone(rt: HostRuntime) -> Result<(), Fail> {
     ];
     for (from, to) in legal {
         let text = changed(&rt, RUN, from, to)?;
-        same_at(&rt, to, told(&rt, &text), Told::Legal(ENTRIES));
+        same_at(&rt, to, told(&rt, &text)?, Ok(ENTRIES));
     }
     let bad = [
         ("4294967294 0\n", "16777216 0\n"),
@@ -108,7 +113,7 @@ fn a_limit_is_of_one_version_alone(rt: HostRuntime) -> Result<(), Fail> {
     ];
     for (from, to) in bad {
         let text = changed(&rt, RUN, from, to)?;
-        same_at(&rt, to, told(&rt, &text), Told::Bad(ReadFault::BadLine(2)));
+        same_at(&rt, to, told(&rt, &text)?, Err(ReadFault::BadLine(2)));
     }
     Ok(())
 }
@@ -123,7 +128,7 @@ fn each_damage_of_the_first_line_is_told(rt: HostRuntime) -> Result<(), Fail> {
         "record 44\n",
     ] {
         let text = changed(&rt, RUN, "record 4\n", to)?;
-        same_at(&rt, to, told(&rt, &text), Told::Bad(ReadFault::BadVersion));
+        same_at(&rt, to, told(&rt, &text)?, Err(ReadFault::BadVersion));
     }
     Ok(())
 }
