@@ -299,6 +299,13 @@ impl LongEnd {
         self.config
     }
 
+    /// How many entries the bus had.
+    pub fn len(&self) -> u64
+        ensures { result ≡ length self.now.history }
+    {
+        self.handed + self.tail.len() as u64
+    }
+
     /// How many entries were handed out before the end.
     pub fn handed(&self) -> u64
         ensures { result ≡ self.now.handed }
