@@ -1,12 +1,12 @@
 -- Lines one after another.
-use Rattle.std.proofs.Common.{◌≡◌, ℕ, ◌<◌, ◌≤◌, List, [], ◌∷◌, ◌++◌, length, drop, append_assoc, length-append, refl, sym, ap, ◌∙◌, arith}
+use Rattle.std.proofs.Common.{◌≡◌, ℕ, ◌<◌, ◌≤◌, List, [], ◌∷◌, ◌++◌, length, drop, codes, append_assoc, length-append, refl, sym, ap, ◌∙◌, arith}
 use Rattle.std.proofs.lemmas.List.{length-drop}
 use Rattle.can_event.specs.declared.bus_config.BusConfig.{BusConfig}
 use Rattle.can_event.specs.declared.entry.Entry.{Entry}
 use Rattle.can_record_text.specs.declared.version.Version.{Version}
 use Rattle.can_record_text.specs.Values.{HasLine}
 use Rattle.can_record_text.specs.LongRuns.{entries_in, lines_of_blocks}
-use Rattle.can_record_text.specs.Spelling.{entry_words, entry_line, entry_lines}
+use Rattle.can_record_text.specs.Spelling.{entry_words, entry_line, entry_lines, event_words, gap_before, reply_words, spell}
 use Rattle.can_record_text.proofs.Again.{spell-rest, line_some}
 
 pub lines-rest : (es : List Entry) (rest : List ℕ) → entry_lines es [] ++ rest ≡ entry_lines es rest
@@ -41,6 +41,15 @@ line_within text buffer e b is = omega (arith, ap length b, ap length is, length
 pub not_zero : (xs : List ℕ) → (xs ≡ [] → ⊥) → 0 < length xs
 not_zero [] h = absurd (h refl)
 not_zero (x ∷ xs) h = omega arith
+
+-- words of which there is one make no empty line
+pub spelled_some : (before : List (List ℕ)) (w : List ℕ) (ws : List (List ℕ)) → 0 < length (spell (before ++ w ∷ ws) [])
+spelled_some [] w ws = omega (arith, length-append w (gap_before ws ∷ spell ws []))
+spelled_some (b ∷ bs) w ws = omega (arith, length-append b (gap_before (bs ++ w ∷ ws) ∷ spell (bs ++ w ∷ ws) []))
+
+-- the line of an entry is not empty
+pub line_never_empty : (e : Entry) → 0 < length (entry_line e [])
+line_never_empty e = spelled_some (event_words e.event) (codes "=") (reply_words e.reply)
 
 pub line_shorter : (text buffer : List ℕ) (v : Version) (c : BusConfig) (e : Entry) → HasLine v c e → buffer ≡ entry_line e [] → length buffer ≤ length text → length (drop (length buffer) text) < length text
 line_shorter text buffer v c e good b within = omega (arith, length-drop (length buffer) text, ap length b, not_zero (entry_line e []) (line_some v c e good), within)

@@ -6,14 +6,16 @@ ghost use Rattle.can_lines.specs.Lines.{LineGoesOut};
 ghost use Rattle.can_record_text.specs.declared.version.Version.TheVariants as version;
 ghost use Rattle.can_record_text.specs.LongRuns.{BlockGoesOut, entries_in, lines_of_blocks};
 ghost use Rattle.can_record_text.specs.Spelling.{end_words, front_lines, record_spelling, spell};
-ghost use Rattle.can_record_text.specs.inner.Stored.{HasFittingReply};
+ghost use Rattle.can_record.specs.Stored.{entry_stored, IsStored};
+ghost use Rattle.can_record_text.specs.inner.Stored.{HasFittingReply, stored_line};
 
 use crate::lines::put_end;
-use crate::record_writing::{put_front, write_stored};
+use crate::record_writing::{put_front, spell_stored};
 use crate::version::Version;
 use can_event::BusConfig;
+use can_frame::Text;
 use can_lines::write_line;
-use can_record::PackedRecord;
+use can_record::{PackedRecord, Stored};
 use std::alloc::Global;
 use std::io;
 use std::io::Write;
@@ -52,7 +54,8 @@ pub fn write_block<W: Write>(
     writer: &mut W,
 ) -> Result<(), Torn>
     requires { All HasFittingReply block.now.entries }
-    ensures { BlockGoesOut (W.contents writer.old) (W.contents writer.new) block.now.entries result }
+    ensures { BlockGoesOut (W.contents writer.old) (W.contents writer.new)
+        block.now.entries result }
 {
     let mut line = Vec::new(alloc);
     for place in 0..block.len() {
@@ -68,6 +71,17 @@ pub fn write_block<W: Write>(
         }
     }
     Ok(())
+}
+
+/// Writes the line of an entry as it is stored. After a fault only a proper front of it is out.
+fn write_stored<W: Write>(line: &mut Vec<u8>, stored: &Stored<'_>, writer: &mut W) -> io::Result<()>
+    requires stored { IsStored stored.now }
+    requires fits { HasFittingReply (entry_stored stored.now) }
+    ensures { LineGoesOut (W.contents writer.old) (W.contents writer.new)
+        (stored_line stored.now) result }
+{
+    let mut short = Text::new();
+    write_line(writer, spell_stored(&mut short, line, stored)?)
 }
 
 /// Writes the last line of the record of a long run, which had this many entries.

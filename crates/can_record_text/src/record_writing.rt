@@ -1,7 +1,6 @@
 ghost use Rattle.std.specs.Prelude.{◌≡◌, ◌≤◌, ◌++◌, [], length, IfOk, IsTrue, OnOk};
 ghost use Rattle.std.specs.Io.KnownBytes.{Appends};
 ghost use Rattle.can_event.specs.Spelled.{FitsReply};
-ghost use Rattle.can_lines.specs.Lines.{LineGoesOut};
 ghost use Rattle.can_record.specs.Kept.{entry_in, frames_needed, IsSmall};
 ghost use Rattle.can_record.specs.Stored.{entry_stored, IsStored};
 ghost use Rattle.can_record_text.specs.Spelling.{answered_line, entry_line, front_lines};
@@ -14,7 +13,6 @@ use crate::short_words::ShortLine;
 use crate::version::{Version, record_has_fd};
 use can_event::{BusConfig, Event, Reply};
 use can_frame::{Frame, Text};
-use can_lines::write_line;
 use can_record::{Kept, Record, Stored, event_in, reply_in};
 use std::alloc::{AllocError, Global};
 use std::io;
@@ -86,29 +84,29 @@ fn write_lines<W: Write>(line: &mut Vec<u8>, record: &Record, writer: &mut W) ->
 {
     for place in 0..record.len() {
         let stored = record.stored(place).unwrap();
-        write_stored(line, &stored, writer)?;
+        let mut short = Text::new();
+        writer.write_all(spell_stored(&mut short, line, &stored)?)?;
     }
     Ok(())
 }
 
-/// Writes the line of an entry as it is stored. After a fault only a proper front of it is out.
-pub(crate) fn write_stored<W: Write>(
-    line: &mut Vec<u8>,
+/// The line of an entry as it is stored, in one of the two rooms.
+pub(crate) fn spell_stored<'a>(
+    short: &'a mut ShortLine,
+    long: &'a mut Vec<u8>,
     stored: &Stored<'_>,
-    writer: &mut W,
-) -> io::Result<()>
+) -> Result<&'a [u8], AllocError>
+    requires empty { short.old ≡ [] }
     requires stored { IsStored stored.now }
     requires fits { HasFittingReply (entry_stored stored.now) }
-    ensures { LineGoesOut (W.contents writer.old) (W.contents writer.new)
-        (stored_line stored.now) result }
+    ensures { IfOk result (λ line. line.now ≡ stored_line stored.now) }
 {
-    let mut short = Text::new();
-    if push_stored(&mut short, stored) {
-        return write_line(writer, short.as_bytes());
+    if push_stored(short, stored) {
+        return Ok(short.as_bytes());
     }
-    line.clear();
-    put_stored(line, stored)?;
-    write_line(writer, line)
+    long.clear();
+    put_stored(long, stored)?;
+    Ok(long)
 }
 
 /// The line of an entry as it is stored, if it is packed and of a usual kind; else what is in the room means nothing.

@@ -1,4 +1,5 @@
-use Rattle.std.proofs.Common.{reverse, sym, ap, ◌∙◌}
+use Rattle.std.proofs.Common.{reverse, subst, sym, ap, ◌∙◌}
+use Rattle.std.specs.Io.KnownBytes.{Appends}
 use Rattle.std.specs.Option.{option_map}
 use Rattle.std.proofs.lemmas.Option.{slice_get_within, get_or_from_slice_get}
 use Rattle.can_record.specs.Stored.{entry_stored}
@@ -13,5 +14,6 @@ loop-place-preserved g c =
     let es = reverse c.args.record.now.history in
     let e = entry_stored c.unwrap-stored.result in
     let there = sym c.stored.ensures.entry ∙ ap (option_map entry_stored) c.unwrap-stored.ensures in
-    line_more (g.W.Write.contents c.args.writer.now) (g.W.Write.contents c.loop-place.writer) (g.W.Write.contents c.write_stored.new.writer) es c.loop-place.place e
-    c.loop-place.invariant c.in_ok-write_stored.ensures (slice_get_within es c.loop-place.place e there) (sym (get_or_from_slice_get es c.loop-place.place e e there))
+    let written = subst (Appends (g.W.Write.contents c.loop-place.writer) (g.W.Write.contents c.write_all.new.self)) c.in_ok-spell_stored.ensures c.in_ok-write_all.ensures.bytes in
+    line_more (g.W.Write.contents c.args.writer.now) (g.W.Write.contents c.loop-place.writer) (g.W.Write.contents c.write_all.new.self) es c.loop-place.place e
+    c.loop-place.invariant written (slice_get_within es c.loop-place.place e there) (sym (get_or_from_slice_get es c.loop-place.place e e there))
