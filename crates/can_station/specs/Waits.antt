@@ -1,4 +1,4 @@
-use Rattle.std.specs.Prelude.{◌≡◌, ℕ, ◌-◌, ◌||◌, nat_lt, Bool, true, false, Option, Some, None, is_some, if◌then◌else◌}
+use Rattle.std.specs.Prelude.{◌≡◌, ◌≤◌, ℕ, ◌-◌, ◌/◌, ◌||◌, length, nat_lt, Bool, true, false, Option, Some, None, is_some, if◌then◌else◌}
 use Rattle.can_event.specs.declared.stats.SocketStats.{SocketStats}
 use Rattle.can_record.specs.Journal.{Journal}
 use Rattle.can_event.specs.declared.stats.IfaceStats.{IfaceStats}
@@ -27,6 +27,10 @@ frame_wake h s = item_wake (socket_stats_of h.journal.config h.journal.history s
 -- a bus has work for its driver: some interface wins it, or counts towards its restart
 abbrev pub has_work : Journal → Bool
 has_work j = is_some (winner j.config j.history) || is_counting j.config j.history
+
+-- nine tenths of the entries that the bus may have are there, or more
+abbrev pub IsNearlyFull : Journal → Type 0
+IsNearlyFull j = j.config.limit - j.config.limit / 10 ≤ length j.history
 
 -- a wait for work: there is some, or the station was stopped
 abbrev pub work_wake : {F : Type 0} → Held F → Option Wake

@@ -1,11 +1,11 @@
-ghost use Rattle.std.specs.Prelude.{◌≡◌, ◌≢◌, Ok, Some, true, length, IfOk, IfSome, IfNone};
+ghost use Rattle.std.specs.Prelude.{◌≡◌, ◌≢◌, Ok, Some, true, length, IfOk, IfSome, IfNone, IsTrue, ◌↔◌};
 ghost use Rattle.can_bus.specs.Heads.{next_head};
 ghost use Rattle.can_event.specs.Replies.{receive_reply, taken_reply};
 ghost use Rattle.can_event.specs.declared.event.Event.TheVariants as event;
 ghost use Rattle.can_rules.specs.Plans.{Injected, without_rules};
 ghost use Rattle.can_station.specs.Held.{with_plan};
 ghost use Rattle.can_station.specs.Passes.{ChangesNothing, IsCarriedOut, IsReady, IsReadyFor, IsReceived, IsStepped, Keeps, Suits, Called, Made, MadeStep, next_attempt, same};
-ghost use Rattle.can_station.specs.Waits.{has_work};
+ghost use Rattle.can_station.specs.Waits.{IsNearlyFull, has_work};
 
 use crate::attempts::attempt_in;
 use crate::gate::{Gate, Point};
@@ -75,6 +75,13 @@ impl<'s, N: RollName + MeterName, F: FaultSource + Drop, G: Gate + Drop, B: Jour
         ensures { result ≡ has_work self.now.journal }
     {
         self.state.has_work()
+    }
+
+    /// Whether nine tenths of the entries that the bus may have are there, or more.
+    pub fn is_nearly_full(&self) -> bool
+        ensures { IsTrue result ↔ IsNearlyFull self.now.journal }
+    {
+        self.state.is_nearly_full()
     }
 
     /// The interface and the frame that the next attempt tries: `None` where no live interface has one to send.

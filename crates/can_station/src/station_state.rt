@@ -1,4 +1,4 @@
-ghost use Rattle.std.specs.Prelude.{◌≡◌, ◌≢◌, ◌<◌, ◌≤◌, ℕ, [], true, List, length, Some, Ok, IfSome, IfNone, IfOk, OnErr};
+ghost use Rattle.std.specs.Prelude.{◌≡◌, ◌≢◌, ◌<◌, ◌≤◌, ℕ, [], true, List, length, Some, Ok, IfSome, IfNone, IfOk, IsTrue, OnErr, ◌↔◌};
 ghost use Rattle.can_event.specs.Events.{IsLongConfig};
 ghost use Rattle.can_event.specs.Replies.{enters};
 ghost use Rattle.can_bus.specs.Heads.{next_head};
@@ -11,7 +11,7 @@ ghost use Rattle.can_station.specs.Marks.{IsBooked, IsMarked};
 ghost use Rattle.can_station.specs.Passes.{IsCarriedOut, IsReceived, IsStateOf, IsStepped, SettlesIn, Suits, head_on, next_verdict};
 ghost use Rattle.can_bus.specs.Run.{IsAnswered};
 ghost use Rattle.can_station.specs.Published.{AreTrue, IsPublished, TakesBack};
-ghost use Rattle.can_station.specs.Waits.{AreCounts, frame_wake, has_work, work_wake, stopped_wake, waiting_at};
+ghost use Rattle.can_station.specs.Waits.{AreCounts, IsNearlyFull, frame_wake, has_work, work_wake, stopped_wake, waiting_at};
 
 use crate::gauges::{absorb_all, are_gauges_of};
 use crate::pass::{Pass, Settled, are_all_of, recall_all};
@@ -361,6 +361,13 @@ impl<N: RollName + MeterName, F: FaultSource + Drop, B: Journaled> StationState<
         ensures { result ≡ has_work self.now.journal }
     {
         self.bus.next_winner().is_some() || self.bus.is_counting()
+    }
+
+    /// Whether nine tenths of the entries that the bus may have are there, or more.
+    pub(crate) fn is_nearly_full(&self) -> bool
+        ensures { IsTrue result ↔ IsNearlyFull self.now.journal }
+    {
+        self.bus.len() >= u64::from(self.config.limit - self.config.limit / 10)
     }
 
     /// Why a wait for work ends, if it does.
