@@ -36,7 +36,8 @@ fn end_rules<P: Port>(dialog: Dialog, port: &mut P) -> Option<Answer>
 
 /// A command before an interface is opened.
 fn do_unopened<P: Port>(dialog: &mut Dialog, command: &Command, port: &mut P) -> Option<Answer>
-    ensures { Replies P.step (doing_unopened dialog.old command.now) port.old port.new result dialog.new }
+    ensures { Replies P.step (doing_unopened dialog.old command.now)
+        port.old port.new result dialog.new }
 {
     match command {
         Command::Echo => Some(Answer::Echo),
@@ -58,7 +59,8 @@ fn do_opened<P: Port>(
     command: &Command,
     port: &mut P,
 ) -> Option<Answer>
-    ensures { Replies P.step (doing_opened dialog.old iface command.now) port.old port.new result dialog.new }
+    ensures { Replies P.step (doing_opened dialog.old iface command.now)
+        port.old port.new result dialog.new }
 {
     match command {
         Command::Echo => Some(Answer::Echo),
@@ -127,7 +129,8 @@ fn do_raw<P: Port>(
     moment: Moment,
     port: &mut P,
 ) -> Option<Answer>
-    ensures { Replies P.step (doing_raw moment dialog.old raw command) port.old port.new result dialog.new }
+    ensures { Replies P.step (doing_raw moment dialog.old raw command)
+        port.old port.new result dialog.new }
 {
     match command {
         Command::Echo => Some(Answer::Echo),

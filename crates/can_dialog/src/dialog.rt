@@ -21,7 +21,8 @@ pub fn take_turn<P: Port>(
     left: usize,
 )
     requires { length said.old.items + (left + 1) * 256 ≤ vec_capacity said.old }
-    ensures turn { (text : List ℕ) × TakesTurn P.step moment dialog.old item.now port.old port.new text dialog.new
+    ensures turn { (text : List ℕ)
+        × TakesTurn P.step moment dialog.old item.now port.old port.new text dialog.new
         × (said.new.items ≡ said.old.items ++ text) }
     ensures room { length said.new.items + left * 256 ≤ vec_capacity said.new }
 {
@@ -50,7 +51,8 @@ fn obey<P: Port>(
     left: usize,
 )
     requires { length said.old.items + (left + 1) * 256 ≤ vec_capacity said.old }
-    ensures done { (text : List ℕ) × CarriesOut P.step moment dialog.old command port.old port.new text dialog.new
+    ensures done { (text : List ℕ)
+        × CarriesOut P.step moment dialog.old command port.old port.new text dialog.new
         × (said.new.items ≡ said.old.items ++ text) }
     ensures room { length said.new.items + left * 256 ≤ vec_capacity said.new }
 {

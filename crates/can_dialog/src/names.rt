@@ -18,7 +18,8 @@ pub fn put_names(text: &mut Vec<u8>, names: &Names) -> Result<(), AllocError>
 /// Adds a space and the name of an interface.
 fn put_name(text: &mut Vec<u8>, names: &Names, number: u8) -> Result<(), AllocError>
     requires { number < length names.now }
-    ensures { OnOk result (text.new.items ≡ text.old.items ++ 32 ∷ slice_index_or names.now number []) }
+    ensures { OnOk result
+        (text.new.items ≡ text.old.items ++ 32 ∷ slice_index_or names.now number []) }
 {
     // The proof learns here that there are at most 16 names.
     let _ = names.count();

@@ -66,7 +66,8 @@ fn take_turns<P: Port>(
 )
     requires empty { said.old.items ≡ [] }
     requires room { length items.now * 256 ≤ vec_capacity said.old }
-    ensures { TakesTurns P.step moment dialog.old items.now port.old port.new said.new.items dialog.new }
+    ensures { TakesTurns P.step moment dialog.old items.now
+        port.old port.new said.new.items dialog.new }
 {
     let mut left = items.len();
     for item in items {
@@ -142,7 +143,8 @@ impl Session {
         out: &mut W,
     ) -> Result<(), SessionFault>
         ensures said { OnOk result (Says P.step W.contents moment self.old.dialog
-            (messages_of (self.old.kept ++ piece.now)) port.old port.new out.old out.new self.new.dialog) }
+            (messages_of (self.old.kept ++ piece.now))
+            port.old port.new out.old out.new self.new.dialog) }
         ensures keeps { OnOk result (self.new.kept ≡ kept_of (self.old.kept ++ piece.now)) }
         ensures ended { (result ≡ Err SessionFault.Ended) ↔ IsSessionOver self.old }
         ensures nothing { (result ≡ Err SessionFault.Ended) ⊎ (result ≡ Err SessionFault.NoMemory) →

@@ -54,7 +54,8 @@ pub fn texts_tell_items_apart()
 /// Different lists of names have different texts, and none of these is the text of another reply or of an item.
 pub fn names_tell_apart()
     ensures one_list { (one other : List (List ℕ)) →
-        All IsWord one → All IsWord other → interfaces_text one ≡ interfaces_text other → one ≡ other }
+        All IsWord one → All IsWord other →
+        interfaces_text one ≡ interfaces_text other → one ≡ other }
     ensures no_answer { (answer : AnAnswer) (names : List (List ℕ)) →
         reply_text answer ≡ interfaces_text names → ⊥ }
     ensures no_item { (errdata : Bool) (i : AnItem) (m : ℕ) (names : List (List ℕ)) →

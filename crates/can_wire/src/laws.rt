@@ -88,5 +88,6 @@ pub fn fd_frames_have_bounds()
 pub fn times_are_rounded_up()
     ensures { (bits : WireBits) (rates : BitRates) → AreBitRates rates →
         (billionths bits rates ≤ nanos_of bits rates * (rates.nominal * rates.fast))
-        × (nanos_of bits rates * (rates.nominal * rates.fast) < billionths bits rates + rates.nominal * rates.fast) }
+        × (nanos_of bits rates * (rates.nominal * rates.fast)
+        < billionths bits rates + rates.nominal * rates.fast) }
 {}
