@@ -1,3 +1,4 @@
+pub mod Crossing
 pub mod Passing
 pub mod Places
 pub mod Making

@@ -1,9 +1,10 @@
 use Rattle.std.proofs.Common.{◌≡◌, ◌-◌, ◌≤◌, ℕ, suc, List, [], ◌∷◌, ◌++◌, length, get_or, take, drop, take_all, append_assoc, append-nil, length-append, refl, ap, sym, subst, ◌∙◌, arith}
 use Rattle.std.specs.Prelude.{All}
-use Rattle.std.proofs.lemmas.List.Elements.{All-head, All-tail}
+use Rattle.std.proofs.lemmas.List.Elements.{All-cons, All-head, All-nil, All-tail}
 use Rattle.atomic_table.specs.Seated.{TableId}
 use Rattle.can_hub.specs.Buses.{BusSeen, NumberedFrom, names_of}
-use Rattle.can_hub.specs.Benches.{IsProper, NamedFrom, bench_names, bus_of, buses_from}
+use Rattle.can_hub.specs.Benches.{IsWithin, NamedFrom, bench_names, bus_of, buses_from}
+use Rattle.can_event.specs.declared.bus_config.BusConfig.{BusConfig}
 use Rattle.can_hub.specs.declared.bench.Bench.{Bench}
 
 -- a list is its first element and what follows it
@@ -45,11 +46,11 @@ module _ {F G : Type 0} where
   named_next roll meter n m b rest more er en h =
       subst (λ (k : ℕ). NamedFrom roll meter k more) (sym en) (subst (λ (r : List (Bench F G)). NamedFrom roll meter n r) er h).2
 
-  pub proper_here : (b : Bench F G) (rest more : List (Bench F G)) → rest ≡ b ∷ more → All (λ x. IsProper x) rest → IsProper b
-  proper_here b rest more er h = All-head (λ (x : Bench F G). IsProper x) b more (subst (λ (r : List (Bench F G)). All (λ x. IsProper x) r) er h)
+  pub proper_here : (Limits : BusConfig → Type 0) (b : Bench F G) (rest more : List (Bench F G)) → rest ≡ b ∷ more → All (λ x. IsWithin Limits x) rest → IsWithin Limits b
+  proper_here Limits b rest more er h = All-head (λ (x : Bench F G). IsWithin Limits x) b more (subst (λ (r : List (Bench F G)). All (λ x. IsWithin Limits x) r) er h)
 
-  pub proper_next : (b : Bench F G) (rest more : List (Bench F G)) → rest ≡ b ∷ more → All (λ x. IsProper x) rest → All (λ x. IsProper x) more
-  proper_next b rest more er h = All-tail (λ (x : Bench F G). IsProper x) b more (subst (λ (r : List (Bench F G)). All (λ x. IsProper x) r) er h)
+  pub proper_next : (Limits : BusConfig → Type 0) (b : Bench F G) (rest more : List (Bench F G)) → rest ≡ b ∷ more → All (λ x. IsWithin Limits x) rest → All (λ x. IsWithin Limits x) more
+  proper_next Limits b rest more er h = All-tail (λ (x : Bench F G). IsWithin Limits x) b more (subst (λ (r : List (Bench F G)). All (λ x. IsWithin Limits x) r) er h)
 
   pub made_last : (made : List BusSeen) (rest : List (Bench F G)) (all : List BusSeen) → rest ≡ [] → made ++ buses_from (length made) rest ≡ all → made ≡ all
   made_last made rest all none h = sym (append-nil made) ∙ ap (λ (r : List (Bench F G)). made ++ buses_from (length made) r) (sym none) ∙ h
@@ -66,3 +67,11 @@ module _ {F G : Type 0} where
   pub same_length : (n : ℕ) (bs : List (Bench F G)) → length (buses_from n bs) ≡ length bs
   same_length n [] = refl
   same_length n (b ∷ more) = ap suc (same_length (suc n) more)
+
+  -- each bus that is made has a configuration within the limits
+  pub limited : (Limits : BusConfig → Type 0) (n : ℕ) (bs : List (Bench F G)) (made : List BusSeen) → made ≡ buses_from n bs → All (λ x. IsWithin Limits x) bs → All (λ b. Limits b.config) made
+  limited Limits n [] made is h = subst (λ (m : List BusSeen). All (λ b. Limits b.config) m) (sym is) (All-nil (λ (b : BusSeen). Limits b.config))
+  limited Limits n (b ∷ more) made is h =
+      let here : IsWithin Limits b = All-head (λ (x : Bench F G). IsWithin Limits x) b more h in
+      let rest = limited Limits (suc n) more (buses_from (suc n) more) refl (All-tail (λ (x : Bench F G). IsWithin Limits x) b more h) in
+      subst (λ (m : List BusSeen). All (λ b. Limits b.config) m) (sym is) (All-cons (λ (b : BusSeen). Limits b.config) (bus_of n b) (buses_from (suc n) more) here.config rest)

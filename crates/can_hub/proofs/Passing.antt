@@ -17,7 +17,7 @@ use Rattle.can_dialog.specs.Calls.{Gives, Refuses, Steps}
 use Rattle.can_event.specs.declared.stats.SocketStats.{SocketStats}
 use Rattle.can_event.specs.declared.stats.IfaceStats.{IfaceStats}
 use Rattle.can_station.specs.Held.{StationSeen}
-use Rattle.can_station.specs.Passes.{PassSeen, Called, HadNoPassLeft, InSome, IsNewLightPass, Suits, same}
+use Rattle.can_station.specs.Passes.{PassSeen, Called, HadNoPassLeft, InSome, Suits, same}
 use Rattle.can_station.specs.Waits.{AreCounts}
 use Rattle.can_station.specs.declared.refusals.StationRefusal.{StationRefusal}
 use Rattle.can_station.specs.declared.refusals.StationRefusal.TheVariants as station
@@ -135,7 +135,7 @@ module _ (old : PortSeen) (buses : List BusSeen) (inside : Option EnteredSeen) (
       (here, at.1, subst (λ (n : ℕ). IsFirstNamed buses name (Some (n, at.1))) (sym is) first, subst (λ (n : ℕ). config_on (slice_get buses n) ≡ Some here.config) (sym is) config, full)
 
   -- and its station was entered
-  pub attached : (F : Type 0) (here : StationSeen) (gauge : Readings) (pass : PassSeen) → here.number ≡ at.0 → config_on (slice_get buses at.0) ≡ Some here.config → gauge.number ≡ here.number → IsNewLightPass F here pass
+  pub attached : (F : Type 0) (here : StationSeen) (gauge : Readings) (pass : PassSeen) → here.number ≡ at.0 → config_on (slice_get buses at.0) ≡ Some here.config → gauge.number ≡ here.number → pass.number ≡ here.number
       → Attaches F old name (Ok at.1) (over buses (entered_with here gauge pass))
   attached F here gauge pass is config metered new =
       subst (λ (o : PortSeen). Attaches F o name (Ok at.1) (over buses (entered_with here gauge pass))) seen

@@ -2,32 +2,46 @@ use Rattle.std.specs.Prelude.{◌≡◌, ◌≤◌, ℕ, suc, List, [], ◌∷�
 use Rattle.atomic_table.specs.Seated.{TableId}
 use Rattle.can_frame.specs.Names.{AreNames}
 use Rattle.can_event.specs.Events.{IsConfig, max_rx_capacity}
+use Rattle.can_event.specs.declared.bus_config.BusConfig.{BusConfig}
 use Rattle.can_hub.specs.Buses.{BusSeen, AllApart}
+use Rattle.can_hub.specs.HubBuses.{IsOfLongRuns}
 use Rattle.can_hub.specs.declared.bench.Bench.{Bench}
 
 -- What the buses of a hub are made of.
 
 module _ {F G : Type 0} where
-  -- a bus may be made of this: the configuration is within the limits of a bus, blanks and names are of as many
-  -- interfaces as it has, and a socket holds 1 to 65,536 items
-  pub record IsProper (b : Bench F G) : Type 0 where
-    pub config : IsConfig b.config
+  -- a bus whose configurations have these limits may be made of this: the configuration is within them, blanks and names
+  -- are of as many interfaces as it has, and a socket holds 1 to 65,536 items
+  pub record IsWithin (Limits : BusConfig → Type 0) (b : Bench F G) : Type 0 where
+    pub config : Limits b.config
     pub words : b.blanks.meter.words ≡ b.config.ifaces
     pub names : length b.names ≡ b.config.ifaces
     pub good : AreNames b.names
     pub some_items : 1 ≤ b.rx_capacity
     pub few_items : b.rx_capacity ≤ max_rx_capacity
 
+  -- the same of a bus that keeps its whole record
+  abbrev pub IsProper : Bench F G → Type 0
+  IsProper b = IsWithin IsConfig b
+
   -- the names of each bus
   abbrev pub bench_names : List (Bench F G) → List (List (List ℕ))
   bench_names benches = map (λ b. b.names) benches
 
-  -- a hub may be made of these: 1 to 16 buses, and no name on two of them
-  pub record MakeHub (benches : List (Bench F G)) : Type 0 where
+  -- a hub of such buses may be made of these: 1 to 16 buses, and no name on two of them
+  pub record MakeHubWithin (Limits : BusConfig → Type 0) (benches : List (Bench F G)) : Type 0 where
     pub some : 1 ≤ length benches
     pub few : length benches ≤ 16
-    pub proper : All (λ b. IsProper b) benches
+    pub proper : All (λ b. IsWithin Limits b) benches
     pub apart : AllApart (bench_names benches)
+
+  -- the same of buses that keep their whole records
+  abbrev pub MakeHub : List (Bench F G) → Type 0
+  MakeHub benches = MakeHubWithin IsConfig benches
+
+  -- the same of the buses of long runs
+  abbrev pub MakeLongHub : List (Bench F G) → Type 0
+  MakeLongHub benches = MakeHubWithin IsOfLongRuns benches
 
   -- the blanks are named by the numbers of their buses, the first of them n
   abbrev pub NamedFrom : (ℕ → TableId) → (ℕ → TableId) → ℕ → List (Bench F G) → Type 0

@@ -19,7 +19,7 @@ use Rattle.can_dialog.specs.Calls.{Reply as CallReply}
 use Rattle.can_dialog.specs.Calls.Call.{Names, Attach, Open, Close, SetFilters, SetOption, Send, Receive, Restart, Attempt, CountsOfSocket, CountsOfIface, CountersOfIface, Inject, CountsRules, EndsRules}
 use Rattle.can_rules.specs.declared.rules.RuleRefusal.{RuleRefusal}
 use Rattle.can_station.specs.Held.{StationSeen}
-use Rattle.can_station.specs.Passes.{PassSeen, Called, HadNoPassLeft, InSome, InjectsIn, IsNewLightPass}
+use Rattle.can_station.specs.Passes.{PassSeen, Called, HadNoPassLeft, InSome, InjectsIn}
 use Rattle.can_station.specs.declared.refusals.StationRefusal.{StationRefusal}
 use Rattle.can_station.specs.declared.refusals.StationRefusal.TheVariants as station
 use Rattle.can_hub.specs.Buses.{BusSeen, IsFirstNamed, IsStationOn, items_on, names_on, all_names}
@@ -87,12 +87,12 @@ abbrev pub SomeNamedFull : Type 0 → List BusSeen → List ℕ → Type 0
 SomeNamedFull F buses name =
     (at : StationSeen) × (iface : ℕ) × IsFirstNamed buses name (Some (at.number, iface)) × IsStationOn buses at × HadNoPassLeft F at
 
--- the station of the bus that has the name is entered, with a gauge of its meter and its next pass; else nothing changes:
+-- the station of the bus that has the name is entered, with a gauge of its meter and a pass of its; else nothing changes:
 -- no bus has the name, or it has one and memory was refused to the gauge or no pass was left
 abbrev pub Attaches : Type 0 → PortSeen → List ℕ → Result ℕ PortRefusal → PortSeen → Type 0
 Attaches F old name (Ok iface) new =
     (at : StationSeen) × (gauge : Readings) × (pass : PassSeen) × IsFirstNamed old.buses name (Some (at.number, iface)) × IsStationOn old.buses at
-    × (gauge.number ≡ at.number) × IsNewLightPass F at pass × (new ≡ record { buses = old.buses; entered = Some (entered_with at gauge pass) })
+    × (gauge.number ≡ at.number) × (pass.number ≡ at.number) × (new ≡ record { buses = old.buses; entered = Some (entered_with at gauge pass) })
 Attaches F old name (Err (port.Bus refusal.NoInterface)) new = IsFirstNamed old.buses name None × (new ≡ old)
 Attaches F old name (Err (port.Bus refusal.NoMemory)) new = SomeNamed old.buses name × (new ≡ old)
 Attaches F old name (Err port.TooManyPasses) new = SomeNamedFull F old.buses name × (new ≡ old)

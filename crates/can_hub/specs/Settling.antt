@@ -1,9 +1,9 @@
 use Rattle.std.specs.Prelude.{◌≡◌, ℕ, suc, List, [], ◌∷◌, ◌++◌, length, Vec}
 use Rattle.std.specs.List.{AllZip}
-use Rattle.can_record.specs.Journal.{Kept}
+use Rattle.can_record.specs.Journal.{Journal, Kept}
 use Rattle.can_hub.specs.Buses.{BusSeen}
 use Rattle.can_station.specs.declared.pass.Settled.{Settled}
-use Rattle.can_station.specs.Passes.{PassSeen, AllOf, SomeOther, Settles}
+use Rattle.can_station.specs.Passes.{PassSeen, AllOf, SomeOther, SettlesIn}
 
 -- The end of a hub: each bus is settled with its list of passes.
 
@@ -12,16 +12,20 @@ abbrev pub AllOwn : {A : Type 0} → ℕ → List (Vec PassSeen A) → Type 0
 AllOwn n [] = Unit {0}
 AllOwn n (own ∷ more) = AllOf n own.items × AllOwn (suc n) more
 
--- each bus leaves a record that settles its list of passes
-abbrev pub AllSettle : {A : Type 0} → List (Vec PassSeen A) → List (Settled Kept) → Type 0
-AllSettle [] [] = Unit {0}
-AllSettle (own ∷ more) (s ∷ rest) = Settles s.history s.passes own.items × AllSettle more rest
-AllSettle [] (s ∷ rest) = ⊥
-AllSettle (own ∷ more) [] = ⊥
+-- each bus leaves a history that settles its list of passes
+abbrev pub AllSettleIn : {A L : Type 0} → (L → Journal) → List (Vec PassSeen A) → List (Settled L) → Type 0
+AllSettleIn left [] [] = Unit {0}
+AllSettleIn left (own ∷ more) (s ∷ rest) = SettlesIn (left s.history) s.passes own.items × AllSettleIn left more rest
+AllSettleIn left [] (s ∷ rest) = ⊥
+AllSettleIn left (own ∷ more) [] = ⊥
 
--- each bus leaves a record of its configuration
-abbrev pub AllConfigured : List BusSeen → List (Settled Kept) → Type 0
-AllConfigured buses settled = AllZip (λ bus s. s.history.config ≡ bus.config) buses settled
+-- each bus leaves a record that does
+abbrev pub AllSettle : {A : Type 0} → List (Vec PassSeen A) → List (Settled Kept) → Type 0
+AllSettle passes settled = AllSettleIn (λ (r : Kept). record { config = r.config; history = r.history }) passes settled
+
+-- each bus leaves a history of its configuration
+abbrev pub AllConfigured : {L : Type 0} → (L → Journal) → List BusSeen → List (Settled L) → Type 0
+AllConfigured left buses settled = AllZip (λ bus s. (left s.history).config ≡ bus.config) buses settled
 
 -- the list of this bus is the first with a pass of another station
 pub record FirstForeign {A : Type 0} (passes : List (Vec PassSeen A)) (bus : ℕ) : Type 0 where

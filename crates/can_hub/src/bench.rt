@@ -1,7 +1,8 @@
 ghost use Rattle.std.specs.Prelude.{◌<◌, [], IsTrue, ◌↔◌, length, All, Contains, slice_index_or};
 ghost use Rattle.can_hub.specs.Buses.{Apart, ApartFrom, AllApart};
-ghost use Rattle.can_hub.specs.Benches.{IsProper, MakeHub, bench_names};
+ghost use Rattle.can_hub.specs.Benches.{IsWithin, MakeHubWithin, bench_names};
 
+use crate::hub_bus::Leaves;
 use can_bus::BusConfig;
 use can_event::MAX_RX_CAPACITY;
 use can_fault::FaultSource;
@@ -31,11 +32,11 @@ pub struct Bench<F: FaultSource + Drop, G: Gate + Drop> {
 
 impl<F: FaultSource + Drop, G: Gate + Drop> Bench<F, G> {
     /// Whether a bus may be made of it.
-    fn is_proper(&self) -> bool
-        ensures { IsTrue result ↔ IsProper self.now }
+    fn is_proper<L: Leaves>(&self) -> bool
+        ensures { IsTrue result ↔ IsWithin L.limits self.now }
     {
         let ifaces = self.config.ifaces;
-        self.config.is_proper()
+        L::may_have(&self.config)
             && self.blanks.meter.ifaces() == usize::from(ifaces)
             && self.names.count() == ifaces
             && self.rx_capacity >= 1
@@ -44,17 +45,22 @@ impl<F: FaultSource + Drop, G: Gate + Drop> Bench<F, G> {
 }
 
 /// Whether a hub may be made of these.
-pub(crate) fn make_hub<F: FaultSource + Drop, G: Gate + Drop>(benches: &[Bench<F, G>]) -> bool
-    ensures { IsTrue result ↔ MakeHub benches.now }
+pub(crate) fn make_hub<L: Leaves, F: FaultSource + Drop, G: Gate + Drop>(
+    benches: &[Bench<F, G>],
+) -> bool
+    ensures { IsTrue result ↔ MakeHubWithin L.limits benches.now }
 {
-    benches.len() >= 1 && benches.len() <= 16 && are_proper(benches) && are_all_apart(benches)
+    benches.len() >= 1
+        && benches.len() <= 16
+        && are_proper::<L, F, G>(benches)
+        && are_all_apart(benches)
 }
 
 /// Whether a bus may be made of each.
-fn are_proper<F: FaultSource + Drop, G: Gate + Drop>(benches: &[Bench<F, G>]) -> bool
-    ensures { IsTrue result ↔ All (λ b. IsProper b) benches.now }
+fn are_proper<L: Leaves, F: FaultSource + Drop, G: Gate + Drop>(benches: &[Bench<F, G>]) -> bool
+    ensures { IsTrue result ↔ All (λ b. IsWithin L.limits b) benches.now }
 {
-    benches.iter().all(|bench| bench.is_proper())
+    benches.iter().all(|bench| bench.is_proper::<L>())
 }
 
 /// Whether no name is on two of these.

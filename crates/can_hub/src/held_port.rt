@@ -1,6 +1,7 @@
 ghost use Rattle.std.specs.Prelude.{◌≡◌};
 ghost use Rattle.can_hub.specs.PassSteps.{is_shared};
 
+use crate::hub_bus::HubBus;
 use crate::pass_port::{PassPort, pass_on};
 use crate::tally::Counted;
 use can_bus::{Event, IfaceStats, Received, Refusal, Reply, SocketId, SocketStats};
@@ -27,7 +28,7 @@ pub struct HeldPort<
     R: Wait,
 > {
     port: &'p mut PassPort<'a, N, F, G, R>,
-    hold: Option<Hold<'a, N, F, G>>,
+    hold: Option<Hold<'a, N, F, G, HubBus>>,
 }
 
 impl<'p, 'a, N: RollName + MeterName, F: FaultSource + Drop, G: Gate + Drop, R: Wait> Model
@@ -58,9 +59,9 @@ impl<'p, 'a, N: RollName + MeterName, F: FaultSource + Drop, G: Gate + Drop, R: 
 /// The hold of this station. Where there is none it takes the lock, after a hold of another station is dropped.
 fn hold_of<'h, 'a, N: RollName + MeterName, F: FaultSource + Drop, G: Gate + Drop, R: Wait>(
     rt: &R,
-    station: &'a Station<N, F, G>,
-    taken: &'h mut Option<Hold<'a, N, F, G>>,
-) -> &'h mut Hold<'a, N, F, G>
+    station: &'a Station<N, F, G, HubBus>,
+    taken: &'h mut Option<Hold<'a, N, F, G, HubBus>>,
+) -> &'h mut Hold<'a, N, F, G, HubBus>
     ensures { result.now.number ≡ station.now.number }
 {
     let is_own = match taken {

@@ -1,8 +1,11 @@
-ghost use Rattle.std.specs.Prelude.{◌≡◌};
+ghost use Rattle.std.specs.Prelude.{◌≡◌, IfOk, IfSome, OnErr};
 ghost use Rattle.can_hub.specs.Buses.{IsFirstNamed};
 ghost use Rattle.can_hub.specs.PassSteps.{GaugeTells, passed_on, with_room};
+ghost use Rattle.can_station.specs.Passes.{HadNoPassLeft};
 
-use crate::hub::Hub;
+use crate::buses::Buses;
+use crate::hub_bus::HubBus;
+use crate::returned::Returned;
 use crate::tally::{Counted, Tally};
 use can_bus::{Event, IfaceStats, Refusal, Reply, SocketId, SocketStats};
 use can_confine::Counters;
@@ -11,15 +14,15 @@ use can_fault::FaultSource;
 use can_frame::Iface;
 use can_meter::{Gauge, MeterName};
 use can_roll::RollName;
-use can_station::{Gate, Pass, Station, StationRefusal};
+use can_station::{Gate, Pass, Station, StationRefusal, TooManyPasses};
 use std::alloc::{AllocError, Global};
 use std::marker::Model;
-use std::sync::Wait;
+use std::sync::{Mutex, Wait};
 
 /// A station that was entered, with a gauge of its meter and the pass.
 #[derive(Drop)]
 pub struct Entered<'a, N: RollName + MeterName, F: FaultSource + Drop, G: Gate + Drop> {
-    pub(crate) station: &'a Station<N, F, G>,
+    pub(crate) station: &'a Station<N, F, G, HubBus>,
     gauge: Gauge<N>,
     pub(crate) pass: Pass<N>,
 }
@@ -35,8 +38,8 @@ impl<'a, N: RollName + MeterName, F: FaultSource + Drop, G: Gate + Drop> Model
 
 /// A session's way to the buses of a hub: the pass of the station that it opens.
 ///
-/// `attach` takes a gauge of the station whose bus has the name and enters it; a pass that was entered before is
-/// lost to `settle`. Refusals, in this order: `NoInterface`; `NoMemory` where it is refused to the gauge;
+/// `attach` takes a gauge of the station whose bus has the name and enters it, or takes a pass of its that was handed back; a
+/// pass that was entered before is lost to `settle`. Refusals, in this order: `NoInterface`; `NoMemory` where it is refused to the gauge;
 /// `TooManyPasses`. Each other call but the two counts, the status and those of rules is that call of the station, made with
 /// the pass, and may wait for its lock; a socket holds as many items as its bus says, whatever is asked. Where no station
 /// was entered there is no socket, and no rule.
@@ -47,7 +50,9 @@ impl<'a, N: RollName + MeterName, F: FaultSource + Drop, G: Gate + Drop> Model
 pub struct PassPort<'a, N: RollName + MeterName, F: FaultSource + Drop, G: Gate + Drop, R: Wait> {
     pub(crate) rt: &'a R,
     pub(crate) alloc: Global,
-    hub: &'a Hub<N, F, G>,
+    buses: &'a Buses<N, F, G>,
+    /// Passes that were handed back, where it may use one of them.
+    spares: Option<&'a Mutex<Returned<N>>>,
     pub(crate) entered: Option<Entered<'a, N, F, G>>,
     pub(crate) tally: Tally,
 }
@@ -58,7 +63,7 @@ impl<'a, N: RollName + MeterName, F: FaultSource + Drop, G: Gate + Drop, R: Wait
 
     ghost Value = { PortSeen };
 
-    ghost view = { λ p. record { buses = p.hub.now; entered = p.entered } };
+    ghost view = { λ p. record { buses = p.buses.now; entered = p.entered } };
 }
 
 impl<'a, N: RollName + MeterName, F: FaultSource + Drop, G: Gate + Drop, R: Wait> PassPort<
@@ -71,26 +76,57 @@ impl<'a, N: RollName + MeterName, F: FaultSource + Drop, G: Gate + Drop, R: Wait
     ghost use Rattle.std.specs.Prelude.{None, option_map};
 
     /// A port over the buses of a hub; no station was entered.
-    pub fn new(rt: &'a R, alloc: Global, hub: &'a Hub<N, F, G>) -> PassPort<'a, N, F, G, R>
-        ensures { result ≡ record { buses = hub.now; entered = None } }
+    pub fn new(rt: &'a R, alloc: Global, buses: &'a Buses<N, F, G>) -> PassPort<'a, N, F, G, R>
+        ensures { result ≡ record { buses = buses.now; entered = None } }
+    {
+        PassPort::with_spares(rt, alloc, buses, None)
+    }
+
+    /// The same, which takes a pass of these that were handed back, if it finds one of the station.
+    pub fn with_spares(
+        rt: &'a R,
+        alloc: Global,
+        buses: &'a Buses<N, F, G>,
+        spares: Option<&'a Mutex<Returned<N>>>,
+    ) -> PassPort<'a, N, F, G, R>
+        ensures { result ≡ record { buses = buses.now; entered = None } }
     {
         PassPort {
             rt,
             alloc,
-            hub,
+            buses,
+            spares,
             entered: None,
             tally: Tally::none(),
         }
     }
 
     /// The station that was entered.
-    pub fn station(&self) -> Option<&'a Station<N, F, G>>
+    pub fn station(&self) -> Option<&'a Station<N, F, G, HubBus>>
         ensures { option_map (λ s. s.now) result ≡ option_map (λ e. e.station) self.now.entered }
     {
         match &self.entered {
             Some(entered) => Some(entered.station),
             None => None,
         }
+    }
+
+    /// A pass of a station: one that was handed back, if there is one to use, else its next.
+    fn enter(&self, station: &Station<N, F, G, HubBus>) -> Result<Pass<N>, TooManyPasses>
+        ensures ok { IfOk result (λ pass. pass.number ≡ station.now.number) }
+        ensures err { OnErr result (HadNoPassLeft F station.now) }
+    {
+        match self.spare(station.number()) {
+            Some(pass) => Ok(pass),
+            None => station.enter_light(self.rt),
+        }
+    }
+
+    /// A pass of a bus that was handed back, if there is one to use.
+    fn spare(&self, bus: u8) -> Option<Pass<N>>
+        ensures { IfSome result (λ pass. pass.number ≡ bus) }
+    {
+        self.spares?.lock(self.rt).give_out(bus)
     }
 
     /// What its calls came to.
@@ -159,7 +195,9 @@ impl<'a, N: RollName + MeterName, F: FaultSource + Drop, G: Gate + Drop, R: Wait
         let Some(entered) = &mut self.entered else {
             return Err(PortRefusal::Bus(Refusal::NoSocket));
         };
-        let room = self.hub.rx_capacity(usize::from(entered.station.number()));
+        let room = self
+            .buses
+            .rx_capacity(usize::from(entered.station.number()));
         let counted = Counted::of(&event);
         let outcome = entered
             .station
@@ -169,18 +207,18 @@ impl<'a, N: RollName + MeterName, F: FaultSource + Drop, G: Gate + Drop, R: Wait
     }
 
     fn put_names(&self, text: &mut Vec<u8>) -> Result<(), AllocError> {
-        self.hub.put_names(text)
+        self.buses.put_names(text)
     }
 
     fn attach(&mut self, name: &[u8]) -> Result<Iface, PortRefusal> {
-        let Some(found) = self.hub.find_bytes(name) else {
+        let Some(found) = self.buses.find_bytes(name) else {
             return Err(PortRefusal::Bus(Refusal::NoInterface));
         };
-        let station = self.hub.station(found.0);
+        let station = self.buses.station(found.0);
         let Ok(gauge) = station.gauge(self.rt) else {
             return Err(PortRefusal::Bus(Refusal::NoMemory));
         };
-        let Ok(pass) = station.enter_light(self.rt) else {
+        let Ok(pass) = self.enter(station) else {
             return Err(PortRefusal::TooManyPasses);
         };
         self.entered = Some(Entered {
@@ -214,7 +252,7 @@ impl<'a, N: RollName + MeterName, F: FaultSource + Drop, G: Gate + Drop, R: Wait
             return Err(PortRefusal::Bus(Refusal::NoSocket));
         };
         let number = usize::from(entered.station.number());
-        let Some(names) = self.hub.names(number) else {
+        let Some(names) = self.buses.names(number) else {
             return Err(PortRefusal::Bus(Refusal::NoSocket));
         };
         rule_reply(entered.station.inject(self.rt, rule, names))

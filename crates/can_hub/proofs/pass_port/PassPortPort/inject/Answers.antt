@@ -9,9 +9,9 @@ pub returns : goal.returns
 returns g c =
     let now : EnteredSeen = record { station = c.entered.inside.station.now; gauge = c.entered.inside.gauge; pass = c.entered.inside.pass } in
     let place : c.from-number.result ≡ now.station.number = c.from-number.ensures ∙ c.number.ensures in
-    let named : Some c.in-Some-names.names.now ≡ names_on (slice_get c.self.inside.hub.now now.station.number) =
-    sym (ap (option_map (λ n. n.now)) c.in-Some-names.is) ∙ c.names.ensures ∙ ap (λ (k : ℕ). names_on (slice_get c.self.inside.hub.now k)) place in (
-      injected g.row.F.Denot c.args.self.now c.self.inside.hub.now c.self.inside.entered now c.args.rule.now (Some c.in-Some-names.names.now) c.rule_reply.result
+    let named : Some c.in-Some-names.names.now ≡ names_on (slice_get c.self.inside.buses.now now.station.number) =
+    sym (ap (option_map (λ n. n.now)) c.in-Some-names.is) ∙ c.names.ensures ∙ ap (λ (k : ℕ). names_on (slice_get c.self.inside.buses.now k)) place in (
+      injected g.row.F.Denot c.args.self.now c.self.inside.buses.now c.self.inside.entered now c.args.rule.now (Some c.in-Some-names.names.now) c.rule_reply.result
           c.self.view_is (c.in-Some.is ∙ ap Some (sym c.entered.view_is)) named (c.inject.result, c.inject.ensures, c.rule_reply.ensures),
       refl,
     )

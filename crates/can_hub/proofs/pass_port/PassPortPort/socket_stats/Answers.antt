@@ -7,4 +7,4 @@ pub returns : goal.returns
 returns g c =
     let now : EnteredSeen = record { station = c.entered.inside.station.now; gauge = c.entered.inside.gauge; pass = c.entered.inside.pass } in
     let is : c.self.inside.entered ≡ Some now = sym c.in_ok-entered.ensures.value ∙ ap Some (sym c.entered.view_is) in
-    ((counted g.row.F.Denot c.args.self.now c.self.inside.hub.now c.self.inside.entered now c.args.socket.0 c.unwrap-first.result c.stats.result c.self.view_is is c.stats.ensures).0, refl)
+    ((counted g.row.F.Denot c.args.self.now c.self.inside.buses.now c.self.inside.entered now c.args.socket.0 c.unwrap-first.result c.stats.result c.self.view_is is c.stats.ensures).0, refl)

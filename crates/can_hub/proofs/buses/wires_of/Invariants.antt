@@ -1,13 +1,13 @@
 use Rattle.std.proofs.Common.{◌≡◌, ◌≤◌, ◌+◌, ◌++◌, All, length, vec_capacity}
 use Rattle.std.specs.Vec.Iter.{into_iter_items, into_iter_len}
-use Rattle.can_hub.specs.Benches.{IsProper, NamedFrom, buses_from}
-use Rattle.can_hub.proofs.hub.wires_of.Given as goal
+use Rattle.can_hub.specs.Benches.{IsWithin, NamedFrom, buses_from}
+use Rattle.can_hub.proofs.buses.wires_of.Given as goal
 
 abbrev pub invariant-loop-bench : goal.invariant-loop-bench
 invariant-loop-bench g l = record {
   made : l.wires.items ++ buses_from (length l.wires.items) (into_iter_items l.bench-iterator) ≡ buses_from 0 l.fn.benches.items;
   named : NamedFrom g.N.RollName.roll g.N.MeterName.meter (length l.wires.items) (into_iter_items l.bench-iterator);
-  proper : All (λ b. IsProper b) (into_iter_items l.bench-iterator);
+  proper : All (λ b. IsWithin g.L.Leaves.limits b) (into_iter_items l.bench-iterator);
   left : into_iter_len l.bench-iterator ≡ length (into_iter_items l.bench-iterator);
   count : length l.wires.items + into_iter_len l.bench-iterator ≡ length l.fn.benches.items;
   room : length l.fn.benches.items ≤ vec_capacity l.wires;

@@ -2,7 +2,7 @@ use Rattle.std.proofs.Common.{◌≡◌, ◌<◌, ◌≤◌, ◌++◌, List, len
 use Rattle.can_proto.specs.Spelling.{spaced}
 use Rattle.can_hub.specs.Buses.{BusSeen}
 use Rattle.can_hub.proofs.AllNames.{one_bus_more, all_buses}
-use Rattle.can_hub.proofs.hub.Hub.put_names.Goals as goal
+use Rattle.can_hub.proofs.buses.Buses.put_names.Goals as goal
 
 pub loop-wire-preserved : goal.loop-wire-preserved
 loop-wire-preserved g c =

@@ -1,8 +1,8 @@
 use Rattle.std.proofs.Common.{◌≡◌, ◌+◌, [], ◌∷◌, ◌++◌, length, length-append, sym, ap, ◌∙◌, subst, List, rules, arith, All}
 use Rattle.std.specs.Vec.Iter.{into_iter_items}
 use Rattle.can_hub.proofs.Making.{emptied, made_first, named_first, made_next, named_next, proper_here, proper_next, made_last}
-use Rattle.can_hub.specs.Benches.{IsProper}
-use Rattle.can_hub.proofs.hub.wires_of.Goals as goal
+use Rattle.can_hub.specs.Benches.{IsWithin}
+use Rattle.can_hub.proofs.buses.wires_of.Goals as goal
 
 pub loop-bench-init : goal.loop-bench-init
 loop-bench-init g c =
@@ -15,7 +15,7 @@ loop-bench-init g c =
     record {
       made = made_first made items c.args.benches.items none given.0;
       named = named_first g.N.RollName.roll g.N.MeterName.meter made items c.args.benches.items none given.0 c.requires.named;
-      proper = subst (λ (r : List _). All (λ b. IsProper b) r) (sym given.0) c.requires.proper;
+      proper = subst (λ (r : List _). All (λ b. IsWithin g.L.Leaves.limits b) r) (sym given.0) c.requires.proper;
       left = omega (arith, given.1, long, c.args.benches.ok.0);
       count = omega (arith, zero, given.1, c.args.benches.ok.0);
       room = search (rules, c.in_ok-wires.ensures, c.len.ensures, c.args.benches.ok);
@@ -23,7 +23,7 @@ loop-bench-init g c =
     }
 
 pub new-requires-clause-proper : goal.new-requires-clause-proper
-new-requires-clause-proper g c = proper_here c.in-Some.bench (into_iter_items c.loop-bench.bench-iterator) (into_iter_items c.next.new.self) c.in-Some.ensures.steps.0 c.loop-bench.invariant.proper
+new-requires-clause-proper g c = proper_here g.L.Leaves.limits c.in-Some.bench (into_iter_items c.loop-bench.bench-iterator) (into_iter_items c.next.new.self) c.in-Some.ensures.steps.0 c.loop-bench.invariant.proper
 
 pub loop-bench-preserved : goal.loop-bench-preserved
 loop-bench-preserved g c =
@@ -41,7 +41,7 @@ loop-bench-preserved g c =
     record {
       made = made_next made new c.in_ok-new.field-0 b items more _ c.len-number.result steps.0 pushed c.in_ok-new.ensures.made n i.made;
       named = named_next g.N.RollName.roll g.N.MeterName.meter (length made) (length new) b items more steps.0 (omega (arith, longer)) i.named;
-      proper = proper_next b items more steps.0 i.proper;
+      proper = proper_next g.L.Leaves.limits b items more steps.0 i.proper;
       left = omega (arith, steps.1, i.left, shorter);
       count = omega (arith, steps.1, i.count, longer);
       room = omega (arith, i.room, c.push_reserved.ensures.capacity);

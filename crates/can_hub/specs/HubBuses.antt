@@ -1,0 +1,40 @@
+use Rattle.std.specs.Prelude.{ℕ, ◌<◌}
+use Rattle.can_event.specs.declared.bus_config.BusConfig.{BusConfig}
+use Rattle.can_event.specs.Events.{IsConfig, IsLongConfig, max_limit}
+use Rattle.can_record.specs.Journal.{Journal}
+use Rattle.can_bus.specs.Long.{journal_of, places_left}
+use Rattle.can_hub.specs.declared.hub_bus.AnyBus.{AnyBus}
+use Rattle.can_hub.specs.declared.hub_bus.AnyBus.TheVariants as bus
+use Rattle.can_hub.specs.declared.hub_bus.AnyEnd.{AnyEnd}
+use Rattle.can_hub.specs.declared.hub_bus.AnyEnd.TheVariants as end
+
+-- The buses of a hub: those that keep their whole records, and those of long runs (own choice).
+
+-- the configuration of a long run's bus in a hub: it may have more entries than a record
+abbrev pub IsOfLongRuns : BusConfig → Type 0
+IsOfLongRuns c = (max_limit < c.limit) × IsLongConfig c
+
+-- what others see of a bus
+abbrev pub journal_in : AnyBus → Journal
+journal_in (bus.Whole b) = b
+journal_in (bus.Long b) = journal_of b
+
+-- how many entries more a bus takes before some are handed out: with its whole record the greatest usize
+abbrev pub places_in : AnyBus → ℕ
+places_in (bus.Whole b) = 18446744073709551615
+places_in (bus.Long b) = places_left b
+
+-- a bus has the configuration of its kind
+abbrev pub HasItsLength : AnyBus → Type 0
+HasItsLength (bus.Whole b) = IsConfig b.config
+HasItsLength (bus.Long b) = IsOfLongRuns b.config
+
+-- what others see of the bus that left this
+abbrev pub left_in : AnyEnd → Journal
+left_in (end.Whole r) = record { config = r.config; history = r.history }
+left_in (end.Long e) = journal_of e
+
+-- what a bus leaves has the configuration of its kind
+abbrev pub EndsAtItsLength : AnyEnd → Type 0
+EndsAtItsLength (end.Whole r) = IsConfig r.config
+EndsAtItsLength (end.Long e) = IsOfLongRuns e.config

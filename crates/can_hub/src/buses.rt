@@ -1,0 +1,231 @@
+//! The buses of a hub: what sessions and drivers need of it.
+ghost use Rattle.std.specs.Prelude.{◌≡◌, ◌<◌, ◌≤◌, ◌++◌, length, OnOk, IfOk, IfErr, All, option_map, slice_index_or, slice_get};
+ghost use Rattle.can_frame.specs.Names.{place_of};
+ghost use Rattle.can_proto.specs.Spelling.{spaced};
+ghost use Rattle.can_hub.specs.Buses.{BusSeen, IsFirstNamed, config_on, items_on, names_on, all_names};
+ghost use Rattle.can_hub.specs.Benches.{IsWithin, NamedFrom, bus_of, buses_from};
+
+use crate::bench::Bench;
+use crate::hub_bus::{HubBus, Leaves};
+use can_bus::BusFault;
+use can_dialog::put_names;
+use can_fault::FaultSource;
+use can_frame::{Iface, Names};
+use can_meter::{Gauge, MeterName};
+use can_roll::RollName;
+use can_station::{Gate, Station};
+use std::alloc::{AllocError, Global};
+use std::marker::Model;
+use std::sync::Wait;
+
+/// A bus of a hub: its station, and the names of its interfaces.
+#[derive(Drop)]
+pub struct Wire<N: RollName + MeterName, F: FaultSource + Drop, G: Gate + Drop> {
+    names: Names,
+    pub(crate) station: Station<N, F, G, HubBus>,
+    pace_ms: u32,
+    rx_capacity: u32,
+}
+
+impl<N: RollName + MeterName, F: FaultSource + Drop, G: Gate + Drop> Model for Wire<N, F, G> {
+    ghost use Rattle.can_hub.specs.Buses.{BusSeen};
+
+    ghost Value = { BusSeen };
+
+    ghost view = { λ w. record {
+      number = w.station.number;
+      config = w.station.config;
+      names = w.names;
+      pace_ms = w.pace_ms;
+      rx_capacity = w.rx_capacity;
+    } };
+}
+
+impl<N: RollName + MeterName, F: FaultSource + Drop, G: Gate + Drop> Wire<N, F, G> {
+    /// The bus that a bench makes under a number, one that leaves an `L`: in a long run it has memory for this many
+    /// entries at once. `NoMemory` where memory was refused.
+    fn new<L: Leaves>(
+        alloc: Global,
+        number: u8,
+        bench: Bench<F, G>,
+        size: u32,
+    ) -> Result<Wire<N, F, G>, BusFault>
+        requires roll { bench.blanks.roll ≡ N.roll number }
+        requires meter { bench.blanks.meter ≡ N.meter number }
+        requires proper { IsWithin L.limits bench }
+        ensures made { IfOk result (λ w. w ≡ bus_of number bench) }
+        ensures fault { IfErr result (λ e. e ≡ BusFault.NoMemory) }
+    {
+        let Bench {
+            names,
+            blanks,
+            config,
+            source,
+            plan,
+            gate,
+            pace_ms,
+            rx_capacity,
+        } = bench;
+        let bus = L::bus(alloc, config, size)?;
+        Ok(Wire {
+            names,
+            station: Station::over(alloc, blanks, number, bus, config, source, plan, gate)?,
+            pace_ms,
+            rx_capacity,
+        })
+    }
+}
+
+/// Buses, each with a station of its own. A bus's number is its place.
+#[derive(Drop)]
+pub struct Buses<N: RollName + MeterName, F: FaultSource + Drop, G: Gate + Drop> {
+    pub(crate) wires: Vec<Wire<N, F, G>>,
+}
+
+impl<N: RollName + MeterName, F: FaultSource + Drop, G: Gate + Drop> Model for Buses<N, F, G> {
+    ghost use Rattle.std.specs.Prelude.{◌≤◌, List, length};
+    ghost use Rattle.can_hub.specs.Buses.{BusSeen, NumberedFrom, AllApart, names_of};
+
+    ghost Value = { List BusSeen };
+
+    ghost view = { λ b. b.wires.items };
+
+    ghost invariant = { λ b.
+        NumberedFrom 0 b.wires.items × AllApart (names_of b.wires.items)
+        × (length b.wires.items ≤ 16) };
+}
+
+impl<N: RollName + MeterName, F: FaultSource + Drop, G: Gate + Drop> Buses<N, F, G> {
+    /// The bus that has an interface of this name, and that interface. No other bus has the name. `None` exactly
+    /// where no bus has it. It reads the names of the buses up to that one.
+    pub fn find(&self, name: &str) -> Option<(usize, Iface)>
+        ensures { IsFirstNamed self.now name.now result }
+    {
+        self.find_bytes(name.as_bytes())
+    }
+
+    /// As `find`; bytes that are no UTF-8 are no name.
+    pub fn find_bytes(&self, name: &[u8]) -> Option<(usize, Iface)>
+        ensures { IsFirstNamed self.now name.now result }
+    {
+        for bus in 0..self.wires.len() {
+            if let Some(iface) = self.interface(bus, name) {
+                return Some((bus, iface));
+            }
+        }
+        None
+    }
+
+    /// The interface of a bus that has this name.
+    #[tactic(auto, using(crate::proofs::Places::named_at))]
+    fn interface(&self, bus: usize, name: &[u8]) -> Option<Iface>
+        requires { bus < length self.now }
+        ensures { (d : BusSeen) → result ≡ place_of (slice_index_or self.now bus d).names name.now }
+    {
+        self.wires[bus].names.find_bytes(name)
+    }
+
+    /// How many buses there are, 1 to 16.
+    pub fn count(&self) -> usize
+        ensures count { result ≡ length self.now }
+        ensures few { result ≤ 16 }
+    {
+        self.wires.len()
+    }
+
+    /// The station of a bus.
+    #[tactic(auto, using(crate::proofs::Places::number_at, crate::proofs::Places::config_at))]
+    pub fn station(&self, bus: usize) -> &Station<N, F, G, HubBus>
+        requires { bus < length self.now }
+        ensures number { result.now.number ≡ bus }
+        ensures config { config_on (slice_get self.now bus) ≡ Some result.now.config }
+    {
+        &self.wires[bus].station
+    }
+
+    /// How many milliseconds the driver of a bus sleeps after each step.
+    #[tactic(auto, using(crate::proofs::Places::pace_at))]
+    pub fn pace_ms(&self, bus: usize) -> u32
+        requires { bus < length self.now }
+        ensures { (d : BusSeen) → result ≡ (slice_index_or self.now bus d).pace_ms }
+    {
+        self.wires[bus].pace_ms
+    }
+
+    /// How many items a socket of a bus holds.
+    #[tactic(auto, using(crate::proofs::Places::items_at, crate::proofs::Places::items_past))]
+    pub fn rx_capacity(&self, bus: usize) -> u32
+        ensures { result ≡ items_on (slice_get self.now bus) }
+    {
+        if bus < self.wires.len() {
+            self.wires[bus].rx_capacity
+        } else {
+            0
+        }
+    }
+
+    /// The names of the interfaces of a bus, if there is one with this number.
+    #[tactic(auto, using(crate::proofs::Places::names_at, crate::proofs::Places::names_past))]
+    pub fn names(&self, bus: usize) -> Option<&Names>
+        ensures { option_map (λ n. n.now) result ≡ names_on (slice_get self.now bus) }
+    {
+        if bus < self.wires.len() {
+            Some(&self.wires[bus].names)
+        } else {
+            None
+        }
+    }
+
+    /// Adds a space and a name for each interface of each bus, in order. `AllocError` where memory is refused.
+    pub fn put_names(&self, text: &mut Vec<u8>) -> Result<(), AllocError>
+        ensures { OnOk result (text.new.items ≡ text.old.items ++ spaced (all_names self.now)) }
+    {
+        for wire in &self.wires {
+            put_names(text, &wire.names)?;
+        }
+        Ok(())
+    }
+
+    /// Stops the stations of all buses.
+    pub fn stop_all<R: Wait>(&self, rt: &R) {
+        for wire in &self.wires {
+            wire.station.stop(rt);
+        }
+    }
+
+    /// Ends the waits for entries of all buses, once no calls are made any more.
+    pub fn end_entries<R: Wait>(&self, rt: &R) {
+        for wire in &self.wires {
+            wire.station.end_entries(rt);
+        }
+    }
+
+    /// Another gauge of a bus's meter, which reads the error counters without the lock. `AllocError` where there
+    /// is no memory. It may wait for the lock.
+    pub fn gauge<R: Wait>(&self, rt: &R, bus: usize) -> Result<Gauge<N>, AllocError>
+        requires { bus < length self.now }
+        ensures { IfOk result (λ g. g.number ≡ bus) }
+    {
+        self.station(bus).gauge(rt)
+    }
+}
+
+/// The buses that these benches make, numbered from 0.
+pub(crate) fn wires_of<N: RollName + MeterName, F: FaultSource + Drop, G: Gate + Drop, L: Leaves>(
+    alloc: Global,
+    benches: Vec<Bench<F, G>>,
+    size: u32,
+) -> Result<Vec<Wire<N, F, G>>, BusFault>
+    requires few { length benches.items ≤ 16 }
+    requires named { NamedFrom N.roll N.meter 0 benches.items }
+    requires proper { All (λ b. IsWithin L.limits b) benches.items }
+    ensures made { IfOk result (λ v. v.items ≡ buses_from 0 benches.items) }
+    ensures fault { IfErr result (λ e. e ≡ BusFault.NoMemory) }
+{
+    let mut wires = Vec::with_capacity(alloc, benches.len())?;
+    for bench in benches {
+        let number = wires.len() as u8;
+        wires.push_reserved(Wire::new::<L>(alloc, number, bench, size)?);
+    }
+    Ok(wires)
+}

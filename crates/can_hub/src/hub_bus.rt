@@ -1,0 +1,255 @@
+//! The buses of a hub, and what they leave.
+ghost use Rattle.std.specs.Prelude.{IsTrue, ◌↔◌};
+ghost use Rattle.can_hub.specs.HubBuses.{IsOfLongRuns};
+
+use can_bus::{
+    BusConfig, BusFault, Event, IfaceStats, Journaled, LongEnd, LongRingBus, Received, Record,
+    Refusal, Reply, RingBus, SocketId, SocketStats,
+};
+use can_confine::Counters;
+use can_event::MAX_LIMIT;
+use can_frame::{Frame, Iface};
+use can_record::PackedRecord;
+use std::alloc::Global;
+use std::marker::Model;
+
+/// A bus of a hub: one that keeps its whole record, or that of a long run, whose limit is above that of a record.
+#[derive(Drop)]
+pub struct HubBus {
+    bus: AnyBus,
+}
+
+#[derive(Drop)]
+enum AnyBus {
+    Whole(RingBus),
+    Long(LongRingBus),
+}
+
+impl Model for HubBus {
+    ghost use Rattle.can_hub.specs.declared.hub_bus.AnyBus.{AnyBus};
+    ghost use Rattle.can_hub.specs.HubBuses.{HasItsLength};
+
+    ghost Value = { AnyBus };
+
+    ghost view = { λ b. b.bus };
+
+    ghost invariant = { λ b. HasItsLength b.bus };
+}
+
+/// What a bus of a hub leaves.
+#[derive(Drop)]
+pub struct HubEnd {
+    end: AnyEnd,
+}
+
+#[derive(Drop)]
+enum AnyEnd {
+    Whole(Record),
+    Long(LongEnd),
+}
+
+impl Model for HubEnd {
+    ghost use Rattle.can_hub.specs.declared.hub_bus.AnyEnd.{AnyEnd};
+    ghost use Rattle.can_hub.specs.HubBuses.{EndsAtItsLength};
+
+    ghost Value = { AnyEnd };
+
+    ghost view = { λ e. e.end };
+
+    ghost invariant = { λ e. EndsAtItsLength e.end };
+}
+
+/// Whether a configuration is that of a long run whose limit is above that of a record.
+fn is_of_long_runs(config: &BusConfig) -> bool
+    ensures { IsTrue result ↔ IsOfLongRuns config.now }
+{
+    config.limit > MAX_LIMIT && config.is_long_proper()
+}
+
+impl Journaled for HubBus {
+    ghost use Rattle.can_hub.specs.HubBuses.{journal_in, places_in as places, left_in};
+
+    ghost journal = { journal_in };
+
+    ghost places_in = { places };
+
+    type Left = HubEnd;
+
+    ghost left = { left_in };
+
+    fn places(&self) -> usize {
+        match &self.bus {
+            AnyBus::Whole(bus) => Journaled::places(bus),
+            AnyBus::Long(bus) => bus.places(),
+        }
+    }
+
+    fn len(&self) -> u64 {
+        match &self.bus {
+            AnyBus::Whole(bus) => bus.len(),
+            AnyBus::Long(bus) => bus.len(),
+        }
+    }
+
+    fn answer(&mut self, alloc: Global, event: &Event) -> Reply {
+        match &mut self.bus {
+            AnyBus::Whole(bus) => bus.answer(alloc, event),
+            AnyBus::Long(bus) => bus.answer(alloc, event),
+        }
+    }
+
+    fn receive_into(&mut self, id: SocketId, room: &mut Received) -> Result<bool, Refusal> {
+        match &mut self.bus {
+            AnyBus::Whole(bus) => bus.receive_into(id, room),
+            AnyBus::Long(bus) => bus.receive_into(id, room),
+        }
+    }
+
+    fn hand_out(&mut self, block: &mut PackedRecord) -> u64 {
+        match &mut self.bus {
+            AnyBus::Whole(bus) => bus.hand_out(block),
+            AnyBus::Long(bus) => bus.hand_out(block),
+        }
+    }
+
+    fn into_left(self) -> HubEnd {
+        let HubBus { bus } = self;
+        let end = match bus {
+            AnyBus::Whole(bus) => AnyEnd::Whole(bus.into_record()),
+            AnyBus::Long(bus) => AnyEnd::Long(bus.into_left()),
+        };
+        HubEnd { end }
+    }
+
+    fn next_attempt(&self) -> u64 {
+        match &self.bus {
+            AnyBus::Whole(bus) => bus.next_attempt(),
+            AnyBus::Long(bus) => bus.next_attempt(),
+        }
+    }
+
+    fn next_winner(&self) -> Option<Iface> {
+        match &self.bus {
+            AnyBus::Whole(bus) => bus.next_winner(),
+            AnyBus::Long(bus) => bus.next_winner(),
+        }
+    }
+
+    fn next_head(&self) -> Option<(Iface, Frame)> {
+        match &self.bus {
+            AnyBus::Whole(bus) => bus.next_head(),
+            AnyBus::Long(bus) => bus.next_head(),
+        }
+    }
+
+    fn is_counting(&self) -> bool {
+        match &self.bus {
+            AnyBus::Whole(bus) => bus.is_counting(),
+            AnyBus::Long(bus) => bus.is_counting(),
+        }
+    }
+
+    fn counters(&self) -> [Counters; 16] {
+        match &self.bus {
+            AnyBus::Whole(bus) => bus.counters(),
+            AnyBus::Long(bus) => bus.counters(),
+        }
+    }
+
+    fn socket_stats(&self, id: SocketId) -> Option<SocketStats> {
+        match &self.bus {
+            AnyBus::Whole(bus) => bus.socket_stats(id),
+            AnyBus::Long(bus) => bus.socket_stats(id),
+        }
+    }
+
+    fn iface_stats(&self, iface: Iface) -> Option<IfaceStats> {
+        match &self.bus {
+            AnyBus::Whole(bus) => bus.iface_stats(iface),
+            AnyBus::Long(bus) => bus.iface_stats(iface),
+        }
+    }
+}
+
+/// What the buses of a hub leave, and so which buses they are: those of records, or those of long runs.
+pub trait Leaves: Drop {
+    ghost use Rattle.std.specs.Prelude.{◌≡◌, ◌↔◌, [], IfErr, IfOk, IsTrue, OnOk};
+    ghost use Rattle.can_bus.specs.declared.bus.BusFault.TheVariants as BusFault;
+    ghost use Rattle.can_event.specs.Events.{IsLongConfig};
+    ghost use Rattle.can_event.specs.declared.bus_config.BusConfig.{BusConfig};
+    ghost use Rattle.can_hub.specs.HubBuses.{journal_in, left_in};
+    ghost use Rattle.can_record.specs.Journal.{Journal};
+
+    /// The configuration and the entries of the bus that left it.
+    ghost journal: { Self → Journal };
+
+    /// The configurations that these buses may have.
+    ghost limits: { BusConfig → Type 0 };
+
+    /// Whether they may have this one.
+    fn may_have(config: &BusConfig) -> bool
+        ensures { IsTrue result ↔ limits config.now };
+
+    /// A bus on which nothing was done. It takes memory for all of its entries, or in a long run for this many at once.
+    /// `NoMemory` where that was refused.
+    fn bus(alloc: Global, config: BusConfig, size: u32) -> Result<HubBus, BusFault>
+        requires { limits config }
+        ensures made { IfOk result (λ b. journal_in b ≡ record { config = config; history = [] }) }
+        ensures proper { OnOk result (IsLongConfig config) }
+        ensures fault { IfErr result (λ e. e ≡ BusFault.NoMemory) };
+
+    /// What such a bus left.
+    fn of(end: HubEnd) -> Self
+        requires { limits (left_in end).config }
+        ensures { journal result ≡ left_in end };
+}
+
+impl Leaves for Record {
+    ghost use Rattle.can_event.specs.Events.{IsConfig};
+
+    ghost journal = { λ r. record { config = r.config; history = r.history } };
+
+    ghost limits = { IsConfig };
+
+    fn may_have(config: &BusConfig) -> bool {
+        config.is_proper()
+    }
+
+    fn bus(alloc: Global, config: BusConfig, _size: u32) -> Result<HubBus, BusFault> {
+        let bus = AnyBus::Whole(RingBus::new(alloc, config)?);
+        Ok(HubBus { bus })
+    }
+
+    fn of(end: HubEnd) -> Record {
+        let HubEnd { end } = end;
+        match end {
+            AnyEnd::Whole(record) => record,
+            AnyEnd::Long(_) => unreachable!(),
+        }
+    }
+}
+
+impl Leaves for LongEnd {
+    ghost use Rattle.can_bus.specs.Long.{journal_of};
+
+    ghost journal = { journal_of };
+
+    ghost limits = { IsOfLongRuns };
+
+    fn may_have(config: &BusConfig) -> bool {
+        is_of_long_runs(config)
+    }
+
+    fn bus(alloc: Global, config: BusConfig, size: u32) -> Result<HubBus, BusFault> {
+        let bus = AnyBus::Long(LongRingBus::new(alloc, config, size)?);
+        Ok(HubBus { bus })
+    }
+
+    fn of(end: HubEnd) -> LongEnd {
+        let HubEnd { end } = end;
+        match end {
+            AnyEnd::Long(end) => end,
+            AnyEnd::Whole(_) => unreachable!(),
+        }
+    }
+}

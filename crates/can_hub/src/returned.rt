@@ -1,0 +1,79 @@
+ghost use Rattle.std.specs.Prelude.{◌≡◌, ◌≢◌, ◌<◌, ◌≤◌, ℕ, IfOk, IfSome, length, slice_get, take};
+ghost use Rattle.can_hub.specs.Returning.{AddsOwn, AllEmpty};
+
+use can_meter::MeterName;
+use can_roll::RollName;
+use can_station::Pass;
+use std::alloc::{AllocError, Global};
+use std::marker::Model;
+
+/// The most buses of a hub.
+const MOST_BUSES: usize = 16;
+
+/// The passes that sessions and drivers hand back, those of each bus in a list of its own. Contracts see the lists.
+#[derive(Drop)]
+pub struct Returned<N: RollName + MeterName> {
+    lists: Vec<Vec<Pass<N>>>,
+}
+
+impl<N: RollName + MeterName> Model for Returned<N> {
+    ghost use Rattle.std.specs.Prelude.{◌≡◌, List, Vec, length};
+    ghost use Rattle.std.specs.declared.alloc.Global.{Global};
+    ghost use Rattle.can_station.specs.Passes.{PassSeen};
+
+    ghost Value = { List (Vec PassSeen Global) };
+
+    ghost view = { λ r. r.lists.items };
+
+    ghost invariant = { λ r. length r.lists.items ≡ 16 };
+}
+
+impl<N: RollName + MeterName> Returned<N> {
+    /// No pass, with room for this many of each of the first buses.
+    pub fn new(alloc: Global, buses: usize, room: usize) -> Result<Returned<N>, AllocError>
+        ensures { IfOk result (λ returned. AllEmpty returned) }
+    {
+        let mut lists = Vec::with_capacity(alloc, MOST_BUSES)?;
+        for bus in 0..MOST_BUSES {
+            let room = if bus < buses { room } else { 0 };
+            lists.push(Vec::with_capacity(alloc, room)?)?;
+        }
+        Ok(Returned { lists })
+    }
+
+    /// Takes a pass back, into the list of its bus. It is lost where that has no room. All other lists stay.
+    pub fn take(&mut self, pass: Pass<N>)
+        ensures own { pass.number < 16 → AddsOwn self.old pass self.new }
+        ensures others { (bus : ℕ) → bus ≢ pass.number →
+            slice_get self.new bus ≡ slice_get self.old bus }
+    {
+        if let Some(list) = self.lists.get_mut(usize::from(pass.number())) {
+            let _ = list.push(pass);
+        }
+    }
+
+    /// Gives out again a pass of a bus that was taken back, the last one, if there is one. All other lists stay.
+    pub fn give_out(&mut self, bus: u8) -> Option<Pass<N>>
+        ensures own { IfSome result (λ pass. pass.number ≡ bus) }
+        ensures others { (other : ℕ) → other ≢ bus →
+            slice_get self.new other ≡ slice_get self.old other }
+    {
+        let pass = self.lists.get_mut(usize::from(bus))?.pop()?;
+        if pass.number() == bus {
+            Some(pass)
+        } else {
+            None
+        }
+    }
+
+    /// The lists of this many buses.
+    pub fn into_lists(self, buses: usize) -> Vec<Vec<Pass<N>>>
+        requires { buses ≤ 16 }
+        ensures lists { result.items ≡ take buses self }
+        ensures each { length result.items ≡ buses }
+    {
+        let mut lists = self.lists;
+        lists.truncate(buses);
+        lists
+    }
+}
