@@ -1,2 +1,4 @@
+pub mod Crossing
 pub mod Rooms
 pub mod Batching
+pub mod Keeping

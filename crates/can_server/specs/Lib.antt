@@ -1,5 +1,5 @@
 pub mod Guests
 pub mod Driving
-pub mod Returning
 pub mod Openings
 pub mod Batches
+pub mod Keeping

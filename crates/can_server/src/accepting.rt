@@ -26,10 +26,10 @@ const TRIES: u32 = 64;
 /// How often a connection looks for a place while others are shut out, for a second.
 const TURNS: u32 = 1_000;
 
-/// A connection that was taken in, its place among the guests, and its session's number.
+/// A visit of a client that was taken in: the door, the place among the guests, and the session's number.
 #[derive(Drop)]
-pub struct Admitted {
-    pub conn: Arc<Conn, Global>,
+pub struct Visit<'d> {
+    pub door: &'d Door,
     pub place: usize,
     pub session: u32,
 }
@@ -54,18 +54,20 @@ impl<
     C: Clock + Sync,
     R: Threads + Wait + time::Clock + Sync,
 > Server<'a, N, F, G, C, R> {
-    /// Accepts as many connections as the door has sessions, each served by a thread of its own, closes the door and
+    /// Accepts connections until the door has had its sessions, each served by a thread of its own, closes the door and
     /// waits for their ends. It accepts no more once the server is closed.
     pub fn accept_all(&self, door: &Door) {
         thread::scope(thread::scope_env(), self.rt, |scope| {
-            for before in 0..door.sessions() {
+            for before in 0..self.most_connections(door) {
                 let session = before + 1;
                 match self.next_guest(door, session) {
                     Next::Admitted(place) => {
-                        if scope
-                            .spawn(move || self.run_session(place, session))
-                            .is_err()
-                        {
+                        let visit = Visit {
+                            door,
+                            place,
+                            session,
+                        };
+                        if scope.spawn(move || self.run_session(&visit)).is_err() {
                             self.let_go(place);
                             self.tell_end(session, Tally::none());
                         }
@@ -88,17 +90,31 @@ impl<
     C: Clock,
     R: Wait + time::Clock,
 > Server<'a, N, F, G, C, R> {
+    /// How many connections a door accepts: each counts as one of its sessions, unless only those count that have been raw.
+    fn most_connections(&self, door: &Door) -> u32 {
+        if self.is_long {
+            u32::MAX
+        } else {
+            door.sessions()
+        }
+    }
+
     /// Waits at a door for the next connection, and takes it in. After one that could not be accepted the door rests, and
     /// tries again.
     fn next_guest(&self, door: &Door, session: u32) -> Next {
         for _ in 0..TRIES {
             match door.accept() {
                 Ok(conn) => return self.admit(conn, session),
-                Err(_) if self.guests.lock(self.rt).is_closed() => return Next::Closed,
+                Err(_) if self.is_over(door) => return Next::Closed,
                 Err(_) => thread::sleep(self.rt, Duration::from_millis(AFTER_A_FAULT_MS)),
             }
         }
         Next::Nobody
+    }
+
+    /// Whether nobody is let in at a door any more.
+    fn is_over(&self, door: &Door) -> bool {
+        door.is_used_up() || self.guests.lock(self.rt).is_closed()
     }
 
     /// Frees the place of a guest whose session is over, or whose thread could not be started.

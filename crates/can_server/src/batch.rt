@@ -79,7 +79,8 @@ impl Batch {
         port: &mut P,
     ) -> Result<(), SessionFault>
         ensures said { OnOk result (TakesTurns P.step moment session.old.dialog
-            (messages_of (session.old.kept ++ piece.now)) port.old port.new self.new.text.items session.new.dialog) }
+            (messages_of (session.old.kept ++ piece.now))
+            port.old port.new self.new.text.items session.new.dialog) }
         ensures keeps { OnOk result (session.new.kept ≡ kept_of (session.old.kept ++ piece.now)) }
     {
         self.text.clear();
@@ -136,7 +137,8 @@ fn receive<P: Port>(session: &Session, port: &mut P, rooms: &mut [Room], most: u
     requires { most ≤ length rooms.old }
     ensures within { result ≤ most }
     ensures all { result ≡ most →
-        Gives P.step most session.now.dialog.stage port.old (texts_of (take most rooms.new)) port.new true }
+        Gives P.step most session.now.dialog.stage port.old
+        (texts_of (take most rooms.new)) port.new true }
     ensures few { result < most → Gives P.step most session.now.dialog.stage port.old
         (texts_of (take (result + 1) rooms.new)) port.new false }
 {

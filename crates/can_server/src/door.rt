@@ -3,6 +3,7 @@ use std::io;
 use std::net::{TcpListener, TcpStream};
 use std::os::fd::OwnedFd;
 use std::os::unix::net::{UnixListener, UnixStream};
+use std::sync::atomic::{AtomicU64, Ordering};
 
 /// The most connections that wait at a listener: Linux's `somaxconn`, as it mostly is.
 const MOST_WAITING: u32 = 4096;
@@ -59,6 +60,8 @@ pub struct Door {
     listener: Listener,
     latch: Conn,
     sessions: u32,
+    /// How many sessions have been raw, where those count.
+    raw: AtomicU64,
 }
 
 impl Door {
@@ -69,12 +72,29 @@ impl Door {
             listener,
             latch,
             sessions,
+            raw: AtomicU64::new(0),
         })
     }
 
     /// How many sessions it takes.
     pub fn sessions(&self) -> u32 {
         self.sessions
+    }
+
+    /// Counts a session that is raw now, and returns whether it is one of those that the door takes. The last of them
+    /// closes the door.
+    pub(crate) fn count_raw(&self) -> bool {
+        let before = self.raw.fetch_add(1, Ordering::SeqCst);
+        let sessions = u64::from(self.sessions);
+        if before.saturating_add(1) >= sessions {
+            self.close();
+        }
+        before < sessions
+    }
+
+    /// Whether as many sessions have been raw as it takes.
+    pub(crate) fn is_used_up(&self) -> bool {
+        self.raw.load(Ordering::SeqCst) >= u64::from(self.sessions)
     }
 
     /// Waits for the next connection.

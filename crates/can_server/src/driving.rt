@@ -11,6 +11,7 @@ use can_attempt::Class;
 use can_bus::Attempt;
 use can_fault::FaultSource;
 use can_frame::{Iface, IfaceSet};
+use can_hub::HubBus;
 use can_meter::MeterName;
 use can_roll::RollName;
 use can_station::{Gate, Hold, Pass};
@@ -45,10 +46,10 @@ impl<
     /// Steps a bus while an interface has a frame to send or counts towards its restart, until its station is stopped,
     /// and hands the pass back. Then it reports a full record, and refused memory, to the host.
     pub fn drive(&self, bus: usize) {
-        if bus >= self.hub.count() {
+        if bus >= self.buses.count() {
             return;
         }
-        let station = self.hub.station(bus);
+        let station = self.buses.station(bus);
         let was_refused = match station.enter_light(self.rt) {
             Ok(mut pass) => {
                 let was_refused = self.step_all(bus, &mut pass);
@@ -68,19 +69,25 @@ impl<
     /// Steps a bus with this pass: whether a step was refused, which ends it: for a full record, for want of memory, or
     /// since the pass is another station's.
     fn step_all(&self, bus: usize, pass: &mut Pass<N>) -> bool {
-        if bus >= self.hub.count() {
+        if bus >= self.buses.count() {
             return false;
         }
-        let station = self.hub.station(bus);
-        let pace = Duration::from_millis(u64::from(self.hub.pace_ms(bus)));
+        let station = self.buses.station(bus);
+        let pace = Duration::from_millis(u64::from(self.buses.pace_ms(bus)));
         let most = if pace.is_zero() { MOST_STEPS } else { 1 };
+        let mut was_nearly_full = false;
         for _ in self.rt.forever() {
             let Some(hold) = station.hold_work(self.rt) else {
                 break;
             };
+            let is_nearly_full = hold.is_nearly_full();
             match self.step_some(hold, most, pass) {
                 Stepped::On(changes) => {
                     self.tell_changes(bus, changes);
+                    if is_nearly_full && !was_nearly_full {
+                        self.host.tell(Notice::NearlyFull { bus });
+                    }
+                    was_nearly_full = is_nearly_full;
                     station.rest(self.rt, pace);
                 }
                 Stepped::Out => break,
@@ -92,7 +99,12 @@ impl<
 
     /// Steps a bus up to this many times in one hold of its lock, while an interface has a frame to send or counts towards
     /// its restart. The attempt in which an interface went bus off, or was restarted, is the last.
-    fn step_some(&self, mut hold: Hold<'_, N, F, G>, most: u32, pass: &mut Pass<N>) -> Stepped {
+    fn step_some(
+        &self,
+        mut hold: Hold<'_, N, F, G, HubBus>,
+        most: u32,
+        pass: &mut Pass<N>,
+    ) -> Stepped {
         for _ in 0..most {
             if !hold.has_work() {
                 break;

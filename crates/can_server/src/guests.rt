@@ -116,7 +116,8 @@ impl Guests {
 
     // A place that is free.
     fn free_place(&self) -> Option<usize>
-        ensures { MatchOption result (NoneFree self.now.places) (λ place. IsFree self.now.places place) }
+        ensures { MatchOption result (NoneFree self.now.places)
+            (λ place. IsFree self.now.places place) }
     {
         for place in 0..self.places.len() {
             if self.places[place].is_none() {

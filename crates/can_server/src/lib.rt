@@ -15,22 +15,24 @@
 mod accepting;
 pub mod batch;
 pub mod conn;
+mod delivering;
 pub mod door;
 mod driving;
 pub mod guests;
 pub mod notice;
 pub mod opening;
-mod returned;
+pub mod scribing;
 mod server;
 pub mod serving;
 mod sessions;
 mod talk;
 
 pub use batch::{Batch, Taken};
-pub use can_hub::{Bench, HeldPort, Hub, PassPort, SettleFault};
+pub use can_hub::{Bench, Buses, HeldPort, Hub, HubBus, HubEnd, Leaves, PassPort, SettleFault};
 pub use conn::Conn;
 pub use door::{Door, Listener};
 pub use guests::{Guests, NotAdmitted};
 pub use notice::Notice;
 pub use opening::{FirstBytes, Opening};
-pub use serving::{Clock, serve};
+pub use scribing::{Keeper, Scribe};
+pub use serving::{Clock, serve, serve_long};

@@ -41,6 +41,10 @@ pub enum Notice {
         bus: usize,
         iface: Iface,
     },
+    /// This bus has nine tenths of the entries that it may have. It is reported once.
+    NearlyFull {
+        bus: usize,
+    },
     /// The record of this bus is full, so its calls are refused from now on. It is reported once.
     Full {
         bus: usize,

@@ -1,9 +1,8 @@
 use crate::door::Door;
 use crate::guests::Guests;
-use crate::returned::Returned;
 use crate::serving::Clock;
 use can_fault::FaultSource;
-use can_hub::Hub;
+use can_hub::{Buses, Returned};
 use can_meter::MeterName;
 use can_roll::RollName;
 use can_station::Gate;
@@ -16,15 +15,25 @@ use std::sync::{Mutex, Wait};
 use std::thread::Threads;
 use std::{thread, time};
 
+/// The doors of a server, and the stream whose end closes them.
+#[derive(Drop)]
+struct Closing<'d> {
+    doors: &'d [Door],
+    until: &'d UnixStream,
+}
+
 /// What all threads of a server share.
 #[derive(Drop)]
 pub struct Server<'a, N: RollName + MeterName, F: FaultSource + Drop, G: Gate + Drop, C, R> {
     pub rt: &'a R,
     pub alloc: Global,
-    pub hub: &'a Hub<N, F, G>,
+    pub buses: &'a Buses<N, F, G>,
     pub host: &'a C,
     pub guests: &'a Mutex<Guests>,
     pub returned: &'a Mutex<Returned<N>>,
+    /// Whether its buses are those of long runs. Then a session may have the pass of one that is over, and counts once it
+    /// is raw.
+    pub is_long: bool,
     /// All sessions are over.
     pub is_ending: &'a AtomicBool,
 }
@@ -41,13 +50,14 @@ impl<
     pub fn run(&self, doors: &[Door], until: Option<&UnixStream>) -> Result<(), AllocError> {
         thread::scope(thread::scope_env(), self.rt, |scope| {
             let mut started = Ok(());
-            for bus in 0..self.hub.count() {
+            for bus in 0..self.buses.count() {
                 if scope.spawn(move || self.drive(bus)).is_err() {
                     started = Err(AllocError);
                 }
             }
             if let Some(until) = until {
-                if scope.spawn(move || self.close_after(doors, until)).is_err() {
+                let closing = Closing { doors, until };
+                if scope.spawn(move || self.close_after(&closing)).is_err() {
                     started = Err(AllocError);
                 }
             }
@@ -89,12 +99,12 @@ impl<
             let _ = until.shutdown(Shutdown::Both);
         }
         self.is_ending.store(true, Ordering::SeqCst);
-        self.hub.stop_all(self.rt);
+        self.buses.stop_all(self.rt);
     }
 
     /// Waits for the end of a stream, and closes the server.
-    fn close_after(&self, doors: &[Door], until: &UnixStream) {
-        let mut until = until;
+    fn close_after(&self, closing: &Closing<'_>) {
+        let mut until = closing.until;
         let mut piece = [0_u8; 64];
         for _ in self.rt.forever() {
             match until.read(&mut piece) {
@@ -102,7 +112,7 @@ impl<
                 Ok(_) => {}
             }
         }
-        self.close(doors);
+        self.close(closing.doors);
     }
 
     /// Lets nobody in from now on, and ends the sessions at work. Threads that wait at a door are woken.

@@ -3,11 +3,12 @@ ghost use Rattle.std.specs.Prelude.{◌≡◌, length, IfOk};
 use crate::door::Door;
 use crate::guests::Guests;
 use crate::notice::Notice;
-use crate::returned::Returned;
+use crate::scribing::{Keeper, Scribe, Unkept};
 use crate::server::Server;
+use can_bus::LongEnd;
 use can_fault::FaultSource;
 use can_frame::Moment;
-use can_hub::Hub;
+use can_hub::{Buses, Hub, Leaves, Returned};
 use can_meter::MeterName;
 use can_roll::RollName;
 use can_station::{Gate, Pass};
@@ -16,7 +17,7 @@ use std::os::unix::net::UnixStream;
 use std::sync::atomic::AtomicBool;
 use std::sync::{Mutex, Wait};
 use std::thread::Threads;
-use std::time;
+use std::{thread, time};
 
 /// The most passes of a bus.
 const MOST_PASSES: u32 = 4096;
@@ -64,22 +65,138 @@ pub fn serve<
     N: RollName + MeterName + Send + Sync,
     F: FaultSource + Drop + Send,
     G: Gate + Drop + Send + Sync,
+    L: Leaves,
     C: Clock + Sync,
     R: Threads + Wait + time::Clock + Sync,
 >(
     rt: &R,
     alloc: Global,
-    hub: &Hub<N, F, G>,
+    hub: &Hub<N, F, G, L>,
     doors: &[Door],
     host: &C,
     until: Option<&UnixStream>,
 ) -> Result<Vec<Vec<Pass<N>>>, AllocError>
     ensures { IfOk result (λ passes. length passes.items ≡ length hub.now) }
 {
+    serve_buses::<_, _, _, _, Unkept, _>(rt, alloc, hub.buses(), doors, host, until, None)
+}
+
+/// Serves as `serve` does, over the buses of long runs, each of which needs a scribe: without one its sessions wait, once
+/// its tail is full. A session may have the pass of one
+/// that is over, so that there is no end to the sessions of a run; and it counts as one of its door's only once it is raw.
+/// One that is raw after the last of these gets `too many sessions`.
+///
+/// The scribes go on until the other threads are over, and then give their keepers the last entries. `AllocError` as by
+/// `serve`; then they are over, too.
+pub fn serve_long<
+    N: RollName + MeterName + Send + Sync,
+    F: FaultSource + Drop + Send,
+    G: Gate + Drop + Send + Sync,
+    C: Clock + Sync,
+    K: Keeper + Drop + Send,
+    R: Threads + Wait + time::Clock + Sync,
+>(
+    rt: &R,
+    alloc: Global,
+    hub: &Hub<N, F, G, LongEnd>,
+    doors: &[Door],
+    host: &C,
+    until: Option<&UnixStream>,
+    scribes: Vec<Scribe<K>>,
+) -> Result<Vec<Vec<Pass<N>>>, AllocError>
+    ensures { IfOk result (λ passes. length passes.items ≡ length hub.now) }
+{
+    serve_buses(rt, alloc, hub.buses(), doors, host, until, Some(scribes))
+}
+
+/// A server over the buses of long runs, and its scribes that have no thread yet.
+#[derive(Drop)]
+struct LongServer<
+    's,
+    'a,
+    N: RollName + MeterName,
+    F: FaultSource + Drop,
+    G: Gate + Drop,
+    C,
+    R,
+    K: Keeper + Drop,
+> {
+    server: &'s Server<'a, N, F, G, C, R>,
+    doors: &'a [Door],
+    until: Option<&'a UnixStream>,
+    scribes: &'s Mutex<Vec<Scribe<K>>>,
+}
+
+impl<
+    's,
+    'a,
+    N: RollName + MeterName + Send + Sync,
+    F: FaultSource + Drop + Send,
+    G: Gate + Drop + Send + Sync,
+    C: Clock + Sync,
+    R: Threads + Wait + time::Clock + Sync,
+    K: Keeper + Drop + Send,
+> LongServer<'s, 'a, N, F, G, C, R, K> {
+    /// Serves to the end, with a scribe for each bus: they go on until all other threads are over.
+    fn run(&self) -> Result<(), AllocError> {
+        thread::scope(thread::scope_env(), self.server.rt, |scope| {
+            let mut is_started = true;
+            for _ in 0..self.server.buses.count() {
+                is_started &= scope.spawn(move || self.keep_all()).is_ok();
+            }
+            let served = if is_started {
+                self.serve()
+            } else {
+                self.server.buses.stop_all(self.server.rt);
+                Err(AllocError)
+            };
+            self.server.buses.end_entries(self.server.rt);
+            served
+        })
+    }
+
+    /// Gives the keeper of the next scribe all entries of its bus.
+    fn keep_all(&self) {
+        let next = self.scribes.lock(self.server.rt).pop();
+        let Some(scribe) = next else {
+            return;
+        };
+        let bus = scribe.bus();
+        if bus < self.server.buses.count() {
+            let _ = scribe.keep_all(self.server.rt, self.server.buses.station(bus));
+        }
+    }
+
+    /// Serves the sessions of its doors.
+    fn serve(&self) -> Result<(), AllocError> {
+        self.server.run(self.doors, self.until)
+    }
+}
+
+/// Serves the sessions of all doors over these buses, which are those of long runs where there are scribes.
+fn serve_buses<
+    'x,
+    N: RollName + MeterName + Send + Sync,
+    F: FaultSource + Drop + Send,
+    G: Gate + Drop + Send + Sync,
+    C: Clock + Sync,
+    K: Keeper + Drop + Send,
+    R: Threads + Wait + time::Clock + Sync,
+>(
+    rt: &'x R,
+    alloc: Global,
+    buses: &'x Buses<N, F, G>,
+    doors: &'x [Door],
+    host: &'x C,
+    until: Option<&'x UnixStream>,
+    scribes: Option<Vec<Scribe<K>>>,
+) -> Result<Vec<Vec<Pass<N>>>, AllocError>
+    ensures { IfOk result (λ passes. length passes.items ≡ length buses.now) }
+{
     let guests = Guests::new(alloc);
-    let returned = Returned::new(alloc, hub.count(), most_passes(doors));
+    let returned = Returned::new(alloc, buses.count(), most_passes(doors));
     let (Ok(guests), Ok(returned)) = (guests, returned) else {
-        hub.stop_all(rt);
+        buses.stop_all(rt);
         return Err(AllocError);
     };
     let (guests, returned) = (Mutex::new(guests), Mutex::new(returned));
@@ -87,16 +204,29 @@ pub fn serve<
     let server = Server {
         rt,
         alloc,
-        hub,
+        buses,
         host,
         guests: &guests,
         returned: &returned,
+        is_long: scribes.is_some(),
         is_ending: &is_ending,
     };
-    let served = server.run(doors, until);
+    let served = match scribes {
+        Some(scribes) => {
+            let scribes = Mutex::new(scribes);
+            let long = LongServer {
+                server: &server,
+                doors,
+                until,
+                scribes: &scribes,
+            };
+            long.run()
+        }
+        None => server.run(doors, until),
+    };
     drop(server);
     served?;
-    Ok(returned.into_inner().into_lists(hub.count()))
+    Ok(returned.into_inner().into_lists(buses.count()))
 }
 
 /// The most passes that the sessions of these doors and a driver take of one bus.

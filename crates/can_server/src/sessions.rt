@@ -1,27 +1,23 @@
-use crate::accepting::Admitted;
+use crate::accepting::Visit;
 use crate::conn::Conn;
+use crate::delivering::{Delivery, stop_full};
 use crate::notice::Notice;
 use crate::server::Server;
 use crate::serving::Clock;
 use crate::talk::{Place, Talk};
 use can_fault::FaultSource;
 use can_frame::Iface;
-use can_hub::Tally;
+use can_hub::{HubBus, Returned, Tally};
 use can_meter::MeterName;
 use can_proto::Cause;
 use can_roll::RollName;
-use can_station::{Gate, Station, Wake};
+use can_station::{Gate, Station};
 use std::sync::{Mutex, Wait};
 use std::thread::Threads;
-use std::time::Duration;
 use std::{thread, time};
 
 /// The most bytes of a piece that is read.
 const PIECE: usize = 4096;
-
-/// How long the delivering thread waits at first. Some clients read the reply to `rawmode` and whatever came with
-/// it as one text.
-const BEFORE_ITEMS_MS: u64 = 20;
 
 /// What became of a read.
 enum Heard {
@@ -43,33 +39,28 @@ impl<
     R: Threads + Wait + time::Clock + Sync,
 > Server<'a, N, F, G, C, R> {
     /// Runs a session to its end, and hands its pass back. Its place is free before the client sees the end.
-    pub fn run_session(&self, place: usize, session: u32) {
-        let Some(conn) = self.guests.lock(self.rt).conn(place) else {
+    pub fn run_session(&self, visit: &Visit<'_>) {
+        let Some(conn) = self.guests.lock(self.rt).conn(visit.place) else {
             return;
         };
-        let admitted = Admitted {
-            conn,
-            place,
-            session,
-        };
-        let tally = self.converse(&admitted);
-        self.let_go(admitted.place);
-        admitted.conn.shutdown();
-        self.tell_end(admitted.session, tally);
+        let tally = self.converse(visit, &conn);
+        self.let_go(visit.place);
+        conn.shutdown();
+        self.tell_end(visit.session, tally);
     }
 
     /// Talks with a client to the end, and hands its pass back: what its calls came to.
-    fn converse(&self, admitted: &Admitted) -> Tally {
+    fn converse(&self, visit: &Visit<'_>, conn: &Conn) -> Tally {
         let most = self.host.write_bytes();
-        let Ok(mut talk) = Talk::new(self.rt, self.alloc, self.hub, most) else {
-            admitted.conn.refuse(Cause::NoMemory);
+        let Ok(mut talk) = Talk::new(self.rt, self.alloc, self.buses, self.spares(), most) else {
+            conn.refuse(Cause::NoMemory);
             return Tally::none();
         };
-        if !talk.greet(&admitted.conn) {
+        if !talk.greet(conn) {
             return Tally::none();
         }
         let talk = Mutex::new(talk);
-        self.hear_all(&talk, admitted);
+        self.hear_all(&talk, visit, conn);
         let talk = talk.into_inner();
         let tally = talk.tally();
         if let Some(pass) = talk.into_pass() {
@@ -78,26 +69,38 @@ impl<
         tally
     }
 
+    /// The passes that a session may have.
+    fn spares(&self) -> Option<&'a Mutex<Returned<N>>> {
+        self.is_long.then_some(self.returned)
+    }
+
     /// Reads what the client says. Once the session is raw, its guest keeps its place, and a thread delivers its items
     /// beside.
-    fn hear_all(&self, talk: &Mutex<Talk<'_, N, F, G, R>>, admitted: &Admitted) {
-        let conn = &*admitted.conn;
+    fn hear_all(&self, talk: &Mutex<Talk<'_, N, F, G, R>>, visit: &Visit<'_>, conn: &Conn) {
         let Some(place) = self.hear_until_raw(talk, conn) else {
-            self.tell_request(talk, admitted.session);
+            self.tell_request(talk, visit.session);
             return;
         };
-        self.guests.lock(self.rt).keep(admitted.place);
+        if self.is_long && !visit.door.count_raw() {
+            talk.lock(self.rt).end();
+            conn.refuse(Cause::TooManySessions);
+            return;
+        }
+        self.guests.lock(self.rt).keep(visit.place);
         self.host.tell(Notice::Opened {
-            session: admitted.session,
+            session: visit.session,
             bus: usize::from(place.station.number()),
             iface: place.iface,
         });
-        let place = &place;
+        let delivery = Delivery {
+            rt: self.rt,
+            talk,
+            conn,
+        };
+        let delivery = &delivery;
         thread::scope(thread::scope_env(), self.rt, |scope| {
-            let delivers = scope
-                .spawn(move || self.deliver_all(talk, conn, place))
-                .is_ok();
-            self.hear_out(talk, conn, place, delivers);
+            let delivers = scope.spawn(move || delivery.deliver_all()).is_ok();
+            self.hear_out(talk, conn, &place, delivers);
         });
     }
 }
@@ -122,7 +125,7 @@ impl<
             self.hear_on(talk, conn);
         }
         talk.lock(self.rt).end();
-        self.stop_full(place.station);
+        stop_full(self.rt, place.station);
     }
 
     /// Reads until the session is raw: where its socket is, or none if it ended before.
@@ -160,14 +163,6 @@ impl<
         }
     }
 
-    /// Ends the waits of a station whose record is full: no call changes it any more, not even one that closes a socket.
-    /// Its driver ends, and reports that to the host.
-    fn stop_full(&self, station: &Station<N, F, G>) {
-        if station.is_full() {
-            station.stop(self.rt);
-        }
-    }
-
     /// Reports to the host that a session's client sent a request of HTTP, if it did.
     fn tell_request(&self, talk: &Mutex<Talk<'_, N, F, G, R>>, session: u32) {
         let is_request = talk.lock(self.rt).is_request();
@@ -177,7 +172,7 @@ impl<
     }
 
     /// Reports to the host that a session has restarted an interface, if it has.
-    fn tell_restart(&self, station: &Station<N, F, G>, restarted: Option<Iface>) {
+    fn tell_restart(&self, station: &Station<N, F, G, HubBus>, restarted: Option<Iface>) {
         if let Some(iface) = restarted {
             let bus = usize::from(station.number());
             self.host.tell(Notice::Restarted { bus, iface });
@@ -202,54 +197,9 @@ impl<
         };
         drop(talk);
         if let Some(station) = station {
-            self.stop_full(station);
+            stop_full(self.rt, station);
             self.tell_restart(station, restarted);
         }
         if goes_on { Heard::More } else { Heard::Over }
-    }
-
-    /// Gives the client the items that wait, of which there are `waiting`. Returns whether there can be more.
-    fn deliver_waiting(
-        &self,
-        talk: &Mutex<Talk<'_, N, F, G, R>>,
-        conn: &Conn,
-        waiting: u64,
-    ) -> bool {
-        let mut left = waiting;
-        for _ in 0..waiting {
-            if left == 0 {
-                break;
-            }
-            match talk.lock(self.rt).deliver(left, conn) {
-                Some(taken) => left = left.saturating_sub(taken),
-                None => return false,
-            }
-        }
-        true
-    }
-
-    /// Gives the client its items, until the session is over, its socket is closed or the record is full. Where items
-    /// are refused for another reason, as want of memory, the session ends.
-    fn deliver_all(
-        &self,
-        talk: &Mutex<Talk<'_, N, F, G, R>>,
-        conn: &Conn,
-        place: &Place<'_, N, F, G>,
-    ) {
-        thread::sleep(self.rt, Duration::from_millis(BEFORE_ITEMS_MS));
-        for _ in self.rt.forever() {
-            let (wake, waiting) = place.station.wait_items(self.rt, place.socket);
-            if wake != Wake::Ready {
-                break;
-            }
-            if !self.deliver_waiting(talk, conn, waiting) {
-                self.stop_full(place.station);
-                if !place.station.is_full() {
-                    talk.lock(self.rt).end();
-                    conn.shutdown();
-                }
-                break;
-            }
-        }
     }
 }

@@ -7,17 +7,17 @@ use can_bus::SocketId;
 use can_dialog::{Session, Stage};
 use can_fault::FaultSource;
 use can_frame::{Iface, Moment};
-use can_hub::{HeldPort, Hub, PassPort, Tally};
+use can_hub::{Buses, HeldPort, HubBus, PassPort, Returned, Tally};
 use can_meter::MeterName;
 use can_roll::RollName;
 use can_station::{Gate, Pass, Station};
 use std::alloc::{AllocError, Global};
-use std::sync::Wait;
+use std::sync::{Mutex, Wait};
 
 /// Where the socket of a session in raw mode is, and of which interface it is one.
 #[derive(Drop)]
 pub struct Place<'a, N: RollName + MeterName, F: FaultSource + Drop, G: Gate + Drop> {
-    pub station: &'a Station<N, F, G>,
+    pub station: &'a Station<N, F, G, HubBus>,
     pub iface: Iface,
     pub socket: SocketId,
 }
@@ -40,16 +40,17 @@ impl<'a, N: RollName + MeterName, F: FaultSource + Drop, G: Gate + Drop, R: Wait
     G,
     R,
 > {
-    /// A session that has just begun, which writes at most this many bytes of items at once.
+    /// A session that has just begun, which may have one of these passes, and writes at most this many bytes of items at once.
     pub fn new(
         rt: &'a R,
         alloc: Global,
-        hub: &'a Hub<N, F, G>,
+        buses: &'a Buses<N, F, G>,
+        spares: Option<&'a Mutex<Returned<N>>>,
         most_bytes: usize,
     ) -> Result<Talk<'a, N, F, G, R>, AllocError> {
         Ok(Talk {
             session: Session::new(alloc, 0)?,
-            port: PassPort::new(rt, alloc, hub),
+            port: PassPort::with_spares(rt, alloc, buses, spares),
             batch: Batch::new(alloc, most_bytes)?,
             opening: Opening::Undecided,
             first: FirstBytes::new(),
@@ -129,7 +130,7 @@ impl<'a, N: RollName + MeterName, F: FaultSource + Drop, G: Gate + Drop, R: Wait
     }
 
     /// The station that was entered.
-    pub fn station(&self) -> Option<&'a Station<N, F, G>> {
+    pub fn station(&self) -> Option<&'a Station<N, F, G, HubBus>> {
         self.port.station()
     }
 

@@ -1,0 +1,68 @@
+-- What goes from one thread of a server to another, and what they share.
+use denote.RattleType.{RattleType}
+use denote.Ref.{NamedLft}
+use denote.Param.Send.{IsSend, IsSync, sendable}
+use denote.Param.SendFields.{declared_send, declared_sync}
+use Rattle.std.proofs.Crossing.{Vec-send, crosses}
+use Rattle.std.specs.contracts.sync.Mutex as mutex
+use Rattle.std.proofs.sync.Mutex.TheSendSync as mutex_sync
+use Rattle.std.proofs.alloc.Global.TheSendSync as heap
+use Rattle.std.proofs.os.unix.net.UnixStream.TheSendSync as stream
+use Rattle.can_fault.specs.declared.fault_source.FaultSource as source
+use Rattle.can_meter.specs.declared.blank.MeterName as meter
+use Rattle.can_roll.specs.declared.roll_name.RollName as roll
+use Rattle.can_dialog.proofs.session.Session.TheSendSync as session
+use Rattle.can_hub.proofs.returned.Returned.TheSendSync as returned
+use Rattle.can_hub.proofs.Crossing.{buses_sync, port_send, shared}
+use Rattle.can_server.proofs.batch.Batch.TheSendSync as batch
+use Rattle.can_server.proofs.conn.Conn.TheSendSync as conn
+use Rattle.can_server.proofs.door.Door.TheSendSync as door
+use Rattle.can_server.proofs.guests.Guests.TheSendSync as guests
+use Rattle.can_server.proofs.opening.Opening.TheSendSync as opening
+use Rattle.can_server.proofs.opening.FirstBytes.TheSendSync as first
+use Rattle.can_server.proofs.scribing.Scribe.TheSendSync as scribe
+use Rattle.can_server.specs.contracts.server.Server as server
+use Rattle.can_server.specs.contracts.serving.LongServer as long_server
+use Rattle.can_server.specs.contracts.talk.Talk as talk
+use Rattle.can_server.specs.contracts.delivering.Delivery as delivery
+
+module _ (N F G : RattleType) (g : roll.Ghosts N.Denot) (g' : meter.Ghosts N.Denot) (g'' : source.Ghosts F.Denot) (f : IsSend F) (s : IsSync G) (κ : NamedLft) where
+  -- what all threads of a server share
+  pub server_sync : (C R : RattleType) → IsSync C → IsSync R → IsSync (server.the_row κ N F G C R g g' g'')
+  server_sync C R c r =
+      declared_sync (server.the_type κ N F G C R g g' g'') (
+        search (sendable, r) depth 20,
+        (
+          heap.the_sync,
+          (
+            shared κ _ _ (buses_sync N F G g g' g'' f s),
+            (
+              search (sendable, c) depth 20,
+              (
+                search (sendable, crosses, guests.the_send) depth 20,
+                (
+                  search (sendable, crosses, returned.the_send) depth 20,
+                  (search sendable depth 20, (search (sendable, crosses) depth 20, tt)),
+                ),
+              ),
+            ),
+          ),
+        ),
+      )
+
+  -- a session with its port
+  pub talk_send : (R : RattleType) → IsSync R → IsSend (talk.the_row κ N F G R g g' g'')
+  talk_send R r =
+      declared_send (talk.the_type κ N F G R g g' g'') (session.the_send, (port_send N F G g g' g'' f s κ R r, (batch.the_send, (opening.the_send, (first.the_send, tt)))))
+
+  -- what the thread has that delivers
+  pub delivery_sync : (ν : NamedLft) (R : RattleType) → IsSync R → IsSync (delivery.the_row ν κ N F G R g g' g'')
+  delivery_sync ν R r =
+      let talks : IsSync (mutex.the_row (talk.the_row κ N F G R g g' g'')) = mutex_sync.the_sync _ (talk_send R r) in
+      declared_sync (delivery.the_type ν κ N F G R g g' g'') (search (sendable, r) depth 20, (shared ν _ _ talks, (search (sendable, conn.the_sync) depth 20, tt)))
+
+  -- a server with its scribes
+  pub long_server_sync : (ν : NamedLft) (C R K : RattleType) → IsSync C → IsSync R → IsSend K → IsSync (long_server.the_row ν κ N F G C R K g g' g'')
+  long_server_sync ν C R K c r k =
+      declared_sync (long_server.the_type ν κ N F G C R K g g' g'')
+      (shared ν _ _ (server_sync C R c r), (search (sendable, door.the_sync) depth 20, (search (sendable, crosses, stream.the_sync) depth 20, (shared ν _ _ (mutex_sync.the_sync _ (Vec-send _ (scribe.the_send _ k))), tt))))

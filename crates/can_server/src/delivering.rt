@@ -1,0 +1,89 @@
+//! The thread of a session that delivers its items.
+
+use crate::conn::Conn;
+use crate::talk::Talk;
+use can_fault::FaultSource;
+use can_hub::HubBus;
+use can_meter::MeterName;
+use can_roll::RollName;
+use can_station::{Gate, Station, Wake};
+use std::sync::{Mutex, Wait};
+use std::time::Duration;
+use std::{thread, time};
+
+/// How many milliseconds the thread waits at first. Some clients read the reply to `rawmode` and whatever came with it as
+/// one text.
+const BEFORE_ITEMS_MS: u64 = 20;
+
+/// What the thread has that delivers the items of a session in raw mode.
+#[derive(Drop)]
+pub struct Delivery<
+    's,
+    't,
+    N: RollName + MeterName,
+    F: FaultSource + Drop,
+    G: Gate + Drop,
+    R: Wait,
+> {
+    pub rt: &'s R,
+    pub talk: &'s Mutex<Talk<'t, N, F, G, R>>,
+    pub conn: &'s Conn,
+}
+
+impl<
+    's,
+    't,
+    N: RollName + MeterName,
+    F: FaultSource + Drop,
+    G: Gate + Drop,
+    R: Wait + time::Clock,
+> Delivery<'s, 't, N, F, G, R> {
+    /// Gives the client its items, until the session is over, its socket is closed or the record is full. Where items
+    /// are refused for another reason, as want of memory, the session ends.
+    pub fn deliver_all(&self) {
+        thread::sleep(self.rt, Duration::from_millis(BEFORE_ITEMS_MS));
+        let Some(place) = self.talk.lock(self.rt).place() else {
+            return;
+        };
+        for _ in self.rt.forever() {
+            let (wake, waiting) = place.station.wait_items(self.rt, place.socket);
+            if wake != Wake::Ready {
+                break;
+            }
+            if !self.deliver_waiting(waiting) {
+                stop_full(self.rt, place.station);
+                if !place.station.is_full() {
+                    self.talk.lock(self.rt).end();
+                    self.conn.shutdown();
+                }
+                break;
+            }
+        }
+    }
+
+    /// Gives the client the items that wait, of which there are `waiting`. Returns whether there can be more.
+    fn deliver_waiting(&self, waiting: u64) -> bool {
+        let mut left = waiting;
+        for _ in 0..waiting {
+            if left == 0 {
+                break;
+            }
+            match self.talk.lock(self.rt).deliver(left, self.conn) {
+                Some(taken) => left = left.saturating_sub(taken),
+                None => return false,
+            }
+        }
+        true
+    }
+}
+
+/// Ends the waits of a station whose record is full: no call changes it any more, not even one that closes a socket.
+/// Its driver ends, and reports that to the host.
+pub fn stop_full<N: RollName + MeterName, F: FaultSource + Drop, G: Gate + Drop, R: Wait>(
+    rt: &R,
+    station: &Station<N, F, G, HubBus>,
+) {
+    if station.is_full() {
+        station.stop(rt);
+    }
+}
