@@ -10,6 +10,7 @@ use crate::input_notes::input_note;
 use crate::recent::Recent;
 use crate::watch::Watch;
 use can_bus::Record;
+use can_event::MAX_LIMIT;
 use can_fault::Perfect;
 use can_frame::Names;
 use can_rules::Plan;
@@ -194,7 +195,7 @@ fn bench_note<R: Read + Drop>(
     input: &Recent<R>,
 ) -> Result<String, AllocError> {
     match fault {
-        BenchFault::BadConfig => limits_note(alloc, &options.settings),
+        BenchFault::BadConfig => limits_note(alloc, &options.settings, MAX_LIMIT),
         BenchFault::BadLine(number) => match input.line(number) {
             Some(line) => input_note(alloc, INPUT, options.bus.names, number, line),
             None => Ok(String::new(alloc)),

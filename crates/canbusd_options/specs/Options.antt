@@ -1,4 +1,4 @@
-use Rattle.std.specs.Prelude.{◌≡◌, ℕ, ◌≤◌, map, true, false, List, [], ◌∷◌, ◌++◌, ◌<◌, ◌^◌, ◌==◌, codes, unwrap_or, Option, Some, slice_index, if◌then◌else◌}
+use Rattle.std.specs.Prelude.{◌≡◌, ◌↔◌, ℕ, ◌≤◌, map, true, false, List, [], ◌∷◌, ◌++◌, ◌<◌, ◌^◌, ◌==◌, codes, unwrap_or, IsTrue, Option, Some, None, slice_index, if◌then◌else◌}
 use Rattle.std.specs.Path.{path_bytes, path_components, path_names, root_dir, slash}
 use Rattle.std.specs.declared.path.Path.{Path}
 use Rattle.std.specs.Str.Parse.{IsNumeral, digits_value}
@@ -10,6 +10,8 @@ use Rattle.canbusd_options.specs.declared.bus_options.BusSettings.{BusSettings}
 use Rattle.canbusd_options.specs.declared.bus_word.BusWord.{BusWord}
 use Rattle.canbusd_options.specs.declared.audit_options.AuditOptions.{AuditOptions}
 use Rattle.canbusd_options.specs.declared.bench_options.BenchOptions.{BenchOptions}
+use Rattle.canbusd_options.specs.declared.recording.Recording.{Recording}
+use Rattle.canbusd_options.specs.declared.recording.Recording.TheVariants as recording
 use Rattle.canbusd_options.specs.declared.serve_options.ServeOptions.{ServeOptions}
 use Rattle.canbusd_options.specs.BusWords.{names_part, path_of, script_part}
 
@@ -24,7 +26,11 @@ rows_in m = rows_of (found_of m)
 abbrev pub given : List Row → List ℕ → List ℕ
 given rows id = unwrap_or (first_of id rows) []
 
--- the same in a parse
+-- what it was given, or else this text
+abbrev pub given_or : List ℕ → List Row → List ℕ → List ℕ
+given_or text rows id = unwrap_or (first_of id rows) text
+
+-- what the option of this name was given, or its default, in a parse
 abbrev pub given_in : ArgMatches → List ℕ → List ℕ
 given_in m id = given (rows_in m) id
 
@@ -49,19 +55,23 @@ mode_text ack.Peers = codes "peers"
 abbrev pub IsMode : List ℕ → Type 0
 IsMode text = (mode : AckMode) × (text ≡ mode_text mode)
 
--- what is said of a bus is what the words give
-pub record AreSettings (rows : List Row) (s : BusSettings) : Type 0 where
+-- what is said of a bus is what the words give, with this limit where they give none
+pub record AreSettings (rows : List Row) (limit_else : List ℕ) (s : BusSettings) : Type 0 where
   pub ack : given rows (codes "ack") ≡ mode_text s.ack
   pub reporting : one_of (codes "report") rows ≡ Some (codes "true") → s.is_reporting ≡ true
   pub silent : one_of (codes "report") rows ≡ Some (codes "false") → s.is_reporting ≡ false
   pub tx_capacity : IsNumberOf s.tx_capacity (given rows (codes "txqueue"))
   pub rx_capacity : IsNumberOf s.rx_capacity (given rows (codes "rxqueue"))
-  pub limit : IsNumberOf s.limit (given rows (codes "limit"))
+  pub limit : IsNumberOf s.limit (given_or limit_else rows (codes "limit"))
   pub auto_restart : IsNumberOf s.auto_restart (given rows (codes "auto-restart"))
 
--- rows give settings
-abbrev pub GiveSettings : List Row → Type 0
-GiveSettings rows = (s : BusSettings) × AreSettings rows s
+-- rows give settings, with this limit where they give none
+abbrev pub GiveSettings : List Row → List ℕ → Type 0
+GiveSettings rows limit_else = (s : BusSettings) × AreSettings rows limit_else s
+
+-- the limit of a run that keeps its record, where none is given
+abbrev pub usual_limit : List ℕ
+usual_limit = codes "1000000"
 
 -- the components of a path
 abbrev pub components_of : Path → List (List ℕ)
@@ -87,7 +97,7 @@ AreBusWords buses words =
 
 -- the options of a bench are those that its words give
 pub record AreBenchOptions (rows : List Row) (o : BenchOptions) : Type 0 where
-  pub settings : AreSettings rows o.settings
+  pub settings : AreSettings rows usual_limit o.settings
   pub bus : IsBusWord o.bus (given rows (codes "BUS"))
   pub kept : path_of o.record ≡ first_of (codes "record") rows
   pub logged : path_of o.log ≡ first_of (codes "log") rows
@@ -103,14 +113,58 @@ GiveBenchOptions rows = (o : BenchOptions) × AreBenchOptions rows o
 abbrev pub buses_given : List Row → List (List ℕ)
 buses_given rows = unwrap_or (all_of (codes "BUS") rows) []
 
+-- the word for when records are written
+abbrev pub recording_text : Recording → List ℕ
+recording_text recording.AtEnd = codes "end"
+recording_text recording.Live = codes "live"
+recording_text recording.Never = codes "none"
+
+-- a word is one for when records are written
+abbrev pub IsRecording : List ℕ → Type 0
+IsRecording text = (r : Recording) × (text ≡ recording_text r)
+
+-- the limit of a server's buses where none is given: in a long run the most
+abbrev pub server_limit : Recording → List ℕ
+server_limit recording.AtEnd = usual_limit
+server_limit recording.Live = codes "4294967294"
+server_limit recording.Never = codes "4294967294"
+
+-- the most sessions of a server: where records are written at the end, passes are kept until then
+abbrev pub most_sessions : Recording → ℕ
+most_sessions recording.AtEnd = 4000
+most_sessions recording.Live = 4294967295
+most_sessions recording.Never = 4294967295
+
+-- how many sessions a server has where that is not given: the most
+abbrev pub usual_sessions : Recording → List ℕ
+usual_sessions recording.AtEnd = codes "4000"
+usual_sessions recording.Live = codes "4294967295"
+usual_sessions recording.Never = codes "4294967295"
+
+-- options go with when records are written: --flush and --sync are for files that are written live, a long run has no --limit,
+-- and live records need a folder
+abbrev pub GoWith : Recording → List Row → Type 0
+GoWith recording.AtEnd rows = (first_of (codes "flush") rows ≡ None) × ¬ (given rows (codes "sync") ≡ codes "true")
+GoWith recording.Live rows = (first_of (codes "limit") rows ≡ None) × ¬ (first_of (codes "out") rows ≡ None)
+GoWith recording.Never rows = first_of (codes "limit") rows ≡ None
+
+-- rows say when records are written, and their options go with that
+abbrev pub CanRecord : List Row → Type 0
+CanRecord rows = (r : Recording) × (given rows (codes "record") ≡ recording_text r) × GoWith r rows
+
 -- the options of a server are those that its words give
 pub record AreServeOptions (rows : List Row) (o : ServeOptions) : Type 0 where
-  pub settings : AreSettings rows o.settings
+  pub recording : given rows (codes "record") ≡ recording_text o.recording
+  pub together : GoWith o.recording rows
+  pub settings : AreSettings rows (server_limit o.recording) o.settings
+  pub flush : IsNumberOf o.flush_ms (given_or (codes "100") rows (codes "flush"))
+  pub soon : o.flush_ms ≤ 60000
+  pub synced : IsTrue o.is_synced ↔ (given rows (codes "sync") ≡ codes "true")
   pub buses : AreBusWords o.buses.items (buses_given rows)
   pub address : o.address.now ≡ given rows (codes "listen")
-  pub sessions : IsNumberOf o.sessions (given rows (codes "sessions"))
+  pub sessions : IsNumberOf o.sessions (given_or (usual_sessions o.recording) rows (codes "sessions"))
   pub some : 1 ≤ o.sessions
-  pub few : o.sessions ≤ 4000
+  pub few : o.sessions ≤ most_sessions o.recording
   pub pace : IsNumberOf o.pace_ms (given rows (codes "pace"))
   pub short : o.pace_ms ≤ 60000
   pub write : IsNumberOf o.write_bytes (given rows (codes "write"))

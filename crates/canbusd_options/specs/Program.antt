@@ -35,7 +35,7 @@ with_bus_rules a =
     with_rule (with_rule (with_rule (with_rule (with_rule (with_rule a (default_rule (codes "ack") (codes "always"))) (flag_rule (codes "report")))
     (default_rule (codes "txqueue") (codes "10")))
     (default_rule (codes "rxqueue") (codes "256")))
-    (default_rule (codes "limit") (codes "1000000")))
+    (option_rule (codes "limit")))
     (default_rule (codes "auto-restart") (codes "0"))
 
 abbrev pub bench_app : App
@@ -48,12 +48,15 @@ bench_app =
 
 abbrev pub serve_app : App
 serve_app =
-    with_rule (with_rule (with_rule (with_rule (with_rule (with_rule (with_rule (with_rule (with_bus_rules (new_app (codes "serve")))
+    with_rule (with_rule (with_rule (with_rule (with_rule (with_rule (with_rule (with_rule (with_rule (with_rule (with_rule (with_bus_rules (new_app (codes "serve")))
     (default_rule (codes "listen") (codes "127.0.0.1:29536")))
-    (default_rule (codes "sessions") (codes "4000")))
+    (option_rule (codes "sessions")))
     (default_rule (codes "pace") (codes "1")))
     (default_rule (codes "write") (codes "1024")))
     (option_rule (codes "out")))
+    (default_rule (codes "record") (codes "end")))
+    (option_rule (codes "flush")))
+    (flag_rule (codes "sync")))
     (flag_rule (codes "until-eof")))
     (flag_rule (codes "verbose")))
     (words_rule (codes "BUS"))

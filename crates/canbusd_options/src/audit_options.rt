@@ -35,7 +35,8 @@ pub fn audit_options<'a>(
 }
 
 fn files_given<'a>(alloc: Global, audit: &ArgMatches<'a>) -> Result<Vec<&'a str>, AllocError>
-    ensures { IfOk result (λ files. map (λ file. file.now) files.items ≡ files_of (rows_in audit.now)) }
+    ensures { IfOk result (λ files.
+        map (λ file. file.now) files.items ≡ files_of (rows_in audit.now)) }
 {
     match audit.get_strs(FILE) {
         Some(words) => Vec::from_slice(alloc, words),

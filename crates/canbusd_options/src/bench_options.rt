@@ -6,7 +6,9 @@ ghost use Rattle.canbusd_options.specs.Help.{IsNoMemory, RefusesValue};
 ghost use Rattle.canbusd_options.specs.Options.{AreBenchOptions, AreOneFile, GiveBenchOptions, components_of, rows_in, steps_of};
 ghost use Rattle.canbusd_options.specs.Program.{bench_app, flag_rule, option_rule};
 
-use crate::bus_options::{BUS, BusSettings, Verb, bus_argument, settings_given, with_bus_options};
+use crate::bus_options::{
+    BUS, BusSettings, USUAL_LIMIT, Verb, bus_argument, settings_given, with_bus_options,
+};
 use crate::bus_word::BusWord;
 use crate::help::BENCH_HELP;
 use clap::{Arg, ArgAction, ArgMatches, Command, Error};
@@ -38,7 +40,7 @@ pub fn bench_options<'a>(alloc: Global, bench: &ArgMatches<'a>) -> Result<BenchO
     ensures taken { IfErr result (λ e. GiveBenchOptions (rows_in bench.now) → IsNoMemory e) }
     ensures refused { IfErr result RefusesValue }
 {
-    let settings = settings_given(alloc, Verb::Bench, bench)?;
+    let settings = settings_given(alloc, Verb::Bench, bench, USUAL_LIMIT)?;
     let record = bench.get_str(RECORD);
     let log = bench.get_str(LOG);
     if are_one_file(record, log) {

@@ -4,8 +4,8 @@ ghost use Rattle.std.specs.Str.Parse.{IsNumeral, digits_value};
 ghost use Rattle.clap.specs.Words.{app_of, kind_of, rule_of};
 ghost use Rattle.clap.specs.declared.error.kind.ErrorKind.TheVariants.{ValueValidation};
 ghost use Rattle.canbusd_options.specs.Help.{IsNoMemory, RefusesValue};
-ghost use Rattle.canbusd_options.specs.Options.{AreSettings, GiveSettings, IsMode, IsNumber, IsNumberOf, IsNumberWithin, given_in, mode_text, rows_in};
-ghost use Rattle.canbusd_options.specs.Program.{default_rule, flag_rule, with_bus_rules, word_rule};
+ghost use Rattle.canbusd_options.specs.Options.{AreSettings, GiveSettings, IsMode, IsNumber, IsNumberOf, IsNumberWithin, given_in, given_or, mode_text, rows_in};
+ghost use Rattle.canbusd_options.specs.Program.{default_rule, flag_rule, option_rule, with_bus_rules, word_rule};
 
 use crate::bench_options::bench_command;
 use crate::serve_options::serve_command;
@@ -26,7 +26,10 @@ const TXQUEUE: &str = "txqueue";
 
 const RXQUEUE: &str = "rxqueue";
 
-const LIMIT: &str = "limit";
+pub const LIMIT: &str = "limit";
+
+/// How many events a run has at most that keeps its record, where no limit is given.
+pub const USUAL_LIMIT: &str = "1000000";
 
 const AUTO_RESTART: &str = "auto-restart";
 
@@ -69,14 +72,15 @@ impl Verb {
     }
 }
 
-/// What the options of a command say of a bus.
+/// What the options of a command say of a bus, with this limit where none is given.
 pub fn settings_given(
     alloc: Global,
     verb: Verb,
     matches: &ArgMatches<'_>,
+    limit: &str,
 ) -> Result<BusSettings, Error>
-    ensures given { IfOk result (λ settings. AreSettings (rows_in matches.now) settings) }
-    ensures taken { IfErr result (λ e. GiveSettings (rows_in matches.now) → IsNoMemory e) }
+    ensures given { IfOk result (λ settings. AreSettings (rows_in matches.now) limit.now settings) }
+    ensures taken { IfErr result (λ e. GiveSettings (rows_in matches.now) limit.now → IsNoMemory e) }
     ensures refused { IfErr result RefusesValue }
 {
     Ok(BusSettings {
@@ -84,7 +88,7 @@ pub fn settings_given(
         is_reporting: matches.get_flag(REPORT),
         tx_capacity: number_given(alloc, verb, matches, TXQUEUE, "1 to 1024")?,
         rx_capacity: number_given(alloc, verb, matches, RXQUEUE, "1 to 65536")?,
-        limit: number_given(alloc, verb, matches, LIMIT, "1 to 16777216")?,
+        limit: limit_given(alloc, verb, matches, limit)?,
         auto_restart: number_given(alloc, verb, matches, AUTO_RESTART, "0 to 1000000")?,
     })
 }
@@ -118,7 +122,45 @@ fn number_given(
     ensures taken { IfErr result (λ e. IsNumber (given_in matches.now option.now) → IsNoMemory e) }
     ensures refused { IfErr result RefusesValue }
 {
-    let text = matches.get_str(option).unwrap_or("");
+    number_of(
+        alloc,
+        verb,
+        option,
+        matches.get_str(option).unwrap_or(""),
+        limits,
+    )
+}
+
+// The limit that was given, or else this one.
+#[tactic(auto, using(crate::proofs::Rules::text_in_rows))]
+fn limit_given(
+    alloc: Global,
+    verb: Verb,
+    matches: &ArgMatches<'_>,
+    default: &str,
+) -> Result<u32, Error>
+    ensures given { IfOk result (λ n.
+        IsNumberOf n (given_or default.now (rows_in matches.now) (codes "limit"))) }
+    ensures taken { IfErr result (λ e.
+        IsNumber (given_or default.now (rows_in matches.now) (codes "limit")) → IsNoMemory e) }
+    ensures refused { IfErr result RefusesValue }
+{
+    let text = matches.get_str(LIMIT).unwrap_or(default);
+    number_of(alloc, verb, LIMIT, text, "1 to 16777216")
+}
+
+// The number that a text writes, in only decimal digits, which an option was given.
+fn number_of(
+    alloc: Global,
+    verb: Verb,
+    option: &str,
+    text: &str,
+    limits: &str,
+) -> Result<u32, Error>
+    ensures given { IfOk result (λ n. IsNumberOf n text.now) }
+    ensures taken { IfErr result (λ e. IsNumber text.now → IsNoMemory e) }
+    ensures refused { IfErr result RefusesValue }
+{
     match number_in(text) {
         Some(number) => Ok(number),
         None => Err(number_error(alloc, verb, option, text, limits)?),
@@ -143,6 +185,24 @@ pub fn number_within(
     ensures refused { IfErr result RefusesValue }
 {
     let text = matches.get_str(option).unwrap_or("");
+    text_within(alloc, verb, option, text, least, most)
+}
+
+/// The number that a text writes, in only decimal digits and within limits, which an option was given.
+pub fn text_within(
+    alloc: Global,
+    verb: Verb,
+    option: &str,
+    text: &str,
+    least: u32,
+    most: u32,
+) -> Result<u32, Error>
+    ensures number { IfOk result (λ n. IsNumberOf n text.now) }
+    ensures least { IfOk result (λ n. least ≤ n) }
+    ensures most { IfOk result (λ n. n ≤ most) }
+    ensures taken { IfErr result (λ e. IsNumberWithin least most text.now → IsNoMemory e) }
+    ensures refused { IfErr result RefusesValue }
+{
     match number_in(text) {
         Some(number) if least <= number && number <= most => Ok(number),
         _ => {
@@ -186,7 +246,7 @@ pub fn with_bus_options<'a>(alloc: Global, command: Command<'a>) -> Result<Comma
     let tx_help = "Frames that an interface keeps to be sent, 1 to 1024";
     let rx_help = "Frames that a socket keeps to be received, 1 to 65536";
     let limit_help =
-        "Calls and attempts of the run, 1 to 16777216, of 32 bytes of memory each, 108 with an FD frame";
+        "Calls and attempts of the run, 1 to 16777216, of 32 bytes of memory each, 108 with an FD frame [default: 1000000]";
     let restart_help =
         "Restart an interface in the Nth attempt after it went bus off, 1 to 1000000, or never (0)";
     command
@@ -194,7 +254,7 @@ pub fn with_bus_options<'a>(alloc: Global, command: Command<'a>) -> Result<Comma
         .arg(report_option(alloc))?
         .arg(number_option(alloc, TXQUEUE, "N", "10", tx_help))?
         .arg(number_option(alloc, RXQUEUE, "N", "256", rx_help))?
-        .arg(number_option(alloc, LIMIT, "N", "1000000", limit_help))?
+        .arg(free_option(alloc, LIMIT, "N", limit_help))?
         .arg(number_option(alloc, AUTO_RESTART, "N", "0", restart_help))
 }
 
@@ -234,6 +294,17 @@ pub fn number_option<'a>(
         .long(name)
         .value_name(value)
         .default_value(default)
+        .help(help)
+}
+
+/// An option without a default.
+pub fn free_option<'a>(alloc: Global, name: &'a str, value: &'a str, help: &'a str) -> Arg<'a>
+    ensures rule { rule_of result ≡ option_rule name.entry.now }
+    ensures local { result.global ≡ false }
+{
+    Arg::new(alloc, name)
+        .long(name)
+        .value_name(value)
         .help(help)
 }
 

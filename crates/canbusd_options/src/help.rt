@@ -82,7 +82,12 @@ or with --until-eof standard input has ended, it prints for each bus, by its fir
 writes DIR/NAME.log, which candump's readers take, and DIR/NAME.rec, which `canbusd audit` checks. DIR must exist.
 With --verbose standard error has a line for each client that comes, opens an interface or goes, and for each bus off.
 
---limit is for each bus, and it is how long a run can be. Each send, each attempt and each receive of a session is an
+--record live writes both while the server runs, at most MS milliseconds of --flush after each call, and none only the
+logs. A run can then go on for weeks, and one that is killed leaves what it did: DIR/NAME.rec.new, which is DIR/NAME.rec once
+it is whole, and at the next start DIR/NAME.rec.cut, for `canbusd audit --cut`. A bus has 4294967294 entries at most, and few in
+memory. Where a file can't be written, standard error says so at once, and the bus goes on. (bench --record names a file.)
+
+--limit is for each bus, and it is how long a run with --record end can be. Each send, each attempt and each receive of a session is an
 entry, and takes 32 bytes of memory, 108 with an FD frame. 1000 frames a second to 4 sessions fill 1000000 entries in
 less than 3 minutes. Once a bus is full each of its calls returns `record full`, and standard error says so once. With
 --auto-restart attempts go on, MS milliseconds apart, while an interface waits for its restart, and each is an entry.

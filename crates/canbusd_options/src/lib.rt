@@ -11,6 +11,7 @@ mod bus_options;
 mod bus_word;
 mod command_line;
 mod help;
+mod recording;
 mod serve_options;
 
 pub use audit_options::AuditOptions;
@@ -18,4 +19,5 @@ pub use bench_options::BenchOptions;
 pub use bus_options::BusSettings;
 pub use bus_word::BusWord;
 pub use command_line::{Job, read_options};
+pub use recording::Recording;
 pub use serve_options::ServeOptions;

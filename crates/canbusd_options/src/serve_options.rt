@@ -1,16 +1,17 @@
 //! The words of serve.
-ghost use Rattle.std.specs.Prelude.{◌≡◌, codes, false, map, IfErr, IfOk};
+ghost use Rattle.std.specs.Prelude.{◌≡◌, ◌≤◌, codes, false, map, IfErr, IfOk};
 ghost use Rattle.clap.specs.Words.{app_of, rule_of};
 ghost use Rattle.canbusd_options.specs.Help.{IsNoMemory, RefusesValue};
-ghost use Rattle.canbusd_options.specs.Options.{AreBusWords, AreServeOptions, GiveServeOptions, buses_given as buses_of, rows_in};
+ghost use Rattle.canbusd_options.specs.Options.{AreBusWords, AreServeOptions, GiveServeOptions, IsNumberOf, IsNumberWithin, buses_given as buses_of, given_or, rows_in};
 ghost use Rattle.canbusd_options.specs.Program.{default_rule, flag_rule, option_rule, serve_app, words_rule};
 
 use crate::bus_options::{
-    BUS, BusSettings, Verb, bus_argument, number_option, number_within, settings_given,
-    with_bus_options,
+    BUS, BusSettings, Verb, bus_argument, free_option, number_option, number_within,
+    settings_given, text_within, with_bus_options,
 };
 use crate::bus_word::BusWord;
 use crate::help::SERVE_HELP;
+use crate::recording::{END, RECORD, Recording, is_synced, recording_given};
 use clap::{Arg, ArgAction, ArgMatches, Command, Error};
 use std::alloc::{AllocError, Global};
 
@@ -22,15 +23,21 @@ const PACE: &str = "pace";
 
 const WRITE: &str = "write";
 
-const OUT: &str = "out";
+pub const OUT: &str = "out";
+
+pub const FLUSH: &str = "flush";
+
+pub const SYNC: &str = "sync";
 
 const UNTIL_EOF: &str = "until-eof";
 
 const VERBOSE: &str = "verbose";
 
-const MOST_SESSIONS: u32 = 4_000;
-
 const MOST_PACE: u32 = 60_000;
+
+const MOST_FLUSH: u32 = 60_000;
+
+const USUAL_FLUSH: &str = "100";
 
 const LEAST_WRITE: u32 = 256;
 
@@ -43,7 +50,7 @@ pub struct ServeOptions<'a> {
     pub buses: Vec<BusWord<'a>>,
     /// Where it listens: a Unix path where it begins with `/` or `.`, else host and port.
     pub address: &'a str,
-    /// How many sessions it serves, 1 to 4,000.
+    /// How many sessions it serves: 1 to 4,000, in long runs to 4,294,967,295, and the most where that is not given.
     pub sessions: u32,
     /// How many milliseconds pass after each attempt, at most 60,000.
     pub pace_ms: u32,
@@ -51,6 +58,12 @@ pub struct ServeOptions<'a> {
     pub write_bytes: u32,
     /// The folder that gets logs and records, if they are wanted.
     pub folder: Option<&'a str>,
+    /// When records are written.
+    pub recording: Recording,
+    /// How many milliseconds what is written live may wait before it goes to its file, at most 60,000.
+    pub flush_ms: u32,
+    /// Whether it then waits until the disk has it.
+    pub is_synced: bool,
     /// Whether the end of standard input ends the run.
     pub is_until_eof: bool,
     /// Whether sessions and changes of the buses are reported while they happen.
@@ -62,17 +75,58 @@ pub fn serve_options<'a>(alloc: Global, serve: &ArgMatches<'a>) -> Result<ServeO
     ensures taken { IfErr result (λ e. GiveServeOptions (rows_in serve.now) → IsNoMemory e) }
     ensures refused { IfErr result RefusesValue }
 {
+    let recording = recording_given(alloc, serve)?;
+    let (usual, most) = (recording.usual_sessions(), recording.most_sessions());
     Ok(ServeOptions {
-        settings: settings_given(alloc, Verb::Serve, serve)?,
+        settings: settings_given(alloc, Verb::Serve, serve, recording.limit())?,
         buses: buses_given(alloc, serve)?,
         address: serve.get_str(LISTEN).unwrap_or(""),
-        sessions: number_within(alloc, Verb::Serve, serve, SESSIONS, 1, MOST_SESSIONS)?,
+        sessions: sessions_given(alloc, serve, usual, most)?,
         pace_ms: number_within(alloc, Verb::Serve, serve, PACE, 0, MOST_PACE)?,
         write_bytes: number_within(alloc, Verb::Serve, serve, WRITE, LEAST_WRITE, MOST_WRITE)?,
         folder: serve.get_str(OUT),
+        recording,
+        flush_ms: flush_given(alloc, serve)?,
+        is_synced: is_synced(serve),
         is_until_eof: serve.get_flag(UNTIL_EOF),
         is_verbose: serve.get_flag(VERBOSE),
     })
+}
+
+// How many sessions there are.
+#[tactic(auto, using(crate::proofs::Rules::text_in_rows))]
+fn sessions_given(
+    alloc: Global,
+    serve: &ArgMatches<'_>,
+    usual: &str,
+    most: u32,
+) -> Result<u32, Error>
+    ensures number { IfOk result (λ n.
+        IsNumberOf n (given_or usual.now (rows_in serve.now) (codes "sessions"))) }
+    ensures some { IfOk result (λ n. 1 ≤ n) }
+    ensures few { IfOk result (λ n. n ≤ most) }
+    ensures taken { IfErr result (λ e.
+        IsNumberWithin 1 most (given_or usual.now (rows_in serve.now) (codes "sessions"))
+        → IsNoMemory e) }
+    ensures refused { IfErr result RefusesValue }
+{
+    let text = serve.get_str(SESSIONS).unwrap_or(usual);
+    text_within(alloc, Verb::Serve, SESSIONS, text, 1, most)
+}
+
+// How long what is written live may wait.
+#[tactic(auto, using(crate::proofs::Rules::text_in_rows))]
+fn flush_given(alloc: Global, serve: &ArgMatches<'_>) -> Result<u32, Error>
+    ensures number { IfOk result (λ n.
+        IsNumberOf n (given_or (codes "100") (rows_in serve.now) (codes "flush"))) }
+    ensures most { IfOk result (λ n. n ≤ 60000) }
+    ensures taken { IfErr result (λ e.
+        IsNumberWithin 0 60000 (given_or (codes "100") (rows_in serve.now) (codes "flush"))
+        → IsNoMemory e) }
+    ensures refused { IfErr result RefusesValue }
+{
+    let text = serve.get_str(FLUSH).unwrap_or(USUAL_FLUSH);
+    text_within(alloc, Verb::Serve, FLUSH, text, 0, MOST_FLUSH)
 }
 
 fn buses_given<'a>(alloc: Global, serve: &ArgMatches<'a>) -> Result<Vec<BusWord<'a>>, AllocError>
@@ -97,18 +151,22 @@ fn read_buses<'a>(alloc: Global, words: &[&'a str]) -> Result<Vec<BusWord<'a>>, 
 pub fn serve_command<'a>(alloc: Global) -> Result<Command<'a>, AllocError>
     ensures { IfOk result (λ c. app_of c ≡ serve_app) }
 {
-    let sessions_help = "Sessions to serve before the end, 1 to 4000";
+    let sessions_help = "Sessions to serve [default, and the most: 4000, in long runs 4294967295]";
     let pace_help = "Milliseconds after each attempt of a bus, 0 to 60000";
     let write_help = "Most bytes of frames in one write to a client, 256 to 65536";
+    let flush_help = "Milliseconds that what is written live may wait, 0 to 60000 [default: 100]";
     let command = Command::new(alloc, "serve")
         .about("Serve clients on buses")
         .after_help(SERVE_HELP);
     with_bus_options(alloc, command)?
         .arg(listen_option(alloc))?
-        .arg(number_option(alloc, SESSIONS, "N", "4000", sessions_help))?
+        .arg(free_option(alloc, SESSIONS, "N", sessions_help))?
         .arg(number_option(alloc, PACE, "MS", "1", pace_help))?
         .arg(number_option(alloc, WRITE, "BYTES", "1024", write_help))?
         .arg(out_option(alloc))?
+        .arg(record_option(alloc))?
+        .arg(free_option(alloc, FLUSH, "MS", flush_help))?
+        .arg(sync_option(alloc))?
         .arg(until_eof_option(alloc))?
         .arg(verbose_option(alloc))?
         .arg(buses_argument(alloc))
@@ -136,9 +194,31 @@ fn out_option<'a>(alloc: Global) -> Arg<'a>
     ensures rule { rule_of result ≡ option_rule (codes "out") }
     ensures local { result.global ≡ false }
 {
-    Arg::new(alloc, OUT).long(OUT).value_name("DIR").help(
-        "Write the log and the record of each bus into DIR at the end",
-    )
+    Arg::new(alloc, OUT)
+        .long(OUT)
+        .value_name("DIR")
+        .help("Write the log and the record of each bus into DIR")
+}
+
+fn record_option<'a>(alloc: Global) -> Arg<'a>
+    ensures rule { rule_of result ≡ default_rule (codes "record") (codes "end") }
+    ensures local { result.global ≡ false }
+{
+    Arg::new(alloc, RECORD)
+        .long(RECORD)
+        .value_name("WHEN")
+        .default_value(END)
+        .help("When records are written: at the end, live, or none; live and none write logs live")
+}
+
+fn sync_option<'a>(alloc: Global) -> Arg<'a>
+    ensures rule { rule_of result ≡ flag_rule (codes "sync") }
+    ensures local { result.global ≡ false }
+{
+    Arg::new(alloc, SYNC)
+        .long(SYNC)
+        .action(ArgAction::SetTrue)
+        .help("Wait each time until the disk has what is written live")
 }
 
 fn until_eof_option<'a>(alloc: Global) -> Arg<'a>

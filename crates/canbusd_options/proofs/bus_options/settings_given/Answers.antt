@@ -9,6 +9,6 @@ returns-clause-given c = record {
   silent = λ off. c.get_flag.ensures.other (flag_in_rows c.args.matches.now (codes "report") ∙ off);
   tx_capacity = c.in_ok-number_given.ensures.given;
   rx_capacity = c.in_ok-number_given-2.ensures.given;
-  limit = c.in_ok-number_given-3.ensures.given;
-  auto_restart = c.in_ok-number_given-4.ensures.given;
+  limit = c.in_ok-limit_given.ensures.given;
+  auto_restart = c.in_ok-number_given-3.ensures.given;
 }

@@ -8,12 +8,15 @@ use Rattle.canbusd_options.proofs.serve_options.serve_command.Goals as goal
 pub returns : goal.returns
 returns c =
     let base : app_of c.after_help-command.result ≡ new_app (codes "serve") = rw (c.after_help-command.ensures, c.about.ensures) c.new.ensures.app in
-    IfOk-weaker c.arg-8.result _ _ (λ last adds. added _ _ _ _ _ adds c.buses_argument.ensures.local c.buses_argument.ensures.rule
-    (added _ _ _ _ _ c.in_ok-arg-7.ensures c.verbose_option.ensures.local c.verbose_option.ensures.rule
-    (added _ _ _ _ _ c.in_ok-arg-6.ensures c.until_eof_option.ensures.local c.until_eof_option.ensures.rule
+    IfOk-weaker c.arg-11.result _ _ (λ last adds. added _ _ _ _ _ adds c.buses_argument.ensures.local c.buses_argument.ensures.rule
+    (added _ _ _ _ _ c.in_ok-arg-10.ensures c.verbose_option.ensures.local c.verbose_option.ensures.rule
+    (added _ _ _ _ _ c.in_ok-arg-9.ensures c.until_eof_option.ensures.local c.until_eof_option.ensures.rule
+    (added _ _ _ _ _ c.in_ok-arg-8.ensures c.sync_option.ensures.local c.sync_option.ensures.rule
+    (added _ _ _ _ _ c.in_ok-arg-7.ensures c.free_option-2.ensures.local c.free_option-2.ensures.rule
+    (added _ _ _ _ _ c.in_ok-arg-6.ensures c.record_option.ensures.local c.record_option.ensures.rule
     (added _ _ _ _ _ c.in_ok-arg-5.ensures c.out_option.ensures.local c.out_option.ensures.rule
-    (added _ _ _ _ _ c.in_ok-arg-4.ensures c.number_option-3.ensures.local c.number_option-3.ensures.rule
-    (added _ _ _ _ _ c.in_ok-arg-3.ensures c.number_option-2.ensures.local c.number_option-2.ensures.rule
-    (added _ _ _ _ _ c.in_ok-arg-2.ensures c.number_option.ensures.local c.number_option.ensures.rule
+    (added _ _ _ _ _ c.in_ok-arg-4.ensures c.number_option-2.ensures.local c.number_option-2.ensures.rule
+    (added _ _ _ _ _ c.in_ok-arg-3.ensures c.number_option.ensures.local c.number_option.ensures.rule
+    (added _ _ _ _ _ c.in_ok-arg-2.ensures c.free_option.ensures.local c.free_option.ensures.rule
     (added _ _ _ _ _ c.in_ok-arg.ensures c.listen_option.ensures.local c.listen_option.ensures.rule
-    (c.in_ok-with_bus_options.ensures ∙ ap with_bus_rules base))))))))) c.arg-8.ensures
+    (c.in_ok-with_bus_options.ensures ∙ ap with_bus_rules base)))))))))))) c.arg-11.ensures
