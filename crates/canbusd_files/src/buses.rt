@@ -6,7 +6,7 @@ ghost use Rattle.canbusd_files.specs.Buses.{first_ifaces as first_ifaces_of};
 
 use crate::scripts::read_script;
 use can_bus::BusConfig;
-use can_event::{MAX_AUTO_RESTART, MAX_LIMIT, MAX_RX_CAPACITY, MAX_TX_CAPACITY};
+use can_event::{MAX_AUTO_RESTART, MAX_RX_CAPACITY, MAX_TX_CAPACITY};
 use can_frame::{IfaceSet, Names};
 use can_rules::Plan;
 use canbusd_faults::Failure;
@@ -56,12 +56,12 @@ fn first_ifaces(count: u8) -> IfaceSet
     IfaceSet(((1_u32 << count) - 1) as u16)
 }
 
-/// Which option is past its limits.
-pub fn limits_note(alloc: Global, settings: &BusSettings) -> Result<String, AllocError> {
+/// Which option is past its limits, where `--limit` is at most this.
+pub fn limits_note(alloc: Global, settings: &BusSettings, most: u32) -> Result<String, AllocError> {
     let limits = [
         ("txqueue", settings.tx_capacity, 1, MAX_TX_CAPACITY),
         ("rxqueue", settings.rx_capacity, 1, MAX_RX_CAPACITY),
-        ("limit", settings.limit, 1, MAX_LIMIT),
+        ("limit", settings.limit, 1, most),
         ("auto-restart", settings.auto_restart, 0, MAX_AUTO_RESTART),
     ];
     for (option, number, least, most) in limits {

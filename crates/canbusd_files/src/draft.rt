@@ -7,6 +7,9 @@ use std::io::Error;
 use std::rt::Files;
 use std::{fs, io};
 
+/// The most bytes of a record's text that has no entry and no end: its first two lines.
+const MOST_OF_FRONT: u64 = 61;
+
 /// A file, and where it is written: beside it with `.new` after the name. Where something is there that is no
 /// plain file, as a device or a folder, it is written in place.
 #[derive(Drop)]
@@ -39,6 +42,14 @@ impl Draft {
         Ok(Draft { path, draft })
     }
 
+    /// The same file.
+    pub fn copy(&self, alloc: Global) -> Result<Draft, AllocError> {
+        Ok(Draft {
+            path: String::from_str(alloc, &self.path)?,
+            draft: String::from_str(alloc, &self.draft)?,
+        })
+    }
+
     /// The file's name.
     pub fn path(&self) -> &str {
         &self.path
@@ -55,6 +66,28 @@ impl Draft {
         if self.is_apart() {
             let _ = fs::remove_file(rt, &self.draft);
         }
+    }
+
+    /// Gives a record that is there where the file is to be written the file's name with `.cut` after it, if it has more
+    /// than its first lines, and removes what else is there, unless the file is written in place. Returns the path, if
+    /// there was such a record. A start that failed leaves first lines, which must not take the place of what a run that
+    /// was killed has left.
+    pub fn set_aside<H: Files>(&self, rt: &H, alloc: Global) -> io::Result<Option<String>> {
+        if !self.is_apart() {
+            return Ok(None);
+        }
+        let is_record = match fs::symlink_metadata(rt, &self.draft) {
+            Ok(found) => found.is_file() && found.len() > MOST_OF_FRONT,
+            Err(_) => false,
+        };
+        if !is_record {
+            self.clear(rt);
+            return Ok(None);
+        }
+        let path = &self.path;
+        let aside = format!(in alloc; "{path}.cut")?;
+        fs::rename(rt, &self.draft, &aside)?;
+        Ok(Some(aside))
     }
 
     /// Makes the file where it is to be written, and removes it again, unless it is written in place.

@@ -9,10 +9,13 @@ mod buses;
 mod draft;
 mod few_reads;
 mod files;
+mod live;
+mod live_file;
 mod names;
 mod rule_notes;
 mod saved;
 mod scripts;
+mod whole_lines;
 
 pub use buses::{bus_config, limits_note, read_plan};
 pub use draft::Draft;
@@ -20,6 +23,7 @@ pub use few_reads::FewReads;
 pub use files::{
     INPUT, OUTPUT, open_file, read_failure, read_file, read_text, utf8_note, write_failure,
 };
+pub use live::{LiveLog, LiveRecord, set_aside};
 pub use names::{has_name, read_names};
 pub use rule_notes::rule_note;
 pub use saved::{save_log, save_log_at, save_record, save_record_at, without};

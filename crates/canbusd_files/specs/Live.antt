@@ -1,0 +1,34 @@
+use Rattle.std.specs.Prelude.{◌≡◌, ℕ, List, [], Option, Some, None, Result, Ok, Err}
+use Rattle.std.specs.Io.Buffered.{writer_buffer, writer_contents, writer_inner}
+use Rattle.std.specs.Io.KnownBytes.{Appends, Keeps}
+use Rattle.std.specs.declared.io.buffered.BufWriter.{BufWriter}
+use Rattle.std.specs.declared.alloc.Global.{Global}
+use Rattle.canbusd_files.specs.declared.whole_lines.WholeLines.{WholeLines}
+
+-- Files that are written while a server runs. Contracts see where their lines go, which is nowhere once a file is over.
+
+-- what a writer that counts whole lines took
+abbrev pub whole_contents : {F : Type 0} → (F → Option (List ℕ)) → BufWriter (WholeLines F) Global → Option (List ℕ)
+whole_contents contents w = writer_contents (λ (lines : WholeLines _). contents lines.inner) w
+
+-- a file has nothing but what was there before
+abbrev pub Begins : {W : Type 0} → (W → Option (List ℕ)) → Option (List ℕ) → Option W → Type 0
+Begins contents before None = ⊥
+Begins contents before (Some new) = contents new ≡ before
+
+-- a file that is over stays so, and any other has what it had
+abbrev pub Stays : {W : Type 0} → (W → Option (List ℕ)) → Option W → Option W → Type 0
+Stays contents None new = new ≡ None
+Stays contents (Some old) None = ⊥
+Stays contents (Some old) (Some new) = Keeps (contents old) (contents new)
+
+-- a file that is not over has this text after what it had
+abbrev pub Gets : {W : Type 0} → (W → Option (List ℕ)) → Option W → Option W → List ℕ → Type 0
+Gets contents None new text = new ≡ None
+Gets contents (Some old) None text = ⊥
+Gets contents (Some old) (Some new) text = Appends (contents old) (contents new) text
+
+-- a file gets a text, or there is a fault and it is over
+abbrev pub Takes : {W A E : Type 0} → (W → Option (List ℕ)) → Option W → Option W → List ℕ → Result A E → Type 0
+Takes contents old new text (Ok u) = Gets contents old new text
+Takes contents old new text (Err why) = new ≡ None

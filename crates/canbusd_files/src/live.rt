@@ -1,0 +1,238 @@
+//! The record and the log of a bus that are written while a server runs.
+ghost use Rattle.std.specs.Prelude.{◌≡◌, ◌++◌, [], None, All, IsOk, IsSome, OnErr, OnOk, reverse};
+ghost use Rattle.can_logfile.specs.Log.{joined, log_lines};
+ghost use Rattle.can_record_text.specs.Spelling.{end_words, entry_lines, front_lines, spell};
+ghost use Rattle.can_record_text.specs.declared.version.Version.TheVariants as version;
+ghost use Rattle.can_record_text.specs.inner.Stored.{HasFittingReply};
+ghost use Rattle.canbusd_files.specs.Live.{Stays, Takes, whole_contents};
+
+use crate::draft::Draft;
+use crate::live_file::{FileOver, LiveFile, look_at_lock, make};
+use can_bus::BusConfig;
+use can_frame::Names;
+use can_logfile::write_entries;
+use can_record::PackedRecord;
+use can_record_text::{write_block, write_end, write_front};
+use canbusd_faults::{Failure, Fault, Shown, reason_note};
+use std::alloc::{AllocError, Global};
+use std::fs::{File, OpenFile};
+use std::io;
+use std::io::{ErrorKind, Write};
+use std::rt::Files;
+
+/// The record of a bus, which gets the lines of its entries while a server runs. It is written as a draft, and gets its
+/// name once it is whole.
+#[derive(Drop)]
+pub struct LiveRecord<F: Write + OpenFile + Drop> {
+    draft: Draft,
+    pub file: LiveFile<F>,
+}
+
+impl LiveRecord<File> {
+    /// The record of a bus with this configuration, whose first two lines are in its file.
+    pub fn new<H: Files<File = File>>(
+        rt: &H,
+        alloc: Global,
+        draft: &Draft,
+        config: BusConfig,
+        is_synced: bool,
+    ) -> io::Result<LiveRecord<File>> {
+        let path = String::from_str(alloc, draft.draft())?;
+        let file = make(rt, &path)?;
+        let file = LiveFile::new(alloc, path, file, is_synced)?;
+        let mut record = LiveRecord {
+            draft: draft.copy(alloc)?,
+            file,
+        };
+        record.begin(alloc, config)?;
+        Ok(record)
+    }
+}
+
+impl<F: Write + OpenFile + Drop> LiveRecord<F> {
+    /// Where it is written.
+    pub fn path(&self) -> &str {
+        &self.file.path
+    }
+
+    // Writes the first two lines.
+    fn begin(&mut self, alloc: Global, config: BusConfig) -> io::Result<()>
+        ensures { Takes (whole_contents F.contents) self.old.file.out self.new.file.out
+            (front_lines version.Four config []) result }
+    {
+        let Some(out) = &mut self.file.out else {
+            return Ok(());
+        };
+        let put = write_front(alloc, config, out);
+        self.file.settle(put).map_err(|over| over.why)
+    }
+
+    /// Writes the lines of the entries that come next. A fault ends the file, and is reported once.
+    pub fn keep(&mut self, alloc: Global, entries: &PackedRecord) -> Result<(), Failure<'static>>
+        requires { All HasFittingReply entries.now.entries }
+        ensures { Takes (whole_contents F.contents) self.old.file.out self.new.file.out
+            (entry_lines entries.now.entries []) result }
+    {
+        let Some(out) = &mut self.file.out else {
+            return Ok(());
+        };
+        let put = write_block(alloc, entries, out).map_err(|torn| torn.why);
+        self.settle(alloc, put)
+    }
+
+    /// Writes the lines of the last entries and the line of the end, after which there are this many entries, and gives
+    /// the file its name. A file that is over gets neither.
+    pub fn finish<H: Files>(
+        mut self,
+        rt: &H,
+        alloc: Global,
+        entries: &PackedRecord,
+        count: u64,
+    ) -> Result<(), Failure<'static>>
+        requires { All HasFittingReply entries.now.entries }
+    {
+        self.end(alloc, entries, count)?;
+        if self.file.out.is_none() {
+            return Ok(());
+        }
+        self.take_name(rt, alloc)
+    }
+
+    // Writes the lines of the last entries and the line of the end.
+    fn end(
+        &mut self,
+        alloc: Global,
+        entries: &PackedRecord,
+        count: u64,
+    ) -> Result<(), Failure<'static>>
+        requires { All HasFittingReply entries.now.entries }
+        ensures { Takes (whole_contents F.contents) self.old.file.out self.new.file.out
+            (entry_lines entries.now.entries [] ++ spell (end_words count) []) result }
+    {
+        self.keep(alloc, entries)?;
+        let Some(out) = &mut self.file.out else {
+            return Ok(());
+        };
+        let put = write_end(alloc, count, out);
+        self.settle(alloc, put)
+    }
+
+    // Gives the file its name, which no file has that is over.
+    fn take_name<H: Files>(&self, rt: &H, alloc: Global) -> Result<(), Failure<'static>>
+        requires { IsSome self.now.file.out }
+    {
+        self.draft.take_name(rt).map_err(|error| {
+            Failure::with(
+                alloc,
+                Fault::Write,
+                reason_note(alloc, self.draft.path(), &error),
+            )
+        })
+    }
+
+    fn settle(&mut self, alloc: Global, put: io::Result<()>) -> Result<(), Failure<'static>>
+        ensures put { OnOk result (IsOk put) }
+        ensures stays { OnOk result
+            (Stays (whole_contents F.contents) self.old.file.out self.new.file.out) }
+        ensures over { OnErr result (self.new.file.out ≡ None) }
+    {
+        match self.file.settle(put) {
+            Ok(()) => Ok(()),
+            Err(over) => Err(record_failure(alloc, &self.file.path, &over)),
+        }
+    }
+}
+
+fn record_failure(alloc: Global, path: &str, over: &FileOver) -> Failure<'static> {
+    let failure = Failure::with(alloc, Fault::Write, reason_note(alloc, path, &over.why));
+    match entries_note(alloc, over.whole_lines.saturating_sub(2)) {
+        Ok(note) => failure.and(&note),
+        Err(_) => failure,
+    }
+}
+
+fn entries_note(alloc: Global, entries: u64) -> Result<String, AllocError> {
+    format!(in alloc; "  it has the first {entries} entries, and no end\n")
+}
+
+/// The log of a bus, which gets the lines of its tried frames while a server runs.
+#[derive(Drop)]
+pub struct LiveLog<F: Write + OpenFile + Drop> {
+    pub names: Names,
+    pub file: LiveFile<F>,
+}
+
+impl LiveLog<File> {
+    /// The log with this path of a bus with these names, which has no line.
+    pub fn new<H: Files<File = File>>(
+        rt: &H,
+        alloc: Global,
+        path: &str,
+        names: Names,
+        is_synced: bool,
+    ) -> io::Result<LiveLog<File>> {
+        let file = make(rt, path)?;
+        let path = String::from_str(alloc, path)?;
+        Ok(LiveLog {
+            names,
+            file: LiveFile::new(alloc, path, file, is_synced)?,
+        })
+    }
+}
+
+impl<F: Write + OpenFile + Drop> LiveLog<F> {
+    /// Where it is written.
+    pub fn path(&self) -> &str {
+        &self.file.path
+    }
+
+    /// Writes the lines of the entries that come next. A fault ends the file, and is reported once; the log is called by
+    /// this name.
+    pub fn keep<'a>(
+        &mut self,
+        alloc: Global,
+        name: &'a str,
+        entries: &PackedRecord,
+    ) -> Result<(), Failure<'a>>
+        ensures lines { Takes (whole_contents F.contents) self.old.file.out self.new.file.out
+            (joined (log_lines self.old.names (reverse entries.now.entries))) result }
+        ensures names { self.new.names ≡ self.old.names }
+    {
+        let Some(out) = &mut self.file.out else {
+            return Ok(());
+        };
+        let put = match write_entries(&self.names, entries, out) {
+            Ok(_) => Ok(()),
+            Err(_) => Err(ErrorKind::WriteZero.into()),
+        };
+        match self.file.settle(put) {
+            Ok(()) => Ok(()),
+            Err(over) => Err(log_failure(alloc, name, &self.file.path, &over)),
+        }
+    }
+}
+
+fn log_failure<'a>(alloc: Global, name: &'a str, path: &str, over: &FileOver) -> Failure<'a> {
+    let whole_lines = over.whole_lines;
+    let notes = reason_note(alloc, path, &over.why);
+    Failure::with(alloc, Fault::Log { name, whole_lines }, notes)
+}
+
+/// What a run that was cut off left as the draft of a record gets another name: a note of that, if there was something. A
+/// fault where another server writes it.
+pub fn set_aside<H: Files<File = File>>(
+    rt: &H,
+    alloc: Global,
+    draft: &Draft,
+) -> io::Result<Option<String>> {
+    look_at_lock(rt, draft.draft())?;
+    match draft.set_aside(rt, alloc)? {
+        Some(aside) => Ok(Some(aside_note(alloc, draft.draft(), &aside)?)),
+        None => Ok(None),
+    }
+}
+
+fn aside_note(alloc: Global, draft: &str, aside: &str) -> Result<String, AllocError> {
+    let (draft, aside) = (Shown::whole(draft), Shown::whole(aside));
+    format!(in alloc; "note: {draft} of a run that was cut off is {aside} now\n")
+}

@@ -1,0 +1,73 @@
+//! A writer that counts the whole lines that went out, for a file that is cut to them after a fault.
+ghost use Rattle.std.specs.Prelude.{◌≡◌};
+
+use can_frame::count_of;
+use std::io;
+use std::io::{Error, Write};
+
+/// A writer, and how many whole lines it took.
+#[derive(Drop)]
+pub struct WholeLines<F: Write + Drop> {
+    pub inner: F,
+    /// How many lines it took to their ends, and how many bytes these have.
+    pub lines: u64,
+    pub bytes: u64,
+    /// How many bytes it took after the last of them.
+    pub torn: u64,
+    /// The fault of its last write, if there was one.
+    pub why: Option<Error>,
+}
+
+impl<F: Write + Drop> WholeLines<F> {
+    /// A writer that took nothing yet.
+    pub fn new(inner: F) -> WholeLines<F>
+        ensures { result.inner ≡ inner }
+    {
+        WholeLines {
+            inner,
+            lines: 0,
+            bytes: 0,
+            torn: 0,
+            why: None,
+        }
+    }
+
+    // It took these bytes.
+    fn count(&mut self, taken: &[u8])
+        ensures { self.new.inner ≡ self.old.inner }
+    {
+        let len = taken.len() as u64;
+        let ends = count_of(taken, b'\n') as u64;
+        self.lines = self.lines.saturating_add(ends);
+        match taken.iter().rposition(|byte| *byte == b'\n') {
+            Some(place) => {
+                let whole = (place as u64).saturating_add(1);
+                self.bytes = self.bytes.saturating_add(self.torn).saturating_add(whole);
+                self.torn = len.saturating_sub(whole);
+            }
+            None => self.torn = self.torn.saturating_add(len),
+        }
+    }
+}
+
+impl<F: Write + Drop> Write for WholeLines<F> {
+    ghost contents = { λ w. F.contents w.inner };
+
+    fn write(&mut self, buf: &[u8]) -> io::Result<usize> {
+        match self.inner.write(buf) {
+            Ok(taken) => {
+                self.count(&buf[..taken]);
+                Ok(taken)
+            }
+            Err(error) => {
+                let kind = error.kind();
+                self.why = Some(error);
+                Err(Error::from(kind))
+            }
+        }
+    }
+
+    fn flush(&mut self) -> io::Result<()> {
+        self.inner.flush()
+    }
+}
