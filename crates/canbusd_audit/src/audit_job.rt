@@ -24,7 +24,8 @@ pub fn audit_files<'a, H: Files, W: Write, E: Write>(
 ) -> Result<(), Failure<'a>>
     ensures legal { OnOk result (AuditsFiles options.now.is_cut W.contents output.old output.new) }
     ensures fault { IfErr result (λ failure.
-        FaultsFiles options.now.is_cut (map (λ file. file.now) options.now.files.items) failure.fault) }
+        FaultsFiles options.now.is_cut (map (λ file. file.now) options.now.files.items)
+        failure.fault) }
 {
     let files = open_files(rt, alloc, &options.files)?;
     let Ok(name) = joined_name(alloc, &options.files) else {
@@ -99,7 +100,8 @@ pub fn audit_cut_lines<'a, R: BufRead, W: Write, E: Write>(
     output: &mut W,
     errors: &mut E,
 ) -> Result<(), Failure<'a>>
-    ensures legal { OnOk result (AuditsCut (R.remaining input.old) W.contents output.old output.new) }
+    ensures legal { OnOk result
+        (AuditsCut (R.remaining input.old) W.contents output.old output.new) }
     ensures fault { IfErr result (λ failure. FaultsCut (R.remaining input.old) failure.fault) }
 {
     let mut audit = TextAudit::new(alloc);

@@ -47,7 +47,8 @@ pub fn tell_cut<'a, W: Write, E: Write>(
     errors: &mut E,
 ) -> Result<(), Failure<'a>>
     requires { IfErr found HasNote }
-    ensures legal { OnOk result (IsCutWritten found (W.contents output.old) (W.contents output.new)) }
+    ensures legal { OnOk result
+        (IsCutWritten found (W.contents output.old) (W.contents output.new)) }
     ensures fault { IfErr result (λ failure. IsTold found failure.fault) }
 {
     match found {
@@ -66,7 +67,8 @@ fn tell_off<'a, W: Write, E: Write>(
     output: &mut W,
     errors: &mut E,
 ) -> Result<(), Failure<'a>>
-    ensures legal { OnOk result (Appends (W.contents output.old) (W.contents output.new) (cut_line count)) }
+    ensures legal { OnOk result
+        (Appends (W.contents output.old) (W.contents output.new) (cut_line count)) }
     ensures fault { IfErr result (λ failure. failure.fault ≡ told.Write) }
 {
     if !torn.is_empty() {
