@@ -1,26 +1,24 @@
-use Rattle.std.proofs.Common.{◌≡◌, ◌+◌, ◌<◌, ℕ, suc, take, get_or, slice_get, List, [], ◌∷◌, ◌++◌, length, All, Vec, Option, IsSomeAnd, Result, Ok, Err, Bool, false, IfErr, IsErrAnd, OnOk, IsTrue, inl, inr, refl, ap, ◌∙◌, sym, subst, arith, rules}
+use Rattle.std.proofs.Common.{◌≡◌, ◌+◌, ◌<◌, ℕ, suc, take, get_or, slice_get, List, [], ◌∷◌, ◌++◌, length, All, Vec, Option, IsSomeAnd, Result, Ok, Err, IfErr, IsErrAnd, inl, refl, ap, ◌∙◌, sym, subst, arith}
 use Rattle.std.proofs.lemmas.List.{take_more}
 use Rattle.std.proofs.lemmas.List.Elements.{All-cons}
 use Rattle.std.proofs.lemmas.Option.{slice_get-get_or}
 use Rattle.can_frame.specs.Names.{AreNames, names_in}
 use Rattle.can_station.specs.declared.gate.Open.{Open}
-use Rattle.can_record.specs.Journal.{Kept}
+use Rattle.can_record.specs.Journal.{Journal}
 use Rattle.can_station.specs.declared.pass.Settled.{Settled}
 use Rattle.can_station.specs.Passes.{PassSeen}
 use Rattle.can_hub.specs.declared.bench.Bench.{Bench}
-use Rattle.can_bus.specs.declared.bus.BusFault.{BusFault}
-use Rattle.can_bus.specs.declared.bus.BusFault.TheVariants.{BadConfig, NoMemory}
-use Rattle.can_hub.specs.Benches.{MakeHub, buses_from}
-use Rattle.can_hub.specs.Settling.{AllConfigured, AllSettle}
+use Rattle.can_hub.specs.Benches.{buses_from}
+use Rattle.can_hub.specs.Buses.{BusSeen}
+use Rattle.can_hub.specs.Settling.{AllConfigured, AllSettleIn}
 use Rattle.std.specs.List.{AllZip}
 use Rattle.canbusd_files.specs.Buses.{config_of}
 use Rattle.canbusd_faults.specs.declared.fault.Failure.{Failure}
 use Rattle.canbusd_faults.specs.declared.fault.Fault.{Fault}
-use Rattle.canbusd_faults.specs.declared.fault.Fault.TheVariants as fault
 use Rattle.canbusd_options.specs.declared.bus_word.BusWord.{BusWord}
 use Rattle.can_fault.specs.declared.fault_source.Perfect.{Perfect}
 use Rattle.canbusd_options.specs.declared.serve_options.ServeOptions.{ServeOptions}
-use Rattle.canbusd_serve.specs.Served.{AreAllBenches, AreBenches, AreConfigured, IsBenchOf, IsLegalEnd, IsOfBus, IsOfBuses, IsOfHub, IsOfServer, IsOfServing, MakeBenches}
+use Rattle.canbusd_serve.specs.Served.{AreAllBenches, AreBenches, AreConfigured, AreEnds, IsBenchOf, IsLegalEnd, IsOfBus, IsOfBuses, IsOfServer, IsServed, MakeBenches, Serves, journals}
 
 -- The buses of a server, one after the other.
 
@@ -69,56 +67,53 @@ buses-length n [] = refl
 buses-length n (b ∷ more) = ap suc (buses-length (suc n) more)
 
 -- what is settled is one for each list of passes
-pub settles-length : {A : Type 0} (passes : List (Vec PassSeen A)) (ends : List (Settled Kept)) → AllSettle passes ends → length ends ≡ length passes
-settles-length [] [] all = refl
-settles-length (p ∷ ps) (s ∷ ss) all = ap suc (settles-length ps ss all.1)
-settles-length [] (s ∷ ss) all = absurd all
-settles-length (p ∷ ps) [] all = absurd all
+settles-length : {A L : Type 0} (left : L → Journal) (passes : List (Vec PassSeen A)) (ends : List (Settled L)) → AllSettleIn left passes ends → length (journals left ends) ≡ length passes
+settles-length left [] [] all = refl
+settles-length left (p ∷ ps) (s ∷ ss) all = ap suc (settles-length left ps ss all.1)
+settles-length left [] (s ∷ ss) all = absurd all
+settles-length left (p ∷ ps) [] all = absurd all
 
--- and its records are of legal histories
-pub settles-legal : {A : Type 0} (passes : List (Vec PassSeen A)) (ends : List (Settled Kept)) → AllSettle passes ends → All (λ s. IsLegalEnd s) ends
-settles-legal [] [] all = λ k d low. absurd (omega arith)
-settles-legal (p ∷ ps) (s ∷ ss) all = All-cons (λ s. IsLegalEnd s) s ss all.0.legal (settles-legal ps ss all.1)
-settles-legal [] (s ∷ ss) all = absurd all
-settles-legal (p ∷ ps) [] all = absurd all
+-- and its histories are legal
+settles-legal : {A L : Type 0} (left : L → Journal) (passes : List (Vec PassSeen A)) (ends : List (Settled L)) → AllSettleIn left passes ends → All (λ j. IsLegalEnd j) (journals left ends)
+settles-legal left [] [] all = λ k d low. absurd (omega arith)
+settles-legal left (p ∷ ps) (s ∷ ss) all = All-cons (λ j. IsLegalEnd j) (left s.history) (journals left ss) all.0.legal (settles-legal left ps ss all.1)
+settles-legal left [] (s ∷ ss) all = absurd all
+settles-legal left (p ∷ ps) [] all = absurd all
 
 -- and have the configurations of the benches
-pub settles-configured : {F G : Type 0} (n : ℕ) (benches : List (Bench F G)) (ends : List (Settled Kept)) → AllConfigured (buses_from n benches) ends → AllZip (λ b s. s.history.config ≡ b.config) benches ends
-settles-configured n [] [] all = tt
-settles-configured n (b ∷ bs) (s ∷ ss) all = (all.0, settles-configured (suc n) bs ss all.1)
-settles-configured n [] (s ∷ ss) all = absurd all
-settles-configured n (b ∷ bs) [] all = absurd all
+settles-configured : {F G L : Type 0} (left : L → Journal) (n : ℕ) (benches : List (Bench F G)) (ends : List (Settled L)) → AllConfigured left (buses_from n benches) ends → AllZip (λ b j. j.config ≡ b.config) benches (journals left ends)
+settles-configured left n [] [] all = tt
+settles-configured left n (b ∷ bs) (s ∷ ss) all = (all.0, settles-configured left (suc n) bs ss all.1)
+settles-configured left n [] (s ∷ ss) all = absurd all
+settles-configured left n (b ∷ bs) [] all = absurd all
 
--- which are those that the words and the options give
-pub served-configured : (o : ServeOptions) (buses : List BusWord) (benches : List (Bench Perfect Open)) (ends : List (Settled Kept)) → AreBenches o buses benches → AllZip (λ b s. s.history.config ≡ b.config) benches ends → AreConfigured o buses ends
+-- so they are what the buses of a hub leave
+pub settles-ends : {A L : Type 0} (left : L → Journal) (benches : List (Bench Perfect Open)) (hub : List BusSeen) (passes : List (Vec PassSeen A)) (ends : List (Settled L)) → hub ≡ buses_from 0 benches → length passes ≡ length hub → AllSettleIn left passes ends → AllConfigured left hub ends → AreEnds benches (journals left ends)
+settles-ends left benches hub passes ends made each settled configured = record {
+  each = settles-length left passes ends settled ∙ each ∙ ap length made ∙ buses-length 0 benches;
+  legal = settles-legal left passes ends settled;
+  configured = settles-configured left 0 benches ends (subst (λ (buses : List BusSeen). AllConfigured left buses ends) made configured);
+}
+
+-- which are of the configurations that the words and the options give
+served-configured : (o : ServeOptions) (buses : List BusWord) (benches : List (Bench Perfect Open)) (ends : List Journal) → AreBenches o buses benches → AllZip (λ b j. j.config ≡ b.config) benches ends → AreConfigured o buses ends
 served-configured o [] [] [] are all = tt
-served-configured o (x ∷ xs) (b ∷ bs) (s ∷ ss) are all =
-    (all.0 ∙ are.0.config ∙ ap (λ (ns : List (List ℕ)). config_of o.settings (length ns)) are.0.names, served-configured o xs bs ss are.1 all.1)
+served-configured o (x ∷ xs) (b ∷ bs) (j ∷ js) are all =
+    (all.0 ∙ are.0.config ∙ ap (λ (ns : List (List ℕ)). config_of o.settings (length ns)) are.0.names, served-configured o xs bs js are.1 all.1)
 served-configured o [] (b ∷ bs) ends are all = absurd are
 served-configured o (x ∷ xs) [] ends are all = absurd are
-served-configured o [] [] (s ∷ ss) are all = absurd all
+served-configured o [] [] (j ∷ js) are all = absurd all
 served-configured o (x ∷ xs) (b ∷ bs) [] are all = absurd all
 
--- if nothing was reported, the outcome was good
-pub not-told : {A E : Type 0} (P : Type 0) (r : Result A E) (told : Bool) → IfErr r (λ _. IsTrue told) → OnOk r P → told ≡ false → P
-not-told P (Ok a) told if_bad if_good quiet = if_good
-not-told P (Err e) told if_bad if_good quiet = absurd (search rules)
-
--- no hub was made of these buses
-pub hub-fails : (benches : List (Bench Perfect Open)) (found : BusFault) (why : Fault) → why ≡ fault.Buses found → (found ≡ BadConfig → MakeHub benches → ⊥) → IsOfHub benches why
-hub-fails benches BadConfig why is bad = subst (IsOfHub benches) (sym is) (bad refl)
-hub-fails benches NoMemory why is bad = subst (IsOfHub benches) (sym is) tt
-
--- a hub was not served to its end
-pub serving-fails : (benches : List (Bench Perfect Open)) (why : Fault) → IsOfServing why → IsOfHub benches why
-serving-fails benches (fault.Buses found) is = absurd is
-serving-fails benches why is = is
-
--- and the fault is passed on
-pub serving-passed : {T : Type 0} (benches : List (Bench Perfect Open)) (failure : Failure) (r : Result T Failure) → IsOfServing failure.fault → IsErrAnd r (λ x. x ≡ failure) → IfErr r (λ x. IsOfHub benches x.fault)
-serving-passed benches failure (Ok t) is passed = tt
-serving-passed benches failure (Err x) is passed = serving-fails benches x.fault (subst (λ (f : Failure). IsOfServing f.fault) (sym passed) is)
-
-pub hub-passed : {T : Type 0} (o : ServeOptions) (benches : List (Bench Perfect Open)) (failure : Failure) (r : Result T Failure) → AreAllBenches o benches → IsOfHub benches failure.fault → IsErrAnd r (λ x. x ≡ failure) → IfErr r (λ x. IsOfServer o x.fault)
-hub-passed o benches failure (Ok t) are is passed = tt
-hub-passed o benches failure (Err x) are is passed = inr (inr (benches, are, subst (λ (f : Failure). IsOfHub benches f.fault) (sym passed) is))
+-- a server of the buses that its options describe
+pub serves-all : {W : Type 0} (contents : W → Option (List ℕ)) (o : ServeOptions) (benches : List (Bench Perfect Open)) (old new : W) → AreAllBenches o benches → Serves contents o benches old new → IsServed contents o old new
+serves-all contents o benches old new are serves = record {
+  named = benches-named o o.buses.items benches are;
+  ends = serves.ends;
+  each = serves.are.each ∙ benches-length o o.buses.items benches are;
+  configured = served-configured o o.buses.items benches serves.ends are serves.are.configured;
+  legal = serves.are.legal;
+  heard = serves.heard;
+  address = serves.address;
+  wrote = serves.wrote;
+}

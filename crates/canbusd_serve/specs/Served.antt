@@ -1,16 +1,21 @@
-use Rattle.std.specs.Prelude.{◌≡◌, ◌⊎◌, ℕ, List, [], ◌∷◌, ◌++◌, length, All, Option, IsSomeAnd, codes, decimal, slice_get, take}
+use Rattle.std.specs.Prelude.{◌≡◌, ◌⊎◌, ℕ, List, [], ◌∷◌, ◌++◌, length, map, All, Option, IsSomeAnd, codes, decimal, slice_get, take}
 use Rattle.std.specs.List.{AllZip}
 use Rattle.std.specs.Io.KnownBytes.{Appends}
 use Rattle.can_frame.specs.Names.{AreNames, names_in}
 use Rattle.can_bus.specs.Legal.{IsLegal}
 use Rattle.can_station.specs.declared.gate.Open.{Open}
-use Rattle.can_record.specs.Journal.{Kept}
+use Rattle.can_event.specs.declared.bus_config.BusConfig.{BusConfig}
+use Rattle.can_event.specs.Events.{IsConfig}
+use Rattle.can_record.specs.Journal.{Journal, Kept}
 use Rattle.can_station.specs.declared.pass.Settled.{Settled}
 use Rattle.can_bus.specs.declared.bus.BusFault.TheVariants.{BadConfig, NoMemory}
 use Rattle.can_hub.specs.declared.bench.Bench.{Bench}
-use Rattle.can_hub.specs.Benches.{MakeHub}
+use Rattle.can_hub.specs.Benches.{MakeHubWithin}
+use Rattle.can_hub.specs.HubBuses.{IsOfLongRuns}
 use Rattle.canbusd_options.specs.declared.bus_word.BusWord.{BusWord}
 use Rattle.can_fault.specs.declared.fault_source.Perfect.{Perfect}
+use Rattle.canbusd_options.specs.declared.recording.Recording.{Recording}
+use Rattle.canbusd_options.specs.declared.recording.Recording.TheVariants as recording
 use Rattle.canbusd_options.specs.declared.serve_options.ServeOptions.{ServeOptions}
 use Rattle.canbusd_files.specs.Buses.{IsPlan, config_of}
 use Rattle.canbusd_files.specs.Files.{IsOfNames, IsOfPlan}
@@ -56,11 +61,18 @@ IsOfServing fault.Write = Unit {0}
 IsOfServing fault.NoMemory = Unit {0}
 IsOfServing why = ⊥
 
--- a fault of a server with these buses: no hub can be made of them, or memory for it was refused; or of serving
-abbrev pub IsOfHub : List (Bench Perfect Open) → Fault → Type 0
-IsOfHub benches (fault.Buses BadConfig) = MakeHub benches → ⊥
-IsOfHub benches (fault.Buses NoMemory) = Unit {0}
-IsOfHub benches why = IsOfServing why
+-- a fault of a server with these buses: no hub can be made of them whose configurations have these limits, or memory for it was
+-- refused; or of serving
+abbrev pub IsOfHub : (BusConfig → Type 0) → List (Bench Perfect Open) → Fault → Type 0
+IsOfHub limits benches (fault.Buses BadConfig) = MakeHubWithin limits benches → ⊥
+IsOfHub limits benches (fault.Buses NoMemory) = Unit {0}
+IsOfHub limits benches why = IsOfServing why
+
+-- the limits of a server's buses: those of a record, or of long runs
+abbrev pub limits_of : Recording → BusConfig → Type 0
+limits_of recording.AtEnd = IsConfig
+limits_of recording.Live = IsOfLongRuns
+limits_of recording.Never = IsOfLongRuns
 
 -- a fault of one of the buses of a server; those before it are what their words describe
 abbrev pub IsOfBuses : ServeOptions → Fault → Type 0
@@ -68,21 +80,21 @@ IsOfBuses o why = (i : ℕ) × MakeBenches o (take i o.buses.items) × IsSomeAnd
 
 -- a fault of a server: of one of its buses, of serving, or with the buses that its options describe
 abbrev pub IsOfServer : ServeOptions → Fault → Type 0
-IsOfServer o why = IsOfBuses o why ⊎ (IsOfServing why ⊎ ((benches : List (Bench Perfect Open)) × AreAllBenches o benches × IsOfHub benches why))
+IsOfServer o why = IsOfBuses o why ⊎ (IsOfServing why ⊎ ((benches : List (Bench Perfect Open)) × AreAllBenches o benches × IsOfHub (limits_of o.recording) benches why))
 
--- the record is of a legal history
-abbrev pub IsLegalEnd : Settled Kept → Type 0
-IsLegalEnd s = IsLegal s.history.config s.history.history
+-- the history is legal
+abbrev pub IsLegalEnd : Journal → Type 0
+IsLegalEnd j = IsLegal j.config j.history
 
--- the line of a bus at the end: its first name, and how many entries its record has
-abbrev pub end_line : BusWord → Settled Kept → List ℕ
-end_line bus s = codes "bus " ++ first_name_of bus.names.now ++ codes " entries " ++ decimal (length s.history.history) ++ 10 ∷ []
+-- the line of a bus at the end: its first name, and how many entries it had
+abbrev pub end_line : BusWord → Journal → List ℕ
+end_line bus j = codes "bus " ++ first_name_of bus.names.now ++ codes " entries " ++ decimal (length j.history) ++ 10 ∷ []
 
 -- the lines of all buses
-abbrev pub end_lines : List BusWord → List (Settled Kept) → List ℕ
-end_lines [] settled = []
+abbrev pub end_lines : List BusWord → List Journal → List ℕ
+end_lines [] ends = []
 end_lines (bus ∷ buses) [] = []
-end_lines (bus ∷ buses) (s ∷ settled) = end_line bus s ++ end_lines buses settled
+end_lines (bus ∷ buses) (j ∷ ends) = end_line bus j ++ end_lines buses ends
 
 -- the line that says where a server listens
 abbrev pub listening_line : List ℕ → List ℕ
@@ -100,18 +112,40 @@ IsHeardAt address heard = LeavesPort address ⊎ (heard ≡ address)
 abbrev pub IsListening : {W : Type 0} → (W → Option (List ℕ)) → List ℕ → W → W → Type 0
 IsListening contents address old new = (heard : List ℕ) × IsHeardAt address heard × Appends (contents old) (contents new) (listening_line heard)
 
--- each bus leaves a record of the configuration that its word and the options give
-abbrev pub AreConfigured : ServeOptions → List BusWord → List (Settled Kept) → Type 0
-AreConfigured o buses settled = AllZip (λ bus s. s.history.config ≡ config_of o.settings (length (names_in bus.names.now))) buses settled
+-- each bus has the configuration that its word and the options give
+abbrev pub AreConfigured : ServeOptions → List BusWord → List Journal → Type 0
+AreConfigured o buses ends = AllZip (λ bus j. j.config ≡ config_of o.settings (length (names_in bus.names.now))) buses ends
 
--- a server reported where it listens, and at its end how many entries the record of each bus has, which is legal and of the
--- bus's configuration
-pub record IsServed {W : Type 0} (contents : W → Option (List ℕ)) (o : ServeOptions) (old new : W) : Type 0 where
-  pub named : All (λ bus. AreNames (names_in bus.names.now)) o.buses.items
-  pub settled : List (Settled Kept)
-  pub each : length settled ≡ length o.buses.items
-  pub configured : AreConfigured o o.buses.items settled
-  pub legal : All (λ s. IsLegalEnd s) settled
+-- what a record tells of its bus
+abbrev pub record_journal : Kept → Journal
+record_journal r = record { config = r.config; history = r.history }
+
+-- what is left of buses tells of these
+abbrev pub journals : {L : Type 0} → (L → Journal) → List (Settled L) → List Journal
+journals journal settled = map (λ s. journal s.history) settled
+
+-- each of these is the legal history of a bus with its configuration
+pub record AreEnds (benches : List (Bench Perfect Open)) (ends : List Journal) : Type 0 where
+  pub each : length ends ≡ length benches
+  pub legal : All (λ j. IsLegalEnd j) ends
+  pub configured : AllZip (λ b j. j.config ≡ b.config) benches ends
+
+-- a server of these buses reported where it listens, and at its end how many entries each of them had
+pub record Serves {W : Type 0} (contents : W → Option (List ℕ)) (o : ServeOptions) (benches : List (Bench Perfect Open)) (old new : W) : Type 0 where
+  pub ends : List Journal
+  pub are : AreEnds benches ends
   pub heard : List ℕ
   pub address : IsHeardAt o.address.now heard
-  pub wrote : Appends (contents old) (contents new) (listening_line heard ++ end_lines o.buses.items settled)
+  pub wrote : Appends (contents old) (contents new) (listening_line heard ++ end_lines o.buses.items ends)
+
+-- a server reported where it listens, and at its end how many entries each bus had, which are a legal history of the bus's
+-- configuration
+pub record IsServed {W : Type 0} (contents : W → Option (List ℕ)) (o : ServeOptions) (old new : W) : Type 0 where
+  pub named : All (λ bus. AreNames (names_in bus.names.now)) o.buses.items
+  pub ends : List Journal
+  pub each : length ends ≡ length o.buses.items
+  pub configured : AreConfigured o o.buses.items ends
+  pub legal : All (λ j. IsLegalEnd j) ends
+  pub heard : List ℕ
+  pub address : IsHeardAt o.address.now heard
+  pub wrote : Appends (contents old) (contents new) (listening_line heard ++ end_lines o.buses.items ends)

@@ -1,20 +1,26 @@
+use can_event::{MAX_LIMIT, MAX_LONG_LIMIT};
 use canbusd_files::{has_name, limits_note};
-use canbusd_options::{BusSettings, BusWord};
+use canbusd_options::{BusWord, Recording, ServeOptions};
 use std::alloc::{AllocError, Global};
 
 /// Why no server can have these buses.
-pub fn buses_note(
-    alloc: Global,
-    settings: &BusSettings,
-    buses: &[BusWord<'_>],
-) -> Result<String, AllocError> {
+pub fn buses_note(alloc: Global, options: &ServeOptions<'_>) -> Result<String, AllocError> {
+    let buses = options.buses.as_slice();
     let count = buses.len();
     if count > 16 {
         return format!(in alloc; "  {count} buses: a server has 1 to 16\n");
     }
     match shared_name(buses) {
         Some(name) => format!(in alloc; "  {name}: two buses have this name\n"),
-        None => limits_note(alloc, settings),
+        None => limits_note(alloc, &options.settings, most_limit(options.recording)),
+    }
+}
+
+// The highest limit of a bus.
+fn most_limit(recording: Recording) -> u32 {
+    match recording {
+        Recording::AtEnd => MAX_LIMIT,
+        Recording::Live | Recording::Never => MAX_LONG_LIMIT,
     }
 }
 

@@ -2,10 +2,11 @@
 ghost use Rattle.std.specs.Prelude.{◌≡◌, ◌-◌, ◌^◌, ◌/◌, min};
 ghost use Rattle.std.specs.Duration.{as_nanos};
 
-use crate::notices::notice_line;
+use crate::notices::{first_name_at, notice_line};
 use can_frame::Moment;
 use can_server::{Clock, Notice};
-use canbusd_options::BusWord;
+use canbusd_faults::{Failure, Shown};
+use canbusd_options::{Recording, ServeOptions};
 use std::alloc::Global;
 use std::io::Write;
 use std::sync::atomic::{AtomicBool, Ordering};
@@ -16,19 +17,19 @@ use std::time::Duration;
 /// The last moment, in microseconds.
 const LAST: u128 = 9_999_999_999_999_999;
 
+/// What is reported of a bus whose record is nearly full.
+const NEARLY_FULL: &str =
+    "the record is nine tenths full; serve --record live or --record none has no such end";
+
 /// The system's clock, and where it is reported that a bus came to its end before the server, and all else if that is
 /// asked for.
 #[derive(Drop)]
 pub struct Host<'h, 'a, 'l, H, E: Write> {
     pub rt: &'h H,
     pub alloc: Global,
-    /// Whether each notice gets a line.
-    pub is_verbose: bool,
-    /// The most bytes of items that a client gets in one write.
-    pub write_bytes: usize,
-    pub buses: &'h [BusWord<'a>],
+    pub options: &'h ServeOptions<'a>,
     pub errors: Mutex<&'h mut E>,
-    /// Whether a bus has lost its driver.
+    /// Whether a bus has lost its driver, or a file that is written while it is served.
     pub has_lost: &'l AtomicBool,
 }
 
@@ -42,16 +43,19 @@ impl<H: Wait + time::Clock, E: Write> Clock for Host<'_, '_, '_, H, E> {
     }
 
     fn is_curious(&self) -> bool {
-        self.is_verbose
+        self.options.is_verbose
     }
 
     fn write_bytes(&self) -> usize {
-        self.write_bytes
+        self.options.write_bytes as usize
     }
 
     fn tell(&self, notice: Notice) {
         self.put_line(&notice);
         match notice {
+            Notice::NearlyFull { bus } if self.options.recording == Recording::AtEnd => {
+                self.put("note", bus, NEARLY_FULL);
+            }
             Notice::Full { bus } => self.put("note", bus, "record full"),
             Notice::NoDriver { bus } => {
                 self.has_lost.store(true, Ordering::SeqCst);
@@ -62,25 +66,46 @@ impl<H: Wait + time::Clock, E: Write> Clock for Host<'_, '_, '_, H, E> {
     }
 }
 
-impl<H: Wait + time::Clock, E: Write> Host<'_, '_, '_, H, E> {
+impl<'a, H: Wait + time::Clock, E: Write> Host<'_, 'a, '_, H, E> {
     /// Writes the line of a notice, where each has one.
     fn put_line(&self, notice: &Notice) {
-        if !self.is_verbose {
+        if !self.options.is_verbose {
             return;
         }
-        if let Ok(line) = notice_line(self.alloc, self.now(), self.buses, *notice) {
+        let buses = &self.options.buses;
+        if let Ok(line) = notice_line(self.alloc, self.now(), buses, *notice) {
             let mut errors = self.errors.lock(self.rt);
             let _ = errors.write_all(line.as_bytes());
         }
     }
 
+    /// Reports that a file is over, if it is.
+    pub fn report(&self, kept: Result<(), Failure<'_>>) {
+        if let Err(failure) = kept {
+            self.has_lost.store(true, Ordering::SeqCst);
+            let mut errors = self.errors.lock(self.rt);
+            failure.tell(&mut **errors);
+        }
+    }
+
+    /// Reports that a bus waits for one of its files.
+    pub fn note_wait(&self, bus: usize, path: &str) {
+        let name = self.name_of(bus);
+        let path = Shown::whole(path);
+        let mut errors = self.errors.lock(self.rt);
+        let _ = writeln!(errors, "note: bus {name}: waits for {path}");
+    }
+
+    /// The name by which a bus is called, empty where there is none.
+    pub fn name_of(&self, bus: usize) -> &'a str {
+        first_name_at(&self.options.buses, bus)
+    }
+
     /// Writes what happened to a bus: a note, or a fault where the status will be 1.
     fn put(&self, kind: &str, bus: usize, what: &str) {
-        if let Some(bus) = self.buses.get(bus) {
-            let name = bus.first_name();
-            let mut errors = self.errors.lock(self.rt);
-            let _ = writeln!(errors, "{kind}: bus {name}: {what}");
-        }
+        let name = self.name_of(bus);
+        let mut errors = self.errors.lock(self.rt);
+        let _ = writeln!(errors, "{kind}: bus {name}: {what}");
     }
 }
 

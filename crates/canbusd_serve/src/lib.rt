@@ -6,8 +6,11 @@
 #![tactic(auto)]
 
 mod buses_notes;
+mod ends;
+mod file_keeper;
 mod host;
 mod listening;
+mod live_files;
 mod notices;
 mod serve_files;
 mod serve_job;

@@ -54,6 +54,11 @@ fn notice_text(alloc: Global, buses: &[BusWord<'_>], notice: Notice) -> Result<S
             name_at(buses, bus, iface),
             "restarted",
         ),
+        Notice::NearlyFull { bus } => bus_text(
+            alloc,
+            first_name_at(buses, bus),
+            "nine tenths full",
+        ),
         Notice::Full { bus } => bus_text(alloc, first_name_at(buses, bus), "record full"),
         Notice::NoDriver { bus } => bus_text(alloc, first_name_at(buses, bus), "no memory"),
     }
@@ -82,8 +87,8 @@ fn name_at<'a>(buses: &[BusWord<'a>], bus: usize, iface: Iface) -> &'a str {
     }
 }
 
-// The name by which a bus is called, empty where there is none.
-fn first_name_at<'a>(buses: &[BusWord<'a>], bus: usize) -> &'a str {
+/// The name by which a bus is called, empty where there is none.
+pub fn first_name_at<'a>(buses: &[BusWord<'a>], bus: usize) -> &'a str {
     match buses.get(bus) {
         Some(bus) => bus.first_name(),
         None => "",

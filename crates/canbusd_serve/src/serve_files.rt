@@ -5,35 +5,65 @@ ghost use Rattle.canbusd_serve.specs.Served.{IsOfServing};
 use can_bus::Record;
 use can_station::Settled;
 use canbusd_faults::{Failure, Fault, Telling, reason_note};
-use canbusd_files::{Draft, save_log_at, save_record_at};
+use canbusd_files::{Draft, save_log_at, save_record_at, set_aside};
 use canbusd_options::BusWord;
 use std::alloc::Global;
-use std::io::Write;
+use std::fs::File;
+use std::io::{Error, Write};
 use std::rt::Files;
 
-/// Looks whether the folder takes the record of the first bus. `CannotOpen`, with the folder, where it does not.
-pub fn look_at_folder<'a, H: Files>(
+/// Looks whether the folder takes the record of each bus. `CannotOpen`, with the folder, where it does not. What runs that
+/// were cut off left of records is set aside first, and reported.
+pub fn look_at_folder<'a, H: Files<File = File>, E: Write>(
     rt: &H,
     alloc: Global,
     folder: &'a str,
     buses: &[BusWord<'_>],
+    errors: &mut E,
 ) -> Result<(), Failure<'a>>
     ensures { IfErr result (λ failure. IsOfServing failure.fault) }
 {
-    let Some(bus) = buses.first() else {
-        return Ok(());
-    };
+    for bus in buses {
+        let draft = draft_of(rt, alloc, folder, bus, errors)?;
+        if let Err(error) = draft.look(rt) {
+            return Err(open_failure(alloc, folder, draft.path(), &error));
+        }
+    }
+    Ok(())
+}
+
+/// The record of a bus, which is to be written. What a run that was cut off left of it is set aside, and reported.
+pub fn draft_of<'a, H: Files<File = File>, E: Write>(
+    rt: &H,
+    alloc: Global,
+    folder: &'a str,
+    bus: &BusWord<'_>,
+    errors: &mut E,
+) -> Result<Draft, Failure<'a>>
+    ensures { IfErr result (λ failure. IsOfServing failure.fault) }
+{
     let Ok(draft) = Draft::new(rt, alloc, folder, bus.first_name(), "rec") else {
         return Err(Failure::new(alloc, Fault::NoMemory));
     };
-    match draft.look(rt) {
-        Ok(()) => Ok(()),
-        Err(error) => Err(Failure::with(
-            alloc,
-            Fault::CannotOpen(folder),
-            reason_note(alloc, draft.path(), &error),
-        )),
+    match set_aside(rt, alloc, &draft) {
+        Ok(Some(note)) => {
+            let _ = errors.write_all(note.as_bytes());
+        }
+        Ok(None) => {}
+        Err(error) => return Err(open_failure(alloc, folder, draft.draft(), &error)),
     }
+    Ok(draft)
+}
+
+/// How a folder is reported that does not take a file.
+pub fn open_failure<'a>(alloc: Global, folder: &'a str, path: &str, error: &Error) -> Failure<'a>
+    ensures { IsOfServing result.fault }
+{
+    Failure::with(
+        alloc,
+        Fault::CannotOpen(folder),
+        reason_note(alloc, path, error),
+    )
 }
 
 /// Writes the record and the log of each bus into a folder. A fault ends only its file.

@@ -1,24 +1,31 @@
-ghost use Rattle.std.specs.List.{AllZip};
-ghost use Rattle.std.specs.Prelude.{◌≡◌, length, All, IfErr, IfOk, IsTrue, OnOk};
+ghost use Rattle.std.specs.Prelude.{◌≡◌, false, length, IfErr, IfOk, IsTrue, OnOk};
+ghost use Rattle.can_bus.specs.Long.{journal_of};
+ghost use Rattle.can_event.specs.Events.{IsConfig};
 ghost use Rattle.can_hub.specs.Benches.{NamedFrom};
+ghost use Rattle.can_hub.specs.HubBuses.{IsOfLongRuns};
 ghost use Rattle.canbusd_faults.specs.declared.fault.Fault.TheVariants as fault;
 ghost use Rattle.canbusd_files.specs.Files.{Took};
-ghost use Rattle.canbusd_serve.specs.Served.{AreAllBenches, IsBenchOf, IsHeardAt, IsLegalEnd, IsListening, IsOfBus, IsOfHub, IsOfServer, IsOfServing, IsServed, end_line, end_lines, listening_line};
+ghost use Rattle.canbusd_serve.specs.LongRuns.{HasFiles, buses_in};
+ghost use Rattle.canbusd_serve.specs.Served.{AreAllBenches, AreEnds, IsBenchOf, IsHeardAt, IsListening, IsOfBus, IsOfHub, IsOfServer, IsOfServing, IsServed, Serves, journals, listening_line, record_journal};
 
 use crate::buses_notes::buses_note;
+use crate::ends::put_ends;
+use crate::file_keeper::FileKeeper;
 use crate::host::Host;
 use crate::listening::{Listening, leave, listen, listen_failure};
+use crate::live_files::{LiveFiles, finish_all, open_all};
+use crate::notices::first_name_at;
 use crate::serve_files::{look_at_folder, save_all};
-use can_bus::BusFault;
+use can_bus::{BusFault, LongEnd, TAIL_SIZE};
 use can_fault::Perfect;
 use can_meter::MeterName;
 use can_roll::RollName;
-use can_server::{Bench, Door, Hub, serve};
+use can_server::{Bench, Door, Hub, Scribe, serve, serve_long};
 use can_station::{Blanks, Open, Pass, Settled};
 use canbusd_faults::{Failure, Fault, Telling, fixed_note};
 use canbusd_files::{INPUT, OUTPUT, bus_config, read_names, read_plan, write_failure};
-use canbusd_options::{BusWord, ServeOptions};
-use std::alloc::Global;
+use canbusd_options::{BusWord, Recording, ServeOptions};
+use std::alloc::{AllocError, Global};
 use std::fs::File;
 use std::io::{ErrorKind, Read, Write};
 use std::marker::Brand;
@@ -29,7 +36,7 @@ use std::sync::atomic::{AtomicBool, Ordering};
 use std::sync::{Mutex, Wait};
 use std::thread;
 use std::thread::Threads;
-use std::time::Clock;
+use std::time::{Clock, Duration};
 
 /// What a server takes of the system: files, the clock, threads and sockets.
 pub trait ServerRuntime: Files<File = File>
@@ -73,16 +80,27 @@ pub fn run_serve<'a, H: ServerRuntime, R: Read + Drop + Send + 'static, W: Write
         has_lost: AtomicBool::new(false),
     };
     let benches = run.read_benches()?;
-    let settled = run.serve_named::<Brand, _, _, _>(benches, input, output, errors)?;
-    let mut telling = Telling::new(errors);
-    telling.pass_on(put_ends(alloc, &options.buses, &settled, output));
-    if let Some(folder) = options.folder {
-        save_all(rt, alloc, folder, &options.buses, &settled, &mut telling);
-    }
-    if run.has_lost.load(Ordering::SeqCst) {
-        return Ok(false);
-    }
-    Ok(!telling.has_told())
+    let has_told = match options.recording {
+        Recording::AtEnd => run.run_whole::<Brand, _, _, _>(benches, input, output, errors)?,
+        Recording::Live | Recording::Never => {
+            run.run_live::<Brand, _, _, _>(benches, input, output, errors)?
+        }
+    };
+    Ok(!has_told && !run.has_lost.load(Ordering::SeqCst))
+}
+
+// The buses that are served: of a hub that keeps their records, or of long runs.
+#[derive(Drop)]
+enum Served<'h, N: RollName + MeterName> {
+    Whole(&'h Hub<N, Perfect, Open>),
+    Long(&'h Hub<N, Perfect, Open, LongEnd>),
+}
+
+// What is there after serving: the passes of each bus, and in long runs its files.
+#[derive(Drop)]
+struct Run<N: RollName> {
+    passes: Vec<Vec<Pass<N>>>,
+    files: Vec<LiveFiles<File>>,
 }
 
 // What a server runs with.
@@ -91,7 +109,7 @@ struct ServerRun<'r, 'a, H: ServerRuntime> {
     rt: &'r H,
     alloc: Global,
     options: &'r ServeOptions<'a>,
-    // Whether a bus has lost its driver, which was reported.
+    // Whether a bus has lost its driver, or a file that is written while it is served, which was reported.
     has_lost: AtomicBool,
 }
 
@@ -132,8 +150,64 @@ impl<'r, 'a, H: ServerRuntime> ServerRun<'r, 'a, H> {
         })
     }
 
+    // Serves the buses that are made of these, and writes what they leave. Returns whether a fault was reported.
+    fn run_whole<
+        N: RollName + MeterName + Send + Sync,
+        R: Read + Drop + Send + 'static,
+        W: Write,
+        E: Write + Send,
+    >(
+        &self,
+        benches: Vec<Bench<Perfect, Open>>,
+        input: R,
+        output: &mut W,
+        errors: &mut E,
+    ) -> Result<bool, Failure<'a>>
+        requires named { NamedFrom N.roll N.meter 0 benches.items }
+        requires each { length benches.items ≡ length self.now.options.now.buses.items }
+        ensures served { IfOk result (λ told. told ≡ false
+            → Serves W.contents self.now.options.now benches.items output.old output.new) }
+        ensures fault { IfErr result (λ failure. IsOfHub IsConfig benches.items failure.fault) }
+    {
+        let settled = self.settle_whole::<N, R, W, E>(benches, input, output, errors)?;
+        let buses = &self.options.buses;
+        let mut telling = Telling::new(errors);
+        telling.pass_on(put_ends(self.alloc, buses, &settled, output));
+        if let Some(folder) = self.options.folder {
+            save_all(self.rt, self.alloc, folder, buses, &settled, &mut telling);
+        }
+        Ok(telling.has_told())
+    }
+
+    // Serves the buses of long runs that are made of these, and ends their files. Returns whether a fault was reported.
+    fn run_live<
+        N: RollName + MeterName + Send + Sync,
+        R: Read + Drop + Send + 'static,
+        W: Write,
+        E: Write + Send,
+    >(
+        &self,
+        benches: Vec<Bench<Perfect, Open>>,
+        input: R,
+        output: &mut W,
+        errors: &mut E,
+    ) -> Result<bool, Failure<'a>>
+        requires named { NamedFrom N.roll N.meter 0 benches.items }
+        requires each { length benches.items ≡ length self.now.options.now.buses.items }
+        ensures served { IfOk result (λ told. told ≡ false
+            → Serves W.contents self.now.options.now benches.items output.old output.new) }
+        ensures fault { IfErr result (λ failure. IsOfHub IsOfLongRuns benches.items failure.fault) }
+    {
+        let (settled, files) = self.settle_live::<N, R, W, E>(benches, input, output, errors)?;
+        let buses = &self.options.buses;
+        let mut telling = Telling::new(errors);
+        telling.pass_on(put_ends(self.alloc, buses, &settled, output));
+        finish_all(self.rt, self.alloc, files, buses, &settled, &mut telling);
+        Ok(telling.has_told())
+    }
+
     // Serves the buses that are made of these, and settles them.
-    fn serve_named<
+    fn settle_whole<
         N: RollName + MeterName + Send + Sync,
         R: Read + Drop + Send + 'static,
         W: Write,
@@ -145,22 +219,53 @@ impl<'r, 'a, H: ServerRuntime> ServerRun<'r, 'a, H> {
         output: &mut W,
         errors: &mut E,
     ) -> Result<Vec<Settled>, Failure<'a>>
-        requires { NamedFrom N.roll N.meter 0 benches.items }
-        ensures each { IfOk result (λ settled. length settled.items ≡ length benches.items) }
-        ensures legal { IfOk result (λ settled. All (λ s. IsLegalEnd s) settled.items) }
-        ensures configured { IfOk result (λ settled.
-            AllZip (λ b s. s.history.config ≡ b.config) benches.items settled.items) }
+        requires named { NamedFrom N.roll N.meter 0 benches.items }
+        requires each { length benches.items ≡ length self.now.options.now.buses.items }
+        ensures ends { IfOk result (λ settled.
+            AreEnds benches.items (journals record_journal settled.items)) }
         ensures listening { OnOk result
             (IsListening W.contents self.now.options.now.address.now output.old output.new) }
-        ensures fault { IfErr result (λ failure. IsOfHub benches.items failure.fault) }
+        ensures fault { IfErr result (λ failure. IsOfHub IsConfig benches.items failure.fault) }
     {
         let hub = match Hub::<N, Perfect, Open>::new(self.alloc, benches) {
             Ok(hub) => hub,
             Err(fault) => return Err(self.hub_failure(fault)),
         };
-        let passes = self.serve_hub(&hub, input, output, errors)?;
+        let Run { passes, .. } = self.serve_hub(Served::Whole(&hub), input, output, errors)?;
         match hub.settle(self.rt, self.alloc, passes) {
             Ok(settled) => Ok(settled),
+            Err(foreign) => Err(self.wrong_station(foreign.bus)),
+        }
+    }
+
+    // Serves the buses of long runs that are made of these, and settles them: what they leave, and their files.
+    fn settle_live<
+        N: RollName + MeterName + Send + Sync,
+        R: Read + Drop + Send + 'static,
+        W: Write,
+        E: Write + Send,
+    >(
+        &self,
+        benches: Vec<Bench<Perfect, Open>>,
+        input: R,
+        output: &mut W,
+        errors: &mut E,
+    ) -> Result<(Vec<Settled<LongEnd>>, Vec<LiveFiles<File>>), Failure<'a>>
+        requires named { NamedFrom N.roll N.meter 0 benches.items }
+        requires each { length benches.items ≡ length self.now.options.now.buses.items }
+        ensures ends { IfOk result (λ end.
+            AreEnds benches.items (journals journal_of end.0.items)) }
+        ensures listening { OnOk result
+            (IsListening W.contents self.now.options.now.address.now output.old output.new) }
+        ensures fault { IfErr result (λ failure. IsOfHub IsOfLongRuns benches.items failure.fault) }
+    {
+        let hub = match Hub::<N, Perfect, Open, LongEnd>::new_long(self.alloc, benches, TAIL_SIZE) {
+            Ok(hub) => hub,
+            Err(fault) => return Err(self.hub_failure(fault)),
+        };
+        let Run { passes, files } = self.serve_hub(Served::Long(&hub), input, output, errors)?;
+        match hub.settle(self.rt, self.alloc, passes) {
+            Ok(settled) => Ok((settled, files)),
             Err(fault) => Err(self.wrong_station(fault.bus)),
         }
     }
@@ -169,13 +274,8 @@ impl<'r, 'a, H: ServerRuntime> ServerRun<'r, 'a, H> {
         ensures { result.fault ≡ fault.Buses found }
     {
         let notes = match found {
-            BusFault::BadConfig => {
-                buses_note(self.alloc, &self.options.settings, &self.options.buses)
-            }
-            BusFault::NoMemory => fixed_note(
-                self.alloc,
-                "each bus reserves 108 bytes of memory for each event of --limit",
-            ),
+            BusFault::BadConfig => { buses_note(self.alloc, self.options) }
+            BusFault::NoMemory => fixed_note(self.alloc, memory_note(self.options.recording)),
         };
         Failure::with(self.alloc, Fault::Buses(found), notes)
     }
@@ -183,15 +283,11 @@ impl<'r, 'a, H: ServerRuntime> ServerRun<'r, 'a, H> {
     fn wrong_station(&self, bus: usize) -> Failure<'a>
         ensures { IsOfServing result.fault }
     {
-        let name = self
-            .options
-            .buses
-            .get(bus)
-            .map_or("", |bus| bus.first_name());
+        let name = first_name_at(&self.options.buses, bus);
         Failure::new(self.alloc, Fault::WrongStation(name))
     }
 
-    // Listens, and serves the buses of a hub: the passes of each.
+    // Listens, and serves the buses of a hub.
     fn serve_hub<
         N: RollName + MeterName + Send + Sync,
         R: Read + Drop + Send + 'static,
@@ -199,12 +295,13 @@ impl<'r, 'a, H: ServerRuntime> ServerRun<'r, 'a, H> {
         E: Write + Send,
     >(
         &self,
-        hub: &Hub<N, Perfect, Open>,
+        hub: Served<'_, N>,
         input: R,
         output: &mut W,
         errors: &mut E,
-    ) -> Result<Vec<Vec<Pass<N>>>, Failure<'a>>
-        ensures passes { IfOk result (λ passes. length passes.items ≡ length hub.now) }
+    ) -> Result<Run<N>, Failure<'a>>
+        requires each { length (buses_in hub) ≡ length self.now.options.now.buses.items }
+        ensures passes { IfOk result (λ run. length run.passes.items ≡ length (buses_in hub.entry)) }
         ensures listening { OnOk result
             (IsListening W.contents self.now.options.now.address.now output.old output.new) }
         ensures fault { IfErr result (λ failure. IsOfServing failure.fault) }
@@ -218,7 +315,7 @@ impl<'r, 'a, H: ServerRuntime> ServerRun<'r, 'a, H> {
         served
     }
 
-    // Looks at what the server needs besides, puts out where it listens, and serves: the passes of each bus.
+    // Looks at what the server needs besides, puts out where it listens, and serves.
     fn serve_doors<
         N: RollName + MeterName + Send + Sync,
         R: Read + Drop + Send + 'static,
@@ -226,15 +323,16 @@ impl<'r, 'a, H: ServerRuntime> ServerRun<'r, 'a, H> {
         E: Write + Send,
     >(
         &self,
-        hub: &Hub<N, Perfect, Open>,
+        hub: Served<'_, N>,
         doors: &[Door],
         heard: &str,
         input: R,
         output: &mut W,
         errors: &mut E,
-    ) -> Result<Vec<Vec<Pass<N>>>, Failure<'a>>
-        requires { IsHeardAt self.now.options.now.address.now heard.now }
-        ensures passes { IfOk result (λ passes. length passes.items ≡ length hub.now) }
+    ) -> Result<Run<N>, Failure<'a>>
+        requires each { length (buses_in hub) ≡ length self.now.options.now.buses.items }
+        requires heard { IsHeardAt self.now.options.now.address.now heard.now }
+        ensures passes { IfOk result (λ run. length run.passes.items ≡ length (buses_in hub.entry)) }
         ensures listening { OnOk result
             (IsListening W.contents self.now.options.now.address.now output.old output.new) }
         ensures fault { IfErr result (λ failure. IsOfServing failure.fault) }
@@ -244,36 +342,88 @@ impl<'r, 'a, H: ServerRuntime> ServerRun<'r, 'a, H> {
         } else {
             None
         };
-        if let Some(folder) = self.options.folder {
-            look_at_folder(self.rt, self.alloc, folder, &self.options.buses)?;
-        }
+        let mut files = self.open_files(&hub, errors)?;
         put_listening(self.alloc, heard, output)?;
-        self.serve_until(hub, doors, until, errors)
+        let passes = self.serve_until(&hub, &mut files, doors, until, errors)?;
+        Ok(Run { passes, files })
+    }
+
+    // Looks whether the folder takes files, and opens those of long runs.
+    fn open_files<N: RollName + MeterName, E: Write>(
+        &self,
+        hub: &Served<'_, N>,
+        errors: &mut E,
+    ) -> Result<Vec<LiveFiles<File>>, Failure<'a>>
+        requires { length (buses_in hub.now) ≡ length self.now.options.now.buses.items }
+        ensures files { IfOk result (λ files. HasFiles hub.now (length files.items)) }
+        ensures fault { IfErr result (λ failure. IsOfServing failure.fault) }
+    {
+        match hub {
+            Served::Whole(_) => {
+                if let Some(folder) = self.options.folder {
+                    look_at_folder(self.rt, self.alloc, folder, &self.options.buses, errors)?;
+                }
+                Ok(Vec::new(self.alloc))
+            }
+            Served::Long(_) => open_all(self.rt, self.alloc, self.options, errors),
+        }
     }
 
     fn serve_until<N: RollName + MeterName + Send + Sync, E: Write + Send>(
         &self,
-        hub: &Hub<N, Perfect, Open>,
+        hub: &Served<'_, N>,
+        files: &mut [LiveFiles<File>],
         doors: &[Door],
         until: Option<UnixStream>,
         errors: &mut E,
     ) -> Result<Vec<Vec<Pass<N>>>, Failure<'a>>
-        ensures passes { IfOk result (λ passes. length passes.items ≡ length hub.now) }
+        requires { HasFiles hub.now (length files.old) }
+        ensures passes { IfOk result (λ passes. length passes.items ≡ length (buses_in hub.now)) }
         ensures fault { IfErr result (λ failure. IsOfServing failure.fault) }
     {
         let host = Host {
             rt: self.rt,
             alloc: self.alloc,
-            is_verbose: self.options.is_verbose,
-            write_bytes: self.options.write_bytes as usize,
-            buses: &self.options.buses,
+            options: self.options,
             errors: Mutex::new(errors),
             has_lost: &self.has_lost,
         };
-        match serve(self.rt, self.alloc, hub, doors, &host, until.as_ref()) {
+        let served = match hub {
+            Served::Whole(hub) => serve(self.rt, self.alloc, hub, doors, &host, until.as_ref()),
+            Served::Long(hub) => self.serve_long(hub, files, doors, &host, until),
+        };
+        match served {
             Ok(passes) => Ok(passes),
             Err(_) => Err(Failure::new(self.alloc, Fault::NoMemory)),
         }
+    }
+
+    // Serves the buses of long runs, each with a scribe that writes its files.
+    fn serve_long<N: RollName + MeterName + Send + Sync, E: Write + Send>(
+        &self,
+        hub: &Hub<N, Perfect, Open, LongEnd>,
+        files: &mut [LiveFiles<File>],
+        doors: &[Door],
+        host: &Host<'_, 'a, '_, H, E>,
+        until: Option<UnixStream>,
+    ) -> Result<Vec<Vec<Pass<N>>>, AllocError>
+        requires { length files.old ≡ length hub.now }
+        ensures { IfOk result (λ passes. length passes.items ≡ length hub.now) }
+    {
+        let patience = Duration::from_millis(u64::from(self.options.flush_ms));
+        let mut scribes = Vec::new(self.alloc);
+        let files = files.iter_mut().enumerate();
+        for (bus, files) in files {
+            let keeper = FileKeeper {
+                host,
+                bus,
+                files,
+                reported: None,
+            };
+            scribes.push(Scribe::new(self.alloc, bus, TAIL_SIZE, patience, keeper)?)?;
+        }
+        let until = until.as_ref();
+        serve_long(self.rt, self.alloc, hub, doors, host, until, scribes)
     }
 
     // A stream that ends where the input does. Its reader is a thread that nobody joins, since a read of the input
@@ -306,6 +456,14 @@ fn end_with<R: Read + Drop>(mut input: R, stream: &UnixStream) {
     let _ = stream.shutdown(Shutdown::Both);
 }
 
+// How much memory a bus takes.
+fn memory_note(recording: Recording) -> &'static str {
+    match recording {
+        Recording::AtEnd => "each bus reserves 108 bytes of memory for each event of --limit",
+        Recording::Live | Recording::Never => "each bus reserves 57 megabytes of memory",
+    }
+}
+
 // Puts out where the server listens, for others to read at once.
 fn put_listening<'a, W: Write>(
     alloc: Global,
@@ -321,52 +479,4 @@ fn put_listening<'a, W: Write>(
     output
         .flush()
         .map_err(|error| write_failure(alloc, OUTPUT, &error))
-}
-
-// Puts out how many entries the record of each bus has.
-fn put_ends<'a, W: Write>(
-    alloc: Global,
-    buses: &[BusWord<'_>],
-    settled: &[Settled],
-    output: &mut W,
-) -> Result<(), Failure<'a>>
-    ensures { OnOk result (Took W.contents output.old output.new (end_lines buses.now settled.now)) }
-{
-    put_each_end(alloc, buses, settled, output)?;
-    output
-        .flush()
-        .map_err(|error| write_failure(alloc, OUTPUT, &error))
-}
-
-fn put_each_end<'a, W: Write>(
-    alloc: Global,
-    buses: &[BusWord<'_>],
-    settled: &[Settled],
-    output: &mut W,
-) -> Result<(), Failure<'a>>
-    ensures { OnOk result (Took W.contents output.old output.new (end_lines buses.now settled.now)) }
-{
-    let Some((bus, buses)) = buses.split_first() else {
-        return Ok(());
-    };
-    let Some((first, settled)) = settled.split_first() else {
-        return Ok(());
-    };
-    put_end(alloc, bus, first, output)?;
-    put_each_end(alloc, buses, settled, output)
-}
-
-fn put_end<'a, W: Write>(
-    alloc: Global,
-    bus: &BusWord<'_>,
-    settled: &Settled,
-    output: &mut W,
-) -> Result<(), Failure<'a>>
-    ensures { OnOk result (Took W.contents output.old output.new (end_line bus.now settled.now)) }
-{
-    let name = bus.first_name();
-    let count = settled.history.len();
-    writeln!(output, "bus {name} entries {count}").map_err(|error| write_failure(
-        alloc, OUTPUT, &error,
-    ))
 }

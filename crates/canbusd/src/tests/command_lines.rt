@@ -51,6 +51,18 @@ fn reads_command_lines(rt: HostRuntime) -> Result<(), Fail> {
         "canbusd serve --sessions 4001 can0",
         "canbusd serve --sessions +5 can0",
         "canbusd serve --sessions 1 --sessions 1 can0",
+        "canbusd serve --record none --sessions 4294967296 can0",
+        "canbusd serve --record",
+        "canbusd serve --record live can0",
+        "canbusd serve --record live --out . --limit 5 can0",
+        "canbusd serve --record none --limit 5 can0",
+        "canbusd serve --record live --record live --out . can0",
+        "canbusd serve --flush 5 can0",
+        "canbusd serve --record end --flush 5 can0",
+        "canbusd serve --record none --flush 60001 can0",
+        "canbusd serve --sync can0",
+        "canbusd serve --record none --sync=1 can0",
+        "canbusd bench --flush 5 can0",
         "canbusd serve --pace 60001 can0",
         "canbusd serve --pace x can0",
         "canbusd serve --pace= can0",
@@ -83,6 +95,10 @@ fn reads_command_lines(rt: HostRuntime) -> Result<(), Fail> {
         "canbusd serve --write 256 can0,can0",
         "canbusd serve --write 65536 can0,can0",
         "canbusd serve --sessions 4000 can0,can0",
+        "canbusd serve --record end --limit 5 can0,can0",
+        "canbusd serve --record live --out . --flush 0 can0,can0",
+        "canbusd serve --record none --flush 60000 --sync can0,can0",
+        "canbusd serve --record none --sessions 4294967295 can0,can0",
     ];
     for line in taken {
         tells(&rt, alloc, line, ("", "canbusd: bad bus\n", 1))?;
@@ -99,6 +115,30 @@ fn reads_command_lines(rt: HostRuntime) -> Result<(), Fail> {
         (
             "canbusd serve --pace 60001 can0",
             "error: invalid value '60001' for '--pace': not a number from 0 to 60000 in decimal digits\n",
+        ),
+        (
+            "canbusd serve --record run.rec can0",
+            "error: invalid value 'run.rec' for '--record': end, live or none\n",
+        ),
+        (
+            "canbusd serve --record live --out . --limit 5 can0",
+            "error: '--limit' cannot be used with '--record live', whose limit is 4294967294\n",
+        ),
+        (
+            "canbusd serve --record none --limit 5 can0",
+            "error: '--limit' cannot be used with '--record none', whose limit is 4294967294\n",
+        ),
+        (
+            "canbusd serve --record live can0",
+            "error: '--record live' needs '--out DIR'\n",
+        ),
+        (
+            "canbusd serve --flush 5 can0",
+            "error: '--flush' needs '--record live' or '--record none'\n",
+        ),
+        (
+            "canbusd serve --sync can0",
+            "error: '--sync' needs '--record live' or '--record none'\n",
         ),
         (
             "canbusd bench --record a --log ./a can0",

@@ -182,11 +182,11 @@ pub fn has_shape(text: &[u8], shape: &str) -> bool {
 }
 
 /// A frame from a client on can0 to one on can1.
-fn talk<R: Abort + ServerRuntime>(rt: &R) {
-    let first = connect(rt, "./talk");
+fn talk<R: Abort + ServerRuntime>(rt: &R, path: &str) {
+    let first = connect(rt, path);
     say(rt, &first, "< open can0 >< rawmode >");
     hears(rt, &first, "< hi >< ok >< ok >");
-    let second = connect(rt, "./talk");
+    let second = connect(rt, path);
     say(rt, &second, "< open can1 >< rawmode >");
     hears(rt, &second, "< hi >< ok >< ok >");
     say(rt, &first, "< send 123 4 11 22 33 44 >");
@@ -213,7 +213,7 @@ fn serves_two_clients(rt: HostRuntime) -> Result<(), Fail> {
         },
         || {
             let _sockets: Sockets = None;
-            talk(&rt)
+            talk(&rt, "./talk")
         },
     );
     // Two sockets, a frame, its attempt and what the second socket receives of it, and both are closed. The other bus has
@@ -227,6 +227,38 @@ fn serves_two_clients(rt: HostRuntime) -> Result<(), Fail> {
     leaves_record(&rt, alloc, "./can0.rec", 7)?;
     leaves(&rt, "./far0.log", "")?;
     leaves_record(&rt, alloc, "./far0.rec", 0)
+}
+
+/// What a run that was killed has left as a record.
+const CUT: &str = "canbus record 4\nbus 3 always 0000 10 4294967294 0\nopen 0 256 = so";
+
+#[test]
+fn writes_while_it_serves(rt: HostRuntime) -> Result<(), Fail> {
+    let _sockets: Sockets = None;
+    let alloc = rt.alloc();
+    let line =
+        "canbusd serve --record live --flush 0 --sync --sessions 2 --out . --listen ./live live,can0,can1";
+    fs::write(&rt, "./live.rec.new", CUT)?;
+    let (ended, ()) = thread::join(
+        &rt,
+        || {
+            let _sockets: Sockets = None;
+            run(&rt, alloc, line, NOTHING)
+        },
+        || {
+            let _sockets: Sockets = None;
+            talk(&rt, "./live")
+        },
+    );
+    let told = "listening ./live\nbus live entries 7\n";
+    let note = "note: ./live.rec.new of a run that was cut off is ./live.rec.cut now\n";
+    ended?.compare(&rt, (told, note, 0));
+    leaves(&rt, "./live.rec.cut", CUT)?;
+    let log = fs::read_to_string(&rt, "./live.log")?;
+    assert!(&rt; has_shape(log.as_bytes(), "(0000000000.000000) can0 123#11223344\n"));
+    fs::remove_file(&rt, "./live.log")?;
+    assert!(&rt; !fs::exists(&rt, "./live.rec.new")?);
+    leaves_record(&rt, alloc, "./live.rec", 7)
 }
 
 /// Sends more than the record of the bus holds.

@@ -1,0 +1,5 @@
+use Rattle.std.proofs.Common.{◌≡◌, length}
+use Rattle.canbusd_serve.proofs.live_files.open_all.Given as goal
+
+abbrev pub invariant-loop-bus : goal.invariant-loop-bus
+invariant-loop-bus g l = length l.all.items ≡ l.bus-index

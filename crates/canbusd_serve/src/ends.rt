@@ -1,0 +1,94 @@
+//! What the buses of a server leave at its end.
+ghost use Rattle.std.specs.Prelude.{◌≡◌, OnOk};
+ghost use Rattle.canbusd_files.specs.Files.{Took};
+ghost use Rattle.canbusd_serve.specs.Served.{end_line, end_lines, journals};
+
+use can_bus::{LongEnd, Record};
+use can_station::Settled;
+use canbusd_faults::Failure;
+use canbusd_files::{OUTPUT, write_failure};
+use canbusd_options::BusWord;
+use std::alloc::Global;
+use std::io::Write;
+
+/// What a bus leaves, which had a number of entries.
+pub trait Ended: Drop {
+    ghost use Rattle.std.specs.Prelude.{◌≡◌, length};
+    ghost use Rattle.can_record.specs.Journal.{Journal};
+
+    /// The configuration and the entries of the bus.
+    ghost journal: { Self → Journal };
+
+    /// How many entries it had.
+    fn count(&self) -> u64
+        ensures { result ≡ length (journal self.now).history };
+}
+
+impl Ended for Record {
+    ghost journal = { λ r. record { config = r.config; history = r.history } };
+
+    fn count(&self) -> u64 {
+        self.len() as u64
+    }
+}
+
+impl Ended for LongEnd {
+    ghost use Rattle.can_bus.specs.Long.{journal_of};
+
+    ghost journal = { journal_of };
+
+    fn count(&self) -> u64 {
+        self.len()
+    }
+}
+
+/// Puts out how many entries each bus had.
+pub fn put_ends<'a, L: Ended, W: Write>(
+    alloc: Global,
+    buses: &[BusWord<'_>],
+    settled: &[Settled<L>],
+    output: &mut W,
+) -> Result<(), Failure<'a>>
+    ensures { OnOk result (Took W.contents output.old output.new
+        (end_lines buses.now (journals L.journal settled.now))) }
+{
+    put_each_end(alloc, buses, settled, output)?;
+    output
+        .flush()
+        .map_err(|error| write_failure(alloc, OUTPUT, &error))
+}
+
+fn put_each_end<'a, L: Ended, W: Write>(
+    alloc: Global,
+    buses: &[BusWord<'_>],
+    settled: &[Settled<L>],
+    output: &mut W,
+) -> Result<(), Failure<'a>>
+    ensures { OnOk result (Took W.contents output.old output.new
+        (end_lines buses.now (journals L.journal settled.now))) }
+{
+    let Some((bus, buses)) = buses.split_first() else {
+        return Ok(());
+    };
+    let Some((first, settled)) = settled.split_first() else {
+        return Ok(());
+    };
+    put_end(alloc, bus, &first.history, output)?;
+    put_each_end(alloc, buses, settled, output)
+}
+
+fn put_end<'a, L: Ended, W: Write>(
+    alloc: Global,
+    bus: &BusWord<'_>,
+    end: &L,
+    output: &mut W,
+) -> Result<(), Failure<'a>>
+    ensures { OnOk result (Took W.contents output.old output.new
+        (end_line bus.now (L.journal end.now))) }
+{
+    let name = bus.first_name();
+    let count = end.count();
+    writeln!(output, "bus {name} entries {count}").map_err(|error| write_failure(
+        alloc, OUTPUT, &error,
+    ))
+}

@@ -1,0 +1,186 @@
+//! The files that a server of long runs writes while it serves.
+ghost use Rattle.std.specs.Prelude.{◌≡◌, length, All, IfErr, IfOk, IsTrue};
+ghost use Rattle.can_record_text.specs.inner.Stored.{HasFittingReply};
+ghost use Rattle.canbusd_serve.specs.LongRuns.{LogGets, RecordGets};
+ghost use Rattle.canbusd_serve.specs.Served.{IsOfServing};
+
+use crate::serve_files::{draft_of, open_failure};
+use can_bus::{LongEnd, PackedRecord};
+use can_frame::Names;
+use can_station::Settled;
+use canbusd_faults::{Failure, Fault, Telling};
+use canbusd_files::{LiveLog, LiveRecord, bus_config, read_names};
+use canbusd_options::{BusWord, Recording, ServeOptions};
+use std::alloc::{AllocError, Global};
+use std::fs::{File, OpenFile};
+use std::io::Write;
+use std::rt::Files;
+
+/// The files of a bus that are written while it is served, as far as they are wanted.
+#[derive(Drop)]
+pub struct LiveFiles<F: Write + OpenFile + Drop> {
+    pub record: Option<LiveRecord<F>>,
+    pub log: Option<LiveLog<F>>,
+}
+
+impl<F: Write + OpenFile + Drop> LiveFiles<F> {
+    /// Writes the lines of entries to the record, if it is wanted.
+    pub fn keep_record(
+        &mut self,
+        alloc: Global,
+        entries: &PackedRecord,
+    ) -> Result<(), Failure<'static>>
+        requires { All HasFittingReply entries.now.entries }
+        ensures kept { RecordGets F.contents self.old.record entries.now.entries self.new.record }
+        ensures same { self.new.log ≡ self.old.log }
+    {
+        match &mut self.record {
+            Some(record) => record.keep(alloc, entries),
+            None => Ok(()),
+        }
+    }
+
+    /// Writes the lines of their tried frames to the log, which is called by this name, if it is wanted.
+    pub fn keep_log<'a>(
+        &mut self,
+        alloc: Global,
+        name: &'a str,
+        entries: &PackedRecord,
+    ) -> Result<(), Failure<'a>>
+        ensures kept { LogGets F.contents self.old.log entries.now.entries self.new.log }
+        ensures same { self.new.record ≡ self.old.record }
+    {
+        match &mut self.log {
+            Some(log) => log.keep(alloc, name, entries),
+            None => Ok(()),
+        }
+    }
+}
+
+/// The files of each bus, whose records have their first lines. What runs that were cut off left of records is set aside
+/// first, and reported.
+///
+/// `CannotOpen`, with the folder, where it does not take one of the files.
+pub fn open_all<'a, H: Files<File = File>, E: Write>(
+    rt: &H,
+    alloc: Global,
+    options: &ServeOptions<'a>,
+    errors: &mut E,
+) -> Result<Vec<LiveFiles<File>>, Failure<'a>>
+    ensures each { IfOk result (λ files. length files.items ≡ length options.now.buses.items) }
+    ensures fault { IfErr result (λ failure. IsOfServing failure.fault) }
+{
+    let mut all = Vec::new(alloc);
+    for bus in &options.buses {
+        let files = open_files(rt, alloc, options, *bus, errors)?;
+        let Ok(()) = all.push(files) else {
+            return Err(Failure::new(alloc, Fault::NoMemory));
+        };
+    }
+    Ok(all)
+}
+
+fn open_files<'a, H: Files<File = File>, E: Write>(
+    rt: &H,
+    alloc: Global,
+    options: &ServeOptions<'a>,
+    bus: BusWord<'a>,
+    errors: &mut E,
+) -> Result<LiveFiles<File>, Failure<'a>>
+    ensures { IfErr result (λ failure. IsOfServing failure.fault) }
+{
+    let Some(folder) = options.folder else {
+        return Ok(LiveFiles {
+            record: None,
+            log: None,
+        });
+    };
+    let Ok(names) = read_names(alloc, bus.names) else {
+        return Err(Failure::new(alloc, Fault::NoMemory));
+    };
+    let record = match options.recording {
+        Recording::Live => Some(open_record(rt, alloc, options, folder, bus, &names, errors)?),
+        Recording::AtEnd | Recording::Never => None,
+    };
+    let log = Some(open_log(rt, alloc, options, folder, bus, names)?);
+    Ok(LiveFiles { record, log })
+}
+
+fn open_record<'a, H: Files<File = File>, E: Write>(
+    rt: &H,
+    alloc: Global,
+    options: &ServeOptions<'a>,
+    folder: &'a str,
+    bus: BusWord<'a>,
+    names: &Names,
+    errors: &mut E,
+) -> Result<LiveRecord<File>, Failure<'a>>
+    ensures { IfErr result (λ failure. IsOfServing failure.fault) }
+{
+    let draft = draft_of(rt, alloc, folder, &bus, errors)?;
+    let config = bus_config(options.settings, names);
+    LiveRecord::new(rt, alloc, &draft, config, options.is_synced).map_err(|error| open_failure(
+        alloc,
+        folder,
+        draft.draft(),
+        &error,
+    ))
+}
+
+fn open_log<'a, H: Files<File = File>>(
+    rt: &H,
+    alloc: Global,
+    options: &ServeOptions<'a>,
+    folder: &'a str,
+    bus: BusWord<'a>,
+    names: Names,
+) -> Result<LiveLog<File>, Failure<'a>>
+    ensures { IfErr result (λ failure. IsOfServing failure.fault) }
+{
+    let Ok(path) = log_path(alloc, folder, bus.first_name()) else {
+        return Err(Failure::new(alloc, Fault::NoMemory));
+    };
+    LiveLog::new(rt, alloc, &path, names, options.is_synced).map_err(|error| open_failure(
+        alloc, folder, &path, &error,
+    ))
+}
+
+fn log_path(alloc: Global, folder: &str, name: &str) -> Result<String, AllocError> {
+    format!(in alloc; "{folder}/{name}.log")
+}
+
+/// Writes what is missing of the files of each bus, and gives its record its name. A fault ends only its file.
+pub fn finish_all<H: Files, E: Write>(
+    rt: &H,
+    alloc: Global,
+    files: Vec<LiveFiles<File>>,
+    buses: &[BusWord<'_>],
+    settled: &[Settled<LongEnd>],
+    telling: &mut Telling<'_, E>,
+)
+    ensures { IsTrue telling.old.has_told → IsTrue telling.new.has_told }
+{
+    for ((files, bus), settled) in files.into_iter().zip(buses).zip(settled) {
+        finish(rt, alloc, files, bus, &settled.history, telling);
+    }
+}
+
+fn finish<H: Files, E: Write>(
+    rt: &H,
+    alloc: Global,
+    files: LiveFiles<File>,
+    bus: &BusWord<'_>,
+    end: &LongEnd,
+    telling: &mut Telling<'_, E>,
+)
+    ensures { IsTrue telling.old.has_told → IsTrue telling.new.has_told }
+{
+    let LiveFiles { record, log } = files;
+    let rest = end.entries();
+    if let Some(record) = record {
+        telling.pass_on(record.finish(rt, alloc, rest, end.len()));
+    }
+    if let Some(mut log) = log {
+        telling.pass_on(log.keep(alloc, bus.first_name(), rest));
+    }
+}
