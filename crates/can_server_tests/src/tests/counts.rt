@@ -23,7 +23,7 @@ impl<'a, N: RollName + MeterName, R: Wait + Abort> Talk<'a, N, R> {
         let Ok(session) = Session::new(alloc, 16) else {
             panic!(rt; "session");
         };
-        let port = PassPort::new(rt, alloc, hub);
+        let port = PassPort::new(rt, alloc, hub.buses());
         Talk { rt, session, port }
     }
 

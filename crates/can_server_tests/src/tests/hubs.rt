@@ -138,7 +138,7 @@ fn caller<N: RollName + MeterName, R: Wait + Abort>(
     hub: &Hub<N, Perfect, Open>,
     name: &[u8],
 ) -> Pass<N> {
-    let mut port = PassPort::new(rt, alloc, hub);
+    let mut port = PassPort::new(rt, alloc, hub.buses());
     let Ok(iface) = port.attach(name) else {
         panic!(rt; "not attached");
     };

@@ -3,6 +3,7 @@
 use super::*;
 use can_bus::Attempt;
 use can_dialog::Session;
+use can_server::HubBus;
 use can_station::Station;
 use can_test_support::Output;
 
@@ -30,7 +31,7 @@ impl<'a, N: RollName + MeterName, F: FaultSource + Drop, R: Wait + Abort> LocalC
             rt,
             alloc,
             session,
-            port: PassPort::new(rt, alloc, hub),
+            port: PassPort::new(rt, alloc, hub.buses()),
         }
     }
 
@@ -82,7 +83,7 @@ impl<'a, N: RollName + MeterName, F: FaultSource + Drop, R: Wait + Abort> LocalC
 pub struct Driver<'a, N: RollName + MeterName, F: FaultSource + Drop, R: Wait> {
     rt: &'a R,
     alloc: Global,
-    station: &'a Station<N, F, Open>,
+    station: &'a Station<N, F, Open, HubBus>,
     pass: Pass<N>,
 }
 

@@ -17,7 +17,7 @@ fn attaches<N: RollName + MeterName, R: Wait + Abort>(
     requires { NamedFrom N.roll N.meter 0 benches.items }
 {
     let hub = made::<N, _, _, _>(rt, alloc, benches);
-    let mut port = PassPort::new(rt, alloc, &hub);
+    let mut port = PassPort::new(rt, alloc, hub.buses());
     let unknown = Err(PortRefusal::Bus(Refusal::NoInterface));
     assert!(rt; port.attach(b"can2") == unknown);
     assert!(rt; port.attach(b"\xff") == unknown);
@@ -45,10 +45,10 @@ fn attaches_often<N: RollName + MeterName, R: Wait + Abort>(
 {
     let hub = made::<N, _, _, _>(rt, alloc, benches);
     for _ in 0..4_096 {
-        let mut port = PassPort::new(rt, alloc, &hub);
+        let mut port = PassPort::new(rt, alloc, hub.buses());
         assert!(rt; port.attach(b"can0").is_ok());
     }
-    let mut port = PassPort::new(rt, alloc, &hub);
+    let mut port = PassPort::new(rt, alloc, hub.buses());
     assert!(rt; port.attach(b"can0") == Err(PortRefusal::TooManyPasses));
     assert!(rt; port.attach(b"can1") == Err(PortRefusal::TooManyPasses));
     assert!(rt; port.attach(b"far0") == Ok(iface(rt, 0)));
