@@ -9,10 +9,20 @@ from pathlib import Path
 import can
 import pytest
 
+from canbusd._program import find_program
 from canbusd.server import Server
 
 PYTHON = Path(__file__).resolve().parents[1]
 WAIT = 20
+
+
+def writes_live():
+    """Whether the program writes records while it runs."""
+    words = [find_program(), "serve", "--help"]
+    return b"--record" in subprocess.run(words, stdout=subprocess.PIPE, check=True).stdout
+
+
+needs_live = pytest.mark.skipif(not writes_live(), reason="the program is older than `serve --record`")
 
 
 def message(identifier, data=b"", extended=False, **more):

@@ -351,7 +351,8 @@ def test_a_wrong_filter(pair, server, wrong):
 
 def test_whose_a_message_is(server):
     """equal messages of two buses of an interface, and of another interface"""
-    with server.bus("can0", receive_own_messages=True) as own, server.bus("can0") as beside, server.bus("can1") as other:
+    own, beside, other = server.bus("can0", receive_own_messages=True), server.bus("can0"), server.bus("can1")
+    with own, beside, other:
         for sender in (own, beside, other, beside, own, own, other):
             sender.send(message(7, b"7"))
             got = own.recv(WAIT)
@@ -362,7 +363,8 @@ def test_whose_a_message_is(server):
     with server.bus("can0", receive_own_messages=True, fd=True) as own, server.bus("can0") as beside:
         beside.send(message(9))
         own.send(message(9, bytes(12), is_fd=True))
-        assert sorted((one.is_fd, one.is_rx) for one in (own.recv(WAIT), own.recv(WAIT))) == [(False, True), (True, False)]
+        got = sorted((one.is_fd, one.is_rx) for one in (own.recv(WAIT), own.recv(WAIT)))
+        assert got == [(False, True), (True, False)]
 
 
 def test_many_messages_are_own_ones_among_others(server):

@@ -114,7 +114,8 @@ def test_a_bus_has_at_most_64_rules():
 
 
 def test_only_rules_are_injected():
-    assert [str(rule) for rule in rules_of("# a comment\n\n" + RULES.replace("5 good\n", ""))] == RULES.splitlines()[:-1]
+    found = rules_of("# a comment\n\n" + RULES.replace("5 good\n", ""))
+    assert [str(rule) for rule in found] == RULES.splitlines()[:-1]
     assert rules_of(Faults()) == []
     for other in (rules(), "5 good", RULES):
         with pytest.raises(ValueError, match="^'5 good' is of an attempt by its number, so of the start"):

@@ -5,6 +5,7 @@ import re
 from pathlib import Path
 
 import pytest
+from conftest import needs_live
 
 import canbusd
 
@@ -155,6 +156,67 @@ def test_a_server_that_dies(run):
     )
     result.assert_outcomes(passed=2, errors=1)
     result.stdout.fnmatch_lines(["*ERROR at teardown of test_it_crashes*", "*the server ended with status -9*"])
+
+
+@needs_live
+def test_what_a_server_that_dies_has_written_is_kept(run, pytester):
+    result = run(
+        """
+    @pytest.mark.canbusd("can0,can1", record="live", flush=0)
+    def test_it_crashes(canbusd):
+        with canbusd.bus("can0") as can0:
+            can0.send(can.Message(arbitration_id=0x123, is_extended_id=False))
+            canbusd.wait_for(lambda: canbusd.attempts() and canbusd.log(), timeout=20)
+            canbusd._signal()
+    """
+    )
+    result.assert_outcomes(passed=1, errors=1)
+    result.stdout.fnmatch_lines(
+        [
+            "2 nodes, 1 attempt*",
+            "*/can0.log ends:",
+            "*) can0 123#",
+            "*/can0.rec.new is cut off after * entries: `--cut` of the tools reads it",
+            "can0 *active *1     1 *",
+            "page: *can0.html",
+        ]
+    )
+    result.stdout.fnmatch_lines(["*ERROR at teardown of test_it_crashes*", "*the server ended with status -9*"])
+    assert kept(pytester) == ["can0.html", "can0.log", "can0.rec.new"]
+
+
+@needs_live
+def test_records_that_are_written_live_and_not_at_all(run, pytester):
+    result = run(
+        """
+    @pytest.mark.canbusd("can0,can1", record="live")
+    def test_live(canbusd):
+        with canbusd.bus("can0") as can0:
+            can0.send(can.Message(arbitration_id=0x123, is_extended_id=False))
+
+    @pytest.mark.canbusd("can0,can1", record="none")
+    def test_none(canbusd):
+        canbusd.bus("can0").shutdown()
+
+    @pytest.mark.canbusd("can0,can1", record="live")
+    def test_killed(canbusd):
+        canbusd.kill()
+    """
+    )
+    result.assert_outcomes(passed=3)
+    assert kept(pytester) == []
+    result = run(
+        """
+    @pytest.mark.canbusd("can0,can1", record="none", flush=0)
+    def test_none(canbusd):
+        with canbusd.bus("can0") as can0:
+            can0.send(can.Message(arbitration_id=0x123, is_extended_id=False))
+            assert canbusd.wait_for(canbusd.log, timeout=20) == []
+    """
+    )
+    result.assert_outcomes(failed=1)
+    result.stdout.fnmatch_lines(["*/can0.log ends:", "*) can0 123#"])
+    assert kept(pytester) == ["can0.log"]
 
 
 def test_what_a_marker_may_not_say(run):

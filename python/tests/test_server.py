@@ -14,7 +14,7 @@ from pathlib import Path
 
 import can
 import pytest
-from conftest import WAIT, message, shape
+from conftest import WAIT, message, needs_live, shape
 
 import canbusd
 from canbusd._program import find_program
@@ -124,16 +124,20 @@ def test_a_start_that_fails_says_why(buses, options, said):
         Server(*buses, **options)
 
 
-@pytest.mark.parametrize("name", NUMBERS)
-def test_the_limits_of_numbers_are_those_of_the_program(name):
+@pytest.mark.parametrize("name", [pytest.param(name, marks=needs_live if name == "flush" else ()) for name in NUMBERS])
+def test_the_limits_of_numbers_are_those_of_the_program(name, tmp_path):
     option, least, most = NUMBERS[name]
+    more = {"record": "live"} if name == "flush" else {}
     for number, is_taken in ((least - 1, False), (least, True), (most, True), (most + 1, False)):
-        words = [find_program(), "serve", "--until-eof", "--listen", "127.0.0.1:0", f"{option}={number}", "can0"]
-        done = subprocess.run(words, stdin=subprocess.DEVNULL, capture_output=True, check=False)
+        words = [find_program(), "serve", "--until-eof", "--listen", "127.0.0.1:0", "--out", tmp_path]
+        words += [f"--{option}={value}" for option, value in more.items()]
+        done = subprocess.run(
+            [*words, f"{option}={number}", "can0"], stdin=subprocess.DEVNULL, capture_output=True, check=False
+        )
         assert (done.returncode == 0) is is_taken, done.stderr
         if not is_taken:
             with pytest.raises(ValueError, match=name):
-                Server("can0", **{name: number})
+                Server("can0", **more, **{name: number})
 
 
 def test_a_port_in_use(server):

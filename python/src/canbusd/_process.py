@@ -26,6 +26,7 @@ NUMBERS: dict[str, tuple[str, int, int]] = {
     "txqueue": ("--txqueue", 1, 1024),
     "rxqueue": ("--rxqueue", 1, 65_536),
     "limit": ("--limit", 1, 1 << 24),
+    "flush": ("--flush", 0, 60_000),
 }
 
 

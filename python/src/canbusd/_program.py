@@ -48,8 +48,11 @@ def run_program(words: Sequence[str]) -> NoReturn:
     os.execv(command[0], command)
 
 
-def audited(path: Union[str, "os.PathLike[str]"]) -> str:
-    """Returns what `canbusd audit` says of the record in this file: `ok 7 entries`, or the fault and where it is."""
-    words = [find_program(), "audit", os.fspath(path)]
+def audited(path: Union[str, "os.PathLike[str]"], cut: bool = False) -> str:
+    """Returns what `canbusd audit` says of the record in this file: `ok 7 entries`, or the fault and where it is.
+
+    With `cut` the record may end before its last line, and then it is `ok 7 entries, then cut off`.
+    """
+    words = [find_program(), "audit", *(["--cut"] if cut else []), "--", os.fspath(path)]
     done = subprocess.run(words, stdin=subprocess.DEVNULL, capture_output=True, text=True, check=False)
     return (done.stdout if done.returncode == 0 else done.stderr).strip()

@@ -71,7 +71,7 @@ class Version:
 
 # From version 2 on a number after the limit says after how many attempts interfaces are restarted.
 VERSION_3 = Version(f"{BUS} {NUMBER}", with_fd=True)
-# By the first line. Version 4 is the text of a record that is written while its run goes on, and of no other.
+# By the first line. Version 4 is the text of the record of a long run, and of no other.
 VERSIONS = {
     "canbus record 1": Version(BUS),
     "canbus record 2": Version(f"{BUS} ([1-9][0-9]*)"),

@@ -1,7 +1,6 @@
 """What happened on a bus, in a few lines: its events, the end of its log, and a table of its interfaces."""
 
 import os
-from collections import deque
 from collections.abc import Iterable, Sequence
 from pathlib import Path
 
@@ -11,6 +10,8 @@ from canbusd.story import events_of, heading_of
 
 HEADINGS = ("interface", "state", "TEC", "REC", "sent", "done", "waiting", "lost", "refused")
 LAST_LINES = 10
+# More than these lines have, and the one before them.
+LAST_BYTES = 4096
 MOST_EVENTS = 10
 
 #: A line of the table: name, state, transmit and receive error count, and the counts of frames.
@@ -55,8 +56,9 @@ def table(rows: Iterable[Row], headings: Sequence[str] = HEADINGS) -> list[str]:
 def end_of_log(path: Path) -> list[str]:
     """Returns the last lines of a log, after its path."""
     try:
-        with open(path, encoding="ascii", errors="replace") as file:
-            last = deque((line.rstrip("\n") for line in file), LAST_LINES)
+        with open(path, "rb") as file:
+            file.seek(max(0, os.fstat(file.fileno()).st_size - LAST_BYTES))
+            last = file.read().decode("ascii", errors="replace").splitlines()[-LAST_LINES:]
     except OSError as fault:
         return [f"{path}: {fault.strerror}"]
     return [f"{path} ends:" if last else f"{path} is empty", *(f"  {line}" for line in last)]

@@ -5,7 +5,7 @@
         server.expect(id=0x123, within=1.0)
         server.expect_state("ecu", "off")
 
-What an attempt was, and why it failed, is in the record at the end of the run; only what sessions get is seen here.
+Only what sessions get is seen here. What an attempt was, and why it failed, is in the record: `Server.attempts`.
 """
 
 import time
@@ -78,6 +78,10 @@ class Expectations:
         """Gives the bus of an interface rules of faults."""
         raise NotImplementedError
 
+    def _shown(self) -> str:
+        """What was seen last, for the end of a failure."""
+        return self._observing().shown()
+
     def error_counters(self, name: str) -> ErrorCounters:
         """Returns the state of an interface and its error counts, while the server runs.
 
@@ -99,14 +103,14 @@ class Expectations:
         drive = Drive(self._observing().bus(name), name, self.inject)
         counters = wait_for(drive.off, timeout)
         if counters is None:
-            raise AssertionError(f"{drive.failure(timeout)}{self._observing().shown()}")
+            raise AssertionError(f"{drive.failure(timeout)}{self._shown()}")
         return counters
 
     def wait_for(self, predicate: Callable[[], T], timeout: float = 1.0) -> T:
         """Calls the predicate until it returns something true, and returns that; TimeoutError after these seconds."""
         found = wait_for(predicate, timeout)
         if found is None:
-            raise TimeoutError(f"not so within {timeout:g} seconds{self._observing().shown()}")
+            raise TimeoutError(f"not so within {timeout:g} seconds{self._shown()}")
         return found
 
     def expect(
@@ -129,7 +133,7 @@ class Expectations:
         matches = matcher(id, data, is_extended_id, is_error_frame)
         found = self._observing().find(matches, channel, within)
         if found is None:
-            raise AssertionError(f"no {named(id, data)} within {within:g} seconds{self._observing().shown()}")
+            raise AssertionError(f"no {named(id, data)} within {within:g} seconds{self._shown()}")
         return found
 
     def expect_no_frame(
@@ -148,7 +152,7 @@ class Expectations:
         found = self._observing().find(matches, channel, within)
         if found is not None:
             line = described_line(str(found.channel), frame_like(found))
-            raise AssertionError(f"{named(id, data)} was not expected: {line}{self._observing().shown()}")
+            raise AssertionError(f"{named(id, data)} was not expected: {line}{self._shown()}")
 
     def expect_state(self, name: str, state: str, *, within: float = 1.0) -> ErrorCounters:
         """Waits until an interface is in this state; AssertionError if it is not within these seconds."""
@@ -160,7 +164,7 @@ class Expectations:
             now = self.error_counters(name)
             raise AssertionError(
                 f"{name} is {now.state} (transmit count {now.tec}, receive count {now.rec}), and was not {state} within "
-                f"{within:g} seconds{self._observing().shown()}"
+                f"{within:g} seconds{self._shown()}"
             )
         return counters
 

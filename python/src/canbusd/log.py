@@ -21,17 +21,18 @@ def read_log(path: Path) -> "list[Message]":
 
     Unlike python-can's reader it keeps the classes of error message frames.
     """
-    import canbusd._python_can  # noqa: F401  it says what is missing
-    from can.message import Message
-
-    messages: list[Message] = []
     with open(path, encoding="ascii") as file:
-        for number, line in enumerate(file, 1):
-            words = LOG_LINE.fullmatch(line.rstrip("\n"))
-            if not words:
-                raise ValueError(f"{os.fspath(path)}: line {number} is no frame: {shown(line)}")
-            messages.append(Frame.parse(words[3], float(words[1])).message(words[2]))
-    return messages
+        return [message_of(line.rstrip("\n"), path, number) for number, line in enumerate(file, 1)]
+
+
+def message_of(line: str, path: Path, number: int) -> "Message":
+    """Returns the message of a line, without its LF, of a log; a fault says which log and which line."""
+    import canbusd._python_can  # noqa: F401  it says what is missing
+
+    words = LOG_LINE.fullmatch(line)
+    if not words:
+        raise ValueError(f"{os.fspath(path)}: line {number} is no frame: {shown(line)}")
+    return Frame.parse(words[3], float(words[1])).message(words[2])
 
 
 def log_beside(path: Path) -> Optional[str]:

@@ -18,6 +18,7 @@ from typing import TYPE_CHECKING, Any, Generator, Protocol, Union
 import pytest
 
 from canbusd import _summary
+from canbusd._live import left_by
 from canbusd._program import audited
 from canbusd._process import FOLDERS
 from canbusd.bench import Bench
@@ -97,7 +98,7 @@ class Runs:
         name = re.sub(r"\W+", "-", self._item.name)[:40]
         self._folder = new_folder(factory.getbasetemp(), f"canbusd-{name}")
         self._runs: list[Union["Server", Bench]] = []
-        #: By the path of each record its run, and the names of its interfaces.
+        #: By the path of each record, once it is whole, its run and the names of its interfaces.
         self._records: dict[Path, tuple[Union["Server", Bench], list[str]]] = {}
 
     def server(self, *buses: str, **options: Any) -> "Server":
@@ -143,10 +144,8 @@ class Runs:
         faults = [*self._stop(), *self._audit()]
         failed = bool(faults) or self._item.stash.get(FAILED, False)
         if failed:
-            sections = [
-                self._section(path, run, names) for path, (run, names) in self._records.items() if path.exists()
-            ]
-            self._item.add_report_section("teardown", "canbusd", "\n\n".join(sections))
+            sections = [self._section(path, run, names) for path, (run, names) in self._records.items()]
+            self._item.add_report_section("teardown", "canbusd", "\n\n".join(filter(None, sections)))
         if self._keep == "none" or (self._keep == "failed" and not failed):
             shutil.rmtree(self._folder, ignore_errors=True)
         for folder in self._folder.glob("canbusd-*"):
@@ -158,8 +157,7 @@ class Runs:
         """Ends what still runs; yields what went wrong."""
         for run in self._runs:
             if self._was_killed(run):
-                # The test knows of it, and of a killed server there are no records.
-                self._records = {path: of for path, of in self._records.items() if of[0] is not run}
+                # The test knows of it, and that there is only what was written while it ran.
                 continue
             try:
                 result = run.stop()
@@ -174,25 +172,39 @@ class Runs:
         return not isinstance(run, Bench) and run._result is not None and run._result.status < 0
 
     def _audit(self) -> Iterator[str]:
-        """Audits the records; yields what is wrong."""
-        for path in self._records:
-            said = audited(path) if path.exists() else "there is none"
-            if not re.fullmatch(r"ok \d+ entries", said):
-                yield f"the record {path}: {said}"
+        """Audits the records; yields what is wrong. Those of a server that was killed may end anywhere."""
+        for path, (run, _) in self._records.items():
+            left = left_by(path, record_when(run))
+            if left.exists():
+                said = audited(left, cut=left != path)
+                if not re.fullmatch(r"ok \d+ entries(, then cut off)?", said):
+                    yield f"the record {left}: {said}"
+            elif not self._was_killed(run) and record_when(run) != "none":
+                yield f"the record {path}: there is none"
 
     def _section(self, path: Path, run: Union["Server", Bench], names: list[str]) -> str:
         """What a failed test shows of a bus: the end of its log, states and counts, and the path of the page."""
-        lines = _summary.end_of_log(path.with_suffix(".log"))
+        log, left = path.with_suffix(".log"), left_by(path, record_when(run))
+        lines = _summary.end_of_log(log) if log.exists() else []
+        if not left.exists():
+            return "\n".join(lines)
         try:
-            record = read_record(path, names)
+            record = read_record(left, names, cut=left != path)
             lines[:0] = _summary.story(record)
+            if record.is_cut:
+                lines.append(f"{left} is cut off after {len(record.lines)} entries: `--cut` of the tools reads it")
             lines += _summary.table(_summary.interfaces(record))
             if self._keep != "none":
                 page = run._page(record, path.with_suffix(".html"))
                 lines.append(f"page: {page}")
         except BadRecord as fault:
-            lines.append(f"{path}: {fault}")
+            lines.append(f"{left}: {fault}")
         return "\n".join(lines)
+
+
+def record_when(run: Union["Server", Bench]) -> str:
+    """When the record of a run is written: at its `end`, `live`, or `none` is."""
+    return "end" if isinstance(run, Bench) else run._record_when
 
 
 @pytest.fixture

@@ -18,12 +18,13 @@ from typing import TYPE_CHECKING, Any, NamedTuple, Optional, Union
 
 from canbusd._connection import SessionRefused, reason_of
 from canbusd._injection import RuleSession
+from canbusd._live import LiveLog, LiveRecord, left_by
 from canbusd._program import audited, find_program
 from canbusd._process import RUNNING, ProgramRun, check_names, option_words
 from canbusd.expectations import Expectations
 from canbusd.faults import Script, plan_of, rules_of, script_text
 from canbusd.log import read_log
-from canbusd.record import Record, read_record
+from canbusd.record import Attempt, Record, read_record
 from canbusd.rules import Rule, check_rules, deciders
 
 if TYPE_CHECKING:
@@ -81,6 +82,22 @@ def bus_words(
     return by_bus
 
 
+def record_options(
+    record: str, limit: Optional[int], flush: Optional[int], sync: bool
+) -> tuple[list[str], dict[str, int]]:
+    """Returns the words that say when the record is written, and the options that are numbers; ValueError as they are."""
+    if record not in ("end", "live", "none"):
+        raise ValueError(f"record is 'end', 'live' or 'none', not {record!r}")
+    if record == "end":
+        if flush is not None or sync:
+            raise ValueError("flush and sync are of a server whose record is 'live' or 'none'")
+        return [], {"limit": 1_000_000 if limit is None else limit}
+    if limit is not None:
+        raise ValueError(f"limit is of a server whose record is written at its end, not {record!r}")
+    words = ["--record", record, *(["--sync"] if sync else [])]
+    return words, {} if flush is None else {"flush": flush}
+
+
 def script_of(bus: str) -> str:
     """The text of the script of a bus, as the program was given it; the empty text where it is gone since."""
     _, _, file = bus.partition("@")
@@ -92,8 +109,11 @@ class Server(Expectations, ProgramRun):
 
     The options are those of the program. ``faults`` is a script for the one bus there is (:class:`canbusd.Faults`, a
     path or a text), or a dict of them by the name of a bus's first interface. ``out`` is a folder for logs and records;
-    without it they are kept as long as the server is. ``observe`` names interfaces whose frames :meth:`expect` looks
-    at. The server runs when the constructor returns, and is ended by :meth:`stop`, by the end of a ``with`` block, and
+    without it they are kept as long as the server is. With ``record="live"`` logs and records are written while the
+    server runs, ``flush`` milliseconds (100) after each call, and :meth:`log`, :meth:`record` and :meth:`attempts`
+    return what is there; with ``record="none"`` logs are, and there is no record. Then a run may go on for weeks, and
+    ``limit`` (1,000,000 entries) is not given. ``observe`` names interfaces whose frames :meth:`expect` looks at. The
+    server runs when the constructor returns, and is ended by :meth:`stop`, by the end of a ``with`` block, and
     by the end of this process, whatever ends it.
     """
 
@@ -108,14 +128,18 @@ class Server(Expectations, ProgramRun):
         write_bytes: int = 16_384,
         txqueue: int = 10,
         rxqueue: int = 256,
-        limit: int = 1_000_000,
+        limit: Optional[int] = None,
+        record: str = "end",
+        flush: Optional[int] = None,
+        sync: bool = False,
         out: Union[str, "os.PathLike[str]", None] = None,
         listen: str = "127.0.0.1:0",
         observe: Union[str, Sequence[str]] = (),
     ) -> None:
         if not buses or not all(isinstance(bus, str) for bus in buses):
             raise ValueError(f"buses are given by the names of their interfaces, such as 'can0,can1', not {buses!r}")
-        options = option_words(
+        words, numbers = record_options(record, limit, flush, sync)
+        options = words + option_words(
             ack,
             report,
             auto_restart=auto_restart,
@@ -123,12 +147,16 @@ class Server(Expectations, ProgramRun):
             write_bytes=write_bytes,
             txqueue=txqueue,
             rxqueue=rxqueue,
-            limit=limit,
+            **numbers,
         )
         observed = tuple(observe.split(",") if isinstance(observe, str) else observe)
         super().__init__(out)
         self._txqueue = txqueue
         self._by_bus = bus_words(buses, faults, self._folder)
+        # When the record is written; logs and records that are written while the server runs, by bus.
+        self._record_when = record
+        self._logs = {name: LiveLog(self._out / f"{name}.log") for name in self._by_bus}
+        self._records = {name: LiveRecord(self._out / f"{name}.rec", bus[:-1]) for name, bus in self._by_bus.items()}
         # The rules that were injected here, by the first interface of their bus.
         self._injected: dict[str, list[Rule]] = {}
         self._observer: Optional[Observer] = None
@@ -142,6 +170,11 @@ class Server(Expectations, ProgramRun):
         self.address = self._listening()
         if observed:
             self._observing(observed)
+
+    @property
+    def _ends_too(self) -> str:
+        """The calls that end it where logs and records are written at the end."""
+        return "log(), record(), " if self._record_when == "end" else ""
 
     @property
     def interfaces(self) -> list[str]:
@@ -159,7 +192,7 @@ class Server(Expectations, ProgramRun):
             raise CanInitializationError(f"{channel}: no such interface; the server has {', '.join(self.interfaces)}")
         if self._result is not None:
             raise CanInitializationError(
-                f"{channel}: the server has ended; stop(), log(), record(), audit(), report() and its with block end it"
+                f"{channel}: the server has ended; stop(), {self._ends_too}audit(), report() and its with block end it"
             )
         bus = CanbusdBus(channel, address=self.address, **kwargs)
         bus.window = self._txqueue
@@ -227,7 +260,7 @@ class Server(Expectations, ProgramRun):
         return self._result
 
     def kill(self) -> Result:
-        """Ends the server as a crash would: no logs or records are written."""
+        """Ends the server as a crash would: of logs and records there is what was written while it ran."""
         self._check_process()
         if self._result is None:
             # Also one that is being stopped.
@@ -240,24 +273,53 @@ class Server(Expectations, ProgramRun):
             return self._result
 
     def log(self, name: Optional[str] = None) -> list["Message"]:
-        """Ends the server, and returns the frames that were put on the bus of this interface, oldest first.
+        """Returns the frames that were put on the bus of this interface, oldest first; ends the server.
 
-        The channel of each is the interface that sent it. A frame that was destroyed or not acknowledged is an error
-        message frame. The name may be left out where there is one bus.
+        With ``record="live"`` and ``"none"`` it does not end it, and returns those that were written so far. The channel
+        of each is the interface that sent it. A frame that was destroyed or not acknowledged is an error message frame.
+        The name may be left out where there is one bus.
         """
-        return read_log(self._file(name, "log"))
+        first = self._first(name)
+        return self._logs[first].messages() if self._record_when != "end" else read_log(self._file(name, "log"))
 
     def record(self, name: Optional[str] = None) -> Record:
-        """Ends the server, and returns the record of the bus of this interface."""
-        return read_record(self._file(name, "rec"), self._by_bus[self._first(name)][:-1])
+        """Returns the record of the bus of this interface; ends the server.
+
+        With ``record="live"`` it does not end it, and returns what was written so far: its `is_cut` is true until the
+        server has ended.
+        """
+        first = self._recorded(name)
+        if self._record_when == "live":
+            return self._records[first].record()
+        return read_record(self._file(name, "rec"), self._by_bus[first][:-1])
+
+    def attempts(self, name: Optional[str] = None) -> list[Attempt]:
+        """Returns the attempts on the bus of this interface: with ``record="live"`` those that were written so far.
+
+        Each call reads only what was added since the one before. Of another server they are known once it has ended.
+        """
+        first = self._recorded(name)
+        if self._record_when == "live":
+            return self._records[first].attempts()
+        if self._result is None:
+            raise ServerError('what was attempted is known while the server runs with record="live", else after stop()')
+        return self.record(name).attempts
 
     def audit(self) -> dict[str, str]:
-        """Ends the server, and returns what `canbusd audit` says of each bus's record: `ok 7 entries` or a fault."""
-        return {name: audited(self._file(name, "rec")) for name in self._by_bus}
+        """Ends the server, and returns what `canbusd audit` says of each bus's record: `ok 7 entries` or a fault.
+
+        Of one that was killed, with ``record="live"``, it is `ok 7 entries, then cut off`.
+        """
+        return {name: self._audited(self._file(self._recorded(name), "rec")) for name in self._by_bus}
+
+    def _audited(self, path: Path) -> str:
+        left = left_by(path, self._record_when)
+        return audited(left, cut=left != path)
 
     def report(self, name: Optional[str] = None) -> Path:
         """Ends the server, and returns the path of a page for the browser that shows the run of the bus."""
-        return self._page(self.record(name), self._file(name, "html"))
+        page = self._file(self._recorded(name), "html")
+        return self._page(self.record(name), page)
 
     def _page(self, record: Record, path: Path) -> Path:
         """Writes the page of the bus with this record there."""
@@ -285,6 +347,14 @@ class Server(Expectations, ProgramRun):
             self._observer = Observer(self.bus, observed)
         return self._observer
 
+    def _shown(self) -> str:
+        if self._record_when == "end":
+            return super()._shown()
+        from canbusd._summary import end_of_log
+
+        logs = [line for name in self._by_bus for line in end_of_log(self._out / f"{name}.log")]
+        return "\n".join([super()._shown(), *logs])
+
     def _end_observer(self) -> None:
         if self._observer is not None:
             self._observer.close()
@@ -296,6 +366,12 @@ class Server(Expectations, ProgramRun):
             known = ", ".join(self.interfaces)
             raise ValueError(f"{what} is that of an interface of the server, one of {known}, not {name!r}")
         return found[0]
+
+    def _recorded(self, name: Optional[str]) -> str:
+        """The first interface of the bus that has this one; ServerError where there is no record of it."""
+        if self._record_when == "none":
+            raise ServerError('there is no record: the server has record="none"')
+        return self._first(name)
 
     def _file(self, name: Optional[str], ending: str) -> Path:
         first = self._first(name)
