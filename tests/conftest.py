@@ -30,6 +30,9 @@ def pytest_addoption(parser):
     group.addoption("--cases", type=int, default=1000, help="how many random inputs a test tries (1000)")
     group.addoption("--frames", type=int, default=1_000_000, help="how many frames test_load.py sends (1000000)")
     group.addoption(
+        "--minutes", type=float, default=1, help="how long test_long_runs.py keeps up a steady load (1), 72 MB each"
+    )
+    group.addoption(
         "--all-bytes", action="store_true", help="change each byte of a record to all others (test_damage.py)"
     )
     group.addoption("--beside", metavar="PROGRAM", help="another program that audits as canbusd does (test_damage.py)")

@@ -44,6 +44,12 @@ class NoProgram(Exception):
     """There is no program to test; the text says what to do."""
 
 
+@functools.lru_cache(maxsize=None)
+def writes_live():
+    """Whether the program has `serve --record`."""
+    return b"--record" in subprocess.run([program(), "serve", "--help"], stdout=subprocess.PIPE, check=True).stdout
+
+
 class NotListening(Exception):
     """A server said something else than where it listens; the text is what it said."""
 
@@ -100,10 +106,11 @@ class Server:
     """A server that runs in a folder of its own, in a group of processes of its own.
 
     The launcher's part for servers starts it, or the launcher of that path, or where `launcher` is False nothing does:
-    then it is the program itself. Ctrl-C ends it, or the end of its input where that is a pipe.
+    then it is the program itself. Ctrl-C ends it, or the end of its input where that is a pipe. Its files are in its
+    folder unless `out` says otherwise.
     """
 
-    def __init__(self, *words, address="127.0.0.1:0", launcher=True, **how):
+    def __init__(self, *words, address="127.0.0.1:0", launcher=True, out=".", **how):
         self.folder = tempfile.mkdtemp(prefix="canbusd-")
         self.errors = open(self.path("stderr"), "w+", encoding="utf-8")
         if launcher is True:
@@ -111,7 +118,7 @@ class Server:
         else:
             start = [launcher or program()]
         self.child = subprocess.Popen(
-            [*start, "serve", "--listen", address, "--out", ".", *words],
+            [*start, "serve", "--listen", address, *(["--out", out] if out else []), *words],
             cwd=self.folder,
             stdout=subprocess.PIPE,
             stderr=self.errors,

@@ -360,6 +360,9 @@ def test_named_cuts(tried):
         # Version 4 needs none.
         (live(example()), "ok 7 entries"),
         (live(example())[:-1], "ok 7 entries, then cut off"),
+        (live(with_fd()), "ok 15 entries"),
+        (live(with_fd())[:-1], "ok 15 entries, then cut off"),
+        (live(), "ok 42 entries"),
         (b"canbus record 4\nbus 2 always 0000 10 16777217 0\nend 0\n", "ok 0 entries"),
         (b"canbus record 4\nbus 2 always 0000 10 16777217 0\nend 0", "ok 0 entries, then cut off"),
     ]

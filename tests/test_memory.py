@@ -21,9 +21,10 @@ import subprocess
 
 import pytest
 
-from serving import ROOT, WAIT, NotListening, Pair, Plain, come_true, plain, program, serving_alone
+from serving import ROOT, WAIT, NotListening, Pair, Plain, come_true, plain, program, serving_alone, writes_live
 
 pytestmark = pytest.mark.skipif(not shutil.which("cc"), reason="no C compiler: cc")
+needs_live = pytest.mark.skipif("not writes_live()", reason="the program is older than `serve --record`")
 
 FOREVER = 2**64 - 1
 # More often than this nothing that is tried here asks for memory; and more bytes than this it does not need.
@@ -328,8 +329,8 @@ def crosses(server, source, target):
 
 
 @contextlib.contextmanager
-def refused_server(refusing):
-    with serving_alone("--pace", "0", "can0,can1", "can2,can3", env=refusing.environment) as server:
+def refused_server(refusing, *words):
+    with serving_alone("--pace", "0", *words, "can0,can1", "can2,can3", env=refusing.environment) as server:
         refusing.server = server
         yield server
 
@@ -463,9 +464,9 @@ def test_deliveries_without_memory(refusing):
     print(summed([tolds]))
 
 
-def why_not(fault):
-    """Why a server does not listen, where it said so as it has to."""
-    told = re.fullmatch(r"canbusd: (no memory|cannot listen)(\n  [ -~]*)*", str(fault))
+def why_not(fault, others=()):
+    """Why a server does not listen, where it said so as it has to: these reasons are taken too."""
+    told = re.fullmatch(rf"canbusd: ({'|'.join(['no memory', 'cannot listen', *others])})(\n  [ -~]*)*", str(fault))
     assert told, f"{fault}"
     return told[1]
 
@@ -478,44 +479,57 @@ def greets(server):
     return "no memory, once it listened"
 
 
+def refused_at_each_place(tried):
+    """What came of each try, of which memory is refused at one place or from there on, until nothing is asked for there. A
+    try gets the place and the last that is refused, and returns what came of it, and whether it asked for less."""
+    told = {}
+    for place in places():
+        for last in (FOREVER, place):
+            how, asks_for_less = tried(place, last)
+            told[how] = told.get(how, 0) + 1
+        if asks_for_less:
+            break
+    print(summed([told]))
+
+
+def start(refusing, place, last, ended, *words, reasons=()):
+    """What came of a server whose start is refused memory: why it does not listen, or what `ended` says of it; and whether
+    its start asks for less than that."""
+    refusing.refuse(place, last)
+    try:
+        with refused_server(refusing, *words) as server:
+            asks_for_less = last == place and refusing.settled() < place
+            refusing.stop()
+            return ended(server, greets(server)), asks_for_less
+    except NotListening as fault:
+        return why_not(fault, reasons), False
+
+
 def test_a_start_without_memory(refusing):
     """a server that is refused memory says so and is gone, or serves"""
-    told, is_over = {}, False
-    for place in places():
-        if is_over:
-            break
-        for last in (FOREVER, place):
-            refusing.refuse(place, last)
-            try:
-                with refused_server(refusing) as server:
-                    is_over = last == place and refusing.settled() < place
-                    refusing.stop()
-                    how = greets(server)
-                    status, _ = server.finish()
-                    right = {"served": (0, ""), "no memory, once it listened": (1, NO_MEMORY.strip())}[how]
-                    assert (status, server.said()) == right, f"at {place}: {how}, {status} {server.said()}"
-            except NotListening as fault:
-                how = why_not(fault)
-            told[how] = told.get(how, 0) + 1
-    print(summed([told]))
+
+    def ended(server, how):
+        status, _ = server.finish()
+        right = {"served": (0, ""), "no memory, once it listened": (1, NO_MEMORY.strip())}[how]
+        assert (status, server.said()) == right, f"{how}, {status} {server.said()}"
+        return how
+
+    refused_at_each_place(lambda place, last: start(refusing, place, last, ended))
 
 
 def test_an_end_without_memory(refusing):
     """a file that is refused memory is reported; the others are whole"""
-    told, is_over = {}, False
-    for place in places():
-        if is_over:
-            break
-        for last in (FOREVER, place):
-            with refused_server(refusing) as server:
-                Pair(server).go_on()
-                armed = refusing.refuse_soon(place, last)
-                status, written = server.finish()
-                is_over = last == place and refusing.settled() < armed
-                refusing.stop()
-                how = told_at_the_end(server, status, written)
-                told[how] = told.get(how, 0) + 1
-    print(summed([told]))
+
+    def tried(place, last):
+        with refused_server(refusing) as server:
+            Pair(server).go_on()
+            armed = refusing.refuse_soon(place, last)
+            status, written = server.finish()
+            asks_for_less = last == place and refusing.settled() < armed
+            refusing.stop()
+            return told_at_the_end(server, status, written), asks_for_less
+
+    refused_at_each_place(tried)
 
 
 def told_at_the_end(server, status, written):
@@ -534,6 +548,63 @@ def told_at_the_end(server, status, written):
             whole += len(log.readlines()) == (1 if name == "can0" else 0)
     assert whole >= 4 - 2 * len(lines) and (whole == 4 or lines), f"{whole} files are whole: {server.said()}"
     return f"{whole} of 4 files"
+
+
+@needs_live
+def test_a_start_of_a_long_run_without_memory(refusing):
+    """a server that writes while it runs says so and is gone, or serves"""
+
+    def ended(server, how):
+        status, written = server.finish()
+        return f"{how}, {live_files(server, status, written)}"
+
+    words = ["--record", "live"]
+    refused_at_each_place(
+        lambda place, last: start(refusing, place, last, ended, *words, reasons=[r"cannot open \."])
+    )
+
+
+@needs_live
+@pytest.mark.parametrize("flush", ["0", "60000"])
+def test_a_long_run_without_memory(refusing, flush):
+    """a bus or a file that is refused memory is reported, and no record looks whole that is not"""
+
+    def tried(place, last):
+        with refused_server(refusing, "--record", "live", "--flush", flush) as server:
+            Pair(server).go_on()
+            others = Pair(server, "can2", "can3")
+            armed = refusing.refuse_soon(place, last)
+            with contextlib.suppress(AssertionError):
+                others.go_on()
+            status, written = server.finish()
+            asks_for_less = last == place and refusing.asked() < armed
+            refusing.stop()
+            return live_files(server, status, written), asks_for_less
+
+    refused_at_each_place(tried)
+
+
+def live_files(server, status, written):
+    """What became of the files of a server that wrote them while it ran."""
+    entries = dict(re.findall(r"^bus (\w+) entries (\d+)$", written, re.M))
+    whole = 0
+    for name in ("can0", "can2"):
+        record = server.path(f"{name}.rec")
+        if os.path.exists(record):
+            assert server.audited(f"{name}.rec") == int(entries[name]), f"{written}{server.said()}"
+            whole += 1
+            continue
+        done = subprocess.run(
+            [program(), "audit", "--cut", f"{record}.new"], capture_output=True, text=True, check=False
+        )
+        found = re.fullmatch(r"ok (\d+) entries(, then cut off)?\n", done.stdout)
+        assert found and int(found[1]) <= int(entries.get(name, found[1])), f"{done}: {written}{server.said()}"
+        assert status == 1 and server.said(), "a record is not whole, and nothing was said"
+    if whole == 2 and status == 0:
+        assert server.said() == "", server.said()
+        return "all files"
+    assert status == 1 and server.said().startswith("canbusd: "), f"status {status}: {server.said()}"
+    return f"{whole} of 2 records, {server.said().splitlines()[0]}"
 
 
 def amounts(first):

@@ -35,6 +35,19 @@ def test_full_record():
         assert server.audited("can0.rec") == 5, "the audit"
 
 
+def test_nearly_full_record():
+    """nine tenths are reported once, with what has no such end"""
+    note = "note: bus can0: the record is nine tenths full; serve --record live or --record none has no such end"
+    with serving("--limit", "50", "--pace", "0", "can0,can1") as server:
+        can0, can1 = plain(server, "can0"), plain(server, "can1")
+        for value in range(15):
+            can0.tell(f"< send 123 1 {value:X} >")
+            assert can1.frame() == ("123", bytes([value])), "not the frame"
+            assert value < 14 or come_true(lambda: server.said() == note), server.said()
+            assert value > 13 or server.said() == "", server.said()
+        server.end(note)
+
+
 def test_verbose():
     """who comes, opens, goes, and each bus off and restart, each line with its moment"""
     words = ("--verbose", "--auto-restart", "3", "--pace", "0", f"can0,can1@{ROOT}/examples/bus_off_attack.script")
