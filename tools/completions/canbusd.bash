@@ -18,7 +18,7 @@ _canbusd() {
         ;;
     *,help) _canbusd_offer "bench serve audit" ;;
     *,bench) _canbusd_word "$options --record --log --strict" ;;
-    *,serve) _canbusd_word "$options --listen --sessions --pace --write --out --until-eof --verbose" ;;
+    *,serve) _canbusd_word "$options --listen --sessions --pace --write --out --record --flush --sync --until-eof --verbose" ;;
     esac
 }
 
@@ -26,9 +26,15 @@ _canbusd() {
 _canbusd_word() {
     case $before,$text in
     --ack,*) _canbusd_offer "always peers" ;;
-    --record,* | --log,* | --listen,* | *@*) _canbusd_files -f default ;;
+    --record,*)
+        case ${COMP_WORDS[1]} in
+        serve) _canbusd_offer "end live none" ;;
+        *) _canbusd_files -f default ;;
+        esac
+        ;;
+    --log,* | --listen,* | *@*) _canbusd_files -f default ;;
     --out,*) _canbusd_files -d dirnames ;;
-    --txqueue,* | --rxqueue,* | --limit,* | --auto-restart,* | --sessions,* | --pace,* | --write,*) ;;
+    --txqueue,* | --rxqueue,* | --limit,* | --auto-restart,* | --sessions,* | --pace,* | --write,* | --flush,*) ;;
     *) _canbusd_offer "$1" ;;
     esac
 }

@@ -39,6 +39,9 @@ complete -c canbusd -n $serves -x -l sessions -d "How many sessions before the e
 complete -c canbusd -n $serves -x -l pace -d "Milliseconds of rest after each attempt"
 complete -c canbusd -n $serves -x -l write -d "Most bytes of frames in one write to a client"
 complete -c canbusd -n $serves -x -l out -a "(__fish_complete_directories)" -d "Where logs and records go"
+complete -c canbusd -n $serves -x -l record -a "end live none" -d "When records are written"
+complete -c canbusd -n $serves -x -l flush -d "Milliseconds that what is written live may wait"
+complete -c canbusd -n $serves -l sync -d "Wait until the disk has what is written live"
 complete -c canbusd -n $serves -l until-eof -d "End at the end of standard input"
 complete -c canbusd -n $serves -l verbose -d "Report clients and bus off on standard error"
 

@@ -44,6 +44,9 @@ _canbusd() {
             '--pace=[milliseconds of rest after each attempt]:milliseconds:' \
             '--write=[most bytes of frames in one write to a client]:bytes:' \
             '--out=[where logs and records go]:folder:_files -/' \
+            '--record=[when records are written]:when:(end live none)' \
+            '--flush=[milliseconds that what is written live may wait]:milliseconds:' \
+            '--sync[wait until the disk has what is written live]' \
             '--until-eof[end at the end of standard input]' \
             '--verbose[report clients and bus off on standard error]' \
             '*:bus:_canbusd_bus'
