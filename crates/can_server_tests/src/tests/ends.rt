@@ -35,10 +35,10 @@ fn ends<N: RollName + MeterName + Send + Sync, R: Machine>(
     let host = Host::new(rt);
     let (first, second) = (entrance.admit(rt, alloc), entrance.admit(rt, alloc));
     let doors = entrance.into_doors(rt, alloc);
-    let (passes, ()) = join(
+    let ((), passes) = join(
         rt,
-        || serves(rt, alloc, &hub, &doors, &host, Some(&told)),
         || tell_end(first, second, until),
+        || serves(rt, alloc, &hub, &doors, &host, Some(&told)),
     );
     let Some(bus) = settled(rt, alloc, hub, passes).pop() else {
         panic!(rt; "no bus");
@@ -73,10 +73,10 @@ fn ends_in_vain<N: RollName + MeterName + Send + Sync, R: Machine>(
     let host = Host::new(rt);
     let only = entrance.admit(rt, alloc);
     let doors = entrance.into_doors(rt, alloc);
-    let (passes, ()) = join(
+    let ((), passes) = join(
         rt,
-        || serves(rt, alloc, &hub, &doors, &host, None),
         || send_in_vain(only),
+        || serves(rt, alloc, &hub, &doors, &host, None),
     );
     assert!(rt; host.told.load(Ordering::SeqCst) == 0);
     assert!(rt; settled(rt, alloc, hub, passes).len() == 1);

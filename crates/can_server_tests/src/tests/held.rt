@@ -119,10 +119,10 @@ fn hub_goes_on<N: RollName + MeterName + Send + Sync, R: Machine>(
     let Ok(mut gauge) = hub.gauge(rt, 0) else {
         panic!(rt; "no gauge");
     };
-    let (passes, ()) = join(
+    let ((), passes) = join(
         rt,
-        || serves(rt, alloc, &hub, &doors, &host, None),
         || go_on(rt, signals, clients, &mut gauge),
+        || serves(rt, alloc, &hub, &doors, &host, None),
     );
     assert!(rt; !signals.late.load(Ordering::SeqCst));
     let (_, transmit, receive) = reading(rt, &mut gauge, 0);
@@ -196,10 +196,10 @@ fn sessions_meet<N: RollName + MeterName + Send + Sync, R: Machine>(
     let host = Host::new(rt);
     let (first, second) = (entrance.admit(rt, alloc), entrance.admit(rt, alloc));
     let doors = entrance.into_doors(rt, alloc);
-    let (passes, ()) = join(
+    let ((), passes) = join(
         rt,
-        || serves(rt, alloc, &hub, &doors, &host, None),
         || open_both(first, second),
+        || serves(rt, alloc, &hub, &doors, &host, None),
     );
     assert!(rt; !signals.late.load(Ordering::SeqCst));
     assert!(rt; settled(rt, alloc, hub, passes).len() == 1);
@@ -274,10 +274,10 @@ fn step_has_the_lock<N: RollName + MeterName + Send + Sync, R: Machine>(
     let host = Host::new(rt);
     let (first, second) = (entrance.admit(rt, alloc), entrance.admit(rt, alloc));
     let doors = entrance.into_doors(rt, alloc);
-    let (passes, ()) = join(
+    let ((), passes) = join(
         rt,
-        || serves(rt, alloc, &hub, &doors, &host, None),
         || ask_meanwhile(rt, signals, first, second),
+        || serves(rt, alloc, &hub, &doors, &host, None),
     );
     assert!(rt; !signals.late.load(Ordering::SeqCst));
     assert!(rt; settled(rt, alloc, hub, passes).len() == 1);

@@ -48,10 +48,10 @@ fn fills<N: RollName + MeterName + Send + Sync, R: Machine>(
     }
     let last = entrance.admit(rt, alloc);
     let (doors, address) = entrance.into_parts(rt, alloc);
-    let (passes, ()) = join(
+    let ((), passes) = join(
         rt,
-        || serves(rt, alloc, &hub, &doors, &host, None),
         || crowd(rt, &address, clients, last),
+        || serves(rt, alloc, &hub, &doors, &host, None),
     );
     let Some(bus) = settled(rt, alloc, hub, passes).pop() else {
         panic!(rt; "no bus");
@@ -110,10 +110,10 @@ fn lets_in<N: RollName + MeterName + Send + Sync, R: Machine>(
         assert!(rt; silent.push(entrance.admit(rt, alloc)).is_ok());
     }
     let (doors, address) = entrance.into_parts(rt, alloc);
-    let (passes, ()) = join(
+    let ((), passes) = join(
         rt,
-        || serves(rt, alloc, &hub, &doors, &host, None),
         || make_room(rt, alloc, &host, &address, first, silent),
+        || serves(rt, alloc, &hub, &doors, &host, None),
     );
     let Some(bus) = settled(rt, alloc, hub, passes).pop() else {
         panic!(rt; "no bus");
@@ -156,10 +156,10 @@ fn is_full<N: RollName + MeterName + Send + Sync, R: Machine>(
     let host = Host::new(rt);
     let (first, second) = (entrance.admit(rt, alloc), entrance.admit(rt, alloc));
     let doors = entrance.into_doors(rt, alloc);
-    let (passes, ()) = join(
+    let ((), passes) = join(
         rt,
-        || serves(rt, alloc, &hub, &doors, &host, None),
         || meet_full_record(first, second),
+        || serves(rt, alloc, &hub, &doors, &host, None),
     );
     assert!(rt; host.told.load(Ordering::SeqCst) == 1);
     let Some(bus) = settled(rt, alloc, hub, passes).pop() else {

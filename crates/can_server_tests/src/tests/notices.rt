@@ -111,10 +111,10 @@ fn told<N: RollName + MeterName + Send + Sync, R: Machine>(
     let host = Counting::new(rt);
     let (first, second) = (entrance.admit(rt, alloc), entrance.admit(rt, alloc));
     let doors = entrance.into_doors(rt, alloc);
-    let (served, ()) = join(
+    let ((), served) = join(
         rt,
-        || serve(rt, alloc, &hub, &doors, &host, None).is_ok(),
         || talk(first, second),
+        || serve(rt, alloc, &hub, &doors, &host, None).is_ok(),
     );
     assert!(rt; served);
     let counts = [&host.came, &host.opened, &host.went];

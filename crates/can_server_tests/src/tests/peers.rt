@@ -43,10 +43,10 @@ fn serves_on<N: RollName + MeterName + Send + Sync, R: Machine>(
     let (first, second) = (entrance.admit(rt, alloc), entrance.admit(rt, alloc));
     let (third, fourth) = (entrance.admit(rt, alloc), entrance.admit(rt, alloc));
     let doors = entrance.into_doors(rt, alloc);
-    let (passes, ()) = join(
+    let ((), passes) = join(
         rt,
-        || serves(rt, alloc, &hub, &doors, &host, None),
         || outlive(first, second, third, fourth),
+        || serves(rt, alloc, &hub, &doors, &host, None),
     );
     let Some(bus) = settled(rt, alloc, hub, passes).pop() else {
         panic!(rt; "no bus");
@@ -89,10 +89,10 @@ fn serves_silent<N: RollName + MeterName + Send + Sync, R: Machine>(
     let (first, second) = (entrance.admit(rt, alloc), entrance.admit(rt, alloc));
     let silent = entrance.admit(rt, alloc);
     let doors = entrance.into_doors(rt, alloc);
-    let (passes, ()) = join(
+    let ((), passes) = join(
         rt,
-        || serves(rt, alloc, &hub, &doors, &host, None),
         || exchange(first, second, silent),
+        || serves(rt, alloc, &hub, &doors, &host, None),
     );
     assert!(rt; settled(rt, alloc, hub, passes).len() == 1);
 }

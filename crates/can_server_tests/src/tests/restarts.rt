@@ -36,10 +36,10 @@ fn record<N: RollName + MeterName + Send + Sync, R: Machine>(
     let host = Host::new(rt);
     let (first, second) = (entrance.admit(rt, alloc), entrance.admit(rt, alloc));
     let doors = entrance.into_doors(rt, alloc);
-    let (passes, ()) = join(
+    let ((), passes) = join(
         rt,
-        || serves(rt, alloc, &hub, &doors, &host, None),
         || talk(first, second),
+        || serves(rt, alloc, &hub, &doors, &host, None),
     );
     for count in [&host.off, &host.restarted] {
         assert!(rt; count.load(Ordering::SeqCst) == 1);

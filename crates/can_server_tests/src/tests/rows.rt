@@ -34,10 +34,10 @@ fn record<N: RollName + MeterName + Send + Sync, R: Machine>(
     let host = Host::new(rt);
     let (first, second) = (entrance.admit(rt, alloc), entrance.admit(rt, alloc));
     let doors = entrance.into_doors(rt, alloc);
-    let (passes, ()) = join(
+    let ((), passes) = join(
         rt,
-        || serves(rt, alloc, &hub, &doors, &host, None),
         || talk(first, second),
+        || serves(rt, alloc, &hub, &doors, &host, None),
     );
     let Some(bus) = settled(rt, alloc, hub, passes).pop() else {
         panic!(rt; "no bus");
@@ -115,10 +115,10 @@ fn keeps_pace<N: RollName + MeterName + Send + Sync, R: Machine>(
     let host = Host::new(rt);
     let (first, second) = (entrance.admit(rt, alloc), entrance.admit(rt, alloc));
     let doors = entrance.into_doors(rt, alloc);
-    let (passes, taken) = join(
+    let (taken, passes) = join(
         rt,
-        || serves(rt, alloc, &hub, &doors, &host, None),
         || time_two(rt, first, second),
+        || serves(rt, alloc, &hub, &doors, &host, None),
     );
     assert!(rt; taken >= Duration::from_millis(u64::from(PACE_MS)));
     let Some(bus) = settled(rt, alloc, hub, passes).pop() else {
