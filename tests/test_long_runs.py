@@ -806,13 +806,14 @@ def test_a_disk_that_stands_still(pipe):
 
 def stands_still(load):
     """Waits until nobody is told anything for a while, though there are sends; returns how many had their replies."""
-    before = -1
+    before, looks = -1, 0
     for _ in turns("it stands still", 6 * WAIT):
         told = load.sender.count + load.receiver.count
-        if told == before and load.under_way() > load.many:
+        looks = looks + 1 if told == before and load.under_way() > load.many else 0
+        if looks == 3:
             return load.sender.count
         before = told
-        time.sleep(1.5)
+        time.sleep(1)
 
 
 @pytest.mark.slow
