@@ -9,6 +9,18 @@ from serving import ROOT, program
 
 BROWSER = next(filter(None, map(shutil.which, ("chromium", "chromium-browser", "google-chrome"))), None)
 
+# Two sessions of a bench in raw mode, one on each of the first two interfaces, and what they write.
+TWO_SESSIONS = """session 1
+session 2
+feed 1 < open can0 >< rawmode >
+feed 2 < open can1 >< rawmode >
+"""
+TWO_STARTED = """1 < hi >
+2 < hi >
+1 < ok >< ok >
+2 < ok >< ok >
+"""
+
 
 def call(*words, **more):
     """A command's status, standard output and standard error."""
@@ -16,6 +28,11 @@ def call(*words, **more):
         words, capture_output=True, text=True, timeout=120, check=False, **{"stdin": subprocess.DEVNULL, **more}
     )
     return done.returncode, done.stdout, done.stderr
+
+
+def run_line(line, text="", **more):
+    """The status, the output and the errors of the program with the words of a line and this input."""
+    return call(program(), *line.split(), stdin=None, input=text, **more)
 
 
 def is_clean(fault):

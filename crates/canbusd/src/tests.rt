@@ -1,10 +1,5 @@
-mod buses;
-mod command_lines;
-mod limits;
 mod lines;
-mod records;
 mod restarts;
-mod scripts;
 mod serving;
 mod streams;
 mod support;

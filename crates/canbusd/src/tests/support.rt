@@ -23,14 +23,14 @@ pub fn same<T: PartialEq + Debug + Drop>(rt: &impl Abort, got: T, expected: T) {
 
 /// A reader of a text that it owns, in pieces of this many bytes.
 #[derive(Drop)]
-pub struct Owned {
+struct Owned {
     text: String,
     read: usize,
     size: usize,
 }
 
 impl Owned {
-    pub fn new(text: String, size: usize) -> Owned {
+    fn new(text: String, size: usize) -> Owned {
         Owned {
             text,
             read: 0,
@@ -156,19 +156,6 @@ pub const TWO_SESSIONS: &str =
     "session 1\nsession 2\nfeed 1 < open can0 >< rawmode >\nfeed 2 < open can1 >< rawmode >\n";
 
 pub const TWO_STARTED: &str = "1 < hi >\n2 < hi >\n1 < ok >< ok >\n2 < ok >< ok >\n";
-
-/// Runs the words of a line over an input after two sessions.
-pub fn carries_out(
-    rt: &(impl Abort + ServerRuntime),
-    alloc: Global,
-    line: &str,
-    rest: &str,
-    wanted: &str,
-) -> Result<(), Fail> {
-    let input = joined(alloc, &[TWO_SESSIONS, rest])?;
-    let output = joined(alloc, &[TWO_STARTED, wanted])?;
-    runs_however_cut(rt, alloc, line, &input, (&output, "", 0))
-}
 
 /// As `runs`, over an input that comes a byte at a time, and over one that comes as a whole.
 pub fn runs_however_cut(

@@ -1,0 +1,224 @@
+"""Command lines: words that are refused, help, and buses, scripts and addresses that can't be had, text for text."""
+
+import socket
+
+import pytest
+
+from commands import run_line
+
+# What is reported of other words is in test_long_runs.py, and of files and streams that fail in test_devices.py.
+NO_JOB = [
+    "",
+    "serve",
+    "bench",
+    "bench can0 can1",
+    "bench --limit",
+    "bench --limit= can0",
+    "bench --limit +5 can0",
+    "bench --txqueue 4294967296 can0",
+    "bench --rxqueue x can0",
+    "bench --auto-restart -1 can0",
+    "bench --auto-restart can0",
+    "bench --limit 1 --limit 1 can0",
+    "bench --ack never can0",
+    "bench --ack",
+    "bench --report=1 can0",
+    "bench --record",
+    "bench --log",
+    "bench --strict=1 can0",
+    "bench --strict --strict can0",
+    "serve --strict can0",
+    "bench --record run.rec --log run.rec can0",
+    "bench --record run.rec --log ./run.rec can0",
+    "bench --log=/a/./b --record=//a//b can0",
+    "serve --sessions 0 can0",
+    "serve --sessions 4001 can0",
+    "serve --sessions +5 can0",
+    "serve --sessions 1 --sessions 1 can0",
+    "serve --record none --sessions 4294967296 can0",
+    "serve --record live --record live --out . can0",
+    "serve --record end --flush 5 can0",
+    "serve --record none --sync=1 can0",
+    "bench --flush 5 can0",
+    "serve --pace x can0",
+    "serve --pace= can0",
+    "serve --write 255 can0",
+    "serve --write 65537 can0",
+    "serve --limit 4294967296 can0",
+    "serve --txqueue x can0",
+    "serve --rxqueue +1 can0",
+    "serve --auto-restart 4294967296 can0",
+    "serve --ack never can0",
+    "serve --report=1 can0",
+    "serve --until-eof=1 can0",
+    "serve --listen",
+    "serve --out",
+    "serve --log run.log can0",
+    "audit",
+    "audit --cut",
+]
+# Words that are taken: what is reported is of the bus.
+A_JOB = [
+    "bench --record run.rec --log /run.rec can0,can0",
+    "bench --record run.rec --log a/run.rec can0,can0",
+    "bench --record ../run.rec --log run.rec can0,can0",
+    "bench --strict can0,can0",
+    "serve --pace 60000 can0,can0",
+    "serve --write 256 can0,can0",
+    "serve --write 65536 can0,can0",
+    "serve --sessions 4000 can0,can0",
+    "serve --record end --limit 5 can0,can0",
+    "serve --record live --out . --flush 0 can0,can0",
+    "serve --record none --flush 60000 --sync can0,can0",
+    "serve --record none --sessions 4294967295 can0,can0",
+]
+# Words, and how what is reported of them begins.
+REFUSED = [
+    (
+        "bench --txqueue ten can0",
+        "error: invalid value 'ten' for '--txqueue': not a number from 1 to 1024 in decimal digits\n",
+    ),
+    (
+        "serve --auto-restart 0.5 can0",
+        "error: invalid value '0.5' for '--auto-restart': not a number from 0 to 1000000 in decimal digits\n",
+    ),
+    (
+        "serve --pace 60001 can0",
+        "error: invalid value '60001' for '--pace': not a number from 0 to 60000 in decimal digits\n",
+    ),
+    ("serve --record run.rec can0", "error: invalid value 'run.rec' for '--record': end, live or none\n"),
+    (
+        "serve --record live --out . --limit 5 can0",
+        "error: '--limit' cannot be used with '--record live', whose limit is 4294967294\n",
+    ),
+    (
+        "serve --record none --limit 5 can0",
+        "error: '--limit' cannot be used with '--record none', whose limit is 4294967294\n",
+    ),
+    ("serve --record live can0", "error: '--record live' needs '--out DIR'\n"),
+    ("serve --flush 5 can0", "error: '--flush' needs '--record live' or '--record none'\n"),
+    ("serve --sync can0", "error: '--sync' needs '--record live' or '--record none'\n"),
+    ("bench --record a --log ./a can0", "error: invalid value './a' for '--log': --record names this file\n"),
+]
+HELP = [
+    ("--version", "canbusd "),
+    ("--help", "Simulated CAN buses\n"),
+    ("bench -h", "Carry out the lines"),
+    ("help bench", "Carry out the lines"),
+    ("help audit", "Check that a record"),
+    ("serve -h", "Serve clients on buses\n"),
+    ("help serve", "Serve clients on buses\n"),
+]
+# Words, and all that is reported of them.
+NO_BUS = [
+    ("bench can0,can0", "canbusd: bad bus\n  can0: this name is given twice\n"),
+    ("bench a,b,can1,b@none", "canbusd: bad bus\n  b: this name is given twice\n"),
+    (
+        "bench @none",
+        "canbusd: bad bus\n  a name is empty: names of 1 to 15 bytes are joined by commas, without spaces\n",
+    ),
+    (
+        "bench can0,",
+        "canbusd: bad bus\n  a name is empty: names of 1 to 15 bytes are joined by commas, without spaces\n",
+    ),
+    ("bench can0,abcdefghijklmnop", "canbusd: bad bus\n  abcdefghijklmnop: 16 bytes, a name has 1 to 15\n"),
+    ("bench can0,\x1b[2Jz\xe9", "canbusd: bad bus\n  ?[2Jz??: a name has only ASCII letters, digits, _, - and .\n"),
+    ("bench a,b,c,d,e,f,g,h,i,j,k,l,m,n,o,p,q", "canbusd: bad bus\n  17 names: a bus has 1 to 16\n"),
+    ("bench --txqueue 0 can0", "canbusd: bad bus\n  --txqueue 0: from 1 to 1024\n"),
+    ("bench --txqueue 1025 can0", "canbusd: bad bus\n  --txqueue 1025: from 1 to 1024\n"),
+    ("bench --rxqueue 0 can0", "canbusd: bad bus\n  --rxqueue 0: from 1 to 65536\n"),
+    ("bench --rxqueue 65537 can0", "canbusd: bad bus\n  --rxqueue 65537: from 1 to 65536\n"),
+    ("bench --limit 0 can0", "canbusd: bad bus\n  --limit 0: from 1 to 16777216\n"),
+    ("bench --limit 16777217 can0", "canbusd: bad bus\n  --limit 16777217: from 1 to 16777216\n"),
+    ("bench --auto-restart 1000001 can0", "canbusd: bad bus\n  --auto-restart 1000001: from 0 to 1000000\n"),
+    (
+        "serve --limit 0 --listen ./none/socket can0@none",
+        "canbusd: cannot open none\n  none: No such file or directory (os error 2)\n",
+    ),
+    ("serve can1@none can0,can0", "canbusd: cannot open none\n  none: No such file or directory (os error 2)\n"),
+    ("serve can0,can0 can1@none", "canbusd: bad bus\n  can0: this name is given twice\n"),
+    ("serve --limit 0 --listen ./none/socket can0", "canbusd: bad bus\n  --limit 0: from 1 to 16777216\n"),
+    ("serve --rxqueue 65537 can0", "canbusd: bad bus\n  --rxqueue 65537: from 1 to 65536\n"),
+    ("serve --listen ./none/socket can0,can1 can2 can3,can1", "canbusd: bad bus\n  can1: two buses have this name\n"),
+    ("serve a b c d e f g h i j k l m n o p q", "canbusd: bad bus\n  17 buses: a server has 1 to 16\n"),
+    (
+        "serve --listen ./none/socket can0",
+        "canbusd: cannot listen\n  ./none/socket: No such file or directory (os error 2)\n",
+    ),
+]
+NO_SCRIPT = [
+    ("bench --limit 0 can0@none", "canbusd: cannot open none\n  none: No such file or directory (os error 2)\n"),
+    (
+        "bench can0@",
+        "canbusd: cannot open \n  : No such file or directory (os error 2)\n  the path of a script comes after @\n",
+    ),
+    (
+        "bench can0@a@b",
+        (
+            "canbusd: cannot open a@b\n  a@b: No such file or directory (os error 2)\n"
+            "  one script serves all names of a bus: its path begins after the first @\n"
+        ),
+    ),
+    ("bench can0@.", "canbusd: read fault\n  .: Is a directory (os error 21)\n"),
+]
+
+
+@pytest.mark.parametrize("line", NO_JOB)
+def test_words_that_ask_for_no_job(line, tmp_path):
+    status, output, errors = run_line(line, cwd=tmp_path)
+    assert (status, output) == (2, "") and errors.startswith("error: "), errors
+
+
+@pytest.mark.parametrize("line", A_JOB)
+def test_words_at_their_limits(line, tmp_path):
+    status, output, errors = run_line(line, cwd=tmp_path)
+    assert (status, output) == (1, "") and errors.startswith("canbusd: bad bus\n"), errors
+
+
+@pytest.mark.parametrize("line, begins", REFUSED)
+def test_why_words_are_refused(line, begins, tmp_path):
+    status, output, errors = run_line(line, cwd=tmp_path)
+    assert (status, output) == (2, "") and errors.startswith(begins), errors
+
+
+@pytest.mark.parametrize("line, begins", HELP)
+def test_help(line, begins, tmp_path):
+    status, output, errors = run_line(line, cwd=tmp_path)
+    assert (status, errors) == (0, "") and output.startswith(begins), output
+
+
+@pytest.mark.parametrize("line, told", NO_BUS + NO_SCRIPT)
+def test_buses_and_scripts_that_are_refused(line, told, tmp_path):
+    assert run_line(line, cwd=tmp_path) == (1, "", told)
+
+
+def test_addresses_that_are_taken(tmp_path):
+    """what is there stays; a socket at which nobody listens any more is replaced, and removed at the end"""
+
+    def refused(address, note=""):
+        told = f"canbusd: cannot listen\n  {address}: Address already in use (os error 98)\n{note}"
+        return run_line(f"serve --listen {address} can0", cwd=tmp_path) == (1, "", told)
+
+    with socket.create_server(("127.0.0.1", 0)) as taken:
+        note = "  with port 0, as in --listen 127.0.0.1:0, the system picks a free one\n"
+        assert refused(f"127.0.0.1:{taken.getsockname()[1]}", note)
+    plain = tmp_path / "plain"
+    plain.write_text("mine")
+    assert refused("./plain") and plain.read_text() == "mine"
+    with socket.socket(socket.AF_UNIX) as alive:
+        alive.bind(str(tmp_path / "alive"))
+        alive.listen()
+        assert refused("./alive")
+    listening = "listening ./alive\nbus can0 entries 0\nbus can2 entries 0\n"
+    assert run_line("serve --until-eof --listen ./alive can0,can1 can2", cwd=tmp_path) == (0, listening, "")
+    assert not (tmp_path / "alive").exists()
+
+
+def test_a_log_that_is_a_folder(tmp_path):
+    """it is reported at the end, and the record is there"""
+    (tmp_path / "can0.log").mkdir()
+    told = "canbusd: cannot open ./can0.log\n  ./can0.log: Is a directory (os error 21)\n"
+    listening = "listening ./lost\nbus can0 entries 0\n"
+    line = "serve --until-eof --out . --listen ./lost can0"
+    assert run_line(line, cwd=tmp_path) == (1, listening, told)
+    assert run_line("audit can0.rec", cwd=tmp_path) == (0, "ok 0 entries\n", "")
