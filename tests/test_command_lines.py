@@ -193,7 +193,7 @@ def test_buses_and_scripts_that_are_refused(line, told, tmp_path):
 
 
 def test_addresses_that_are_taken(tmp_path):
-    """what is there stays; a socket at which nobody listens any more is replaced, and removed at the end"""
+    """a port, which has a note, a file that is no socket, which stays, and a socket at which somebody listens"""
 
     def refused(address, note=""):
         told = f"canbusd: cannot listen\n  {address}: Address already in use (os error 98)\n{note}"
@@ -209,9 +209,6 @@ def test_addresses_that_are_taken(tmp_path):
         alive.bind(str(tmp_path / "alive"))
         alive.listen()
         assert refused("./alive")
-    listening = "listening ./alive\nbus can0 entries 0\nbus can2 entries 0\n"
-    assert run_line("serve --until-eof --listen ./alive can0,can1 can2", cwd=tmp_path) == (0, listening, "")
-    assert not (tmp_path / "alive").exists()
 
 
 def test_a_log_that_is_a_folder(tmp_path):

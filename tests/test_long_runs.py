@@ -26,6 +26,7 @@ import time
 import pytest
 
 from canbusd.record import audit
+from commands import call
 from serving import ROOT, WAIT, Pair, Plain, come_true, plain, program, serving, serving_alone, turns, writes_live
 
 pytestmark = pytest.mark.skipif("not writes_live()", reason="the program is older than `serve --record`")
@@ -46,10 +47,7 @@ def read(path):
 
 def run(*words, **more):
     """What the program says: status, standard output, standard error."""
-    done = subprocess.run(
-        [program(), *words], stdin=subprocess.DEVNULL, capture_output=True, text=True, timeout=WAIT, check=False, **more
-    )
-    return done.returncode, done.stdout, done.stderr
+    return call(program(), *words, **more)
 
 
 def cut_audit(path, is_replayed=True):
@@ -119,7 +117,7 @@ def dialogue(server, has_fd):
 
 @pytest.mark.parametrize("has_fd", [False, True])
 def test_the_record_of_the_same_dialogue(has_fd):
-    """live and at the end: they differ in the first two lines, and the logs do not; nor does what clients are told"""
+    """live and at the end: they differ in the first two lines, and the logs do not; nor does what clients get"""
     runs = {}
     for record in ("end", "live", "none"):
         with serving_alone(*(() if record == "end" else ("--record", record)), "can0,can1") as server:
@@ -279,7 +277,7 @@ def test_a_second_server_by_mistake(first, second):
 
 
 class Told:
-    """What a client was told, and when: after how many seconds how many texts."""
+    """What a client got, and when: after how many seconds how many texts."""
 
     def __init__(self, client):
         self.client, self.moments, self.count = client, [], 0

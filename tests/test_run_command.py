@@ -94,7 +94,7 @@ def test_other_server():
 
 @pytest.mark.parametrize("answer", [b"< error unknown command >", b"< interfaces can0", b""])
 def test_older_server(answer):
-    """a server that can't say which interfaces it has is told to be older"""
+    """a server that can't say which interfaces it has is reported as older"""
     with socket.create_server(("127.0.0.1", 0)) as older:
         address = f"127.0.0.1:{older.getsockname()[1]}"
         with subprocess.Popen([command(), "--address", address, "true"], stderr=subprocess.PIPE, text=True) as child:

@@ -12,6 +12,7 @@ import time
 
 import pytest
 
+from commands import call
 from serving import ROOT, WAIT, Plain, come_true, join, line_of, plain, program, serving, serving_alone, turns
 
 
@@ -334,15 +335,8 @@ def test_unix_path(tmp_path):
         stale.bind(path)
     with serving("can0", address=path) as server:
         assert server.address == path, server.address
-        second = subprocess.run(
-            [program(), "serve", "--listen", path, "can0"],
-            stdin=subprocess.DEVNULL,
-            capture_output=True,
-            text=True,
-            timeout=WAIT,
-            check=False,
-        )
-        assert second.returncode == 1 and second.stderr.startswith("canbusd: cannot listen\n"), f"{second}"
+        status, _, errors = call(program(), "serve", "--listen", path, "can0")
+        assert status == 1 and errors.startswith("canbusd: cannot listen\n"), f"{status} {errors}"
         assert plain(server, "can0").answer("< echo >") == "< echo >", "the first server"
         server.end()
     assert not os.path.exists(path), "the file is still there"
@@ -380,7 +374,7 @@ def heard(connection):
 
 @pytest.mark.slow
 def test_ends_in_bursts():
-    """1,000 servers that are told to end while clients come: each ends, and gives nobody another reason"""
+    """1,000 servers that have to end while clients come: each ends, and gives nobody another reason"""
     for number in range(1000):
         path = "./burst.socket" if number % 2 else "127.0.0.1:0"
         with contextlib.ExitStack() as stack:
@@ -440,25 +434,18 @@ def test_own_socket_file(tmp_path):
     path = os.path.join(tmp_path, "socket")
 
     def second():
-        return subprocess.run(
-            [program(), "serve", "--listen", path, "can0"],
-            stdin=subprocess.DEVNULL,
-            capture_output=True,
-            text=True,
-            timeout=WAIT,
-            check=False,
-        )
+        return call(program(), "serve", "--listen", path, "can0")[0]
 
     # Another server that asks for the path is no session of the first, also where the first does not run.
     with serving_alone("--sessions", "1", "can0", address=path) as server:
-        assert second().returncode == 1, "two servers have one path"
+        assert second() == 1, "two servers have one path"
         os.kill(server.child.pid, signal.SIGSTOP)
         waiting = [socket.socket(socket.AF_UNIX) for _ in range(200)]
         for one in waiting:
             one.setblocking(False)
             with contextlib.suppress(BlockingIOError):
                 one.connect(path)
-        assert second().returncode == 1, "two servers have one path, one of them stopped"
+        assert second() == 1, "two servers have one path, one of them stopped"
         for one in waiting:
             one.close()
         os.kill(server.child.pid, signal.SIGCONT)
@@ -504,11 +491,8 @@ def test_folder_of_a_server(tmp_path):
     """one that takes no files is refused before the server listens; files of an earlier run stay until new ones are whole"""
     none = os.path.join(tmp_path, "none")
     words = [program(), "serve", "--listen", "127.0.0.1:0", "--until-eof", "--out"]
-    refused = subprocess.run(
-        [*words, none, "can0"], input="", capture_output=True, text=True, timeout=WAIT, check=False
-    )
     said = f"canbusd: cannot open {none}\n  {none}/can0.rec: No such file or directory (os error 2)\n"
-    assert (refused.returncode, refused.stdout, refused.stderr) == (1, "", said), f"{refused}"
+    assert call(*words, none, "can0") == (1, "", said)
     os.mkdir(none)
     for name in ("can0.log", "can0.rec"):
         with open(os.path.join(none, name), "w", encoding="utf-8") as file:
@@ -518,17 +502,9 @@ def test_folder_of_a_server(tmp_path):
         resource.setrlimit(resource.RLIMIT_FSIZE, (0, 0))
         signal.signal(signal.SIGXFSZ, signal.SIG_IGN)
 
-    full = subprocess.run(
-        [*words, none, "can0"],
-        input="",
-        capture_output=True,
-        text=True,
-        timeout=WAIT,
-        check=False,
-        preexec_fn=may_not_grow,
-    )
-    faults = [line for line in full.stderr.splitlines() if not line.startswith("  ")]
-    assert (full.returncode, faults) == (1, ["canbusd: write fault"]), f"{full}"
+    status, _, errors = call(*words, none, "can0", preexec_fn=may_not_grow)
+    faults = [line for line in errors.splitlines() if not line.startswith("  ")]
+    assert (status, faults) == (1, ["canbusd: write fault"]), errors
     with open(os.path.join(none, "can0.rec"), encoding="utf-8") as file:
         assert file.read() == "old can0.rec\n"
     assert sorted(os.listdir(none)) == ["can0.log", "can0.rec"], f"{os.listdir(none)}"
@@ -541,7 +517,7 @@ def test_links_of_a_folder(tmp_path):
     others.write_text("of others\n")
     for name in ("can0.rec.new", "can0.log.new"):
         (tmp_path / name).symlink_to(others)
-    run = subprocess.run(words, input="", capture_output=True, text=True, timeout=WAIT, check=False)
-    assert (run.returncode, run.stderr) == (0, ""), f"{run}"
+    status, _, errors = call(*words)
+    assert (status, errors) == (0, "")
     assert others.read_text() == "of others\n", "it was written through a link"
     assert sorted(os.listdir(tmp_path)) == ["can0.log", "can0.rec", "others"]
