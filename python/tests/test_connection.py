@@ -5,11 +5,13 @@ import contextlib
 import select
 import socket
 import threading
+import time
 
 import can
 import pytest
 from conftest import WAIT, message, shape
 
+import canbusd._connection as connection_module
 from canbusd.bus import CanbusdBus, interfaces
 from canbusd.server import Server
 
@@ -164,7 +166,8 @@ def test_an_older_server_has_no_list_of_interfaces(play, monkeypatch):
 def test_whose_a_frame_is(play):
     played = play(cut=True)
     with CanbusdBus("can0", address=played.address, fd=True, receive_own_messages=True) as bus:
-        for number in (0, 7, 5000):
+        # A bus has 4,294,967,294 entries, so a number has ten digits at most.
+        for number in (0, 7, 5000, 4294967293):
             played.answers["send"] = f"< frame 124 1.000000  same {number + 1} >< ack {number} >"
             bus.send(message(1))
             played.tell(
@@ -174,6 +177,68 @@ def test_whose_a_frame_is(play):
             got = [bus.recv(WAIT) for _ in range(5)]
             assert [one.is_rx for one in got] == [True, False, False, True, True]
             assert [bytes(one.data) for one in got[1:3]] == [b"", b"\1\2"] and got[3].dlc == 4
+
+
+def test_only_the_last_own_numbers_are_kept(play):
+    played = play()
+    with CanbusdBus("can0", address=played.address, receive_own_messages=True) as bus:
+        pages = connection_module.MOST_PAGES + 1
+        for page in range(pages):
+            played.answers["send"] = f"< ack {page * connection_module.PAGE} >"
+            bus.send(message(1))
+        played.tell(b"".join(b"< frame 123 1.000000  same %d >" % (n * connection_module.PAGE) for n in range(pages)))
+        assert [bus.recv(WAIT).is_rx for _ in range(pages)] == [True] + [False] * (pages - 1)
+
+
+@pytest.mark.parametrize("verdict", ["ack", "ack x", "ack 1 2", "ack 12345678901", "acknowledged 1"])
+def test_what_is_no_ack_is_a_refusal(play, verdict):
+    played = play()
+    with CanbusdBus("can0", address=played.address) as bus:
+        played.answers["send"] = f"< {verdict} >"
+        with pytest.raises(can.CanOperationError, match=verdict):
+            bus.send(message(1))
+
+
+class Overtaken:
+    """A lock that was another thread's until just now, which has read something meanwhile."""
+
+    def __init__(self, lock, reads):
+        self._lock, self._reads = lock, [reads]
+
+    def acquire(self, *words):
+        taken = self._lock.acquire(*words)
+        if self._reads:
+            self._reads.pop()()
+        return taken
+
+    def release(self):
+        self._lock.release()
+
+    def locked(self):
+        return self._lock.locked()
+
+
+@pytest.mark.parametrize("what", ["frame", "answer"])
+def test_what_another_thread_has_just_read_is_not_waited_for(play, what):
+    played = play()
+    with CanbusdBus("can0", address=played.address) as bus:
+        connection = bus._connection
+        text = b"< frame 123 1.000000 01 >" if what == "frame" else b"< ack 0 >"
+        played.answers["send"] = ""
+
+        def reads():
+            with connection._lock:
+                connection._pieces.append(text)
+                connection._sort()
+
+        lock, connection._reading = connection._reading, Overtaken(connection._reading, reads)
+        begun = time.monotonic()
+        if what == "frame":
+            assert bus.recv(WAIT).arbitration_id == 0x123
+        else:
+            bus.send(message(1))
+        assert time.monotonic() - begun < 1
+        connection._reading = lock
 
 
 @pytest.mark.parametrize(

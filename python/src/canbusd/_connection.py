@@ -6,7 +6,8 @@ its time.
 
 At any moment the handler of a signal may raise an exception, as at Ctrl-C. So a lock is taken by `with` only, or its
 taking is noted as it happens, nobody waits with a lock that others need, and what was sent or received is never
-forgotten. threading.Condition, which gives its lock back to wait and then takes it again, would be left locked.
+forgotten: `noted.extend(map(call, (word,)))` is one call in C, and the list has what `call` returned before a handler is
+called. threading.Condition, which gives its lock back to wait and then takes it again, would be left locked.
 """
 
 import contextlib
@@ -18,10 +19,10 @@ import threading
 import time
 from collections import deque
 from collections.abc import Callable, Sequence
-from typing import Any, NoReturn, Optional, TypeVar
+from typing import NoReturn, Optional, TypeVar, Union
 
 from canbusd._protocol import LONGEST_ANSWER
-from canbusd.frames import MESSAGE
+from canbusd.frames import HANDED_OVER, MESSAGE
 
 DEFAULT_ADDRESS = "127.0.0.1:29536"
 # What an address is where nobody listens: of TCP, and a Unix path that is not there.
@@ -39,25 +40,15 @@ LONGEST_WAIT = 3600.0
 # Seconds after which a thread looks for what another one has read, if that was interrupted before it woke it.
 LONGEST_NAP = 1.0
 
-# How an answer ends: with an echo, or as the verdict on a frame, which is one message; and what is written for that after
-# a command.
+# How an answer ends: with an echo, or as the verdict on a frame, which is one message.
 ECHO, VERDICT = "e", "v"
-TAILS = {ECHO: "< echo >", VERDICT: ""}
-# The verdict that accepts a frame. A record has fewer entries than 10**8, and so have numbers.
-ACK = re.compile("ack ([0-9]{1,8})")
-# By how much the places of numbers grow.
-PAGE = 4096
+# The verdict that accepts a frame, with its number. A bus has fewer than 2**32 entries, and so have numbers at most ten digits.
+ACK, LONGEST_ACK = "ack ", len("ack ") + 10
+# How many numbers are noted together, and how many such pages there are at most: a frame that came before the oldest of
+# them would have more than 16 million after it that nobody took.
+PAGE, MOST_PAGES = 4096, 4096
 
 T = TypeVar("T")
-
-
-def note(results: list[T], call: Callable[..., T], *words: Any) -> T:
-    """Calls a function that is written in C, and adds what it returns to the list.
-
-    That is done before the handler of a signal can raise an exception, so the list has it even then.
-    """
-    results.extend(map(call, *([word] for word in words)))
-    return results[-1]
 
 
 class NoAnswer(TimeoutError):
@@ -167,9 +158,9 @@ class Connection:
         self._pieces: list[bytes] = []
         self._rest = ""
         self._frames: deque[str] = deque()
-        # Whether the server accepts each frame by its number, and the numbers of this session's own, each a place.
-        self._has_acks = False
-        self._own = bytearray()
+        # Whether the server accepts each frame by its number, whether these are noted, and the pages with a place for each.
+        self._has_acks = self._notes_own = False
+        self._own: dict[int, bytearray] = {}
         # How long the question at hand is, and what was sent of it.
         self._length, self._sent = 0, [0]
         # How each answer that was asked for ends, how many have come, and how many are of questions that were given up.
@@ -193,27 +184,36 @@ class Connection:
     def ask(self, messages: Sequence[str]) -> list[str]:
         """Writes these messages at once, and returns the answer to each; the empty text where it had none, or accepts a
         frame."""
-        ends = "".join(VERDICT if self._has_acks and message.startswith("send") else ECHO for message in messages)
-        data = "".join(f"< {message} >{TAILS[end]}" for message, end in zip(messages, ends)).encode()
+        written: list[str] = []
+        ends = ""
+        for message in messages:
+            is_frame = self._has_acks and message.startswith("send")
+            written.append(f"< {message} >" if is_frame else f"< {message} >< echo >")
+            ends += VERDICT if is_frame else ECHO
+        data = "".join(written).encode()
         with self._asking:
             deadline = time.monotonic() + self._timeout
             with self._lock:
                 self._settle()
                 self._length, self._sent, self._ends = len(data), [], self._ends + ends
-            self._write(data, self._sent, deadline)
-            self._wait(self._answered, deadline)
-            with self._lock:
-                if self._came < len(self._ends):
-                    raise NoAnswer(f"no answer within {self._timeout:g} seconds")
-                return self._answers
+                sent = self._send(data)
+            if sent != len(data):
+                self._write(memoryview(data)[sent or 0 :], deadline)
+            answers = self._wait(self._answered, deadline)
+            if answers is None:
+                raise NoAnswer(f"no answer within {self._timeout:g} seconds")
+            return answers
 
-    def ask_acks(self) -> None:
-        """Has the server accept each frame by its number, in place of an echo; an older one goes on with echoes."""
+    def ask_acks(self, notes_own: bool = False) -> None:
+        """Has the server accept each frame by its number, in place of an echo, and notes these for `is_own` if asked to; an
+        older server goes on with echoes."""
+        self._notes_own = notes_own
         self._has_acks = self.ask(["ack 1"]) == ["ok"]
 
     def is_own(self, number: int) -> bool:
         """Whether this is the number that a frame of this session got at its interface."""
-        return number < len(self._own) and self._own[number] != 0
+        page = self._own.get(number // PAGE)
+        return page is not None and page[number % PAGE] != 0
 
     def frame(self, timeout: Optional[float]) -> Optional[str]:
         """Returns the next message that hands over a frame, from `<` on; None where none came in this time, in seconds."""
@@ -272,7 +272,8 @@ class Connection:
         """Ends what the server reads, which ends the session: then it closes the connection. It may be gone, or busy."""
         taken: list[bool] = []
         try:
-            if note(taken, self._asking.acquire, True, CLOSE_TIMEOUT):
+            taken.extend(map(self._asking.acquire, (True,), (CLOSE_TIMEOUT,)))
+            if taken[0]:
                 self._socket.shutdown(socket.SHUT_WR)
                 self._wait(self._never, time.monotonic() + CLOSE_TIMEOUT)
         except OSError:
@@ -285,7 +286,7 @@ class Connection:
         """Closes the file descriptors, once nobody reads any more."""
         taken: list[bool] = []
         try:
-            note(taken, self._reading.acquire, True, CLOSE_TIMEOUT)
+            taken.extend(map(self._reading.acquire, (True,), (CLOSE_TIMEOUT,)))
             with self._lock:
                 self._socket.close()
                 if self._readiness is not None:
@@ -305,8 +306,8 @@ class Connection:
             shown = f"`{greeting[:60]}`" if greeting else f"nothing within {self._timeout:g} seconds"
             raise NoAnswer(f"no server of canbusd: {shown} in place of its greeting")
 
-    def _answered(self) -> Optional[bool]:
-        return True if self._came == len(self._ends) else None
+    def _answered(self) -> Optional[list[str]]:
+        return self._answers if self._came == len(self._ends) else None
 
     def _next_frame(self) -> Optional[str]:
         frame = self._frames.popleft() if self._frames else None
@@ -325,23 +326,24 @@ class Connection:
         ends = self._ends[self._came :] if sent else self._ends[self._came : self._owed]
         self._ends, self._came, self._owed, self._answers, self._answer = ends, 0, len(ends), [], ""
 
-    def _write(self, data: bytes, sent: list[int], deadline: float) -> None:
-        """Writes all of this, and notes what was sent. Meanwhile frames are read: a server that waits for its reader takes
-        no commands."""
-        left = memoryview(data)
+    def _write(self, left: memoryview, deadline: float) -> None:
+        """Writes the rest of a question. Meanwhile frames are read: a server that waits for its reader takes no commands."""
         while left:
-            if self._wait(lambda: self._send(left, sent), deadline, select.POLLIN | select.POLLOUT) is None:
+            sent = self._wait(lambda: self._send(left), deadline, select.POLLIN | select.POLLOUT)
+            if sent is None:
                 with self._lock:
                     # Half a command was written perhaps.
                     self._stop(f"the server took no commands within {self._timeout:g} seconds")
                 raise NoAnswer(self._end)
-            left = left[sent[-1] :]
+            left = left[sent:]
 
-    def _send(self, data: memoryview, sent: list[int]) -> Optional[int]:
+    def _send(self, data: Union[bytes, memoryview]) -> Optional[int]:
+        """Writes what the socket takes of this, and notes how much that is."""
         if self._end is not None:
             self._raise_end()
         try:
-            return note(sent, self._socket.send, data)
+            self._sent.extend(map(self._socket.send, (data,)))
+            return self._sent[-1]
         except BlockingIOError:
             return None
         except OSError as fault:
@@ -355,30 +357,35 @@ class Connection:
 
         `ready` is called again after each change. What came before the end of the connection is still returned.
         """
-        is_last = others_read = False
-        news: Optional[threading.Lock] = None
         while True:
-            with self._lock:
-                found = ready()
-                if found is not None:
-                    return found
-                if self._end is not None:
-                    self._raise_end()
-                if is_last:
-                    return None
-                news = self._next_news() if others_read else None
             left = None if deadline is None else min(max(0.0, deadline - time.monotonic()), LONGEST_WAIT)
-            if self._read(left, events):
-                others_read, is_last = False, left == 0
-            elif news is None:
-                # There may have been news since the look above.
-                others_read = True
-            else:
-                # Whether the socket takes more is nothing that its reader sees.
-                most = 0.01 if events & select.POLLOUT else LONGEST_NAP
-                if news.acquire(timeout=most if left is None else min(left, most)):
-                    news.release()
-                is_last = left == 0
+            has_read, found = self._read(ready, left, events)
+            if not has_read:
+                found = self._await_reader(ready, left, events)
+            if found is not None or left == 0:
+                return found
+
+    def _await_reader(self, ready: Callable[[], Optional[T]], left: Optional[float], events: int) -> Optional[T]:
+        """Waits until the thread that reads has done so, if it still does, and returns what is ready then."""
+        with self._lock:
+            found = self._look(ready)
+            if found is not None or left == 0:
+                return found
+            news = self._next_news()
+        # Who reads from now on sees that there is somebody to wake.
+        if self._reading.locked():
+            # Whether the socket takes more is nothing that its reader sees.
+            most = 0.01 if events & select.POLLOUT else LONGEST_NAP
+            if news.acquire(timeout=most if left is None else min(left, most)):
+                news.release()
+        with self._lock:
+            return self._look(ready)
+
+    def _look(self, ready: Callable[[], Optional[T]]) -> Optional[T]:
+        found = ready()
+        if found is None and self._end is not None:
+            self._raise_end()
+        return found
 
     def _next_news(self) -> threading.Lock:
         """A lock that can be taken once somebody has read."""
@@ -396,17 +403,26 @@ class Connection:
             if news is not None:
                 news.release()
 
-    def _read(self, seconds: Optional[float], events: int) -> bool:
-        """Reads what there is, or what comes within these seconds, and sorts it; False if another thread reads."""
+    def _read(
+        self, ready: Callable[[], Optional[T]], seconds: Optional[float], events: int
+    ) -> tuple[bool, Optional[T]]:
+        """Reads what there is, or what comes within these seconds, and sorts it, but if something is ready already; returns
+        whether it did, or another thread reads, and what is ready."""
         taken: list[bool] = []
         try:
-            if not note(taken, self._reading.acquire, False):
-                return False
+            taken.extend(map(self._reading.acquire, (False,)))
+            if not taken[0]:
+                return False, None
             if not self._pieces:
+                with self._lock:
+                    found = self._look(ready)
+                if found is not None:
+                    return True, found
                 self._receive(seconds, events)
             with self._lock:
-                self._sort()
-            return True
+                if self._pieces:
+                    self._sort()
+                return True, self._look(ready)
         finally:
             if taken == [True]:
                 self._reading.release()
@@ -415,7 +431,7 @@ class Connection:
     def _receive(self, seconds: Optional[float], events: int) -> None:
         try:
             if self._polls[events].poll(None if seconds is None else seconds * 1000):
-                note(self._pieces, self._socket.recv, PIECE)
+                self._pieces.extend(map(self._socket.recv, (PIECE,)))
         except BlockingIOError:
             pass
         except OSError as fault:
@@ -434,7 +450,7 @@ class Connection:
                 frames.append(one)
                 continue
             message = one[one.rfind("<") + 1 :].strip()
-            if MESSAGE.fullmatch(message):
+            if message.startswith(HANDED_OVER) and MESSAGE.fullmatch(message):
                 frames.append(f"< {message}")
             elif came == len(self._ends):
                 unasked = unasked or message
@@ -460,14 +476,20 @@ class Connection:
 
     def _verdict(self, message: str) -> str:
         """The answer that a verdict on a frame is: the empty text for `ack 17`, whose number is noted."""
-        accepted = ACK.fullmatch(message)
-        if not accepted:
+        number = message[len(ACK) :]
+        if not message.startswith(ACK) or not number.isdecimal() or len(message) > LONGEST_ACK:
             return message
-        number = int(accepted[1])
-        if number >= len(self._own):
-            self._own.extend(bytes(number + PAGE - len(self._own)))
-        self._own[number] = 1
+        if self._notes_own:
+            self._note_own(int(number))
         return ""
+
+    def _note_own(self, number: int) -> None:
+        page = self._own.get(number // PAGE)
+        if page is None:
+            page = self._own[number // PAGE] = bytearray(PAGE)
+            if len(self._own) > MOST_PAGES:
+                del self._own[next(iter(self._own))]
+        page[number % PAGE] = 1
 
     def _stop(self, reason: str) -> None:
         """The connection is of no use any more. The first reason is the one that counts."""

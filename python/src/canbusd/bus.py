@@ -411,7 +411,7 @@ class CanbusdBus(InjectsFaults, BusABC):
             faults = [answer for answer in answers if answer != "ok"]
             if faults:
                 raise SessionRefused(refusal_in(faults[0]))
-            connection.ask_acks()
+            connection.ask_acks(self._receives_own)
             if self._receives_own:
                 # An older server does not know it, and then all messages are received ones.
                 connection.ask(["origin 1"])
@@ -423,16 +423,19 @@ class CanbusdBus(InjectsFaults, BusABC):
 
     def _calls(self, commands: Sequence[str]) -> list[str]:
         """Gives these commands, and returns the answer to each: the text of a refusal, and nothing for `ok`."""
+        return [refusal_in(answer) for answer in self._ask(commands)]
+
+    def _call(self, command: str) -> str:
+        return refusal_in(self._ask([command])[0])
+
+    def _ask(self, commands: Sequence[str]) -> list[str]:
+        """The server's own answers to these commands."""
         try:
-            answers = self._connection.ask(commands)
+            return self._connection.ask(commands)
         except NoAnswer as fault:
             raise CanTimeoutError(str(fault)) from None
         except ConnectionError as fault:
             raise CanOperationError(str(fault)) from None
-        return [refusal_in(answer) for answer in answers]
-
-    def _call(self, command: str) -> str:
-        return self._calls([command])[0]
 
     def _answer(self, message: str) -> str:
         return self._call(message)
