@@ -1,5 +1,6 @@
 """A running server seen from inside a test: states, frames that were seen or not, and what a failure shows."""
 
+import contextlib
 import re
 
 import can
@@ -84,8 +85,29 @@ def test_error_message_frames_are_shown_in_words():
     with Server("can0,can1", faults=OFF, observe=["can0", "can1"]) as server, server.bus("can0") as can0:
         can0.send(message(1))
         assert server.expect(id=0x040, is_error_frame=True, channel="can0", within=WAIT).channel == "can0"
-        with pytest.raises(AssertionError, match=r"can0 20000040#0000000000000000  bus off$"):
+        with pytest.raises(AssertionError) as failure:
             server.expect(within=0.05, channel="can1")
+        # ISO 11898-1: a sender counts 8 for each error, a receiver 1; bus off is from 256 on, and empties the queue.
+        *_, last, sender, receiver = str(failure.value).split("\n")
+        assert last.endswith("can0 20000040#0000000000000000  bus off")
+        assert sender == "can0 is off (transmit count 256, receive count 0): sent 1, done 0, waiting 0, lost 1"
+        assert receiver == "can1 is active (transmit count 0, receive count 32): sent 0, done 0, waiting 0, lost 0"
+
+
+def test_a_frame_that_waits_is_shown():
+    with Server("can0,can1", pace_ms=300, observe="can1") as server, server.bus("can0") as can0:
+        can0.send_many([message(1), message(2)])
+        with pytest.raises(AssertionError, match=r"\ncan0 is active .*: sent 2, done ., waiting ., lost 0$"):
+            server.expect(id=3, within=0.05)
+
+
+def test_a_failure_without_a_place_for_a_session_shows_what_is_known():
+    with Server("can0,can1", observe="can1") as server, contextlib.ExitStack() as buses:
+        with contextlib.suppress(can.CanInitializationError):
+            while True:
+                buses.enter_context(server.bus("can0"))
+        with pytest.raises(AssertionError, match="^no frame 001 within 0.05 seconds\nno frame was seen$"):
+            server.expect(id=1, within=0.05)
 
 
 def test_nothing_was_seen(observed):

@@ -70,7 +70,7 @@ def test_a_test_that_fails_says_what_was_on_the_bus(run, pytester):
             "2 nodes, 32 attempts: body went bus off in attempt 31",
             "  attempt 11: *",
             "*/body.log ends:",
-            "*) body 20000080#0000000000000000",
+            "*) body 20000080#0000000000000000  bus error",
             "interface  state *",
             "body       off     256    0     1     0        0     1        0",
             "door       active    0   32     0     0        0     0        0",

@@ -1,5 +1,6 @@
 """The sessions by which a server is seen from inside a test: see canbusd.expectations."""
 
+import contextlib
 import itertools
 import select
 import time
@@ -7,8 +8,10 @@ from collections import deque
 from collections.abc import Callable, Iterator, Sequence
 from typing import Optional
 
+from can.exceptions import CanError
 from can.message import Message
 
+from canbusd._protocol import in_words
 from canbusd.bus import CanbusdBus
 from canbusd.commands import NOTHING
 from canbusd.frames import described_line, frame_like
@@ -22,12 +25,12 @@ MOST_AT_ONCE = 1000
 class Observer:
     """The sessions of a server's own: one on each interface that is observed, and on each whose state is asked for.
 
-    `opened` opens a bus on an interface. Frames are kept for each observed interface until `expect` finds one: that and
+    `opened` opens a bus on an interface, one of these names. Frames are kept for each observed interface until `expect` finds one: that and
     those before it are taken, so the next `expect` looks at what came after them.
     """
 
-    def __init__(self, opened: Callable[..., CanbusdBus], observed: Sequence[str]) -> None:
-        self._opened = opened
+    def __init__(self, opened: Callable[..., CanbusdBus], names: Sequence[str], observed: Sequence[str]) -> None:
+        self._opened, self._all = opened, names
         self._observed = {name: opened(name, fd=True) for name in observed}
         self._frames: dict[str, deque[Message]] = {name: deque() for name in observed}
         self._seen: deque[str] = deque(maxlen=MOST_SHOWN)
@@ -57,7 +60,7 @@ class Observer:
             self._read(left)
 
     def shown(self) -> str:
-        """Returns the last frames that were seen, as lines of a log, for a failure."""
+        """Returns the last frames that were seen, as lines of a log, and how the interfaces are, for a failure."""
         if not self._observed:
             return ""
         lines = [f"the last frames that {' and '.join(self._observed)} saw:"] if self._seen else ["no frame was seen"]
@@ -66,7 +69,17 @@ class Observer:
             dropped = bus.stats().dropped
             if dropped:
                 lines.append(f"{dropped} frames were dropped at {name}: they came too fast for `rxqueue`")
-        return "\n".join(["", *lines])
+        return "\n".join(["", *lines, *self._states()])
+
+    def _states(self) -> Iterator[str]:
+        """Yields how each interface is that had an error, or has frames that were not put on the bus."""
+        for name in self._all:
+            # Without a place for one more session there is nothing to say.
+            with contextlib.suppress(CanError):
+                counters, stats = self.bus(name).error_counters(), self.bus(name).stats()
+                if counters != ("active", 0, 0) or stats.waiting or stats.lost:
+                    counts = f"sent {stats.sent}, done {stats.done}, waiting {stats.waiting}, lost {stats.lost}"
+                    yield f"{in_words(name, counters)}: {counts}"
 
     def close(self) -> None:
         """Ends the sessions."""

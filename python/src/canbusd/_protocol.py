@@ -28,6 +28,11 @@ class ErrorCounters(NamedTuple):
     rec: int
 
 
+def in_words(name: str, counters: ErrorCounters) -> str:
+    """Returns how an interface is: `ecu is off (transmit count 256, receive count 0)`."""
+    return f"{name} is {counters.state} (transmit count {counters.tec}, receive count {counters.rec})"
+
+
 class Stats(NamedTuple):
     """Counts of a socket and of its interface."""
 

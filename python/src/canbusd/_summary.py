@@ -5,6 +5,7 @@ from collections.abc import Iterable, Sequence
 from pathlib import Path
 
 from canbusd._protocol import STATES
+from canbusd.frames import meaning
 from canbusd.record import Record
 from canbusd.story import events_of, heading_of
 
@@ -54,14 +55,20 @@ def table(rows: Iterable[Row], headings: Sequence[str] = HEADINGS) -> list[str]:
 
 
 def end_of_log(path: Path) -> list[str]:
-    """Returns the last lines of a log, after its path."""
+    """Returns the last lines of a log, after its path; error message frames with what they say in words."""
     try:
         with open(path, "rb") as file:
             file.seek(max(0, os.fstat(file.fileno()).st_size - LAST_BYTES))
             last = file.read().decode("ascii", errors="replace").splitlines()[-LAST_LINES:]
     except OSError as fault:
         return [f"{path}: {fault.strerror}"]
-    return [f"{path} ends:" if last else f"{path} is empty", *(f"  {line}" for line in last)]
+    return [f"{path} ends:" if last else f"{path} is empty", *(f"  {with_meaning(line)}" for line in last)]
+
+
+def with_meaning(line: str) -> str:
+    """Returns the line of a log; of an error message frame with what it says."""
+    words = line.split()
+    return f"{line}  {meaning(words[2])}".rstrip() if len(words) == 3 else line
 
 
 def write_page(record: Record, path: "os.PathLike[str]", rules: Sequence[str] = ()) -> Path:

@@ -13,7 +13,7 @@ from collections.abc import Callable
 from typing import TYPE_CHECKING, Optional, TypeVar
 
 from canbusd._connection import LONGEST_POLL, POLL
-from canbusd._protocol import STATES, ErrorCounters, Stats
+from canbusd._protocol import STATES, ErrorCounters, Stats, in_words
 from canbusd.faults import Faults, Script
 from canbusd.frames import described_line, frame_like
 
@@ -161,11 +161,8 @@ class Expectations:
             raise ValueError(f"state is one of {', '.join(STATES)}, not {state!r}")
         counters = wait_for(lambda: counters_in(self.error_counters(name), state), within)
         if counters is None:
-            now = self.error_counters(name)
-            raise AssertionError(
-                f"{name} is {now.state} (transmit count {now.tec}, receive count {now.rec}), and was not {state} within "
-                f"{within:g} seconds{self._shown()}"
-            )
+            now = in_words(name, self.error_counters(name))
+            raise AssertionError(f"{now}, and was not {state} within {within:g} seconds{self._shown()}")
         return counters
 
 
@@ -194,10 +191,8 @@ class Drive:
     def failure(self, timeout: float) -> str:
         """Returns why the interface is not off after so many seconds."""
         counters, stats = self._bus.error_counters(), self._bus.stats()
-        return (
-            f"{self._name} is {counters.state} (transmit count {counters.tec}, receive count {counters.rec}), and did not "
-            f"go bus off within {timeout:g} seconds: {self._reason(counters, stats)}"
-        )
+        now = in_words(self._name, counters)
+        return f"{now}, and did not go bus off within {timeout:g} seconds: {self._reason(counters, stats)}"
 
     def _reason(self, counters: ErrorCounters, stats: Stats) -> str:
         if counters.tec > self._counters.tec:

@@ -344,7 +344,7 @@ class Server(Expectations, ProgramRun):
         from canbusd._observer import Observer
 
         if self._observer is None:
-            self._observer = Observer(self.bus, observed)
+            self._observer = Observer(self.bus, self.interfaces, observed)
         return self._observer
 
     def _shown(self) -> str:
