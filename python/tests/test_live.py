@@ -65,7 +65,7 @@ def test_a_record_that_grows(tmp_path, text, size):
     growing, path = tmp_path / "can0.rec.new", tmp_path / "can0.rec"
     growing.write_text(text[: text.index("open")])
     live = LiveRecord(path, ["a", "b"])
-    assert (live.record().lines, live.attempts(), left_by(path)) == ([], [], growing)
+    assert (live.record().lines, live.attempts(), left_by(path, "live")) == ([], [], growing)
     seen = live.record()
     for first in range(text.index("open"), len(text), size):
         append(growing, text[first : first + size])
@@ -74,7 +74,7 @@ def test_a_record_that_grows(tmp_path, text, size):
     growing.rename(path)
     whole = live.record()
     assert whole == parse_record(text.encode(), names="a,b") and not whole.is_cut
-    assert (whole.attempts, left_by(path)) == (live.attempts(), path)
+    assert (whole.attempts, left_by(path, "live")) == (live.attempts(), path)
     # A record that was asked for stays as it was.
     assert seen.lines == [] and seen.is_cut
 

@@ -5,6 +5,8 @@ program is not asked, and nothing of it is used: each reply in the record is com
 so a replay that comes to its end is an audit. What only shows a run, such as names and attempts, is in canbusd.record.
 """
 
+import functools
+import sys
 from collections import deque
 from collections.abc import Sequence
 from dataclasses import dataclass
@@ -44,6 +46,7 @@ class WireFrame:
         self.bits = arbitration_bits(identifier, "1" if remote else "0")
 
 
+@functools.lru_cache(maxsize=4096)
 def arbitration_bits(identifier: str, rtr: str) -> str:
     """The bits that arbitration compares (Bosch CAN 2.0), with blanks between fields, at the same places in all frames.
 
@@ -100,12 +103,13 @@ class Socket:
 
 
 class Pending:
-    """A frame in a transmit queue."""
+    """A frame in a transmit queue, and how it takes part in arbitration: with the number of its interface."""
 
-    __slots__ = ("number", "frame", "socket", "loops_back")
+    __slots__ = ("number", "frame", "socket", "loops_back", "contender")
 
     def __init__(self, number: int, frame: WireFrame, socket: Socket, loops_back: int) -> None:
         self.number, self.frame, self.socket, self.loops_back = number, frame, socket, loops_back
+        self.contender = socket.iface, frame
 
 
 class Interface:
@@ -187,7 +191,7 @@ class Step:
     #: After the step: transmit and receive count of each interface.
     counts: list[Counts]
     #: Before the step: how many frames wait at each interface.
-    waiting: list[int]
+    waiting: Sequence[int]
     #: How many attempts were idle since the step before. One that restarts interfaces counts for the first of them.
     idle: int
 
@@ -203,10 +207,14 @@ class Replay:
         self.items: list[Delivery] = []
         self.open_sockets: list[list[Socket]] = [[] for _ in self.ifaces]
         self.frames: dict[str, WireFrame] = {}
+        # What many steps have is kept once: a run may have a million of them.
+        self.lists: dict[tuple[int, ...], tuple[int, ...]] = {}
         #: What bus off took out of a transmit queue, by the step.
         self.lost: dict[int, list[Pending]] = {}
         self.counts: list[Counts] = [(0, 0)] * record.ifaces
         self.attempts = self.idle = 0
+        # The numbers of the last step, and of the one that was begun last.
+        self.last, self.begun = -1, 0
         # How many attempts were idle since the last step.
         self.idle_since = 0
         self.moment = ""
@@ -238,9 +246,10 @@ class Replay:
             return socket if socket.closed_after is None else None
         return None
 
-    def last_step(self) -> int:
-        """The number of the last step."""
-        return len(self.steps) - 1
+    def once(self, numbers: Sequence[int]) -> tuple[int, ...]:
+        """These numbers, as one tuple for all places where they are."""
+        found = tuple(numbers)
+        return self.lists.setdefault(found, found)
 
     # Calls of sockets: each returns the words of its reply.
 
@@ -252,7 +261,7 @@ class Replay:
             return ["bad-capacity"]
         if sum(map(len, self.open_sockets)) == MOST_SOCKETS:
             return ["too-many-sockets"]
-        socket = Socket(len(self.sockets), int(iface), int(capacity), self.last_step())
+        socket = Socket(len(self.sockets), int(iface), int(capacity), self.last)
         self.sockets.append(socket)
         self.open_sockets[int(iface)].append(socket)
         return ["socket", str(socket.number)]
@@ -263,10 +272,10 @@ class Replay:
         if socket is None:
             return ["no-socket"]
         for item in socket.queue:
-            item.fate, item.taken_after = "unread", self.last_step()
+            item.fate, item.taken_after = "unread", self.last
         unread = len(socket.queue)
         socket.queue.clear()
-        socket.closed_after = self.last_step()
+        socket.closed_after = self.last
         self.open_sockets[socket.iface].remove(socket)
         return ["closed", str(unread), str(socket.dropped)]
 
@@ -312,7 +321,7 @@ class Replay:
         if not socket.queue:
             return ["none"]
         item = socket.queue.popleft()
-        item.fate, item.taken_after = "taken", self.last_step()
+        item.fate, item.taken_after = "taken", self.last
         socket.taken += 1
         if item.number is None:
             return ["error", str(item.sender), item.text, item.moment]
@@ -357,11 +366,7 @@ class Replay:
 
     def attempt(self, entry: int, moment: str, verdict: str) -> list[str]:
         """The frame that wins arbitration is tried."""
-        contenders = [
-            (number, iface.waiting[0].frame)
-            for number, iface in enumerate(self.ifaces)
-            if iface.waiting and not iface.is_off()
-        ]
+        contenders = [iface.waiting[0].contender for iface in self.ifaces if iface.waiting and not iface.is_off()]
         if not contenders:
             self.idle += 1
             self.idle_since += 1
@@ -370,7 +375,8 @@ class Replay:
         winner = min(contenders, key=lambda contender: contender[1].bits)[0]
         sent = self.ifaces[winner].waiting[0]
         step = self.begin("", entry, moment, winner)
-        step.number, step.text, step.verdict, step.contenders = sent.number, sent.frame.text, verdict, contenders
+        step.number, step.text, step.contenders = sent.number, sent.frame.text, contenders
+        step.verdict = sys.intern(verdict)
         before = self.counts
         receivers = [i for i, iface in enumerate(self.ifaces) if i != winner and not iface.is_off()]
         self.judge(step, receivers)
@@ -398,7 +404,8 @@ class Replay:
             named = int(verdict[1], 16)
             step.hit = [i for i in receivers if named >> i & 1]
         unhurt = [i for i in receivers if i not in step.hit]
-        wrong_ones, good_ones = step.hit, []
+        wrong_ones: Sequence[int] = step.hit
+        good_ones: Sequence[int] = ()
         if verdict[0].startswith("global") or not all(self.ifaces[i].is_passive() for i in step.hit):
             step.kind, wrong_ones = "destroyed", receivers
             winner.tec += 8
@@ -407,7 +414,7 @@ class Replay:
             winner.tec += 0 if winner.is_passive() else 8
         else:
             step.kind = "lastbit" if verdict[0] == "lastbit" else "done"
-            step.accepted = good_ones = unhurt
+            step.accepted = good_ones = self.once(unhurt)
             winner.tec = winner.tec + 8 if step.kind == "lastbit" else max(winner.tec - 1, 0)
         for i in wrong_ones:
             self.ifaces[i].receive_error()
@@ -423,7 +430,7 @@ class Replay:
             winner.done += 1
         if step.off:
             winner.lost += len(winner.waiting)
-            self.lost[len(self.steps)] = list(winner.waiting)
+            self.lost[self.begun] = list(winner.waiting)
             winner.waiting.clear()
             winner.attempts_off = 0
 
@@ -433,7 +440,7 @@ class Replay:
         for number in sorted([*step.accepted, *looped]):
             for socket in self.open_sockets[number]:
                 if socket.passes(sent.frame) and (socket is not sent.socket or socket.options["recvown"]):
-                    self.put(Delivery(socket, len(self.steps), step.text, step.iface, step.number, step.moment))
+                    self.put(Delivery(socket, self.begun, step.text, step.iface, step.number, step.moment))
 
     def post_fault(self, step: Step, number: int, is_receiver: bool) -> None:
         """An error message frame for the fault that an interface saw in the attempt, where faults are reported."""
@@ -474,7 +481,7 @@ class Replay:
         for socket in self.open_sockets[number]:
             if socket.options["errmask"] & error_class:
                 text = text or error_frame(error_class, data)
-                self.put(Delivery(socket, len(self.steps), text, number, None, self.moment))
+                self.put(Delivery(socket, self.begun, text, number, None, self.moment))
 
     def put(self, item: Delivery) -> None:
         """Keeps an item, and puts it to its socket."""
@@ -484,7 +491,8 @@ class Replay:
     def begin(self, kind: str, entry: int, moment: str, iface: int) -> Step:
         """A new step."""
         self.moment = moment
-        waiting = [len(one.waiting) for one in self.ifaces]
+        self.begun = self.last + 1
+        waiting = self.once([len(one.waiting) for one in self.ifaces])
         idle, self.idle_since = self.idle_since, 0
         return Step(kind, entry, moment, iface, self.attempts, 0, "", "", (), (), (), [], [], waiting, idle)
 
@@ -500,6 +508,7 @@ class Replay:
         """Keeps a step that has happened."""
         step.counts = self.counts
         self.steps.append(step)
+        self.last = self.begun
         self.attempts += step.kind != "restart"
 
 
