@@ -7,8 +7,8 @@ Round trips: a frame there and one back, in one thread. Latency: half of such a 
 percentile. Bursts: frames that one thread sends and another receives, in parts, the next once the last frame of a part
 has arrived; the run ends at the first loss. Of several runs the best counts, and all losses.
 
-PYTHONPATH of another checkout (`git archive COMMIT python/src | tar x -C DIR`) measures its package with the same program.
-What is compared is run in turn several times on a machine without other work.
+With PYTHONPATH=DIR/python/src, after `git archive COMMIT python/src | tar x -C DIR`, it measures the package of another
+commit with the same program. Two packages are compared in turn, several times, on a machine without other work.
 """
 
 import argparse

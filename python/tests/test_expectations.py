@@ -6,6 +6,7 @@ import re
 import can
 import pytest
 
+from canbusd._summary import end_of_log
 from canbusd.faults import Faults
 from canbusd.server import Server
 from conftest import WAIT, message
@@ -108,6 +109,14 @@ def test_a_failure_without_a_place_for_a_session_shows_what_is_known():
                 buses.enter_context(server.bus("can0"))
         with pytest.raises(AssertionError, match="^no frame 001 within 0.05 seconds\nno frame was seen$"):
             server.expect(id=1, within=0.05)
+
+
+@pytest.mark.parametrize("last", ["(0000000000.000003) can0 200000", "(0000000000.000003) can0 20000080#000", "(0"])
+def test_the_end_of_a_log(tmp_path, last):
+    log = tmp_path / "can0.log"
+    lines = ["(0000000000.000001) can0 123#0102", "(0000000000.000002) can0 20000040#0000000000000000"]
+    log.write_text("\n".join([*lines, last]))
+    assert end_of_log(log) == [f"{log} ends:", f"  {lines[0]}", f"  {lines[1]}  bus off", f"  {last}"]
 
 
 def test_nothing_was_seen(observed):

@@ -42,10 +42,10 @@ LONGEST_NAP = 1.0
 
 # How an answer ends: with an echo, or as the verdict on a frame, which is one message.
 ECHO, VERDICT = "e", "v"
-# The verdict that accepts a frame, with its number. A bus has fewer than 2**32 entries, and so have numbers at most ten digits.
+# The verdict that accepts a frame, with its number. A bus has fewer than 2**32 entries, so it has ten digits at most.
 ACK, LONGEST_ACK = "ack ", len("ack ") + 10
-# How many numbers are noted together, and how many such pages there are at most: a frame that came before the oldest of
-# them would have more than 16 million after it that nobody took.
+# How many numbers are noted together, and how many such pages are kept: a frame that is older than all of them would be
+# received 16 million numbers late.
 PAGE, MOST_PAGES = 4096, 4096
 
 T = TypeVar("T")
@@ -158,7 +158,7 @@ class Connection:
         self._pieces: list[bytes] = []
         self._rest = ""
         self._frames: deque[str] = deque()
-        # Whether the server accepts each frame by its number, whether these are noted, and the pages with a place for each.
+        # Whether the server accepts each frame by its number, whether these are noted, and pages with a place for each.
         self._has_acks = self._notes_own = False
         self._own: dict[int, bytearray] = {}
         # How long the question at hand is, and what was sent of it.
@@ -205,8 +205,8 @@ class Connection:
             return answers
 
     def ask_acks(self, notes_own: bool = False) -> None:
-        """Has the server accept each frame by its number, in place of an echo, and notes these for `is_own` if asked to; an
-        older server goes on with echoes."""
+        """Has the server accept each frame by its number, in place of an echo, and notes these for `is_own` if asked to;
+        an older server goes on with echoes."""
         self._notes_own = notes_own
         self._has_acks = self.ask(["ack 1"]) == ["ok"]
 
@@ -327,7 +327,8 @@ class Connection:
         self._ends, self._came, self._owed, self._answers, self._answer = ends, 0, len(ends), [], ""
 
     def _write(self, left: memoryview, deadline: float) -> None:
-        """Writes the rest of a question. Meanwhile frames are read: a server that waits for its reader takes no commands."""
+        """Writes the rest of a question. Meanwhile frames are read: a server that waits for its reader takes no
+        commands."""
         while left:
             sent = self._wait(lambda: self._send(left), deadline, select.POLLIN | select.POLLOUT)
             if sent is None:
@@ -406,8 +407,10 @@ class Connection:
     def _read(
         self, ready: Callable[[], Optional[T]], seconds: Optional[float], events: int
     ) -> tuple[bool, Optional[T]]:
-        """Reads what there is, or what comes within these seconds, and sorts it, but if something is ready already; returns
-        whether it did, or another thread reads, and what is ready."""
+        """Reads what there is, or what comes within these seconds, unless another thread reads, or something is ready.
+
+        Returns whether no other thread reads, and what is ready then.
+        """
         taken: list[bool] = []
         try:
             taken.extend(map(self._reading.acquire, (False,)))

@@ -25,8 +25,8 @@ MOST_AT_ONCE = 1000
 class Observer:
     """The sessions of a server's own: one on each interface that is observed, and on each whose state is asked for.
 
-    `opened` opens a bus on an interface, one of these names. Frames are kept for each observed interface until `expect` finds one: that and
-    those before it are taken, so the next `expect` looks at what came after them.
+    `opened` opens a bus on an interface, one of these names. Frames are kept for each observed interface until `expect`
+    finds one: that and those before it are taken, so the next `expect` looks at what came after them.
     """
 
     def __init__(self, opened: Callable[..., CanbusdBus], names: Sequence[str], observed: Sequence[str]) -> None:

@@ -1,11 +1,12 @@
 """What happened on a bus, in a few lines: its events, the end of its log, and a table of its interfaces."""
 
 import os
+import re
 from collections.abc import Iterable, Sequence
 from pathlib import Path
 
 from canbusd._protocol import STATES
-from canbusd.frames import meaning
+from canbusd.frames import ERROR_FRAME, meaning
 from canbusd.record import Record
 from canbusd.story import events_of, heading_of
 
@@ -66,9 +67,11 @@ def end_of_log(path: Path) -> list[str]:
 
 
 def with_meaning(line: str) -> str:
-    """Returns the line of a log; of an error message frame with what it says."""
+    """Returns the line of a log, which may be cut off; that of an error message frame with what it says."""
     words = line.split()
-    return f"{line}  {meaning(words[2])}".rstrip() if len(words) == 3 else line
+    if len(words) == 3 and re.fullmatch(ERROR_FRAME, words[2]):
+        return f"{line}  {meaning(words[2])}"
+    return line
 
 
 def write_page(record: Record, path: "os.PathLike[str]", rules: Sequence[str] = ()) -> Path:

@@ -35,8 +35,8 @@ ERROR_FRAME = "[23][0-9A-F]{7}#[0-9A-F]{16}"
 
 # cansend's spelling: an FD frame has a second # and a digit of flags.
 SPELLING = re.compile("([0-9A-Fa-f]+)#(?:#([0-9A-Fa-f]))?([0-9A-Fa-fRr.]*)")
-# The first words of a session's message with a frame or an error message frame, and such a message; where asked for with whether the same interface has sent it,
-# and its number there. In answers no moment follows `error`.
+# A session's message with a frame or an error message frame: its first word, and all of it; where asked for with whether
+# the same interface has sent it, and its number there. In answers no moment follows `error`.
 HANDED_OVER = ("frame", "fdframe", "remote", "error")
 MESSAGE = re.compile(
     "(frame|fdframe|remote|error) ([0-9A-F]+) ([0-9]+[.][0-9]{6})(?: +([0-9A-F]*))?(?: +(?:same|other) [0-9]+)?"
