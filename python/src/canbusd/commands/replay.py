@@ -3,7 +3,7 @@
 import argparse
 import itertools
 import json
-from collections.abc import Iterator, Sequence
+from collections.abc import Iterator
 
 from canbusd._command import add_record, replayed
 from canbusd.record import Attempt, Record, verdict_of
