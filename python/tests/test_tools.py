@@ -230,15 +230,20 @@ def test_a_periodic_task_survives_bus_off(caplog):
             task = can0.send_periodic(message(0x123), 0.005)
             while can0.recv(WAIT).arbitration_id != 0x040:
                 pass
-            # python-can logs each send that is refused.
             for _ in range(WAIT * 100):
                 if "bus off" in caplog.text:
                     break
                 time.sleep(0.01)
+            # Some more that are refused.
+            time.sleep(0.05)
             can0.restart()
             assert can1.recv(WAIT).arbitration_id == 0x123
             task.stop()
-    assert "bus off" in caplog.text
+    assert [one.getMessage() for one in caplog.records] == [
+        "can0: a periodic message is not sent: bus off: restart() brings the interface back, as the server's "
+        "auto_restart= does [Error Code 100]"
+    ]
+    assert "Traceback" not in caplog.text
 
 
 def test_a_periodic_task_survives_a_full_queue():

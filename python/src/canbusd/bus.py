@@ -16,7 +16,7 @@ from typing import TYPE_CHECKING, Any, Optional, TypeVar, Union, cast
 import canbusd._python_can  # noqa: F401  it says what is missing, so it comes first
 
 import can
-from can.broadcastmanager import CyclicSendTaskABC, ThreadBasedCyclicSendTask
+from can.broadcastmanager import CyclicSendTaskABC
 from can.bus import BusABC, BusState
 from can.exceptions import CanInitializationError, CanOperationError, CanTimeoutError
 from can.message import Message
@@ -125,9 +125,25 @@ def interfaces(address: Optional[str] = None, timeout: float = 5.0) -> list[str]
     return names
 
 
-def goes_on(fault: Exception) -> bool:
-    """Whether a periodic task goes on after this, as one of the system's own CAN sockets does."""
-    return isinstance(fault, CanOperationError) and fault.error_code in ERROR_CODES.values()
+class Periodic:
+    """A bus as a periodic task has it: where the transmit queue is full, or the interface off, the task goes on, as one of
+    the system's own CAN sockets does. That is logged once; python-can would log each send, with a traceback.
+    """
+
+    def __init__(self, bus: "CanbusdBus") -> None:
+        self._bus, self._is_refused = bus, False
+
+    def send(self, msg: Message, timeout: Optional[float] = None) -> None:
+        """Sends a message, if it is not refused."""
+        try:
+            self._bus.send(msg, timeout)
+            self._is_refused = False
+        except CanOperationError as fault:
+            if fault.error_code not in ERROR_CODES.values():
+                raise
+            if not self._is_refused:
+                LOG.warning("%s: a periodic message is not sent: %s", self._bus.channel, fault)
+            self._is_refused = True
 
 
 class CanbusdBus(InjectsFaults, BusABC):
@@ -340,10 +356,10 @@ class CanbusdBus(InjectsFaults, BusABC):
                 timeout = max(0.0, deadline - time.monotonic())
 
     def _send_periodic_internal(self, *args: Any, **kwargs: Any) -> CyclicSendTaskABC:
-        # Its thread sends under this lock, so not before it knows what to do where a send is refused.
+        # Its thread sends under this lock, so not before it has the bus on which it goes on.
         with self._lock_send_periodic:
             task = super()._send_periodic_internal(*args, **kwargs)
-            cast(ThreadBasedCyclicSendTask, task).on_error = goes_on
+            cast(Any, task).bus = Periodic(self)
         return task
 
     def _apply_filters(self, filters: Any) -> None:
