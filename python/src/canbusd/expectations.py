@@ -108,6 +108,7 @@ class Expectations:
 
     def wait_for(self, predicate: Callable[[], T], timeout: float = 1.0) -> T:
         """Calls the predicate until it returns something true, and returns that; TimeoutError after these seconds."""
+        __tracebackhide__ = True
         found = wait_for(predicate, timeout)
         if found is None:
             raise TimeoutError(f"not so within {timeout:g} seconds{self._shown()}")
