@@ -54,6 +54,15 @@ def test_what_a_frame_says(car):
     assert decoded(car, "123#0000000600000000").endswith("gear=6, torque=0 Nm")
 
 
+def test_the_value_of_a_signal(car):
+    found = car.decode(Frame.parse(DRIVES))
+    assert (found.value("speed"), found.value("gear")) == (120.5, "Drive")
+    with pytest.raises(DatabaseError, match="^no signal right in Pages: page=0, left=5$"):
+        car.decode(Frame.parse("200#0005")).value("right")
+    with pytest.raises(DatabaseError, match="^no signal speed in Engine: 2 of 8 bytes$"):
+        car.decode(Frame.parse("123#B504")).value("speed")
+
+
 def test_signals_of_one_value_of_a_multiplexer(car):
     assert decoded(car, "200#0005") == "Pages: page=0, left=5"
     assert decoded(car, "200#0105") == "Pages: page=1, right=10 %"

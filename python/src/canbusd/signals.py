@@ -47,6 +47,13 @@ class Decoded(NamedTuple):
     #: Why there are no signals: the frame is shorter than the message.
     fault: str = ""
 
+    def value(self, name: str) -> Value:
+        """Returns the value of the signal of this name; DatabaseError where the frame has none."""
+        for signal in self.signals:
+            if signal.name == name:
+                return signal.value
+        raise DatabaseError(f"no signal {name} in {self}")
+
     def __str__(self) -> str:
         return f"{self.message}: {self.fault or ', '.join(map(str, self.signals))}"
 
