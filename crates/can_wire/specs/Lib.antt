@@ -4,4 +4,5 @@ pub mod FrameBits
 pub mod AttemptBits
 pub mod Known
 pub mod Times
+pub mod Timings
 pub mod inner

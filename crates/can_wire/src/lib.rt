@@ -14,10 +14,12 @@ pub mod flags;
 pub mod frames;
 pub mod laws;
 pub mod rates;
+pub mod timing;
 pub mod wire_bits;
 
 pub use attempts::attempt_bits;
 pub use flags::FdFlags;
 pub use frames::frame_bits;
 pub use rates::{BadBitRates, Rates};
+pub use timing::Timing;
 pub use wire_bits::WireBits;
