@@ -1,5 +1,5 @@
 -- What a run does keeps the configuration of its bus.
-use Rattle.std.proofs.Common.{◌≡◌, ℕ, zero, suc, Bool, List, [], ◌∷◌, Result, Ok, Err, ap, ◌∙◌}
+use Rattle.std.proofs.Common.{◌≡◌, inl, inr, ℕ, zero, suc, Bool, List, [], ◌∷◌, Result, Ok, Err, ap, ◌∙◌}
 use Rattle.can_fault.specs.Sources.{VerdictMap}
 use Rattle.can_event.specs.declared.bus_config.BusConfig.{BusConfig}
 use Rattle.can_event.specs.declared.event.Event.{Event}
@@ -22,8 +22,8 @@ use Rattle.can_dialog.specs.Sessions.{SessionState, Turns}
 use Rattle.can_dialog.specs.Deliveries.{AreGiven}
 use Rattle.can_session.specs.BusSteps.{NamedBus, BusStep}
 use Rattle.can_session.specs.Orders.{Effect}
-use Rattle.can_session.specs.Orders.Effect.{Does_nothing, Sets, Starts, Feeds, Drains, Ends, Attempts, Injects}
-use Rattle.can_session.specs.Benches.{BenchState, IsFedAt, Does, AreCarriedOut}
+use Rattle.can_session.specs.Orders.Effect.{Does_nothing, Sets, Starts, Feeds, Drains, Ends, Attempts, Runs, Injects}
+use Rattle.can_session.specs.Benches.{BenchState, IsFedAt, IsTried, AreTried, NoneFollows, AreMade, Does, AreCarriedOut}
 
 -- the configuration of a bus with names, and of a bench
 abbrev of_bus : NamedBus → BusConfig
@@ -80,6 +80,20 @@ given : (n : ℕ) (stage : Stage) (p : NamedBus) (text : List ℕ) (q : NamedBus
 given zero stage p text q h = ap of_bus h.1
 given (suc n) stage p text q (before, mid, last, first, plays, is) = played _ mid q last _ plays ∙ given n stage p before mid first
 
+tried : (v : VerdictMap) (b : BenchState) (text : List ℕ) (after : BenchState) → IsTried v b text after → of_bench after ≡ of_bench b
+tried v b text after h = ap of_bench h.after_is ∙ answered told_attempt b.bus.journal _ h.outcome h.journal h.answers
+
+all_tried : (v : VerdictMap) (moment n : ℕ) (b : BenchState) (text : List ℕ) (after : BenchState) → AreTried v moment n b text after → of_bench after ≡ of_bench b
+all_tried v moment zero b text after h = ap of_bench h.1
+all_tried v moment (suc n) b text after (before, mid, last, first, due, one, said) = tried v mid last after one.0 ∙ all_tried v moment n b before mid first
+
+ended : (v : VerdictMap) (moment : ℕ) (b : BenchState) (text : List ℕ) (after : BenchState) → NoneFollows v moment b text after → of_bench after ≡ of_bench b
+ended v moment b text after (inl (none, said, same)) = ap of_bench same
+ended v moment b text after (inr (due, full, one)) = tried v b text after one
+
+made : (v : VerdictMap) (moment : ℕ) (b : BenchState) (text : List ℕ) (after : BenchState) → AreMade v moment b text after → of_bench after ≡ of_bench b
+made v moment b text after h = ended v moment h.mid h.last after h.ends ∙ all_tried v moment h.count b h.before h.mid h.tried
+
 done : (v : VerdictMap) (effect : Effect) (b : BenchState) (text : List ℕ) (after : BenchState) → Does v effect b text after → of_bench after ≡ of_bench b
 done v Does_nothing b text after h = ap of_bench h.1
 done v (Sets moment) b text after h = ap of_bench h.1
@@ -88,7 +102,8 @@ done v (Feeds s bytes) b text after h = ap of_bench h.after_is ∙ fed h.old.dia
 done v (Drains s) b text after h =
     ap of_bench h.after_is ∙ played _ h.done.mid h.bus h.done.last _ h.done.ends ∙ given h.done.items h.old.dialog.stage b.bus h.done.before h.done.mid h.done.given
 done v (Ends s) b text after h = ap of_bench h.after_is ∙ played _ b.bus h.bus h.said _ h.done.ends
-done v Attempts b text after h = ap of_bench h.after_is ∙ answered told_attempt b.bus.journal _ h.outcome h.journal h.answers
+done v Attempts b text after h = tried v b text after h
+done v (Runs moment) b text after h = ap of_bench h.after_is ∙ made v moment b text h.over h.made
 done v (Injects rule) b text after h = ap of_bench h.1.after_is
 
 -- lines that are carried out

@@ -11,3 +11,4 @@ pub mod Heard
 pub mod Ordered
 pub mod BusCalls
 pub mod Configs
+pub mod TimedRuns

@@ -2,6 +2,7 @@ use Rattle.std.specs.Prelude.{ℕ, ◌+◌, ◌==◌, Bool, true, false, if◌th
 use Rattle.std.specs.Fmt.{decimal}
 use Rattle.std.specs.List.{join_with_byte}
 use Rattle.can_frame.specs.Sets.{is_in}
+use Rattle.can_frame.specs.Moments.{moment_text}
 use Rattle.can_frame.specs.declared.iface.IfaceSet.{IfaceSet}
 use Rattle.can_attempt.specs.Words.{class_word}
 use Rattle.can_event.specs.declared.attempt.Attempt.{Attempt}
@@ -56,16 +57,26 @@ ending_text names t = codes " " ++ class_word t.class ++ codes " " ++ set_text n
 abbrev pub restarted_text : List (List ℕ) → IfaceSet → List ℕ
 restarted_text names set = if set.0 == 0 then [] else codes " restarted " ++ set_text names set
 
+-- when it was, where the line says so
+abbrev pub when_text : Option ℕ → List ℕ
+when_text None = []
+when_text (Some moment) = codes " at " ++ moment_text moment
+
+-- how the line ends
+abbrev pub end_text : List (List ℕ) → Option ℕ → IfaceSet → List ℕ
+end_text names when restarted = restarted_text names restarted ++ when_text when ++ codes "\n"
+
 -- a frame that was tried
-abbrev pub tried_line : List (List ℕ) → Tried → List ℕ
-tried_line names t = whose_text names t ++ ending_text names t ++ restarted_text names t.restarted ++ codes "\n"
+abbrev pub tried_line : List (List ℕ) → Option ℕ → Tried → List ℕ
+tried_line names when t = whose_text names t ++ ending_text names t ++ end_text names when t.restarted
 
 -- no frame was tried
-abbrev pub idle_line : List (List ℕ) → IfaceSet → List ℕ
-idle_line names restarted = codes "idle" ++ restarted_text names restarted ++ codes "\n"
+abbrev pub idle_line : List (List ℕ) → Option ℕ → IfaceSet → List ℕ
+idle_line names when restarted = codes "idle" ++ end_text names when restarted
 
--- the line of an attempt; the only refusal that there is says that the record is full
-abbrev pub attempt_line : List (List ℕ) → Result Attempt Refusal → List ℕ
-attempt_line names (Ok (attempt.Tried t)) = tried_line names t
-attempt_line names (Ok (attempt.Idle restarted)) = idle_line names restarted
-attempt_line names (Err why) = codes "record full\n"
+-- the line of an attempt, with its moment if that is to be said; the only refusal that there is says that the record is
+-- full, and has no moment
+abbrev pub attempt_line : List (List ℕ) → Option ℕ → Result Attempt Refusal → List ℕ
+attempt_line names when (Ok (attempt.Tried t)) = tried_line names when t
+attempt_line names when (Ok (attempt.Idle restarted)) = idle_line names when restarted
+attempt_line names when (Err why) = codes "record full\n"

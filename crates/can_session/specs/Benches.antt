@@ -1,4 +1,5 @@
-use Rattle.std.specs.Prelude.{◌≡◌, ◌≢◌, ℕ, ◌-◌, Bool, false, List, [], ◌∷◌, ◌++◌, slice_get, slice_set, Option, Some, None, Result, Ok, Err}
+use Rattle.std.specs.Prelude.{◌≡◌, ◌≢◌, ◌⊎◌, ℕ, zero, suc, ◌-◌, ◌<◌, ◌≤◌, Bool, true, false, ◌&&◌, List, [], ◌∷◌, ◌++◌, slice_get, slice_set, length, Option, Some, None, is_some, Result, Ok, Err}
+use Rattle.std.specs.Option.{option_map}
 use Rattle.std.specs.Fmt.{decimal}
 use Rattle.can_fault.specs.Sources.{VerdictMap, verdict_in}
 use Rattle.can_fault.specs.declared.verdict.Verdict.{Verdict}
@@ -8,6 +9,7 @@ use Rattle.can_rules.specs.Plans.{PlanSeen, Injected}
 use Rattle.can_event.specs.declared.event.Event.TheVariants as event
 use Rattle.can_event.specs.declared.refusal.Refusal.{Refusal}
 use Rattle.can_event.specs.declared.attempt.Attempt.{Attempt}
+use Rattle.can_event.specs.declared.attempt.Attempt.TheVariants as attempt
 use Rattle.can_record.specs.Journal.{Journal}
 use Rattle.can_bus.specs.Answer.{Answers}
 use Rattle.can_record.specs.Outcomes.{told_attempt}
@@ -18,22 +20,24 @@ use Rattle.can_dialog.specs.Plans.{Plays}
 use Rattle.can_dialog.specs.Turns.{ending, delivery, greeting}
 use Rattle.can_dialog.specs.Deliveries.{AreGiven}
 use Rattle.can_dialog.specs.Sessions.{SessionState, Turns, beginning}
-use Rattle.can_session.specs.BusSteps.{NamedBus, BusStep, next_number, verdict_on, plan_left}
+use Rattle.can_session.specs.BusSteps.{NamedBus, BusStep, next_number, head_on, verdict_on, plan_left}
+use Rattle.can_session.specs.Wires.{Wire, attempt_moment, wire_left, moment_left, begins_before}
 use Rattle.can_session.specs.declared.unheard.Unheard.{Unheard}
 use Rattle.can_session.specs.Unheard.{unheard_then}
 use Rattle.can_session.specs.Orders.{Effect, order_of}
-use Rattle.can_session.specs.Orders.Effect.{Does_nothing, Sets, Starts, Feeds, Drains, Ends, Attempts, Injects}
+use Rattle.can_session.specs.Orders.Effect.{Does_nothing, Sets, Starts, Feeds, Drains, Ends, Attempts, Runs, Injects}
 use Rattle.can_session.specs.AttemptLines.{attempt_line}
 
 -- What the bench does and writes: its lines, one after another (own choice).
 
--- the state of a bench: how many items a socket holds, the bus, the sessions by number, the moment set, and what was fed
--- that is in no message
+-- the state of a bench: how many items a socket holds, the bus, the sessions by number, the moment set, the wire if the
+-- bus has bit rates, and what was fed that is in no message
 pub record BenchState : Type 0 where
   pub capacity : ℕ
   pub bus : NamedBus
   pub sessions : List (Option SessionState)
   pub moment : ℕ
+  pub wire : Option Wire
   pub unheard : Unheard
 
 -- session s: `Some None` where it was not started, `None` where there is no such number
@@ -103,13 +107,74 @@ IsStarted s b text after = (session_at b s ≡ Some None) × (text ≡ spoken s 
 abbrev pub sourced : VerdictMap → NamedBus → Verdict
 sourced verdicts bus = verdict_in verdicts (next_number bus)
 
--- an attempt at the moment set, with the verdict that source and plan have for the next one
+-- the moment of the next attempt
+abbrev pub next_moment : BenchState → ℕ
+next_moment b = attempt_moment b.wire b.moment (head_on b.bus)
+
+-- what its line says of that: nothing where the bus has no bit rates
+abbrev pub said_moment : Option Wire → ℕ → Option ℕ
+said_moment wire moment = option_map (λ w. moment) wire
+
+-- the bench when the time of an attempt has passed that came to this and had this verdict
+abbrev pub passed : Verdict → Result Attempt Refusal → BenchState → BenchState
+passed v outcome b = record b { wire = wire_left b.moment v outcome b.wire; moment = moment_left (wire_left b.moment v outcome b.wire) b.moment }
+
+-- an attempt, with the verdict that source and plan have for the next one
 pub record IsTried (verdicts : VerdictMap) (b : BenchState) (text : List ℕ) (after : BenchState) : Type 0 where
   pub outcome : Result Attempt Refusal
   pub journal : Journal
-  pub answers : Answers told_attempt b.bus.journal (event.Attempt b.moment (verdict_on b.bus (sourced verdicts b.bus))) outcome journal
-  pub text_is : text ≡ attempt_line b.bus.names outcome
-  pub after_is : after ≡ record b { bus = record b.bus { journal = journal; plan = plan_left b.bus (sourced verdicts b.bus) } }
+  pub answers : Answers told_attempt b.bus.journal (event.Attempt (next_moment b) (verdict_on b.bus (sourced verdicts b.bus))) outcome journal
+  pub text_is : text ≡ attempt_line b.bus.names (said_moment b.wire (next_moment b)) outcome
+  pub after_is : after ≡ passed (verdict_on b.bus (sourced verdicts b.bus)) outcome (record b { bus = record b.bus { journal = journal; plan = plan_left b.bus (sourced verdicts b.bus) } })
+
+-- whether an attempt tried a frame
+abbrev pub tries : Result Attempt Refusal → Bool
+tries (Ok (attempt.Tried t)) = true
+tries (Ok (attempt.Idle restarted)) = false
+tries (Err why) = false
+
+-- an attempt that tries a frame, or one that tries none
+abbrev pub IsTriedIf : Bool → VerdictMap → BenchState → List ℕ → BenchState → Type 0
+IsTriedIf is verdicts b text after = (one : IsTried verdicts b text after) × (tries one.outcome ≡ is)
+
+-- an attempt would begin before this moment, and there is a frame for it to try
+abbrev pub is_due : ℕ → BenchState → Bool
+is_due moment b = begins_before b.wire b.moment moment && is_some (head_on b.bus)
+
+-- so many attempts, each of which was due and tries a frame; the last one is the last step
+abbrev pub AreTried : VerdictMap → ℕ → ℕ → BenchState → List ℕ → BenchState → Type 0
+AreTried verdicts moment zero b text after = (text ≡ []) × (after ≡ b)
+AreTried verdicts moment (suc n) b text after = (before : List ℕ) × (mid : BenchState) × (last : List ℕ) × AreTried verdicts moment n b before mid × (is_due moment mid ≡ true) × IsTriedIf true verdicts mid last after × (text ≡ before ++ last)
+
+-- the bus's record has no room for an attempt
+abbrev pub IsFull : BenchState → Type 0
+IsFull b = b.bus.journal.config.limit ≤ length b.bus.journal.history
+
+-- no attempt is due any more; or one is, and its refusal is put out, since the record is full
+abbrev pub NoneFollows : VerdictMap → ℕ → BenchState → List ℕ → BenchState → Type 0
+NoneFollows verdicts moment b text after = ((is_due moment b ≡ false) × (text ≡ []) × (after ≡ b)) ⊎ ((is_due moment b ≡ true) × IsFull b × IsTried verdicts b text after)
+
+-- attempts are made as long as one is due before this moment
+pub record AreMade (verdicts : VerdictMap) (moment : ℕ) (b : BenchState) (text : List ℕ) (after : BenchState) : Type 0 where
+  pub count : ℕ
+  pub before : List ℕ
+  pub mid : BenchState
+  pub last : List ℕ
+  pub tried : AreTried verdicts moment count b before mid
+  pub ends : NoneFollows verdicts moment mid last after
+  pub said : text ≡ before ++ last
+
+-- the same, and then this moment is set: the bus has bit rates, and the moment that was set is no later
+pub record IsRun (verdicts : VerdictMap) (moment : ℕ) (b : BenchState) (text : List ℕ) (after : BenchState) : Type 0 where
+  pub timed : b.wire ≢ None
+  pub ahead : b.moment ≤ moment
+  pub over : BenchState
+  pub made : AreMade verdicts moment b text over
+  pub after_is : after ≡ record over { moment = moment }
+
+-- a bench that cannot run to this moment: its bus has no bit rates, or a later moment is set
+abbrev pub IsWrongRun : ℕ → BenchState → Type 0
+IsWrongRun moment b = (b.wire ≡ None) ⊎ (moment < b.moment)
 
 -- the bus's plan takes a rule of faults
 pub record IsInjected (rule : List ℕ) (b after : BenchState) : Type 0 where
@@ -132,6 +197,7 @@ Does verdicts (Feeds s bytes) b text after = Speaks (IsFed b.moment bytes) s (wi
 Does verdicts (Drains s) b text after = Speaks IsDrained s b text after
 Does verdicts (Ends s) b text after = Speaks IsEnded s b text after
 Does verdicts Attempts b text after = IsTried verdicts b text after
+Does verdicts (Runs moment) b text after = IsRun verdicts moment b text after
 Does verdicts (Injects rule) b text after = (text ≡ []) × IsInjected rule b after
 
 -- a line is carried out
@@ -141,13 +207,14 @@ pub record IsCarriedOut (verdicts : VerdictMap) (line : List ℕ) (b : BenchStat
   pub does : Does verdicts effect b text after
 
 -- a line is refused: it is no good line, it starts a session whose number was used before, it is of one that was never
--- started, or it is of a rule that is not taken
+-- started, it runs to a moment and cannot, or it is of a rule that is not taken
 abbrev pub IsRefused : Option Effect → BenchState → Type 0
 IsRefused None b = Unit {0}
 IsRefused (Some (Starts s)) b = session_at b s ≢ Some None
 IsRefused (Some (Feeds s bytes)) b = session_at b s ≡ Some None
 IsRefused (Some (Drains s)) b = session_at b s ≡ Some None
 IsRefused (Some (Ends s)) b = session_at b s ≡ Some None
+IsRefused (Some (Runs moment)) b = IsWrongRun moment b
 IsRefused (Some (Injects rule)) b = IsWrongRule rule b
 IsRefused (Some _) b = ⊥
 

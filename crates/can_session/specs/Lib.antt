@@ -2,6 +2,7 @@ pub mod Lines
 pub mod Orders
 pub mod AttemptLines
 pub mod BusSteps
+pub mod Wires
 pub mod Benches
 pub mod Runs
 pub mod Unheard

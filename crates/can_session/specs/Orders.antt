@@ -4,12 +4,12 @@ use Rattle.can_frame.specs.Moments.{moment_in}
 use Rattle.can_frame.specs.Numbers.{number_in}
 use Rattle.can_proto.specs.Verbs.{is_word}
 use Rattle.can_session.specs.declared.order.Order.{Order}
-use Rattle.can_session.specs.declared.order.Order.TheVariants.{Nothing, At, Session, Feed, Drain, End, Attempt, Fault}
+use Rattle.can_session.specs.declared.order.Order.TheVariants.{Nothing, At, Session, Feed, Drain, End, Attempt, Run, Fault}
 
 -- What a line of the bench's input asks for (own choice).
 
--- what a line does: it sets a moment, in microseconds, starts, feeds, drains or ends a session, makes an attempt, or gives a
--- rule of faults
+-- what a line does: it sets a moment, in microseconds, starts, feeds, drains or ends a session, makes an attempt, or those
+-- that begin before a moment, or gives a rule of faults
 pub data Effect : Type 0 where
   Does_nothing : Effect
   Sets : ℕ → Effect
@@ -18,6 +18,7 @@ pub data Effect : Type 0 where
   Drains : ℕ → Effect
   Ends : ℕ → Effect
   Attempts : Effect
+  Runs : ℕ → Effect
   Injects : List ℕ → Effect
 
 -- the effect that an order has
@@ -29,6 +30,7 @@ effect_of (Feed session bytes) = Feeds session bytes.now
 effect_of (Drain session) = Drains session
 effect_of (End session) = Ends session
 effect_of Attempt = Attempts
+effect_of (Run moment) = Runs moment
 effect_of (Fault rule) = Injects rule.now
 
 -- what comes before the first of these marks, and what follows it
@@ -55,6 +57,7 @@ asked_by (word, rest) =
     if is_word word (codes "feed") then option_and_then fed_by (parted 32 rest) else
     if is_word word (codes "drain") then option_map Drains (session_of rest) else
     if is_word word (codes "end") then option_map Ends (session_of rest) else
+    if is_word word (codes "run") then option_map Runs (moment_in rest) else
     if is_word word (codes "fault") then Some (Injects rest) else None
 
 -- an empty line or one that begins with #

@@ -1,11 +1,13 @@
 use Rattle.std.specs.Prelude.{◌≡◌, ◌⊎◌, ℕ, ◌+◌, ◌<◌, ◌≤◌, Bool, MatchBool, List, [], ◌∷◌, ◌++◌, length, replicate, Option, Some, None, Result, Ok, Err}
 use Rattle.std.specs.List.{All}
+use Rattle.std.specs.Option.{option_map}
 use Rattle.std.specs.Io.KnownBytes.{Appends, Keeps}
 use Rattle.can_fault.specs.Sources.{VerdictMap}
 use Rattle.can_rules.specs.Plans.{PlanSeen, no_plan}
 use Rattle.can_event.specs.declared.bus_config.BusConfig.{BusConfig}
 use Rattle.can_record.specs.Journal.{Kept}
 use Rattle.can_event.specs.Events.{IsConfig, max_rx_capacity}
+use Rattle.can_wire.specs.Timings.{BusTiming}
 use Rattle.can_session.specs.declared.lines.LineFault.{LineFault}
 use Rattle.can_session.specs.declared.lines.LineFault.TheVariants as line
 use Rattle.can_session.specs.declared.bench_run.BenchFault.{BenchFault}
@@ -14,6 +16,7 @@ use Rattle.can_session.specs.Lines.{Input, IsLine, IsOver, FindsEnd, TakesLine, 
 use Rattle.can_session.specs.declared.unheard.Unheard.{Unheard}
 use Rattle.can_session.specs.Unheard.{none_unheard}
 use Rattle.can_session.specs.Orders.{order_of}
+use Rattle.can_session.specs.Wires.{unused}
 use Rattle.can_session.specs.Benches.{BenchState, AreCarriedOut, IsCarriedOut, IsRefused}
 
 -- A run of the bench over an input (own choice).
@@ -25,13 +28,13 @@ pub record IsBench (names : List (List ℕ)) (config : BusConfig) (capacity : �
   pub some_items : 1 ≤ capacity
   pub few_items : capacity ≤ max_rx_capacity
 
--- a bench before its first line, with a plan of faults
-abbrev pub at_start_with : PlanSeen → List (List ℕ) → BusConfig → ℕ → BenchState
-at_start_with plan names config capacity = record { capacity = capacity; bus = record { names = names; journal = record { config = config; history = [] }; plan = plan }; sessions = replicate 64 None; moment = 0; unheard = none_unheard }
+-- a bench before its first line, with a plan of faults, and bit rates if its bus has some
+abbrev pub at_start_with : PlanSeen → Option BusTiming → List (List ℕ) → BusConfig → ℕ → BenchState
+at_start_with plan timing names config capacity = record { capacity = capacity; bus = record { names = names; journal = record { config = config; history = [] }; plan = plan }; sessions = replicate 64 None; moment = 0; wire = option_map unused timing; unheard = none_unheard }
 
 -- a bench before its first line, without a plan
-abbrev pub at_start : List (List ℕ) → BusConfig → ℕ → BenchState
-at_start names config capacity = at_start_with no_plan names config capacity
+abbrev pub at_start : Option BusTiming → List (List ℕ) → BusConfig → ℕ → BenchState
+at_start timing names config capacity = at_start_with no_plan timing names config capacity
 
 -- Of a reader that does not say what its bytes are nothing is said of the lines.
 

@@ -1,43 +1,78 @@
 ghost use Rattle.std.specs.Prelude.{ℕ, ◌≡◌, ◌<◌, ◌≤◌, ◌++◌, OnOk, true, false, length, slice_get};
 ghost use Rattle.can_frame.specs.Sets.{is_in};
-ghost use Rattle.can_session.specs.AttemptLines.{set_text, name_text, run_text, whose_text, ending_text, restarted_text};
+ghost use Rattle.can_session.specs.AttemptLines.{set_text, name_text, run_text, whose_text, ending_text, restarted_text, when_text, end_text};
 ghost use Rattle.can_session.specs.AttemptLines.{attempt_line, idle_line, tried_line};
 
 use crate::numbers::put_number;
 use can_bus::{Attempt, Refusal, Tried};
-use can_frame::{Iface, IfaceSet, Names};
+use can_frame::{Iface, IfaceSet, Moment, Names, Text};
 use std::alloc::AllocError;
 
-/// Adds the line of an attempt.
+/// Adds the line of an attempt, with its moment if that is to be said.
 pub fn put_attempt(
     said: &mut Vec<u8>,
     names: &Names,
+    when: Option<Moment>,
     outcome: &Result<Attempt, Refusal>,
 ) -> Result<(), AllocError>
-    ensures { OnOk result (said.new.items ≡ said.old.items ++ attempt_line names.now outcome.now) }
+    ensures { OnOk result (said.new.items ≡ said.old.items ++ attempt_line names.now when outcome.now) }
 {
     match outcome {
-        Ok(Attempt::Tried(tried)) => put_tried(said, names, tried),
-        Ok(Attempt::Idle { restarted }) => put_idle(said, names, *restarted),
+        Ok(Attempt::Tried(tried)) => put_tried(said, names, when, tried),
+        Ok(Attempt::Idle { restarted }) => put_idle(said, names, when, *restarted),
         Err(_) => said.extend_from_slice(b"record full\n"),
     }
 }
 
-fn put_tried(said: &mut Vec<u8>, names: &Names, tried: &Tried) -> Result<(), AllocError>
-    ensures { OnOk result (said.new.items ≡ said.old.items ++ tried_line names.now tried.now) }
+fn put_tried(
+    said: &mut Vec<u8>,
+    names: &Names,
+    when: Option<Moment>,
+    tried: &Tried,
+) -> Result<(), AllocError>
+    ensures { OnOk result (said.new.items ≡ said.old.items ++ tried_line names.now when tried.now) }
 {
     put_whose(said, names, tried)?;
     put_ending(said, names, tried)?;
-    put_restarted(said, names, tried.restarted)?;
+    put_end(said, names, when, tried.restarted)
+}
+
+fn put_idle(
+    said: &mut Vec<u8>,
+    names: &Names,
+    when: Option<Moment>,
+    restarted: IfaceSet,
+) -> Result<(), AllocError>
+    ensures { OnOk result (said.new.items ≡ said.old.items ++ idle_line names.now when restarted) }
+{
+    said.extend_from_slice(b"idle")?;
+    put_end(said, names, when, restarted)
+}
+
+fn put_end(
+    said: &mut Vec<u8>,
+    names: &Names,
+    when: Option<Moment>,
+    restarted: IfaceSet,
+) -> Result<(), AllocError>
+    ensures { OnOk result (said.new.items ≡ said.old.items ++ end_text names.now when restarted) }
+{
+    put_restarted(said, names, restarted)?;
+    put_when(said, when)?;
     said.extend_from_slice(b"\n")
 }
 
-fn put_idle(said: &mut Vec<u8>, names: &Names, restarted: IfaceSet) -> Result<(), AllocError>
-    ensures { OnOk result (said.new.items ≡ said.old.items ++ idle_line names.now restarted) }
+// The moment of an attempt, if it is to be said.
+fn put_when(said: &mut Vec<u8>, when: Option<Moment>) -> Result<(), AllocError>
+    ensures { OnOk result (said.new.items ≡ said.old.items ++ when_text when) }
 {
-    said.extend_from_slice(b"idle")?;
-    put_restarted(said, names, restarted)?;
-    said.extend_from_slice(b"\n")
+    let Some(moment) = when else {
+        return Ok(());
+    };
+    said.extend_from_slice(b" at ")?;
+    let mut digits: Text<17> = Text::new();
+    digits.push_moment(moment);
+    said.extend_from_slice(digits.as_bytes())
 }
 
 fn put_whose(said: &mut Vec<u8>, names: &Names, tried: &Tried) -> Result<(), AllocError>

@@ -13,6 +13,7 @@ use can_bus::{BusConfig, Record};
 use can_fault::FaultSource;
 use can_frame::Names;
 use can_rules::Plan;
+use can_wire::Timing;
 use std::alloc::Global;
 use std::io::{Read, Write};
 use thiserror::Error;
@@ -52,6 +53,8 @@ pub struct BenchConfig<F> {
     pub script: F,
     /// How many items a socket holds, 1 to 65,536.
     pub rx_capacity: u32,
+    /// How fast the bits of the bus go, if its attempts are to take time. Without it each has the moment that is set.
+    pub timing: Option<Timing>,
 }
 
 /// Carries out the lines of an input on one bus, and writes what they put out: the bus's record.
@@ -72,7 +75,7 @@ pub fn bench<F: FaultSource + Drop, R: Read + Drop, W: Write>(
     ensures untouched { result ≡ Err BenchFault.BadConfig → out.new ≡ out.old }
     ensures runs { result ≢ Err BenchFault.BadConfig →
         EndsOver W.contents (F.verdicts config.script) (R.remaining input)
-        (at_start config.names config.config config.rx_capacity) out.old result out.new }
+        (at_start config.timing config.names config.config config.rx_capacity) out.old result out.new }
     ensures good { OnOk result (IsBench config.names config.config config.rx_capacity) }
     ensures config { IfOk result (λ r. r.config ≡ config.config) }
     ensures legal { IfOk result (λ r. IsLegal r.config r.history) }
@@ -97,10 +100,10 @@ pub fn bench_noting<F: FaultSource + Drop, R: Read + Drop, W: Write>(
     ensures untouched { result ≡ Err BenchFault.BadConfig → out.new ≡ out.old }
     ensures runs { result ≢ Err BenchFault.BadConfig →
         EndsOver W.contents (F.verdicts config.script) (R.remaining input)
-        (at_start_with plan config.names config.config config.rx_capacity)
+        (at_start_with plan config.timing config.names config.config config.rx_capacity)
         out.old result out.new }
     ensures notes { OnOk result (Notes W.contents (F.verdicts config.script) (R.remaining input)
-        (at_start_with plan config.names config.config config.rx_capacity)
+        (at_start_with plan config.timing config.names config.config config.rx_capacity)
         out.old unheard.new out.new) }
     ensures same { OnErr result (unheard.new ≡ unheard.old) }
     ensures good { OnOk result (IsBench config.names config.config config.rx_capacity) }
@@ -109,7 +112,14 @@ pub fn bench_noting<F: FaultSource + Drop, R: Read + Drop, W: Write>(
     ensures headline { IfOk result (λ r. Headline r.config r.history) }
 {
     let mut script = config.script;
-    let mut state = Bench::new(alloc, config.names, config.config, config.rx_capacity, plan)?;
+    let mut state = Bench::new(
+        alloc,
+        config.names,
+        config.config,
+        config.rx_capacity,
+        config.timing,
+        plan,
+    )?;
     let Ok(mut lines) = Lines::new(alloc, input) else {
         return Err(BenchFault::NoMemory);
     };
@@ -133,7 +143,7 @@ pub fn bench_lines<F: FaultSource + Drop, R: Read + Drop, W: Write>(
         (out.new ≡ out.old) × (lines.new ≡ lines.old) }
     ensures runs { result ≢ Err BenchFault.BadConfig →
         Ends IsRecordOf W.contents (F.verdicts config.script) lines.old.coming
-        (at_start config.names config.config config.rx_capacity) out.old result lines.new out.new }
+        (at_start config.timing config.names config.config config.rx_capacity) out.old result lines.new out.new }
     ensures good { OnOk result (IsBench config.names config.config config.rx_capacity) }
     ensures config { IfOk result (λ r. r.config ≡ config.config) }
     ensures legal { IfOk result (λ r. IsLegal r.config r.history) }
@@ -141,7 +151,14 @@ pub fn bench_lines<F: FaultSource + Drop, R: Read + Drop, W: Write>(
 {
     let mut script = config.script;
     let plan = Plan::new(alloc);
-    let mut state = Bench::new(alloc, config.names, config.config, config.rx_capacity, plan)?;
+    let mut state = Bench::new(
+        alloc,
+        config.names,
+        config.config,
+        config.rx_capacity,
+        config.timing,
+        plan,
+    )?;
     run(alloc, &mut state, &mut script, lines, out)?;
     Ok(state.into_record())
 }

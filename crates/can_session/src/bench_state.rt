@@ -3,8 +3,9 @@ ghost use Rattle.can_bus.specs.Headline.{Headline};
 ghost use Rattle.can_bus.specs.Legal.{IsLegal};
 ghost use Rattle.can_session.specs.Runs.{IsBench, IsRecordOf, IsStartFault, at_start_with};
 ghost use Rattle.can_session.specs.Orders.{order_of};
-ghost use Rattle.can_session.specs.Benches.{session_at, Speaks, IsStarted, IsTried, IsInjected, IsWrongRule, IsCarriedOut, IsRefused};
-ghost use Rattle.can_session.specs.inner.Acts.{done_by, noted, noted_by};
+ghost use Rattle.can_session.specs.Benches.{session_at, Speaks, IsStarted, IsTriedIf, IsRun, IsWrongRun, IsInjected, IsWrongRule, IsCarriedOut, IsRefused};
+ghost use Rattle.can_session.specs.Benches.{AreMade, is_due, next_moment, said_moment, passed, tries};
+ghost use Rattle.can_session.specs.inner.Acts.{done_by, noted, noted_by, Puts};
 
 use crate::attempt_lines::put_attempt;
 use crate::bench_run::BenchFault;
@@ -14,12 +15,14 @@ use crate::order::{Order, SessionNumber, read_order};
 use crate::starts::{make_bus, no_sessions, the_start};
 use crate::turns::{self, Act, BenchPort};
 use crate::unheard::Unheard;
-use can_bus::{BusConfig, Record};
+use crate::wire_clock::{Wire, unused_wire};
+use can_bus::{Attempt, BusConfig, Record, Refusal};
 use can_dialog::Session;
 use can_event::MAX_RX_CAPACITY;
-use can_fault::FaultSource;
+use can_fault::{FaultSource, Verdict};
 use can_frame::{Moment, Names};
 use can_rules::{Plan, RuleRefusal};
+use can_wire::Timing;
 use std::alloc::{AllocError, Global};
 use std::marker::Model;
 
@@ -31,6 +34,7 @@ pub struct Bench {
     capacity: u32,
     sessions: Vec<Option<Session>>,
     moment: Moment,
+    wire: Option<Wire>,
     unheard: Unheard,
 }
 
@@ -49,6 +53,7 @@ impl Model for Bench {
       bus = s.port;
       sessions = s.sessions.items;
       moment = s.moment;
+      wire = s.wire;
       unheard = s.unheard;
     } };
 
@@ -62,9 +67,10 @@ impl Bench {
         names: Names,
         config: BusConfig,
         capacity: u32,
+        timing: Option<Timing>,
         plan: Plan,
     ) -> Result<Bench, BenchFault>
-        ensures made { IfOk result (λ s. s ≡ at_start_with plan names config capacity) }
+        ensures made { IfOk result (λ s. s ≡ at_start_with plan timing names config capacity) }
         ensures good { OnOk result (IsBench names config capacity) }
         ensures bad { (result ≡ Err BenchFault.BadConfig) ↔ (¬ IsBench names config capacity) }
         ensures faults { IfErr result IsStartFault }
@@ -82,6 +88,7 @@ impl Bench {
             capacity,
             sessions,
             moment: the_start(),
+            wire: unused_wire(timing),
             unheard: Unheard::none(),
         })
     }
@@ -133,6 +140,7 @@ impl Bench {
                 self.attempt(script, said)?;
                 Ok(true)
             }
+            Order::Run(moment) => self.run(script, moment, said),
             Order::Fault(rule) => self.inject(rule),
         }
     }
@@ -200,19 +208,117 @@ impl Bench {
         }
     }
 
-    /// Puts the next frame on the bus, with the verdict that the next attempt has.
+    /// Puts the next frame on the bus, with the verdict that the next attempt has: whether it tries one.
     pub fn attempt<F: FaultSource>(
         &mut self,
         script: &mut F,
         said: &mut Vec<u8>,
-    ) -> Result<(), AllocError>
-        requires { said.old.items ≡ [] }
-        ensures tried { OnOk result (IsTried (F.verdicts script.old) self.old said.new.items self.new) }
+    ) -> Result<bool, AllocError>
+        ensures tried { IfOk result (λ tried. Puts (IsTriedIf tried (F.verdicts script.old))
+            self.old said.old.items self.new said.new.items) }
         ensures keeps { F.verdicts script.new ≡ F.verdicts script.old }
     {
-        let verdict = script.verdict(self.port.next_attempt());
-        let outcome = self.port.attempt(self.moment, verdict);
-        put_attempt(said, self.port.names(), &outcome)
+        let source = script.verdict(self.port.next_attempt());
+        let moment = self.next_moment();
+        let when = self.said_moment(moment);
+        let (verdict, outcome) = self.port.attempt(moment, source);
+        put_attempt(said, self.port.names(), when, &outcome)?;
+        self.pass(verdict, &outcome);
+        Ok(tries(&outcome))
+    }
+
+    /// Makes attempts as long as one is due before a moment, and sets the moment, if it can run to it: whether it can.
+    pub fn run<F: FaultSource>(
+        &mut self,
+        script: &mut F,
+        moment: Moment,
+        said: &mut Vec<u8>,
+    ) -> Result<bool, AllocError>
+        requires { said.old.items ≡ [] }
+        ensures runs { IfOk result (λ good. MatchBool good
+            (IsRun (F.verdicts script.old) moment self.old said.new.items self.new)
+            (IsWrongRun moment self.old)) }
+        ensures keeps { F.verdicts script.new ≡ F.verdicts script.old }
+    {
+        if self.wire.is_none() || moment.micros() < self.moment.micros() {
+            return Ok(false);
+        }
+        self.make_due(script, moment, said)?;
+        self.set_moment(moment);
+        Ok(true)
+    }
+
+    /// Makes attempts as long as one is due before a moment.
+    fn make_due<F: FaultSource>(
+        &mut self,
+        script: &mut F,
+        moment: Moment,
+        said: &mut Vec<u8>,
+    ) -> Result<(), AllocError>
+        ensures made { OnOk result (Puts (AreMade (F.verdicts script.old) moment)
+            self.old said.old.items self.new said.new.items) }
+        ensures keeps { F.verdicts script.new ≡ F.verdicts script.old }
+    {
+        while self.is_due(moment) {
+            if !self.attempt(script, said)? {
+                return Ok(());
+            }
+        }
+        Ok(())
+    }
+
+    /// Whether an attempt would begin before a moment, and there is a frame for it to try.
+    fn is_due(&self, moment: Moment) -> bool
+        ensures { result ≡ is_due moment self.now }
+    {
+        match self.wire {
+            Some(wire) => {
+                wire.begins_before(self.moment, moment) && self.port.next_head().is_some()
+            }
+            None => false,
+        }
+    }
+
+    /// The moment of the next attempt.
+    fn next_moment(&self) -> Moment
+        ensures { result ≡ next_moment self.now }
+    {
+        match self.wire {
+            Some(wire) => wire.attempt_moment(self.moment, self.port.next_head()),
+            None => self.moment,
+        }
+    }
+
+    /// What the line of an attempt says of its moment.
+    fn said_moment(&self, moment: Moment) -> Option<Moment>
+        ensures { result ≡ said_moment self.now.wire moment }
+    {
+        match self.wire {
+            Some(_) => Some(moment),
+            None => None,
+        }
+    }
+
+    /// Lets the time of an attempt pass that had this verdict and came to this.
+    fn pass(&mut self, verdict: Verdict, outcome: &Result<Attempt, Refusal>)
+        ensures { self.new ≡ passed verdict outcome.now self.old }
+    {
+        let Some(wire) = self.wire else {
+            return;
+        };
+        let after = wire.after(self.moment, verdict, outcome);
+        self.moment = after.free_at();
+        self.wire = Some(after);
+    }
+}
+
+/// Whether an attempt tried a frame.
+fn tries(outcome: &Result<Attempt, Refusal>) -> bool
+    ensures { result ≡ tries outcome.now }
+{
+    match outcome {
+        Ok(Attempt::Tried(_)) => true,
+        Ok(Attempt::Idle { .. }) | Err(_) => false,
     }
 }
 

@@ -3,7 +3,7 @@ ghost use Rattle.can_bus.specs.Answer.{Answers};
 ghost use Rattle.can_record.specs.Outcomes.{told_attempt};
 ghost use Rattle.can_event.specs.declared.event.Event.TheVariants as event;
 ghost use Rattle.can_rules.specs.Plans.{no_plan, Injected};
-ghost use Rattle.can_session.specs.BusSteps.{next_number, verdict_on, plan_left, passed_on};
+ghost use Rattle.can_session.specs.BusSteps.{next_number, head_on, verdict_on, plan_left, passed_on};
 
 use can_arbiter::Arbiter;
 use can_bus::{
@@ -82,16 +82,30 @@ impl<T: BoundedQueue<Pending>, R: BoundedQueue<Received>, A: Arbiter> BusPort<T,
         self.bus.next_attempt()
     }
 
+    /// The interface and the frame that the next attempt tries, if it tries one.
+    pub fn next_head(&self) -> Option<(Iface, Frame)>
+        ensures { result ≡ head_on self.now }
+    {
+        self.bus.next_head()
+    }
+
     /// Tries the frame that wins the bus, if a live interface has one to send, and restarts the interfaces whose time it
-    /// is. The attempt has the verdict that the source has for it, or where that is good, the plan's. Refusal: `RecordFull`.
-    pub fn attempt(&mut self, moment: Moment, source: Verdict) -> Result<Attempt, Refusal>
+    /// is. The attempt has the verdict that the source has for it, or where that is good, the plan's: it is returned
+    /// with what the attempt came to. Refusal: `RecordFull`.
+    pub fn attempt(
+        &mut self,
+        moment: Moment,
+        source: Verdict,
+    ) -> (Verdict, Result<Attempt, Refusal>)
+        ensures verdict { result.0 ≡ verdict_on self.old source }
         ensures answer { Answers told_attempt self.old.journal
-            (event.Attempt moment (verdict_on self.old source)) result self.new.journal }
+            (event.Attempt moment (verdict_on self.old source)) result.1 self.new.journal }
         ensures names { self.new.names ≡ self.old.names }
         ensures plan { self.new.plan ≡ plan_left self.old source }
     {
         let verdict = self.next_verdict(source);
-        self.bus.attempt(moment, verdict)
+        let outcome = self.bus.attempt(moment, verdict);
+        (verdict, outcome)
     }
 
     /// Gives the plan a rule of faults, after those that it has.

@@ -19,6 +19,7 @@ mod read_buffer;
 mod starts;
 mod turns;
 pub mod unheard;
+mod wire_clock;
 
 pub use bench_run::{BenchConfig, BenchFault, bench, bench_lines, bench_noting};
 pub use bus_port::BusPort;

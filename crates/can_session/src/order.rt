@@ -71,6 +71,8 @@ pub enum Order<'a> {
     End(SessionNumber),
     /// To put a frame on the bus.
     Attempt,
+    /// To put frames on the bus as long as that begins before this moment.
+    Run(Moment),
     /// To give the bus a rule of faults, of which this is the text.
     Fault(&'a [u8]),
 }
@@ -112,6 +114,8 @@ fn read_asked<'a>(word: &[u8], rest: &'a [u8]) -> Option<Order<'a>>
         read_drain(rest)
     } else if matches(word, b"end") {
         Some(Order::End(read_session(rest)?))
+    } else if matches(word, b"run") {
+        Some(Order::Run(read_moment(rest)?))
     } else if matches(word, b"fault") {
         Some(Order::Fault(rest))
     } else {

@@ -6,6 +6,7 @@ mod own_frames;
 mod restarts;
 mod rules;
 mod sessions;
+mod timed;
 mod unheard;
 
 use std::fmt::Debug;

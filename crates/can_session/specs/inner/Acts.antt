@@ -27,3 +27,7 @@ noted act s b = record b { unheard = noted_by act s b.unheard }
 -- a session does this, and what it says comes after what was said
 abbrev pub Adds : (SessionState → NamedBus → List ℕ → SessionState → NamedBus → Type 0) → SessionState → NamedBus → List ℕ → SessionState → NamedBus → List ℕ → Type 0
 Adds does old p said new q after = (text : List ℕ) × does old p text new q × (after ≡ said ++ text)
+
+-- a bench does this, and what it puts out comes after what was put out
+abbrev pub Puts : (BenchState → List ℕ → BenchState → Type 0) → BenchState → List ℕ → BenchState → List ℕ → Type 0
+Puts does b said after new = (text : List ℕ) × does b text after × (new ≡ said ++ text)

@@ -52,6 +52,7 @@ pub fn config_of(alloc: Global, made: Made, script: &str) -> Result<BenchConfig<
         names,
         script: script_of(alloc, made.names, script)?,
         rx_capacity: 256,
+        timing: None,
     })
 }
 

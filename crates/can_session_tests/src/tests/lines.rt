@@ -124,13 +124,14 @@ fn told(line: &[u8]) -> (char, u64, usize) {
         Some(Order::Drain(session)) => ('d', u64::from((*session).number()), 0),
         Some(Order::End(session)) => ('e', u64::from((*session).number()), 0),
         Some(Order::Attempt) => ('a', 0, 0),
+        Some(Order::Run(moment)) => ('u', (*moment).micros(), 0),
         Some(Order::Fault(rule)) => ('r', 0, rule.len()),
     }
 }
 
 #[test]
 fn good_lines_are_read(rt: HostRuntime) {
-    let table: [(&[u8], (char, u64, usize)); 14] = [
+    let table: [(&[u8], (char, u64, usize)); 15] = [
         (b"", ('n', 0, 0)),
         (b"# attempt", ('n', 0, 0)),
         (b"attempt", ('a', 0, 0)),
@@ -143,6 +144,7 @@ fn good_lines_are_read(rt: HostRuntime) {
         (b"feed 10 ", ('f', 10, 0)),
         (b"drain 2", ('d', 2, 0)),
         (b"end 9", ('e', 9, 0)),
+        (b"run 0.000540", ('u', 540, 0)),
         (b"fault next 1 good", ('r', 0, 11)),
         (b"fault ", ('r', 0, 0)),
     ];
@@ -156,7 +158,7 @@ fn good_lines_are_read(rt: HostRuntime) {
 
 #[test]
 fn other_lines_are_refused(rt: HostRuntime) {
-    let lines: [&[u8]; 24] = [
+    let lines: [&[u8]; 27] = [
         b" ",
         b"\r",
         b"attempt ",
@@ -179,6 +181,9 @@ fn other_lines_are_refused(rt: HostRuntime) {
         b"feed  1 < echo >",
         b"drain  1",
         b"end 256",
+        b"run",
+        b"run 1",
+        b"run  1.000000",
         b"fault",
         b"faults next 1 good",
     ];

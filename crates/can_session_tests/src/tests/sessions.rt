@@ -365,7 +365,7 @@ fn a_name_that_no_interface_has_is_told(rt: HostRuntime) {
 /// One attempt at a moment in microseconds.
 fn attempt(port: &mut ListPort, micros: u64, verdict: Verdict) -> bool {
     match Moment::new(micros) {
-        Ok(moment) => matches!(port.attempt(moment, verdict), Ok(Attempt::Tried(_))),
+        Ok(moment) => matches!(port.attempt(moment, verdict).1, Ok(Attempt::Tried(_))),
         Err(_) => false,
     }
 }

@@ -10,7 +10,7 @@ use Rattle.can_session.proofs.bench_state.Bench.speak.Goals as goal
 pub returns-in_ok-end_spoken-in-Some : goal.returns-in_ok-end_spoken-in-Some
 returns-in_ok-end_spoken-in-Some c =
     let stood = c.self.inside in
-    let old : BenchState = record { capacity = stood.capacity; bus = stood.port; sessions = stood.sessions.items; moment = stood.moment; unheard = stood.unheard } in
+    let old : BenchState = record { capacity = stood.capacity; bus = stood.port; sessions = stood.sessions.items; moment = stood.moment; wire = stood.wire; unheard = stood.unheard } in
     let heard : BenchState = noted c.args.act c.args.session old in
     let after = λ (u : Unheard). record heard { sessions = slice_set stood.sessions.items c.place.result (Some c.carry_out.new.session); bus = c.carry_out.new.port; unheard = u } in
     let within = subst (λ (n : ℕ). c.place.result < n) (sym c.self.invariant) c.place.ensures.within in
