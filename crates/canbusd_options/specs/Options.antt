@@ -1,9 +1,13 @@
 use Rattle.std.specs.Prelude.{◌≡◌, ◌↔◌, ℕ, ◌≤◌, map, true, false, List, [], ◌∷◌, ◌++◌, ◌<◌, ◌^◌, ◌==◌, codes, unwrap_or, IsTrue, Option, Some, None, slice_index, if◌then◌else◌}
+use denote.Ref.{Bor}
+use Rattle.std.specs.Option.{option_map}
 use Rattle.std.specs.Path.{path_bytes, path_components, path_names, root_dir, slash}
 use Rattle.std.specs.declared.path.Path.{Path}
 use Rattle.std.specs.Str.Parse.{IsNumeral, digits_value}
 use Rattle.can_attempt.specs.declared.ack_mode.AckMode.{AckMode}
 use Rattle.can_attempt.specs.declared.ack_mode.AckMode.TheVariants as ack
+use Rattle.can_wire.specs.Times.{AreBitRates}
+use Rattle.can_wire.specs.Timings.{BusTiming, timing_of}
 use Rattle.clap.specs.declared.parser.matches.ArgMatches.{ArgMatches}
 use Rattle.clap.specs.Words.{Row, all_of, first_of, found_of, one_of, rows_of}
 use Rattle.canbusd_options.specs.declared.bus_options.BusSettings.{BusSettings}
@@ -95,10 +99,48 @@ abbrev pub AreBusWords : List BusWord → List (List ℕ) → Type 0
 AreBusWords buses words =
     (map (λ bus. bus.names.now) buses ≡ map names_part words) × (map (λ bus. path_of bus.script) buses ≡ map script_part words)
 
+-- what an option was given, if it was
+abbrev pub text_of : Option (Bor (List ℕ)) → Option (List ℕ)
+text_of text = option_map (λ t. t.now) text
+
+-- a number is the one that a text writes, where there is one
+abbrev pub IsNumberIf : Option ℕ → Option (List ℕ) → Type 0
+IsNumberIf None None = Unit {0}
+IsNumberIf (Some n) (Some text) = IsNumberOf n text
+IsNumberIf _ _ = ⊥
+
+-- the bit rates of a bus are those that a text writes, and another one where FD frames switch
+pub record IsTimingOf (bitrate : List ℕ) (dbitrate : Option (List ℕ)) (t : BusTiming) : Type 0 where
+  pub nominal : ℕ
+  pub fast : Option ℕ
+  pub number : IsNumberOf nominal bitrate
+  pub data_number : IsNumberIf fast dbitrate
+  pub allowed : AreBitRates (timing_of nominal fast).rates
+  pub timing : t ≡ timing_of nominal fast
+
+-- texts write bit rates
+abbrev pub GiveTimingOf : List ℕ → Option (List ℕ) → Type 0
+GiveTimingOf bitrate dbitrate = (t : BusTiming) × IsTimingOf bitrate dbitrate t
+
+-- a bus has the bit rates of texts, or none where there are no texts: a data bit rate needs a nominal one
+abbrev pub HasTimingOf : Option (List ℕ) → Option (List ℕ) → Option BusTiming → Type 0
+HasTimingOf None None None = Unit {0}
+HasTimingOf (Some bitrate) dbitrate (Some t) = IsTimingOf bitrate dbitrate t
+HasTimingOf _ _ _ = ⊥
+
+-- the bit rates of a bus are those that the words give, if they give any
+abbrev pub IsTimed : List Row → Option BusTiming → Type 0
+IsTimed rows timing = HasTimingOf (first_of (codes "bitrate") rows) (first_of (codes "dbitrate") rows) timing
+
+-- rows give bit rates, or none
+abbrev pub GiveTiming : List Row → Type 0
+GiveTiming rows = (timing : Option BusTiming) × IsTimed rows timing
+
 -- the options of a bench are those that its words give
 pub record AreBenchOptions (rows : List Row) (o : BenchOptions) : Type 0 where
   pub settings : AreSettings rows usual_limit o.settings
   pub bus : IsBusWord o.bus (given rows (codes "BUS"))
+  pub timed : IsTimed rows o.timing
   pub kept : path_of o.record ≡ first_of (codes "record") rows
   pub logged : path_of o.log ≡ first_of (codes "log") rows
   pub apart : ¬ (AreOneFile (first_of (codes "record") rows) (first_of (codes "log") rows))

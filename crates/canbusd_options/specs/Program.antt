@@ -40,7 +40,9 @@ with_bus_rules a =
 
 abbrev pub bench_app : App
 bench_app =
-    with_rule (with_rule (with_rule (with_rule (with_bus_rules (new_app (codes "bench")))
+    with_rule (with_rule (with_rule (with_rule (with_rule (with_rule (with_bus_rules (new_app (codes "bench")))
+    (option_rule (codes "bitrate")))
+    (option_rule (codes "dbitrate")))
     (option_rule (codes "record")))
     (option_rule (codes "log")))
     (flag_rule (codes "strict")))

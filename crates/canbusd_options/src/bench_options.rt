@@ -3,17 +3,29 @@ ghost use Rattle.std.specs.Prelude.{◌≡◌, ◌↔◌, codes, false, IfErr, I
 ghost use Rattle.clap.specs.Words.{app_of, rule_of};
 ghost use Rattle.canbusd_options.specs.BusWords.{path_of};
 ghost use Rattle.canbusd_options.specs.Help.{IsNoMemory, RefusesValue};
-ghost use Rattle.canbusd_options.specs.Options.{AreBenchOptions, AreOneFile, GiveBenchOptions, components_of, rows_in, steps_of};
+ghost use Rattle.canbusd_options.specs.Options.{AreBenchOptions, AreOneFile, GiveBenchOptions, GiveTiming, GiveTimingOf, IsTimed, IsTimingOf, components_of, rows_in, steps_of, text_of};
 ghost use Rattle.canbusd_options.specs.Program.{bench_app, flag_rule, option_rule};
 
 use crate::bus_options::{
-    BUS, BusSettings, USUAL_LIMIT, Verb, bus_argument, settings_given, with_bus_options,
+    BUS, BusSettings, USUAL_LIMIT, Verb, bus_argument, free_option, settings_given, text_within,
+    with_bus_options,
 };
 use crate::bus_word::BusWord;
 use crate::help::BENCH_HELP;
+use can_wire::Timing;
 use clap::{Arg, ArgAction, ArgMatches, Command, Error};
 use std::alloc::{AllocError, Global};
 use std::path::Path;
+
+const BITRATE: &str = "bitrate";
+
+const DBITRATE: &str = "dbitrate";
+
+const LEAST_BITRATE: u32 = 5_000;
+
+const MOST_BITRATE: u32 = 1_000_000;
+
+const MOST_DBITRATE: u32 = 20_000_000;
 
 const RECORD: &str = "record";
 
@@ -26,6 +38,8 @@ const STRICT: &str = "strict";
 pub struct BenchOptions<'a> {
     pub settings: BusSettings,
     pub bus: BusWord<'a>,
+    /// The bit rates of the bus, if it has any.
+    pub timing: Option<Timing>,
     /// The path of the file that gets the record, if it is wanted.
     pub record: Option<&'a str>,
     /// The path of the file that gets the log, if it is wanted.
@@ -41,6 +55,7 @@ pub fn bench_options<'a>(alloc: Global, bench: &ArgMatches<'a>) -> Result<BenchO
     ensures refused { IfErr result RefusesValue }
 {
     let settings = settings_given(alloc, Verb::Bench, bench, USUAL_LIMIT)?;
+    let timing = timing_given(alloc, bench)?;
     let record = bench.get_str(RECORD);
     let log = bench.get_str(LOG);
     if are_one_file(record, log) {
@@ -53,10 +68,54 @@ pub fn bench_options<'a>(alloc: Global, bench: &ArgMatches<'a>) -> Result<BenchO
     Ok(BenchOptions {
         settings,
         bus: BusWord::read(bench.get_str(BUS).unwrap_or("")),
+        timing,
         record,
         log,
         is_strict: bench.get_flag(STRICT),
     })
+}
+
+// The bit rates of the bus, if the nominal one is given. The one for data is not slower.
+#[tactic(auto, using(crate::proofs::Rules::text_in_rows))]
+fn timing_given(alloc: Global, bench: &ArgMatches<'_>) -> Result<Option<Timing>, Error>
+    ensures given { IfOk result (λ timing. IsTimed (rows_in bench.now) timing) }
+    ensures taken { IfErr result (λ e. GiveTiming (rows_in bench.now) → IsNoMemory e) }
+    ensures refused { IfErr result RefusesValue }
+{
+    match (bench.get_str(BITRATE), bench.get_str(DBITRATE)) {
+        (Some(bitrate), dbitrate) => Ok(Some(timing_of(alloc, bitrate, dbitrate)?)),
+        (None, None) => Ok(None),
+        (None, Some(_)) => Err(Verb::Bench.error(alloc, "'--dbitrate' needs '--bitrate'")?),
+    }
+}
+
+// The bit rates that texts write. Without a second text FD frames do not switch.
+fn timing_of(alloc: Global, bitrate: &str, dbitrate: Option<&str>) -> Result<Timing, Error>
+    ensures given { IfOk result (λ timing. IsTimingOf bitrate.now (text_of dbitrate.entry) timing) }
+    ensures taken { IfErr result (λ e.
+        GiveTimingOf bitrate.now (text_of dbitrate.entry) → IsNoMemory e) }
+    ensures refused { IfErr result RefusesValue }
+{
+    let nominal = text_within(
+        alloc,
+        Verb::Bench,
+        BITRATE,
+        bitrate,
+        LEAST_BITRATE,
+        MOST_BITRATE,
+    )?;
+    let Some(dbitrate) = dbitrate else {
+        return Ok(Timing::new(nominal, None).unwrap());
+    };
+    let fast = text_within(
+        alloc,
+        Verb::Bench,
+        DBITRATE,
+        dbitrate,
+        nominal,
+        MOST_DBITRATE,
+    )?;
+    Ok(Timing::new(nominal, Some(fast)).unwrap())
 }
 
 // Whether both are given, and differ at most in what means nothing: `.` and doubled slashes. Links are not followed.
@@ -88,10 +147,16 @@ fn without_dot(path: &str) -> Path<'_>
 pub fn bench_command<'a>(alloc: Global) -> Result<Command<'a>, AllocError>
     ensures { IfOk result (λ c. app_of c ≡ bench_app) }
 {
+    let bitrate_help =
+        "Bits a second, 5000 to 1000000: attempts take the time of their bits [default: no time]";
+    let dbitrate_help =
+        "Bits a second of the data phase of FD frames, to 20000000; needs --bitrate [default: as that]";
     let command = Command::new(alloc, "bench")
         .about("Carry out the lines of standard input on one bus")
         .after_help(BENCH_HELP);
     with_bus_options(alloc, command)?
+        .arg(free_option(alloc, BITRATE, "N", bitrate_help))?
+        .arg(free_option(alloc, DBITRATE, "M", dbitrate_help))?
         .arg(record_option(alloc))?
         .arg(log_option(alloc))?
         .arg(strict_option(alloc))?

@@ -20,6 +20,7 @@ pub const BENCH_HELP: &str = "Lines of standard input, carried out one after the
   end S              End session S
   attempt            Put the frame that wins arbitration on the bus, and write what became of it
   fault RULE         Add a rule of faults, as in a script, from here on
+  run SECONDS.MICROS With --bitrate: make attempts while there is work and one begins before this moment, then set it
 Empty lines and lines that begin with # do nothing. A line has at most 4096 bytes, and all lines 16777216.
 
 Messages of a session (socketcand's raw mode), in the order of a first run:
@@ -52,8 +53,9 @@ What is received: < frame ID MOMENT DATA >, < remote ID MOMENT LEN >, < fdframe 
 < error CLASS MOMENT > or with DATA.
 What an attempt writes: tried NAME NUMBER CLASS ACCEPTED OFF, or idle, or record full. NUMBER counts the frames of
 NAME from 0; CLASS is done, or lastbit, destroyed or noack, and then the frame is sent again; ACCEPTED and OFF are
-the interfaces that accepted it and that went bus off, or -. Where --auto-restart brought interfaces back, the line ends
-in restarted and their names.
+the interfaces that accepted it and that went bus off, or -. Where --auto-restart brought interfaces back, restarted and
+their names follow. With --bitrate an attempt begins at the moment set, or later, once the wire is free; its line ends in
+at MOMENT, its end of frame, and the moment set is then the one from which on the next attempt may begin.
 
 Lines of a script: NUMBER VERDICT, for the attempt of that number, from 0. VERDICT is good, lastbit,
 global bit, global form, local stuff NAMES, local crc NAMES or local form NAMES. Or a RULE, in this order:
