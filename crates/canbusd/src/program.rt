@@ -92,7 +92,7 @@ fn do_job<'a, H: ServerRuntime, R: Read + Drop + Send + 'static, W: Write + Drop
     ensures { IfOk result (λ whole. IsTrue whole → IsDone (writer_contents W.contents) job.entry (R.remaining input) output.old output.new) }
 {
     match job {
-        Job::Bench(options) => run_bench(rt, alloc, options, input, output, unheard)?,
+        Job::Bench(options) => run_bench(rt, alloc, &options, input, output, unheard)?,
         Job::Audit(options) => audit_files(rt, alloc, &options, output, errors)?,
         Job::Serve(options) => return run_serve(rt, alloc, &options, input, output, errors),
     }

@@ -42,18 +42,18 @@ struct Ran<'a> {
 pub fn run_bench<'a, H: Files, R: Read + Drop, W: Write>(
     rt: &H,
     alloc: Global,
-    options: BenchOptions<'a>,
+    options: &BenchOptions<'a>,
     input: R,
     output: &mut W,
     unheard: &mut Unheard,
 ) -> Result<(), Failure<'a>>
-    ensures done { OnOk result (IsBenched W.contents options.entry (R.remaining input) output.old output.new) }
+    ensures done { OnOk result (IsBenched W.contents options.now (R.remaining input) output.old output.new) }
     ensures fault { IfErr result (λ failure.
-        FailsAs W.contents options.entry (R.remaining input) output.old failure.fault output.new) }
+        FailsAs W.contents options.now (R.remaining input) output.old failure.fault output.new) }
 {
     match run_out(rt, alloc, options, input, output, unheard) {
         Ok(Ran { record, refusal }) => {
-            save_run(rt, alloc, &options, &record)?;
+            save_run(rt, alloc, options, &record)?;
             match refusal {
                 Some(failure) => Err(failure),
                 None => Ok(()),
@@ -71,15 +71,15 @@ pub fn run_bench<'a, H: Files, R: Read + Drop, W: Write>(
 fn run_out<'a, H: Files, R: Read + Drop, W: Write>(
     rt: &H,
     alloc: Global,
-    options: BenchOptions<'a>,
+    options: &BenchOptions<'a>,
     input: R,
     output: &mut W,
     unheard: &mut Unheard,
 ) -> Result<Ran<'a>, Failure<'a>>
     ensures ran { IfOk result (λ ran.
-        HasRun W.contents options.entry (R.remaining input) output.old ran output.new) }
+        HasRun W.contents options.now (R.remaining input) output.old ran output.new) }
     ensures fault { IfErr result (λ failure.
-        IsStopped W.contents options.entry (R.remaining input) output.old failure.fault
+        IsStopped W.contents options.now (R.remaining input) output.old failure.fault
         output.new) }
 {
     let names = read_names(alloc, options.bus.names)?;
@@ -135,16 +135,16 @@ fn is_one_file<H: Files>(rt: &H, record: Option<&str>, log: &str) -> bool {
 fn run_scripted<'a, H: Files, R: Read + Drop, W: Write>(
     rt: &H,
     alloc: Global,
-    options: BenchOptions<'a>,
+    options: &BenchOptions<'a>,
     names: Names,
     input: R,
     output: &mut W,
     unheard: &mut Unheard,
 ) -> Result<Record, Failure<'a>>
     ensures run { IfOk result (λ r.
-        IsRun W.contents options.entry names (R.remaining input) output.old r output.new) }
+        IsRun W.contents options.now names (R.remaining input) output.old r output.new) }
     ensures fault { IfErr result (λ failure.
-        FailsBy W.contents options.entry names (R.remaining input) output.old failure.fault
+        FailsBy W.contents options.now names (R.remaining input) output.old failure.fault
         output.new) }
 {
     let plan = read_plan(rt, alloc, options.bus, &names)?;
@@ -154,7 +154,7 @@ fn run_scripted<'a, H: Files, R: Read + Drop, W: Write>(
 // Runs the bench of these names and faults.
 fn run_on<'a, R: Read + Drop, W: Write>(
     alloc: Global,
-    options: BenchOptions<'_>,
+    options: &BenchOptions<'_>,
     names: Names,
     plan: Plan,
     input: R,
@@ -162,13 +162,13 @@ fn run_on<'a, R: Read + Drop, W: Write>(
     unheard: &mut Unheard,
 ) -> Result<Record, Failure<'a>>
     ensures ends { IfOk result (λ r.
-        EndsOver W.contents no_verdicts (R.remaining input) (begun plan options.entry names)
+        EndsOver W.contents no_verdicts (R.remaining input) (begun plan options.now names)
         output.old (Ok r) output.new) }
-    ensures config { IfOk result (λ r. r.config ≡ config_of options.entry.settings (length names)) }
+    ensures config { IfOk result (λ r. r.config ≡ config_of options.now.settings (length names)) }
     ensures proper { IfOk result (λ r. IsConfig r.config) }
     ensures legal { IfOk result (λ r. IsLegal r.config r.history) }
     ensures fault { IfErr result (λ failure.
-        StopsBy W.contents options.entry names plan (R.remaining input)
+        StopsBy W.contents options.now names plan (R.remaining input)
         output.old failure.fault output.new) }
 {
     let config = BenchConfig {
@@ -176,12 +176,13 @@ fn run_on<'a, R: Read + Drop, W: Write>(
         names,
         script: Perfect,
         rx_capacity: options.settings.rx_capacity,
+        timing: options.timing,
     };
     let mut input = Recent::new(alloc, input);
     match bench_noting(alloc, config, plan, &mut input, output, unheard) {
         Ok(record) => Ok(record),
         Err(fault) => {
-            let notes = bench_note(alloc, fault, &options, &input);
+            let notes = bench_note(alloc, fault, options, &input);
             Err(Failure::with(alloc, Fault::Bench(fault), notes))
         }
     }
@@ -197,7 +198,10 @@ fn bench_note<R: Read + Drop>(
     match fault {
         BenchFault::BadConfig => limits_note(alloc, &options.settings, MAX_LIMIT),
         BenchFault::BadLine(number) => match input.line(number) {
-            Some(line) => input_note(alloc, INPUT, options.bus.names, number, line),
+            Some(line) => {
+                let is_timed = options.timing.is_some();
+                input_note(alloc, INPUT, options.bus.names, is_timed, number, line)
+            }
             None => Ok(String::new(alloc)),
         },
         BenchFault::TooLong => fixed_note(

@@ -6,11 +6,12 @@ use canbusd_files::rule_note;
 use std::alloc::{AllocError, Global};
 use std::str;
 
-/// The line of the bench's input that is wrong, and why, for a bus with these names.
+/// The line of the bench's input that is wrong, and why, for a bus with these names that has bit rates or none.
 pub fn input_note(
     alloc: Global,
     place: &str,
     bus: &str,
+    is_timed: bool,
     number: u32,
     line: &[u8],
 ) -> Result<String, AllocError> {
@@ -24,8 +25,9 @@ pub fn input_note(
         Some(Order::Feed(session, _) | Order::Drain(session) | Order::End(session)) => {
             missing_note(alloc, *session)?
         }
+        Some(Order::Run(_)) => fixed_note(alloc, run_note(is_timed))?,
         Some(Order::Fault(rule)) => rule_note(alloc, str::from_utf8(rule).unwrap_or(""), bus)?,
-        _ => fixed_note(alloc, form_of(line))?,
+        _ => fixed_note(alloc, form_of(line, is_timed))?,
     };
     let line = Line::new(place, u64::from(number), line);
     format!(in alloc; "  {line}\n{note}")
@@ -41,8 +43,17 @@ fn missing_note(alloc: Global, session: SessionNumber) -> Result<String, AllocEr
     format!(in alloc; "  no line before it starts session {number}\n")
 }
 
+// Why a bench does not run to a moment.
+fn run_note(is_timed: bool) -> &'static str {
+    if is_timed {
+        "the moment set is a later one"
+    } else {
+        "run needs --bitrate: without it attempts take no time"
+    }
+}
+
 // What a line that spells nothing should look like.
-fn form_of(line: &[u8]) -> &'static str {
+fn form_of(line: &[u8], is_timed: bool) -> &'static str {
     if line.len() > LONGEST_LINE {
         return "a line has at most 4096 bytes";
     }
@@ -52,12 +63,15 @@ fn form_of(line: &[u8]) -> &'static str {
     let word = line.split(|byte| *byte == b' ').next().unwrap_or(line);
     match word {
         b"at" => "at SECONDS.MICROS: 1 to 10 digits, a point, 6 digits, as at 1.500000",
+        b"run" => "run SECONDS.MICROS: 1 to 10 digits, a point, 6 digits, as run 1.500000",
         b"session" | b"drain" | b"end" =>
             "a session is 1 to 64 without leading zeros, after one space",
         b"feed" =>
             "feed S BYTES: S is 1 to 64 without leading zeros, and one space comes before BYTES",
         b"attempt" => "nothing may follow attempt: each line makes one attempt",
         b"fault" => "fault RULE: one space comes before RULE",
+        _ if is_timed =>
+            "a line begins with at, session, feed, drain, end, fault, attempt or run; see canbusd help bench",
         _ =>
             "a line begins with at, session, feed, drain, end, fault or attempt; see canbusd help bench",
     }

@@ -18,9 +18,9 @@ returns-in_err-record-clause-fault g c =
     let names = ap (λ r. r.ghost_name) made.writer in
     let same = ap (λ r. r.ghost_name) back in
     let why = c.in_err-record.field-0.0.fault in
-    let fails = subst (λ n. FailsBy outer c.args.options n (g.R.Read.remaining c.args.input) before why after) c.in_ok-names.ensures.names c.in_err-record.ensures.fault in
+    let fails = subst (λ n. FailsBy outer c.args.options.now n (g.R.Read.remaining c.args.input) before why after) c.in_ok-names.ensures.names c.in_err-record.ensures.fault in
     passed_on _ c.in_err-record.field-0.0 _ c.from_residual-in_err-record.ensures.1
-    (failed outer contents c.args.options (g.R.Read.remaining c.args.input) before after c.args.output.now after.writer.now c.flush.new.self _ why c.in_ok-names.ensures.good (record {
+    (failed outer contents c.args.options.now (g.R.Read.remaining c.args.input) before after c.args.output.now after.writer.now c.flush.new.self _ why c.in_ok-names.ensures.good (record {
       name = before.writer.ghost_name;
       is = after.writer.ghost_name;
       on = after.is_on;
@@ -43,9 +43,9 @@ returns-clause-ran g c =
     let back = c.finish-output.ensures.writer in
     let names = ap (λ r. r.ghost_name) made.writer in
     let same = ap (λ r. r.ghost_name) back in
-    let run = subst (λ n. IsRun outer c.args.options n (g.R.Read.remaining c.args.input) before c.in_ok-record.record after) c.in_ok-names.ensures.names c.in_ok-record.ensures.run in
+    let run = subst (λ n. IsRun outer c.args.options.now n (g.R.Read.remaining c.args.input) before c.in_ok-record.record after) c.in_ok-names.ensures.names c.in_ok-record.ensures.run in
     by_refusal c.finish-output.result.1 _ _ _ _ _ c.finish-output.ensures.none c.finish-output.ensures.some c.finish-output.ensures.seen
-    (λ none. benched outer contents c.args.options (g.R.Read.remaining c.args.input) before after c.args.output.now after.writer.now c.flush.new.self _ c.in_ok-record.record c.in_ok-names.ensures.good (record {
+    (λ none. benched outer contents c.args.options.now (g.R.Read.remaining c.args.input) before after c.args.output.now after.writer.now c.flush.new.self _ c.in_ok-record.record c.in_ok-names.ensures.good (record {
       name = before.writer.ghost_name;
       is = after.writer.ghost_name;
       on = after.is_on;
@@ -56,7 +56,7 @@ returns-clause-ran g c =
       back = λ name. let whole = same ∙ name ∙ names in search rules;
       kept = subst (λ r. Keeps (contents r.now) (contents c.flush.new.self)) back c.flush.ensures.bytes;
     }) none run)
-    (λ some. refused outer contents c.args.options (g.R.Read.remaining c.args.input) before after c.args.output.now after.writer.now c.flush.new.self _ c.in_ok-record.record c.in_ok-names.ensures.good (record {
+    (λ some. refused outer contents c.args.options.now (g.R.Read.remaining c.args.input) before after c.args.output.now after.writer.now c.flush.new.self _ c.in_ok-record.record c.in_ok-names.ensures.good (record {
       name = before.writer.ghost_name;
       is = after.writer.ghost_name;
       on = after.is_on;
