@@ -27,6 +27,10 @@ NO_JOB = [
     "bench --log",
     "bench --strict=1 can0",
     "bench --strict --strict can0",
+    "bench --bitrate 1000001 can0",
+    "bench --bitrate +500000 can0",
+    "bench --bitrate 500000 --dbitrate 20000001 can0",
+    "serve --bitrate 500000 can0",
     "serve --strict can0",
     "bench --record run.rec --log run.rec can0",
     "bench --record run.rec --log ./run.rec can0",
@@ -63,6 +67,8 @@ A_JOB = [
     "bench --record run.rec --log a/run.rec can0,can0",
     "bench --record ../run.rec --log run.rec can0,can0",
     "bench --strict can0,can0",
+    "bench --bitrate 5000 --dbitrate 20000000 can0,can0",
+    "bench --bitrate 1000000 --dbitrate 1000000 can0,can0",
     "serve --pace 60000 can0,can0",
     "serve --write 256 can0,can0",
     "serve --write 65536 can0,can0",
@@ -74,6 +80,15 @@ A_JOB = [
 ]
 # Words, and how what is reported of them begins.
 REFUSED = [
+    (
+        "bench --bitrate 4999 can0",
+        "error: invalid value '4999' for '--bitrate': not a number from 5000 to 1000000 in decimal digits\n",
+    ),
+    (
+        "bench --bitrate 500000 --dbitrate 499999 can0",
+        "error: invalid value '499999' for '--dbitrate': not a number from 500000 to 20000000 in decimal digits\n",
+    ),
+    ("bench --dbitrate 500000 can0", "error: '--dbitrate' needs '--bitrate'\n"),
     (
         "bench --txqueue ten can0",
         "error: invalid value 'ten' for '--txqueue': not a number from 1 to 1024 in decimal digits\n",

@@ -559,9 +559,7 @@ def test_a_start_of_a_long_run_without_memory(refusing):
         return f"{how}, {live_files(server, status, written)}"
 
     words = ["--record", "live"]
-    refused_at_each_place(
-        lambda place, last: start(refusing, place, last, ended, *words, reasons=[r"cannot open \."])
-    )
+    refused_at_each_place(lambda place, last: start(refusing, place, last, ended, *words, reasons=[r"cannot open \."]))
 
 
 @needs_live

@@ -17,7 +17,7 @@ _canbusd() {
         esac
         ;;
     *,help) _canbusd_offer "bench serve audit" ;;
-    *,bench) _canbusd_word "$options --record --log --strict" ;;
+    *,bench) _canbusd_word "$options --bitrate --dbitrate --record --log --strict" ;;
     *,serve) _canbusd_word "$options --listen --sessions --pace --write --out --record --flush --sync --until-eof --verbose" ;;
     esac
 }
@@ -34,7 +34,8 @@ _canbusd_word() {
         ;;
     --log,* | --listen,* | *@*) _canbusd_files -f default ;;
     --out,*) _canbusd_files -d dirnames ;;
-    --txqueue,* | --rxqueue,* | --limit,* | --auto-restart,* | --sessions,* | --pace,* | --write,* | --flush,*) ;;
+    --txqueue,* | --rxqueue,* | --limit,* | --auto-restart,* | --bitrate,* | --dbitrate,*) ;;
+    --sessions,* | --pace,* | --write,* | --flush,*) ;;
     *) _canbusd_offer "$1" ;;
     esac
 }

@@ -1,0 +1,201 @@
+"""When frames are on a bus that has bit rates, apart from the program: how long attempts last, which frame goes when,
+and the worst response times that analysis allows.
+
+The bits of a frame are those of wire_model.py. Where a failed attempt ends is a choice of this project
+(crates/can_wire/specs/AttemptBits.antt). Times are in nanoseconds, exact but for each attempt's end, which is rounded up.
+"""
+
+from __future__ import annotations
+
+import dataclasses
+import enum
+import fractions
+import math
+from collections.abc import Callable, Iterable, Iterator, Sequence
+
+from wire_model import FD_LENGTHS, Frame, Sender, arbitration_bits, bit_counts, data_bits, number_bits
+
+SECOND = 10**9
+INTERMISSION = 3
+# CRC delimiter, ACK slot, ACK delimiter and end of frame.
+FRAME_END = 10
+ERROR_DELIMITER = 8
+#: Bits of an attempt in which no frame waits.
+IDLE = 11
+
+
+class Ending(enum.Enum):
+    """How an attempt ends: a fault is answered after the data, or after the CRC."""
+
+    DONE = enum.auto()
+    LAST_BIT = enum.auto()
+    NO_ACK = enum.auto()
+    AFTER_DATA = enum.auto()
+    AFTER_CRC = enum.auto()
+
+
+@dataclasses.dataclass(frozen=True)
+class Rates:
+    """The bit rates of a bus; FD frames switch where there is a data bit rate."""
+
+    nominal: int
+    fast: int | None = None
+
+    def nanos(self, bits: tuple[int, int]) -> int:
+        """How long bits last, by the rate at which they go, rounded up."""
+        nominal, fast = bits
+        return math.ceil(
+            fractions.Fraction(nominal * SECOND, self.nominal)
+            + fractions.Fraction(fast * SECOND, self.fast or self.nominal)
+        )
+
+    def sent(self, frame: Frame) -> Frame:
+        """The frame as it is sent on this bus."""
+        return dataclasses.replace(frame, brs=frame.is_fd and self.fast is not None, esi=False)
+
+    def frame_nanos(self, frame: Frame) -> int:
+        """How long a frame lasts from start of frame to end of frame."""
+        return self.nanos(bit_counts(self.sent(frame)))
+
+    def attempt_nanos(self, frame: Frame, ending: Ending = Ending.DONE) -> int:
+        """How long it is from start of frame until the next frame may begin."""
+        return self.nanos(attempt_bits(self.sent(frame), ending))
+
+    def idle_nanos(self) -> int:
+        return self.nanos((IDLE, 0))
+
+
+def bits_to_data_end(frame: Frame) -> tuple[int, int]:
+    """How many bits there are from start of frame to the last data bit, by rate."""
+    sender = Sender()
+    length = len(frame.data) if frame.requests is None else frame.requests
+    if frame.is_fd:
+        sender.send([0, *arbitration_bits(frame), 1, 0, int(frame.brs)])
+        code = number_bits(FD_LENGTHS.index(length), 4)
+        sender.send([int(frame.esi), *code, *data_bits(frame)], frame.brs)
+    else:
+        reserved = [0, 0] if frame.extended else [0]
+        sender.send([0, *arbitration_bits(frame), *reserved, *number_bits(length, 4), *data_bits(frame)])
+    return len(sender.bits) - sender.fast, sender.fast
+
+
+def attempt_bits(frame: Frame, ending: Ending) -> tuple[int, int]:
+    """How many bits an attempt has with the intermission, by rate."""
+    nominal, fast = bit_counts(frame)
+    if ending is Ending.DONE:
+        return nominal + INTERMISSION, fast
+    if ending is Ending.LAST_BIT:
+        return nominal + 7 + ERROR_DELIMITER + INTERMISSION, fast
+    if ending is Ending.NO_ACK:
+        return nominal - FRAME_END + 2 + 6 + ERROR_DELIMITER + INTERMISSION, fast
+    if ending is Ending.AFTER_CRC:
+        return nominal - FRAME_END + 3 + 12 + ERROR_DELIMITER + INTERMISSION, fast
+    nominal, fast = bits_to_data_end(frame)
+    return nominal + 12 + ERROR_DELIMITER + INTERMISSION, fast
+
+
+# ---- a bus by priority
+
+
+@dataclasses.dataclass(frozen=True)
+class Release:
+    """A frame that a node queues at some time, so late after it was due; the frames of a node go in their order."""
+
+    time: int
+    node: int
+    frame: Frame
+    late: int = 0
+
+
+@dataclasses.dataclass(frozen=True)
+class Sent:
+    """A frame that was sent: when it began, its end of frame, and from when on the next one may begin."""
+
+    release: Release
+    begin: int
+    end: int
+    free: int
+
+    @property
+    def response(self) -> int:
+        """From when it was due until the bus is free again, as response times are counted."""
+        return self.free - self.release.time + self.release.late
+
+
+def simulated(releases: Iterable[Release], rates: Rates) -> Iterator[Sent]:
+    """What a bus sends, frame by frame: at each begin the head of a queue whose bits are the lowest."""
+    coming = sorted(releases, key=lambda release: release.time)
+    queues: dict[int, list[Release]] = {}
+    now = 0
+    while coming or queues:
+        if not queues:
+            now = max(now, coming[0].time)
+        while coming and coming[0].time <= now:
+            release = coming.pop(0)
+            queues.setdefault(release.node, []).append(release)
+        node = min(queues, key=lambda node: (arbitration_bits(queues[node][0].frame), node))
+        release = queues[node].pop(0)
+        if not queues[node]:
+            del queues[node]
+        free = now + rates.attempt_nanos(release.frame)
+        yield Sent(release, now, now + rates.frame_nanos(release.frame), free)
+        now = free
+
+
+# ---- response times by analysis
+
+
+@dataclasses.dataclass(frozen=True)
+class Message:
+    """A message of a node of its own: what it sends, how often, and how late it may be queued."""
+
+    frame: Frame
+    period: int
+    jitter: int = 0
+
+    def releases(self, node: int, offset: int, until: int, lateness: Sequence[int] = (0,)) -> Iterator[Release]:
+        """Its releases before a time, each as late as said."""
+        for number, due in enumerate(range(offset, until, self.period)):
+            late = lateness[number % len(lateness)]
+            yield Release(due + late, node, self.frame, late)
+
+
+def up(time: int, period: int) -> int:
+    return -(-time // period)
+
+
+def worst_response(messages: Sequence[Message], place: int, rates: Rates) -> int:
+    """The worst response time of a message, of those by falling priority (Davis, Burns, Bril and Lukkien, "Controller
+    Area Network (CAN) schedulability analysis: Refuted, revisited and revised", Real-Time Systems 35, 2007).
+    """
+    lengths = [rates.attempt_nanos(message.frame) for message in messages]
+    bit = rates.nanos((1, 0))
+    blocking = max(lengths[place + 1 :], default=0)
+
+    def load(window: int, count: int) -> int:
+        return sum(
+            up(window + message.jitter, message.period) * length
+            for message, length in zip(messages[:count], lengths[:count])
+        )
+
+    def settled(start: int, step: Callable[[int], int]) -> int:
+        while (more := step(start)) != start:
+            start = more
+        return start
+
+    message, length = messages[place], lengths[place]
+    busy = settled(length, lambda window: blocking + load(window, place + 1))
+    worst = 0
+    for instance in range(up(busy + message.jitter, message.period)):
+        before = blocking + instance * length
+        wait = settled(before, lambda window: before + load(window + bit, place))
+        worst = max(worst, message.jitter + wait - instance * message.period + length)
+    return worst
+
+
+def use(messages: Sequence[Message], rates: Rates) -> fractions.Fraction:
+    """The share of the time that these messages take."""
+    return sum(
+        (fractions.Fraction(rates.attempt_nanos(message.frame), message.period) for message in messages),
+        fractions.Fraction(0),
+    )
