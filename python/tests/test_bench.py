@@ -514,3 +514,53 @@ def test_record_audit_and_log(tmp_path):
         assert bench.report() == out / "can0.html" and (out / "can0.html").stat().st_size > 10000
         runs.append([(out / name).read_bytes() for name in ("can0.rec", "can0.log")])
     assert runs[0] == runs[1]
+
+
+def test_attempts_take_the_time_of_their_bits():
+    """000# has 50 bits: 34 zeros, 6 stuff bits and 10 at its end; 3 follow it, and after no acknowledgement 19 the CRC."""
+    bench, sender, receiver = pair(bitrate=500_000)
+    with bench:
+        for _ in range(3):
+            sender.send(0)
+        first = bench.attempt()
+        assert (first.timestamp, first.outcome, first.frame) == (0.0001, "done", "000#")
+        assert [attempt.timestamp for attempt in bench.run(until=0.000107)] == [0.000206]
+        assert bench.run(until="0.000212") == []
+        (last,) = bench.run()
+        assert last.timestamp == 0.000312
+        sender.send(0)
+        assert bench.attempt(at=1).timestamp == 1.0001
+        assert [frame.timestamp for frame in receiver.receive()] == [0.0001, 0.000206, 0.000312, 1.0001]
+        assert [attempt.timestamp for attempt in bench.record().attempts] == [0.0001, 0.000206, 0.000312, 1.0001]
+
+
+def test_a_bit_rate_for_data():
+    """64 bytes 00 under 123: 27 bits at 1 Mbit/s, and 651 at 10 Mbit/s."""
+    with Bench("can0", bitrate=1_000_000, dbitrate=10_000_000) as bench:
+        bench.open("can0", fd=True).send(0x123, bytes(64), is_fd=True)
+        (attempt,) = bench.run(until=1)
+        assert attempt.timestamp == 0.000092
+
+
+def test_a_run_to_a_moment_that_is_refused():
+    with Bench("can0", bitrate=500_000, limit=4) as bench:
+        session = bench.open("can0", error_frames=False)
+        session.send(0)
+        session.send(0)
+        with pytest.raises(Refused, match="record full"):
+            bench.run(until=1)
+    with Bench("can0") as bench, pytest.raises(ValueError, match="bitrate"):
+        bench.run(until=1)
+    with Bench("can0", bitrate=500_000) as bench:
+        bench.run(until=2)
+        with pytest.raises(BenchError, match="the moment set is a later one"):
+            bench.run(until=1)
+
+
+@pytest.mark.parametrize(
+    "rates",
+    [{"bitrate": 4_999}, {"dbitrate": 500_000}, {"bitrate": 500_000, "dbitrate": 499_999}, {"bitrate": "500k"}],
+)
+def test_bit_rates_that_a_bus_may_not_have(rates):
+    with pytest.raises(ValueError, match="bitrate"):
+        Bench("can0", **rates)

@@ -27,6 +27,8 @@ NUMBERS: dict[str, tuple[str, int, int]] = {
     "rxqueue": ("--rxqueue", 1, 65_536),
     "limit": ("--limit", 1, 1 << 24),
     "flush": ("--flush", 0, 60_000),
+    "bitrate": ("--bitrate", 5_000, 1_000_000),
+    "dbitrate": ("--dbitrate", 5_000, 20_000_000),
 }
 
 
@@ -34,7 +36,12 @@ def option_words(ack: str, report: bool, **numbers: int) -> list[str]:
     """Returns the words of the command line that give these options; ValueError names one that is wrong."""
     if ack not in ("always", "peers"):
         raise ValueError(f"ack is 'always' or 'peers', not {ack!r}")
-    words = ["--ack", ack, *(["--report"] if report else [])]
+    return ["--ack", ack, *(["--report"] if report else []), *number_words(**numbers)]
+
+
+def number_words(**numbers: int) -> list[str]:
+    """Returns the words of the command line that give these options; ValueError names one that is wrong."""
+    words: list[str] = []
     for name, number in numbers.items():
         option, least, most = NUMBERS[name]
         if isinstance(number, bool) or not isinstance(number, int) or not least <= number <= most:

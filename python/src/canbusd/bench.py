@@ -32,7 +32,7 @@ from canbusd._protocol import (
     options,
     stats_of,
 )
-from canbusd._process import RUNNING, ProgramRun, check_names, option_words
+from canbusd._process import RUNNING, ProgramRun, check_names, number_words, option_words
 from canbusd._summary import write_page
 from canbusd.faults import Script, plan_of, rules_of, script_text
 from canbusd.frames import Frame, MessageLike, command_of, frame_like, frame_of, identifier_word, without_origin
@@ -53,7 +53,7 @@ CLOSED = re.compile(r"[0-9]+ < closed ([0-9]+) ([0-9]+) >")
 AT = re.compile(r"[0-9]{1,10}\.[0-9]{6}")
 TRIED = re.compile(
     r"(?:idle|tried (?P<winner>\S+) (?P<number>\d+) (?P<outcome>\w+) (?P<accepted>\S+) (?P<off>\S+))"
-    r"(?: restarted (?P<restarted>\S+))?"
+    r"(?: restarted (?P<restarted>\S+))?(?: at (?P<at>[0-9.]+))?"
 )
 
 
@@ -72,6 +72,15 @@ def moment_text(at: Union[str, float]) -> str:
 def set_of(names: Optional[str]) -> tuple[str, ...]:
     """The interfaces that the bench names; `-` is none."""
     return tuple(names.split(",")) if names and names != "-" else ()
+
+
+def rate_words(bitrate: Optional[int], dbitrate: Optional[int]) -> list[str]:
+    """Returns the words of the command line that give these bit rates, if there are any."""
+    rates = {"bitrate": bitrate, "dbitrate": dbitrate}
+    words = number_words(**{name: rate for name, rate in rates.items() if rate is not None})
+    if dbitrate is not None and (bitrate is None or dbitrate < bitrate):
+        raise ValueError(f"dbitrate needs a bitrate, which is no faster, not {bitrate!r} and {dbitrate!r}")
+    return words
 
 
 class Session(InjectsFaults):
@@ -190,7 +199,8 @@ class Session(InjectsFaults):
 class Bench(ProgramRun):
     """A bus with these interfaces, as `"can0,can1"` or a list, and the options of `canbusd bench`.
 
-    `faults` is a script: Faults, a path, or a text. `out` is a folder for the log and the record, which are written at
+    With a `bitrate` attempts take the time of their bits, and their moment is the end of their frame; with a `dbitrate` FD
+    frames switch to that for their data. `faults` is a script: Faults, a path, or a text. `out` is a folder for the log and the record, which are written at
     the end and are called after the first interface; without it they are kept as long as the bench is.
     """
 
@@ -205,9 +215,12 @@ class Bench(ProgramRun):
         txqueue: int = 10,
         rxqueue: int = 256,
         limit: int = 1_000_000,
+        bitrate: Optional[int] = None,
+        dbitrate: Optional[int] = None,
         out: Union[str, "os.PathLike[str]", None] = None,
     ) -> None:
         words = option_words(ack, report, auto_restart=auto_restart, txqueue=txqueue, rxqueue=rxqueue, limit=limit)
+        words += rate_words(bitrate, dbitrate)
         if isinstance(names, str):
             # As the program is given a bus: can0,can1@FILE.
             names, given, script_path = names.partition("@")
@@ -223,6 +236,7 @@ class Bench(ProgramRun):
         self._sessions = 0
         self._sent: dict[str, list[Frame]] = {name: [] for name in self.names}
         self._moment = "0.000000"
+        self._is_timed = bitrate is not None
         # One call at a time. Where one was interrupted, its answer is still to come, and would be taken for that of the next.
         self._turn = threading.RLock()
         self._in_step = True
@@ -312,8 +326,14 @@ class Bench(ProgramRun):
             raise Refused(line)
         return attempt
 
-    def run(self, most: int = 100_000) -> list[Attempt]:
-        """Makes attempts until none has a frame, and returns them; RuntimeError if after `most` frames still wait."""
+    def run(self, most: int = 100_000, *, until: Union[str, float, None] = None) -> list[Attempt]:
+        """Makes attempts until none has a frame, and returns them; RuntimeError if after `most` frames still wait.
+
+        On a bus with a `bitrate`, with `until` these are only the attempts that begin before that moment, however many;
+        then it is the moment set.
+        """
+        if until is not None:
+            return self._run_until(moment_text(until))
         attempts: list[Attempt] = []
         for _ in range(most):
             attempt = self.attempt()
@@ -321,6 +341,24 @@ class Bench(ProgramRun):
                 return attempts
             attempts.append(attempt)
         raise RuntimeError(f"frames still wait after {most} attempts")
+
+    def _run_until(self, moment: str) -> list[Attempt]:
+        """Makes the attempts that begin before a moment; an echo follows them."""
+        if not self._is_timed:
+            raise ValueError("until needs a bitrate")
+        lines: list[str] = []
+        with self._turn:
+            last = min(self._sessions, MOST_SESSIONS)
+            self._write(f"run {moment}\nfeed {last} < echo >")
+            while (line := self._line()) != f"{last} < echo >":
+                lines.append(line)
+            words = [TRIED.fullmatch(line) for line in lines]
+            attempts = [self._attempt_of(word) for word in words if word]
+            self._moment = moment
+            self._in_step = True
+        if None in words:
+            raise Refused(lines[-1])
+        return [attempt for attempt in attempts if attempt is not None]
 
     def stop(self) -> None:
         """Ends the run; its record and its log are written. The sessions can't be used any more."""
@@ -361,15 +399,15 @@ class Bench(ProgramRun):
 
     def _attempt_of(self, words: "re.Match[str]") -> Optional[Attempt]:
         """The attempt that the bench tells of in these words."""
-        restarted = set_of(words["restarted"])
+        moment, restarted = float(words["at"] or self._moment), set_of(words["restarted"])
         if words["winner"] is None:
-            return Attempt(float(self._moment), "", 0, "", "idle", "good", (), (), restarted) if restarted else None
+            return Attempt(moment, "", 0, "", "idle", "good", (), (), restarted) if restarted else None
         number, winner = int(words["number"]), words["winner"]
         frame = self._sent[winner][number]
         verdict, rule = self._plan.verdict(winner, identifier_word(frame))
         self._rules.append(str(rule or ""))
         return Attempt(
-            float(self._moment),
+            moment,
             winner,
             number,
             str(frame),
