@@ -11,6 +11,10 @@ from typing import Optional
 from canbusd.record import BadRecord, Record, read_record
 
 
+class BadWords(ValueError):
+    """Why the words of a command are refused: the exit status is 2 then, as with those that argparse refuses."""
+
+
 def run_command(work: Callable[[], Optional[int]], name: str) -> None:
     """Calls a command's work, and exits. A fault is reported in one line on standard error, with status 1.
 
@@ -28,6 +32,9 @@ def run_command(work: Callable[[], Optional[int]], name: str) -> None:
     except OSError as fault:
         forget_output()
         sys.exit(f"{name}: {f'{fault.filename}: ' if fault.filename else ''}{fault.strerror or fault}")
+    except BadWords as fault:
+        print(f"{name}: {fault}", file=sys.stderr)
+        sys.exit(2)
     except ValueError as fault:
         sys.exit(f"{name}: {fault}")
     except Exception as fault:

@@ -5,6 +5,8 @@ With a file of messages, as `--dbc` names one, the header of the data has two ob
 of these a list of [signal, value, unit]. A value is a number, or a text where the file has names for numbers; a unit is
 a text, empty where there is none. A frame that is shorter than its message has the empty list. Without a file both
 objects are empty.
+
+With bit rates the header has an object `wire` more, and the page a script that shows it; without them neither.
 """
 
 import base64
@@ -21,6 +23,8 @@ from typing import Any, Optional
 
 from canbusd.frames import Frame, meaning
 from canbusd._protocol import STATES
+from canbusd._report_wire import wire_of
+from canbusd._wire import Rates
 from canbusd.replay import Delivery, Replay, Socket, Step
 from canbusd.signals import Database
 from canbusd.story import Event, events_of, facts_of, heading_of, refused_sends, verdict_words
@@ -277,6 +281,7 @@ def data_of(
     most_items: int,
     database: Optional[Database] = None,
     rules: Sequence[str] = (),
+    rates: Optional[Rates] = None,
 ) -> str:
     """The data of a page, as its script reads it."""
     block, texts, verdicts = Block(), Texts(), Texts()
@@ -308,6 +313,8 @@ def data_of(
         **decoded_of(texts.all(), database),
         "verdicts": [fault_of(fault, names) for fault in verdicts.all()],
     }
+    if rates is not None:
+        header["wire"] = wire_of(run, timeline.rows, timeline.places, rates, block.column)
     return block.packed(header)
 
 
@@ -318,10 +325,15 @@ def page(
     most_items: int = 1000000,
     database: Optional[Database] = None,
     rules: Sequence[str] = (),
+    rates: Optional[Rates] = None,
 ) -> str:
-    """Returns the page of a run, with its first items, and with the rule of each attempt, if they are given."""
-    data = data_of(run, names, title, most_items, database, rules)
-    return filled("page.html", ["core.js", "lanes.js", "lists.js", "page.js"]).replace("/*RUN*/", data)
+    """Returns the page of a run, with its first items, and with the rule of each attempt, if they are given.
+
+    With the bit rates of its bus it has the bus load.
+    """
+    data = data_of(run, names, title, most_items, database, rules, rates)
+    scripts = ["core.js", "lanes.js", "lists.js", *(["wire.js"] if rates is not None else []), "page.js"]
+    return filled("page.html", scripts).replace("/*RUN*/", data)
 
 
 def filled(name: str, scripts: Sequence[str]) -> str:

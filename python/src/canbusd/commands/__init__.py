@@ -3,6 +3,8 @@
 import argparse
 from typing import Optional
 
+from canbusd._command import BadWords
+from canbusd._wire import Rates
 from canbusd.signals import Database, load_database
 
 
@@ -30,6 +32,39 @@ def add_database(parser: argparse.ArgumentParser) -> None:
 def database_of(options: argparse.Namespace) -> Optional[Database]:
     """The messages of the files that were given, if any were."""
     return load_database(*options.dbc) if options.dbc else None
+
+
+def add_rates(parser: argparse.ArgumentParser, what: str) -> None:
+    """Adds the words that name bit rates; `what` says what they give."""
+    parser.add_argument(
+        "--bitrate", type=digits, metavar="N", help=f"bits a second of the bus, from 5000 to 1000000: {what}"
+    )
+    parser.add_argument(
+        "--dbitrate",
+        type=digits,
+        metavar="M",
+        help="bits a second of the data of FD frames, from those of --bitrate to 20000000; without it FD frames do not "
+        "switch",
+    )
+
+
+def digits(text: str) -> int:
+    """Returns the number that a word writes in decimal digits."""
+    if not (text.isascii() and text.isdigit()):
+        raise argparse.ArgumentTypeError(f"not a number in decimal digits: {text!r}")
+    return int(text)
+
+
+def rates_of(options: argparse.Namespace) -> Optional[Rates]:
+    """The bit rates that were given, if any were."""
+    if options.bitrate is None:
+        if options.dbitrate is not None:
+            raise BadWords("--dbitrate needs --bitrate")
+        return None
+    try:
+        return Rates(options.bitrate, options.dbitrate)
+    except ValueError as fault:
+        raise BadWords(f"{fault}") from None
 
 
 #: Filters that no frame passes: everything, inverted.

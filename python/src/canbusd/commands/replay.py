@@ -3,9 +3,12 @@
 import argparse
 import itertools
 import json
-from collections.abc import Iterator
+import sys
+from collections.abc import Iterator, Sequence
 
 from canbusd._command import add_record, replayed
+from canbusd._slots import Load, load_of, load_words, overlaps_of, slots_of
+from canbusd.commands import add_rates, rates_of
 from canbusd.record import Attempt, Record, verdict_of
 
 EPILOG = """\
@@ -16,30 +19,65 @@ With --json each line is an object. Its `type` is `attempt` or `item`, which is 
 socket; the others are the fields of canbusd.Attempt and canbusd.Item, and `attempt`, the number of the attempt that is
 meant, as in a fault script: null where nothing was tried.
 
+With --bitrate each attempt takes the time of its bits, and none may begin before the one before it is over: the moment
+of an attempt is the end of the frame that it tries, as in a record of `canbusd bench --bitrate`. Attempts that overlap
+are reported, as a rule all of a server's, whose frames take no time, and the exit status is 1. Moments are microseconds,
+rounded down: only an overlap that is there whatever was rounded off counts. The load is the share of the time, from the
+start of the first attempt until the last is over, in which the wire was busy: with frames, flags of errors, and the 3
+bits after them. With --json it is the last line, with its times in seconds.
+
   python3 -m canbusd replay --names can0,can1 run.rec
+  python3 -m canbusd replay --quiet --bitrate 500000 run.rec
   python3 -m canbusd replay --json run.rec | jq 'select(.outcome == "destroyed")'
 """
+# How many attempts that overlap are reported.
+MOST_OVERLAPS = 10
 
 
 def add_arguments(parser: argparse.ArgumentParser) -> None:
     """Adds the words of the command."""
     add_record(parser)
+    add_rates(parser, "no attempt may begin before the one before it is over, and the bus load is written")
     form = parser.add_mutually_exclusive_group()
-    form.add_argument("--quiet", action="store_true", help="write only the last line")
+    form.add_argument("--quiet", action="store_true", help="write only the verdict, and the bus load")
     form.add_argument("--json", action="store_true", help="write each attempt and each item as a line of JSON")
 
 
-def run(options: argparse.Namespace) -> None:
-    """Writes a line for each attempt and restart, and the verdict."""
+def run(options: argparse.Namespace) -> int:
+    """Writes a line for each attempt and restart, what there is to say of their times, and the verdict."""
+    rates = rates_of(options)
     record = replayed(options.record, options.names, options.cut)
+    slots = slots_of(record.replay, rates) if rates else []
     if options.json:
         for fields in objects_of(record):
             print(json.dumps(fields))
-        return
-    if not options.quiet:
+        if rates:
+            print(json.dumps(load_object(load_of(slots))))
+    elif not options.quiet:
         for line in lines_of(record):
             print(line)
-    print(verdict_of(record))
+    if rates and not options.json:
+        print(load_words(load_of(slots)))
+    overlaps = overlaps_of(record.replay, slots)
+    if overlaps:
+        report(overlaps)
+        return 1
+    if not options.json:
+        print(verdict_of(record))
+    return 0
+
+
+def report(overlaps: Sequence[str]) -> None:
+    """Reports the first attempts that overlap, and how many others do."""
+    for line in overlaps[:MOST_OVERLAPS]:
+        print(f"canbusd replay: {line}", file=sys.stderr)
+    if len(overlaps) > MOST_OVERLAPS:
+        print(f"canbusd replay: {len(overlaps) - MOST_OVERLAPS:,} more do", file=sys.stderr)
+
+
+def load_object(load: Load) -> dict[str, object]:
+    """The bus load: times in seconds, and a share of 1."""
+    return {"type": "load", "busy": load.busy / 1e9, "time": load.whole / 1e9, "share": load.share}
 
 
 def objects_of(record: Record) -> Iterator[dict[str, object]]:

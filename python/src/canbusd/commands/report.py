@@ -9,7 +9,8 @@ from pathlib import Path
 
 from canbusd import _summary, drawings
 from canbusd._command import add_record, replayed
-from canbusd.commands import add_database, database_of
+from canbusd._slots import load_of, load_words, slots_of
+from canbusd.commands import add_database, add_rates, database_of, rates_of
 from canbusd.faults import plan_of, script_text
 from canbusd.rules import deciders
 
@@ -19,8 +20,13 @@ error counters and queue; the chosen attempt in detail, with its arbitration bit
 and items, which follow it. The record is replayed by the rules of the bus, and one that breaks them is refused. With the
 script of faults of the run the page says which of its rules gave an attempt its fault.
 
+With --bitrate each attempt takes the time of its bits, and its moment is the end of the frame that it tries, as in a
+record of `canbusd bench --bitrate`: the page shows the bus load over time and the identifiers that take most of it, how
+long each frame was on the wire, and how long it waited from the first attempt in which it took part.
+
   canbusd bench --record run.rec can0,can1 < first_frame.bench
   python3 -m canbusd report --names can0,can1 run.rec > run.html
+  python3 -m canbusd report --bitrate 500000 --names can0,can1 run.rec > run.html
   python3 -m canbusd report --counters --names can0,can1 run.rec
 """
 MOST_EVENTS = 1000
@@ -33,6 +39,7 @@ def add_arguments(parser: argparse.ArgumentParser) -> None:
     parser.add_argument(
         "--items", type=int, default=1000000, metavar="N", help="items on the page at most (default 1000000)"
     )
+    add_rates(parser, "the page shows the bus load, and how long frames took and waited")
     parser.add_argument("--faults", metavar="FILE", help="the script of faults that the run had")
     parser.add_argument("--text", action="store_true", help="write events as text, and both of the following")
     parser.add_argument(
@@ -47,10 +54,12 @@ def add_arguments(parser: argparse.ArgumentParser) -> None:
 
 def run(options: argparse.Namespace) -> None:
     """Writes the page, or the drawings, on standard output."""
+    rates = rates_of(options)
     record = replayed(options.record, options.names, options.cut)
     if options.text or options.counters or options.arbitration:
         if options.text:
             write(_summary.story(record, MOST_EVENTS))
+            write([load_words(load_of(slots_of(record.replay, rates)))] if rates else [])
         if options.text or options.arbitration:
             write(drawings.arbitration(record, options.first, options.last))
         if options.text or options.counters:
@@ -64,7 +73,8 @@ def run(options: argparse.Namespace) -> None:
     title = os.path.basename(options.record)
     if isinstance(sys.stdout, io.TextIOWrapper):
         sys.stdout.reconfigure(encoding="utf-8")
-    sys.stdout.write(page(record.replay, record.names, title, max(options.items, 0), database_of(options), rules))
+    database, most_items = database_of(options), max(options.items, 0)
+    sys.stdout.write(page(record.replay, record.names, title, most_items, database, rules, rates))
 
 
 def write(lines: Iterable[str]) -> None:

@@ -1,0 +1,94 @@
+"""When the attempts of a run have the wire, where its bus has bit rates, and how busy that makes the wire.
+
+The moment of an attempt is the end of the frame that it tries, in whole microseconds, rounded down: so that frame ends
+up to 999 nanoseconds later. Of the ends that are possible the earliest are taken, one attempt after another, so what
+the rounding leaves open does not add up, and attempts overlap only where they do for all of them.
+"""
+
+from collections.abc import Iterable, Sequence
+from typing import NamedTuple
+
+from canbusd._wire import Rates, Times, Wire
+from canbusd.replay import Replay
+
+# How much later than its moment a frame ends at most, in nanoseconds.
+MOST_LATER = 999
+# The last moment that there is, at which a bus's time stops.
+LAST_MOMENT = "9999999999.999999"
+
+
+class Slot(NamedTuple):
+    """When an attempt has the wire, in nanoseconds."""
+
+    #: The place of its step in the replay.
+    step: int
+    #: The start of frame.
+    begin: int
+    times: Times
+    #: By how much at least it begins before the attempt before it is over.
+    overlap: int
+
+    @property
+    def over(self) -> int:
+        """When the next attempt may begin."""
+        return self.begin + self.times.attempt
+
+
+class Load(NamedTuple):
+    """How long the wire was busy, from the start of the first attempt until the last is over, in nanoseconds."""
+
+    busy: int
+    whole: int
+
+    @property
+    def share(self) -> float:
+        """The share of the time; above 1 where attempts overlap."""
+        return self.busy / self.whole if self.whole else 0.0
+
+
+def slots_of(run: Replay, rates: Rates) -> list[Slot]:
+    """Returns the slots of the attempts that tried a frame."""
+    wire = Wire(rates)
+    slots: list[Slot] = []
+    for place, step in enumerate(run.steps):
+        if step.kind == "restart":
+            continue
+        times = wire.times(step.text, step.kind, step.verdict)
+        begin = nanos_of(step.moment) - times.frame
+        over = slots[-1].over if slots and step.moment != LAST_MOMENT else begin
+        overlap = max(over - (begin + MOST_LATER), 0)
+        slots.append(Slot(place, begin if overlap else max(begin, over), times, overlap))
+    return slots
+
+
+def nanos_of(moment: str) -> int:
+    """Returns the moment of a record in nanoseconds."""
+    return int(moment.replace(".", "")) * 1000
+
+
+def load_of(slots: Sequence[Slot]) -> Load:
+    """Returns the load of the wire by these attempts."""
+    if not slots:
+        return Load(0, 0)
+    whole = max(slot.over for slot in slots) - min(slot.begin for slot in slots)
+    return Load(sum(slot.times.attempt for slot in slots), whole)
+
+
+def overlaps_of(run: Replay, slots: Iterable[Slot]) -> list[str]:
+    """Returns a line for each attempt that begins before the one before it is over."""
+    lines = []
+    for slot in slots:
+        if slot.overlap:
+            step = run.steps[slot.step]
+            early = f"{slot.overlap / 1000:,.3f} microseconds before attempt {step.attempt - 1} is over"
+            lines.append(f"attempt {step.attempt} at {step.moment} begins {early}")
+    return lines
+
+
+def load_words(load: Load) -> str:
+    """The bus load, in words."""
+    if not load.whole:
+        return "load 0 %: no frame was tried"
+    return (
+        f"load {100 * load.share:.1f} %: the wire was busy for {load.busy / 1e9:.6f} of {load.whole / 1e9:.6f} seconds"
+    )

@@ -1,0 +1,211 @@
+// Time on the wire, in the pages of runs whose bus has bit rates: bus load, and how long frames took and waited. The other
+// pages have nothing of this. So it comes before page.js, and adds to functions of that before it begins.
+
+// Times are in nanoseconds since the first attempt began.
+const wire = { isByTime: true };
+const extend = (first, more) => (...given) => more(first(...given), ...given);
+
+// Columns, and sums of the time in which the wire was busy.
+
+take = extend(take, (_, { column }) => {
+  for (const name of ["begin", "nominal", "fast", "frame", "busy", "since"]) wire[name] = column(run.wire[name]);
+  const count = steps.kind.length, starts = new Float64Array(count + 1);
+  wire.sums = new Float64Array(count + 1);
+  for (let k = 0; k < count; k++) {
+    starts[k] = wire.begin[k] / 1e9;
+    wire.sums[k + 1] = wire.sums[k] + wire.busy[k];
+  }
+  starts[count] = Math.max(run.wire.end / 1e9, 1e-5);
+  axis = axes[1] = new Axis(starts, 1e-5);
+  view.to = axis.length;
+  placeIdentifiers();
+});
+// Of each text the number of its identifier.
+function placeIdentifiers() {
+  const numbers = new Map();
+  wire.identifierOf = Uint32Array.from(run.texts, text => {
+    const identifier = text.split("#")[0];
+    if (!numbers.has(identifier)) numbers.set(identifier, numbers.size);
+    return numbers.get(identifier);
+  });
+  wire.identifiers = [...numbers.keys()];
+}
+// For how long the wire was busy up to a time. An attempt that overlaps the next counts for the time before that.
+function busyUntil(nanos) {
+  if (!axes[1].count) return 0;
+  const step = axes[1].stepAt(nanos / 1e9), begin = wire.begin[step];
+  const room = Math.min(wire.busy[step], (wire.begin[step + 1] ?? Infinity) - begin);
+  return wire.sums[step] + wire.busy[step] * (room ? Math.min(Math.max((nanos - begin) / room, 0), 1) : 0);
+}
+// The time at a place of the axis that is shown.
+function nanosAt(place) {
+  if (wire.isByTime || !axis.count) return place * 1e9;
+  const step = axis.stepAt(place), from = axis.start[step], next = wire.begin[step + 1] ?? run.wire.end;
+  return wire.begin[step] + (next - wire.begin[step]) * Math.min((place - from) / (axis.start[step + 1] - from), 1);
+}
+// The share of busy time; nothing where no time passed.
+const loadIn = (from, to) => to > from ? (busyUntil(to) - busyUntil(from)) / (to - from) : NaN;
+const loadOfAll = () => run.wire.end ? loadIn(0, run.wire.end) : 0;
+const loadSeen = () => loadIn(nanosAt(view.from), nanosAt(view.to));
+const fixed = (number, digits) => number.toLocaleString("en", { minimumFractionDigits: digits, maximumFractionDigits: digits });
+const percent = share => Number.isNaN(share) ? "none" : `${fixed(100 * share, share < 10 ? 1 : 0)} %`;
+function duration(nanos) {
+  const [unit, by] = nanos < 1e6 ? ["\u00b5s", 1e3] : nanos < 1e9 ? ["ms", 1e6] : ["s", 1e9];
+  return `${grouped(Number((nanos / by).toFixed(3)))} ${unit}`;
+}
+
+// The lane.
+
+const BIN = 3;
+class LoadLane {
+  constructor() { Object.assign(this, { name: "bus load", height: 58, title: "share of the time in which the wire was busy" }); }
+  draw(plot, top) {
+    const { pen, width } = plot, high = this.height - 18, foot = top + 8 + high, each = (view.to - view.from) / width;
+    const line = new Path2D();
+    across(plot, top + 8, theme.soft, [2, 4]);
+    for (let x = 0, from = nanosAt(view.from), last = 0; x < width; x += BIN) {
+      const wide = Math.min(BIN, width - x), to = nanosAt(view.from + (x + wide) * each), load = loadIn(from, to);
+      if (!Number.isNaN(load)) last = load;
+      const y = foot - Math.min(last, 1) * high;
+      block(pen, theme.queue, x, y, wide, foot - y);
+      // More than the wire can carry.
+      if (last > 1.001) block(pen, theme.destroyed, x, top, wide, 6);
+      if (x) line.lineTo(x, y); else line.moveTo(x, y);
+      line.lineTo(x + wide, y);
+      from = to;
+    }
+    pen.strokeStyle = theme.tec;
+    pen.lineWidth = 1.5;
+    pen.stroke(line);
+    pen.lineWidth = 1;
+    across(plot, top + this.height - 6, theme.line);
+    if (plot.isNarrow) return;
+    write(pen, "100 %", width + 6, top + 10, theme.soft);
+    write(pen, "0 %", width + 6, foot - 4, theme.soft);
+  }
+  values() { return [["tec", `seen ${percent(loadSeen())}`], ["queue", `all ${percent(loadOfAll())}`]]; }
+}
+makeLanes = extend(makeLanes, () => {
+  lanes.unshift(new LoadLane());
+  makeTab();
+});
+
+// The axis by time, on which an attempt is as long as it took.
+
+turnAxis = () => {
+  const first = axis.stepAt(view.from), last = Math.min(axis.from(view.to), axis.count);
+  wire.isByTime = !wire.isByTime;
+  axis = axes[Number(wire.isByTime)];
+  layer = "";
+  sayAxis();
+  look(axis.start[first], axis.start[last]);
+};
+listen = extend(listen, () => { KEYS.t = turnAxis; });
+sayAxis = extend(sayAxis, () => {
+  at("by-time").setAttribute("aria-pressed", wire.isByTime);
+  time.axisWords = wire.isByTime ? ["since the first", "attempt"] : ["attempt", "moment"];
+  buildGutter();
+});
+ticksOf = plot => {
+  const most = plot.width / (plot.isNarrow ? 110 : 130);
+  return !axis.count ? [] : wire.isByTime ? secondTicks(most) : attemptTicks(most);
+};
+strip = (plain => (plot, i, top, fills) => {
+  const last = plot.edges[Math.floor(plot.width)];
+  if (!wire.isByTime || last - plot.edges[0] > plot.width / 2) { plain(plot, i, top, fills); return; }
+  for (let step = axis.stepAt(view.from); step < last; step++) {
+    const from = placeOf(plot, axis.start[step]), to = Math.min(from + widthOf(plot, step), plot.width);
+    const left = Math.max(from, 0), wide = Math.max(to - left - (to - left > 5 ? 1 : 0), 2);
+    const behind = placeOf(plot, axis.start[step + 1]) - to - 6;
+    if (to >= 0 && left < plot.width) bar(plot, i, step, top, left, wide, fills, behind > wide ? behind : 0);
+  }
+})(strip);
+const widthOf = (plot, step) => wire.busy[step] / 1e9 / (view.to - view.from) * plot.width;
+placeCursor = extend(placeCursor, () => {
+  if (!wire.isByTime || !axis.count) return;
+  const plot = plotted(), cursor = at("cursor"), from = placeOf(plot, axis.start[view.step]);
+  const wide = Math.min(Math.max(widthOf(plot, view.step), 3), plot.width);
+  cursor.hidden = from + wide < 0 || from > plot.width;
+  cursor.style.width = wide + "px";
+});
+
+// Words.
+
+function rateWords() {
+  const words = rate => rate % 1e6 ? `${grouped(rate / 1e3)} kbit/s` : `${grouped(rate / 1e6)} Mbit/s`;
+  return words(run.wire.bitrate) + (run.wire.dbitrate ? `, data at ${words(run.wire.dbitrate)}` : "");
+}
+showWords = extend(showWords, () => {
+  at("facts").append(` Bus load ${percent(loadOfAll())} at ${rateWords()}.`);
+  const help = at("help").querySelector("p");
+  help.textContent = help.textContent.replace(/By time an attempt is an instant.*?how many there were\./s,
+    "By time an attempt is as long as it took the wire, until the next one might begin. Bus load is the share of the time "
+    + "in which the wire was busy, with frames, flags of errors and the 3 bits after them, for each three pixels; red "
+    + "above it: more than the wire can carry, as in a run whose frames took no time.");
+});
+tipWords = extend(tipWords, (words, first, last) => {
+  if (last - first > 1) return `${words}\nbus load ${percent(loadIn(wire.begin[first], wire.begin[last] ?? run.wire.end))}`;
+  return isAttempt(first) ? `${words}\n${duration(wire.frame[first])} on the wire` : words;
+});
+fieldList = extend(fieldList, (list, step) => {
+  const nominal = times(wire.nominal[step], "bit"), fast = wire.fast[step];
+  const identifier = wire.identifierOf[steps.frame[step]], of = sumsSeen();
+  const pairs = [
+    ["on the wire", `${duration(wire.frame[step])}: ${nominal}${fast ? `, and ${grouped(fast)} at the data bit rate` : ""}`],
+    ["attempt", `${duration(wire.busy[step])}, from its start until the next one may begin`],
+    ["queueing delay", delayWords(step)],
+    [`${wire.identifiers[identifier]} in view`, shareWords(of.busy[identifier], of)],
+  ];
+  list.append(...pairs.flatMap(([name, value]) => [element("dt", name), element("dd", value)]));
+  return list;
+});
+// As far as the record has it: a send has no moment.
+function delayWords(step) {
+  const first = step - wire.since[step], nanos = wire.begin[step] + wire.frame[step] - wire.begin[first];
+  if (first === step) return `at least ${duration(nanos)}, the frame alone: it took part in no attempt before`;
+  return `at least ${duration(nanos)}, from the start of attempt ${grouped(attemptOf[first])}, its first, to this end of frame`;
+}
+const shareWords = (busy, { all, nanos }) => `load ${percent(busy / nanos)}, ${percent(all ? busy / all : 0)} of the busy time`;
+
+// What each identifier takes, of the attempts that begin in what is seen.
+
+function sumsSeen() {
+  const first = axis.from(view.from), last = axis.from(view.to), key = [first, last, view.from, view.to].join();
+  if (wire.seen?.key === key) return wire.seen;
+  const make = () => new Float64Array(wire.identifiers.length), [busy, attempts, failed] = [make(), make(), make()];
+  for (let step = first; step < last; step++) {
+    if (!isAttempt(step)) continue;
+    const identifier = wire.identifierOf[steps.frame[step]];
+    busy[identifier] += wire.busy[step];
+    attempts[identifier]++;
+    if (steps.kind[step]) failed[identifier]++;
+  }
+  const nanos = nanosAt(view.to) - nanosAt(view.from);
+  return wire.seen = { key, busy, attempts, failed, nanos, all: busy.reduce((sum, one) => sum + one, 0) };
+}
+const MOST_IDENTIFIERS = 10;
+function makeTab() {
+  const button = element("button", "Load", { type: "button" });
+  button.setAttribute("role", "tab");
+  button.setAttribute("aria-controls", "tab-load");
+  at("tabs").append(button);
+  const panel = element("div", [element("p", "", { id: "load-words", className: "note" }),
+    element("table", [], { id: "loads", className: "broad" })], { id: "tab-load" });
+  panel.setAttribute("role", "tabpanel");
+  panel.setAttribute("aria-label", "Load");
+  at("lists").append(panel);
+}
+function showLoads() {
+  const sums = sumsSeen(), order = [...sums.busy.keys()].filter(one => sums.attempts[one]);
+  const most = order.sort((one, other) => sums.busy[other] - sums.busy[one]).slice(0, MOST_IDENTIFIERS);
+  at("load-words").textContent = `Bus load ${percent(loadSeen())} of ${duration(sums.nanos)} that are seen. Below: the `
+    + `identifiers that take most, of the attempts that begin there${order.length > most.length ? `, ${MOST_IDENTIFIERS} of ${grouped(order.length)}` : ""}.`;
+  const number = text => element("td", text, { className: "number" });
+  at("loads").replaceChildren(...rowsOf(["identifier", "attempts", "failed", "busy, ms", "load", "of the busy time"],
+    most.map(one => [element("td", wire.identifiers[one]), sums.attempts[one], sums.failed[one],
+      number(fixed(sums.busy[one] / 1e6, 3)), number(percent(sums.busy[one] / sums.nanos)),
+      number(percent(sums.busy[one] / sums.all))])));
+}
+showList = extend(showList, (_, name) => { if (name === "tab-load") showLoads(); });
+show = extend(show, () => { if (tab === "tab-load") showLoads(); });
+print = extend(print, (_, isOn) => { if (isOn) showLoads(); });

@@ -1,0 +1,197 @@
+"""The page of a run whose bus has bit rates, in a browser: bus load and time on the wire. Left out where there is no
+Chromium."""
+
+import pytest
+from browser import PROGRAM
+from test_page import ATTEMPT, CUT, TABS, WEAK, WIDE, WRITTEN, browser, long_run  # noqa: F401  a fixture
+from test_report import NAMES, bus_off, record_of
+from test_time_on_wire import three_messages
+
+from canbusd._wire import Rates
+from canbusd.report import page
+
+pytestmark = pytest.mark.skipif(PROGRAM is None, reason="no chromium on the PATH")
+NODES = ("a", "b", "c")
+# Each of the seven attempts takes 216 microseconds at the first of them, which the next one follows at once.
+FULL, HALF, DOUBLE = Rates(500000), Rates(1000000), Rates(250000)
+SEEN = "lanes[0].values().map(([, words]) => words)"
+# Whether something is drawn in the lane of bus load at places of the axis: 16 pixels above its foot, and above its top.
+DRAWN = """(places => {
+  const wide = at('lanes').width, all = at('lanes').getContext('2d').getImageData(0, 0, wide, 60).data;
+  const isDrawn = (x, y) => all[4 * (y * wide + x) + 3] > 0;
+  return places.map(place => Math.round(placeOf(plotted(), place))).map(x => [isDrawn(x, 36), isDrawn(x, 4)]);
+})"""
+# The load by adding up what each attempt has in a part of the time, compared with what the page has for it.
+SAME = """[...Array(400).keys()].every(k => {
+  const from = k * 37 % 401 / 401 * run.wire.end, to = from + (1 + k * 53 % 97) / 97 * (run.wire.end - from);
+  let busy = 0;
+  for (let step = 0; step < axis.count; step++) {
+    const begin = wire.begin[step];
+    busy += Math.max(Math.min(begin + wire.busy[step], to) - Math.max(begin, from), 0);
+  }
+  return Math.abs(loadIn(from, to) - busy / (to - from)) < 1e-6;
+})"""
+
+# The load from the start of each attempt to that of the next one.
+EACH = """[...Array(axis.count - 1).keys()].every(step => {
+  const load = loadIn(nanosAt(axis.start[step]), nanosAt(axis.start[step + 1]));
+  return Math.abs(load - wire.busy[step] / (wire.begin[step + 1] - wire.begin[step])) < 1e-6;
+})"""
+
+
+@pytest.fixture
+def opened(browser, tmp_path):  # noqa: F811
+    """Opens the page of a run, on a bus with these bit rates."""
+
+    def open_page(run, names, rates):
+        path = tmp_path / "run.html"
+        path.write_text(page(run, names, "run.rec", rates=rates), encoding="utf-8")
+        browser.size(1200)
+        browser.open(f"file://{path}")
+        return browser
+
+    yield open_page
+    assert browser.faults == []
+
+
+@pytest.fixture
+def half(opened):
+    """The page of a run whose attempts take half of the time."""
+    return opened(three_messages(), NODES, HALF)
+
+
+def look(shown, first, last):
+    """Looks at a part of the time, in microseconds."""
+    shown.run(f"look({first} / 1e6, {last} / 1e6)")
+    shown.settle()
+
+
+def test_load_in_words(half):
+    # 7 attempts of 108 microseconds, of which 6 are followed by as long a pause.
+    assert "Bus load 53.8 % at 1 Mbit/s." in half.run("at('facts').textContent")
+    assert half.run(SEEN) == ["seen 53.8 %", "all 53.8 %"]
+    for first, last, share in [(0, 108, "100.0"), (108, 216, "0.0"), (54, 162, "50.0"), (0, 216, "50.0")]:
+        look(half, first, last)
+        assert half.run(SEEN) == [f"seen {share} %", "all 53.8 %"]
+        assert f"seen {share} %" in half.run("at('gutter').textContent")
+
+
+def test_the_track(half):
+    look(half, 0, 432)
+    drawn = half.run(f"{DRAWN}([50, 160, 270, 380].map(micros => micros / 1e6))")
+    assert drawn == [[True, False], [False, False], [True, False], [False, False]]
+    assert {"100 %", "0 %"} <= {*half.run(WRITTEN)}
+
+
+def test_more_than_the_wire_can_carry(opened):
+    shown = opened(three_messages(), NODES, DOUBLE)
+    assert shown.run(SEEN) == ["seen 175.0 %", "all 175.0 %"]
+    assert shown.run(f"{DRAWN}([500 / 1e6])") == [[True, True]]
+    assert "at 250 kbit/s." in shown.run("at('facts').textContent")
+
+
+def test_attempts_are_as_long_as_they_took(half):
+    assert half.run("widthOf(plotted(), 3) / plotted().width") == pytest.approx(108 / 1404, rel=0.001)
+    assert half.run("at('by-time').getAttribute('aria-pressed')") == "true"
+    place = "(() => { const box = at('lanes').getBoundingClientRect(); return [box.left, box.top + 70]; })()"
+    left, top = half.run(place)
+    width = half.run("plotted().width")
+    for attempt in (2, 5):
+        # Two thirds of it.
+        x = left + (216 * attempt + 72) / 1404 * width
+        half.mouse("mousePressed", x, top, button="left", clickCount=1)
+        half.mouse("mouseReleased", x, top, button="left", clickCount=1)
+        assert half.run(ATTEMPT) == attempt
+        assert half.run("at('cursor').getBoundingClientRect().width") == pytest.approx(108 / 1404 * width, abs=1)
+
+
+def test_by_attempts_the_load_is_that_of_their_time(half):
+    look(half, 216, 648)
+    half.key("t")
+    assert half.run("at('by-time').getAttribute('aria-pressed')") == "false"
+    assert half.run("[axis.stepAt(view.from), axis.from(view.to), nanosAt(axis.start[2])]") == [1, 6, 432000]
+    assert half.run(SEEN)[0] == "seen 50.0 %"
+    assert "001#55555555555505" in half.run(WRITTEN)
+    half.key("t")
+    half.key("0")
+    assert half.run(SEEN)[0] == "seen 53.8 %"
+
+
+def test_the_detail(opened):
+    shown = opened(three_messages(), NODES, FULL)
+    shown.run("choose(6)")
+    words = shown.run(
+        "[...document.querySelectorAll('#chosen dt')].map(one => [one.textContent, one.nextSibling.textContent])"
+    )
+    assert (
+        dict(words).items()
+        >= {
+            "on the wire": "210 \u00b5s: 105 bits",
+            "attempt": "216 \u00b5s, from its start until the next one may begin",
+            # It loses the attempts that begin at 864 and 1080.
+            "queueing delay": "at least 642 \u00b5s, from the start of attempt 4, its first, to this end of frame",
+            "003 in view": "load 28.6 %, 28.6 % of the busy time",
+        }.items()
+    )
+    shown.run("choose(3)")
+    assert "at least 210 \u00b5s, the frame alone" in shown.run("at('chosen').textContent")
+
+
+def test_identifiers_that_take_most(opened):
+    shown = opened(three_messages(), NODES, FULL)
+    shown.run("showTab('tab-load')")
+    rows = "[...at('loads').rows].map(row => [...row.cells].map(cell => cell.textContent))"
+    assert shown.run(rows)[1:] == [
+        ["001", "3", "0", "0.648", "42.9 %", "42.9 %"],
+        ["002", "2", "0", "0.432", "28.6 %", "28.6 %"],
+        ["003", "2", "0", "0.432", "28.6 %", "28.6 %"],
+    ]
+    look(shown, 0, 432)
+    assert [row[0] for row in shown.run(rows)[1:]] == ["001", "002"]
+    assert shown.run("at('load-words').textContent").startswith("Bus load 100.0 % of 432 \u00b5s that are seen.")
+
+
+def test_shares_are_those_of_the_attempts(opened):
+    # 5,000 attempts that are a millisecond apart, some of which fail, and a pause.
+    shown = opened(long_run(), NAMES, FULL)
+    assert shown.run(SAME) is True and shown.run(EACH) is True
+    shown.key("t")
+    assert shown.run(EACH) is True
+    shown = opened(three_messages(), NODES, HALF)
+    assert shown.run(SAME) is True
+
+
+def test_a_run_without_attempts(opened):
+    shown = opened(record_of(), NAMES, FULL)
+    assert shown.run("at('facts').textContent").endswith(" Bus load 0.0 % at 500 kbit/s.")
+    assert shown.run(SEEN) == ["seen 0.0 %", "all 0.0 %"]
+    for key in "t+e":
+        shown.key(key)
+
+
+def test_a_run_with_bus_off(opened):
+    shown = opened(bus_off(), NAMES, FULL)
+    for _ in range(35):
+        shown.key("ArrowLeft")
+    assert shown.run(ATTEMPT) == 0
+    shown.key("End")
+    assert shown.run("titleOf(view.step)") == "restart"
+    long_text = shown.run("tipWords(0, 32)").splitlines()
+    assert long_text[0] == "attempts 0 to 31" and long_text[-1].startswith("bus load ")
+    assert shown.run("tipWords(0, 1)").endswith("\u00b5s on the wire")
+
+
+@pytest.mark.parametrize("dark", [False, True])
+@pytest.mark.parametrize("width", [320, 500, 1000, 1600])
+def test_nothing_is_cut_and_all_is_legible(half, width, dark):
+    half.size(width, dark=dark)
+    half.run("at('help').open = true")
+    assert "as long as it took" in half.run("at('help').textContent")
+    assert "an instant" not in half.run("at('help').textContent")
+    for name in [*TABS, "tab-load"]:
+        half.run(f"showTab('{name}')")
+        half.settle()
+        assert half.run("document.documentElement.scrollWidth") == width
+        assert half.run(CUT) == []
+        assert half.run(WIDE) == 0
+        assert half.run(WEAK) == []

@@ -1,0 +1,342 @@
+"""Time on the wire: the bits of frames and attempts, when attempts begin and are over, and the bus load.
+
+What a frame has of bits is compared with tests/wire_model.py of the clone, which sends them one by one.
+"""
+
+import json
+import random
+import sys
+from fractions import Fraction
+from pathlib import Path
+
+import pytest
+from test_commands import call
+from test_report import NAMES, bus_off, data_of, record_of
+
+from canbusd._slots import load_of, overlaps_of, slots_of
+from canbusd._wire import Bits, Rates, Wire
+from canbusd.record import parse_record
+from canbusd.report import page
+
+sys.path.append(str(Path(__file__).parents[2] / "tests"))
+
+from wire_model import Sender, arbitration_bits, bit_counts, data_bits, number_bits, random_frames  # noqa: E402
+
+SLOW, SWITCHING = Rates(500000), Rates(500000, 2000000)
+# Each way in which an attempt ends.
+ENDS = [
+    ("done", "good"),
+    ("done", "local-crc:0004"),
+    ("lastbit", "lastbit"),
+    ("noack", "good"),
+    ("destroyed", "global-bit"),
+    ("destroyed", "local-stuff:0002"),
+    ("destroyed", "global-form"),
+    ("destroyed", "local-crc:0002"),
+    ("destroyed", "local-form:0002"),
+]
+# Three messages, of 2.5, 3.5 and 3.5 frames, that have the wire to themselves: the worst response is that of the second
+# of the lowest priority, 3.5 frames (Davis, Burns, Bril, Lukkien, Real-Time Systems 2007). A frame has 108 bits with
+# intermission, 216 microseconds.
+A, B, C = "001#55555555555505", "002#55555555555503", "003#5555555555557C"
+FULL = [(0, A, 210), (1, B, 426), (2, C, 642), (0, A, 858), (1, B, 1074), (0, A, 1290), (2, C, 1506)]
+
+
+def model_frames(count):
+    """Frames of the model with the flags that canbusd's frames have at `SWITCHING`."""
+    yield from random_frames(11, count, is_fd=False, longest=8)
+    for frame in random_frames(12, count, is_fd=True, longest=64):
+        yield type(frame)(frame.number, frame.extended, frame.data, None, True, brs=True)
+
+
+def test_frames_have_the_bits_of_the_model():
+    for frame in model_frames(1500):
+        assert Wire(SWITCHING).frame_bits(str(frame)) == bit_counts(frame), str(frame)
+        one_rate = type(frame)(frame.number, frame.extended, frame.data, frame.requests, frame.is_fd)
+        assert Wire(SLOW).frame_bits(str(frame)) == bit_counts(one_rate), str(frame)
+
+
+@pytest.mark.parametrize(
+    "text, bits",
+    [
+        # 19 bits and 15 of the CRC are zeros, with 6 stuff bits.
+        ("000#", 50),
+        ("123#", 45),
+        ("123#R", 45),
+        ("123#11223344", 77),
+        ("555#5555555555555555", 109),
+        ("7FF#FFFFFFFFFFFFFFFF", 123),
+        ("048C0000#", 69),
+        ("1FFFFFFF#", 71),
+        *((text, 105) for text in (A, B, C)),
+    ],
+)
+def test_known_lengths_of_classic_frames(text, bits):
+    assert Wire(SWITCHING).frame_bits(text) == (bits, 0)
+
+
+def test_known_lengths_of_fd_frames():
+    """Without stuff bits but for the fixed ones, by counting fields; and with those of 64 zeros."""
+    assert Wire(SWITCHING).frame_bits("555##0") == (27, 32)
+    assert Wire(SWITCHING).frame_bits("555##0" + 3 * "55") == (27, 32 + 24)
+    assert Wire(SWITCHING).frame_bits("555##0" + 20 * "55") == (27, 37 + 160)
+    assert Wire(SWITCHING).frame_bits("15555555##0" + 20 * "55") == (46, 37 + 160)
+    assert Wire(SWITCHING).frame_bits("123##0" + 64 * "00") == (27, 651)
+    # Without a switch BRS is dominant: before a length of 3 that makes five zeros, which a stuff bit follows.
+    assert Wire(SLOW).frame_bits("555##0" + 20 * "55") == (27 + 37 + 160, 0)
+    assert Wire(SLOW).frame_bits("555##0" + 3 * "55") == (27 + 32 + 24 + 1, 0)
+
+
+def to_data_end(frame):
+    """The bits of a frame to its last data bit, by the sender of the model."""
+    sender = Sender()
+    if frame.is_fd:
+        sender.send([0, *arbitration_bits(frame), 1, 0, int(frame.brs)])
+        lengths = [*range(9), 12, 16, 20, 24, 32, 48, 64]
+        sender.send([0, *number_bits(lengths.index(len(frame.data)), 4), *data_bits(frame)], frame.brs)
+    else:
+        length = len(frame.data) if frame.requests is None else frame.requests
+        reserved = [0, 0] if frame.extended else [0]
+        sender.send([0, *arbitration_bits(frame), *reserved, *number_bits(length, 4), *data_bits(frame)])
+    return len(sender.bits) - sender.fast, sender.fast
+
+
+def test_attempts_have_the_bits_of_their_parts():
+    for frame in model_frames(300):
+        (early, early_fast), (whole, fast) = to_data_end(frame), bit_counts(frame)
+        # Flags of 7, 6 and 12 bits, a delimiter of 8, and an intermission of 3; ten bits end a frame, of which a missing
+        # acknowledgement leaves 2, and what is seen after the ACK slot 3.
+        expected = [
+            (whole + 3, fast),
+            (whole + 3, fast),
+            (whole + 7 + 8 + 3, fast),
+            (whole - 10 + 2 + 6 + 8 + 3, fast),
+            (early + 12 + 8 + 3, early_fast),
+            (early + 12 + 8 + 3, early_fast),
+            *[(whole - 10 + 3 + 12 + 8 + 3, fast)] * 3,
+        ]
+        wire = Wire(SWITCHING)
+        assert [wire.attempt_bits(str(frame), *end) for end in ENDS] == expected, str(frame)
+
+
+def test_known_lengths_of_attempts():
+    """52 and 67 bits to the end of the data and of the CRC, and 3 bits of intermission after each attempt."""
+    lengths = [80, 80, 77 + 18, 67 + 19, 52 + 23, 52 + 23, 67 + 26, 67 + 26, 67 + 26]
+    assert [Wire(SWITCHING).attempt_bits("123#11223344", *end) for end in ENDS] == [(length, 0) for length in lengths]
+    assert Wire(SWITCHING).attempt_bits("123##0", "destroyed", "global-bit") == (17 + 23, 5)
+    assert Wire(SWITCHING).attempt_bits("123##0", "noack", "good") == (17 + 19, 32)
+
+
+def test_times_are_rounded_up():
+    assert Rates(1000000, 8000000).nanos(Bits(27, 651)) == 108375
+    assert Rates(1000000).nanos(Bits(50)) == 50000
+    assert Rates(300000).nanos(Bits(1)) == 3334
+    assert Rates(500000, 3000000).nanos(Bits(1, 1)) == 2334
+    wire = Wire(Rates(500000))
+    assert wire.times("000#", "done", "good") == (100000, 106000, (50, 0))
+    # 22 of its bits come before the flags: 19, and 3 stuff bits.
+    assert wire.times("000#", "destroyed", "global-bit") == (100000, 90000, (50, 0))
+
+
+@pytest.mark.parametrize("given", [(4999,), (1000001,), (500000, 499999), (500000, 20000001), (0, 0)])
+def test_rates_that_a_bus_may_not_have(given):
+    with pytest.raises(ValueError, match="^--d?bitrate "):
+        Rates(*given)
+
+
+def test_rates_at_the_limits():
+    assert [Rates(5000, 5000).dbitrate, Rates(1000000, 20000000).dbitrate] == [5000, 20000000]
+
+
+def run_of(*tried):
+    """The record of frames, each of which its interface sends before its attempt: (interface, frame, microseconds)."""
+    entries = [f"open {iface} 1 = socket {iface}" for iface in range(3)]
+    numbers = [0, 0, 0]
+    for iface, text, micros in tried:
+        entries.append(f"send {iface} {text} = number {numbers[iface]}")
+        tried_words = f"tried {iface} {numbers[iface]} {text} done {7 - (1 << iface):04X} 0000"
+        entries.append(f"attempt {micros // 1000000}.{micros % 1000000:06} good = {tried_words}")
+        numbers[iface] += 1
+    lines = ["canbus record 3", f"bus 3 always 0000 10 1000000 0", "option 0 fd 1 = no-socket"]
+    return "\n".join([*lines, *entries, f"end {len(entries) + 1}", ""]).encode()
+
+
+def replay_of(*tried):
+    return parse_record(run_of(*tried)).replay
+
+
+def three_messages():
+    """The same run with each frame sent when it is queued, so that others take part in the arbitration that they lose."""
+    entries = [f"open {iface} 1 = socket {iface}" for iface in range(3)]
+    numbers = {A: 0, B: 0, C: 0}
+
+    def send(*texts):
+        for text in texts:
+            entries.append(f"send {[A, B, C].index(text)} {text} = number {numbers[text]}")
+            numbers[text] += 1
+
+    send(A, B, C)
+    for attempt, (iface, text, micros) in enumerate(FULL):
+        number = sum(text == other for _, other, _ in FULL[:attempt])
+        entries.append(f"attempt 0.{micros:06} good = tried {iface} {number} {text} done {7 - (1 << iface):04X} 0000")
+        # A after 540 microseconds, when the third attempt has begun, B and C after 756, A after 1080.
+        send(*{2: [A], 3: [B, C], 4: [A]}.get(attempt, []))
+    lines = ["canbus record 1", "bus 3 always 0000 10 100", *entries, f"end {len(entries)}", ""]
+    return parse_record("\n".join(lines).encode()).replay
+
+
+def test_a_wire_that_is_never_free():
+    slots = slots_of(replay_of(*FULL), SLOW)
+    assert [(slot.begin, slot.over) for slot in slots] == [(216000 * k, 216000 * (k + 1)) for k in range(7)]
+    assert load_of(slots) == (1512000, 1512000)
+    assert load_of(slots).share == 1
+    assert load_of(slots_of(replay_of(*FULL), Rates(1000000))) == (7 * 108000, 6 * 216000 + 108000)
+    assert load_of([]).share == 0
+
+
+def test_attempts_that_begin_too_early():
+    tried = [(iface, text, micros - 2 * (k == 3)) for k, (iface, text, micros) in enumerate(FULL)]
+    run = replay_of(*tried)
+    # What was rounded off is less than a microsecond.
+    assert overlaps_of(run, slots_of(run, SLOW)) == [
+        "attempt 3 at 0.000856 begins 1.001 microseconds before attempt 2 is over"
+    ]
+    tried[3] = (0, A, 857)
+    run = replay_of(*tried)
+    assert overlaps_of(run, slots_of(run, SLOW)) == [
+        "attempt 3 at 0.000857 begins 0.001 microseconds before attempt 2 is over"
+    ]
+
+
+def on_a_bench(maker, rates, frames):
+    """The moments of frames, some of which begin at once: by fractions of a microsecond that are rounded up and down."""
+    wire, free, tried = Wire(rates), 0, []
+    for number, frame in enumerate(frames):
+        begin = max(free, 1000 * maker.choice([0, 0, free // 1000 + maker.randrange(200)]))
+        nominal, fast = wire.frame_bits(str(frame))
+        lasts = Fraction(nominal, rates.bitrate) + Fraction(fast, rates.dbitrate)
+        end, over = (begin - (-bits * 1000000000 // 1) for bits in (lasts, lasts + Fraction(3, rates.bitrate)))
+        tried.append((number % 3, str(frame), end // 1000))
+        free = over
+    return tried
+
+
+@pytest.mark.parametrize("seed, rates", enumerate([Rates(333333, 777777), Rates(1000000, 7000000), Rates(6000, 6001)]))
+def test_rounding_does_not_add_up(seed, rates):
+    maker = random.Random(seed)
+    frames = list(random_frames(seed, 400, is_fd=False, longest=8))
+    tried = on_a_bench(maker, rates, frames)
+    slots = slots_of(replay_of(*tried), rates)
+    assert [slot.overlap for slot in slots] == [0] * len(frames)
+    # A bit more for each frame does add up.
+    slower = Rates(rates.bitrate - rates.bitrate // 200, rates.dbitrate)
+    assert any(slot.overlap for slot in slots_of(replay_of(*tried), slower))
+
+
+def test_restarts_take_no_time():
+    # Its attempts are a microsecond apart.
+    slots = slots_of(bus_off(), SLOW)
+    assert len(slots) == 32
+    assert all(slot.overlap for slot in slots[1:])
+    assert load_of(slots).share > 10
+
+
+def test_attempts_at_the_last_moment():
+    last = 9999999999999999
+    run = replay_of((0, A, last - 1), (0, A, last), (0, A, last))
+    assert overlaps_of(run, slots_of(run, SLOW)) == []
+
+
+@pytest.fixture
+def full(tmp_path):
+    path = tmp_path / "full.rec"
+    path.write_bytes(run_of(*FULL))
+    return path
+
+
+def test_replay_with_a_bit_rate(full):
+    load = "load 100.0 %: the wire was busy for 0.001512 of 0.001512 seconds\n"
+    status, written, said = call("replay", "--bitrate", 500000, full)
+    assert (status, said) == (0, "")
+    assert written == call("replay", full)[1].replace("ok", load + "ok")
+    assert call("replay", "--quiet", "--bitrate", 500000, full)[1] == load + "ok 18 entries\n"
+    status, written, said = call("replay", "--json", "--bitrate", 1000000, full)
+    assert json.loads(written.splitlines()[-1]) == {
+        "type": "load", "busy": 0.000756, "time": 0.001404, "share": pytest.approx(756 / 1404)
+    }  # fmt: skip
+
+
+def test_replay_of_a_record_with_overlaps(full):
+    status, written, said = call("replay", "--quiet", "--bitrate", 250000, full)
+    assert status == 1
+    assert written == "load 175.0 %: the wire was busy for 0.003024 of 0.001728 seconds\n"
+    assert said.splitlines()[0] == (
+        "canbusd replay: attempt 1 at 0.000426 begins 215.001 microseconds before attempt 0 is over"
+    )
+    assert len(said.splitlines()) == 6
+    full.write_bytes(run_of(*[(0, A, 1)] * 13))
+    assert call("replay", "--json", "--bitrate", 500000, full)[2].splitlines()[10:] == ["canbusd replay: 2 more do"]
+    full.write_bytes(run_of())
+    assert call("replay", "--bitrate", 500000, full) == (0, "load 0 %: no frame was tried\nok 4 entries\n", "")
+
+
+def test_a_report_with_a_bit_rate(full):
+    status, text, said = call("report", "--bitrate", 500000, "--dbitrate", 2000000, full)
+    assert (status, said) == (0, "")
+    assert [data_of(text)[0]["wire"][name] for name in ("bitrate", "dbitrate")] == [500000, 2000000]
+    assert "wire" not in data_of(call("report", full)[1])[0]
+    drawn = call("report", "--text", "--bitrate", 500000, full)[1]
+    load = "load 100.0 %: the wire was busy for 0.001512 of 0.001512 seconds\n"
+    assert load in drawn and drawn.replace(load, "") == call("report", "--text", full)[1]
+
+
+@pytest.mark.parametrize("command", ["replay", "report"])
+def test_words_that_are_refused(full, command):
+    for words, why in [
+        (("--bitrate", "4999"), "--bitrate 4999: from 5000 to 1000000"),
+        (("--bitrate", "1000001"), "--bitrate 1000001: from 5000 to 1000000"),
+        (("--dbitrate", "2000000"), "--dbitrate needs --bitrate"),
+        (("--bitrate", "500000", "--dbitrate", "499999"), "--dbitrate 499999: from 500000, that of --bitrate, to 20000000"),
+        (("--bitrate", "5000", "--dbitrate", "20000001"), "--dbitrate 20000001: from 5000, that of --bitrate, to 20000000"),
+    ]:  # fmt: skip
+        assert call(command, *words, full) == (2, "", f"canbusd {command}: {why}\n")
+    for word in ("5e5", "-500000", "500_000", ""):
+        status, written, said = call(command, f"--bitrate={word}", full)
+        assert (status, written) == (2, "") and f"not a number in decimal digits: '{word}'" in said
+
+
+def test_the_columns_of_a_page():
+    header, column = data_of(page(three_messages(), ("a", "b", "c"), "run.rec", rates=SLOW))
+    wire = header["wire"]
+    assert (wire["bitrate"], wire["dbitrate"], wire["end"]) == (500000, None, 1512000)
+    assert column(wire["begin"]) == [216000 * attempt for attempt in range(7)]
+    assert [column(wire[name]) for name in ("nominal", "fast", "frame", "busy")] == [
+        [each] * 7 for each in (105, 0, 210000, 216000)
+    ]
+    # The first frames of b and c lose to that of a; the second of c loses to those of b and a.
+    assert column(wire["since"]) == [0, 1, 2, 0, 0, 0, 2]
+
+
+def test_the_columns_of_a_run_with_bus_off():
+    header, column = data_of(page(bus_off(), NAMES, "run.rec", rates=SWITCHING))
+    wire = header["wire"]
+    assert wire["dbitrate"] == 2000000
+    # Then idle attempts and a restart: they take no time, and nothing begins before what is before it.
+    assert column(wire["busy"])[32:] == column(wire["frame"])[32:] == [0, 0]
+    begins = column(wire["begin"])
+    assert begins[:32] == [1000 * attempt for attempt in range(32)] and begins[32:] == [begins[32]] * 2
+    assert column(wire["since"]) == [*range(32), 0, 0]
+
+
+def test_pages_of_runs_that_tried_nothing():
+    for entries in ([], ["attempt 5.000000 good = idle"]):
+        header, column = data_of(page(record_of(*entries), NAMES, "run.rec", rates=SLOW))
+        assert column(header["wire"]["begin"]) == [0] * len(entries)
+        assert header["wire"]["end"] == 0
+
+
+def test_without_a_bit_rate_a_page_has_nothing_of_it():
+    text = page(three_messages(), ("a", "b", "c"), "run.rec")
+    assert "wire" not in data_of(text)[0]
+    assert "bus load" not in text.lower() and "wire.busy" not in text
+    assert "bus load" in page(three_messages(), ("a", "b", "c"), "run.rec", rates=SLOW)
