@@ -124,7 +124,13 @@ def test_a_start_that_fails_says_why(buses, options, said):
         Server(*buses, **options)
 
 
-@pytest.mark.parametrize("name", [pytest.param(name, marks=needs_live if name == "flush" else ()) for name in NUMBERS])
+# A bench has the bit rates.
+SERVER_NUMBERS = [name for name in NUMBERS if name not in ("bitrate", "dbitrate")]
+
+
+@pytest.mark.parametrize(
+    "name", [pytest.param(name, marks=needs_live if name == "flush" else ()) for name in SERVER_NUMBERS]
+)
 def test_the_limits_of_numbers_are_those_of_the_program(name, tmp_path):
     option, least, most = NUMBERS[name]
     more = {"record": "live"} if name == "flush" else {}
