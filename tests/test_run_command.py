@@ -9,6 +9,7 @@ import signal
 import socket
 import stat
 import subprocess
+import threading
 import time
 
 import pytest
@@ -108,6 +109,61 @@ def test_older_server(answer):
                 f"canbusd-run: the server at {address} is older than {version}: start one of the same version\n"
             )
             assert child.wait(WAIT) == 125
+
+
+#: Sends a frame for each of these words, and shows of each frame that it receives whether it is this socket's own, and
+#: whether it is one of the host.
+OWN_FRAMES = """
+import socket, struct, sys
+with socket.socket(socket.PF_CAN, socket.SOCK_RAW, socket.CAN_RAW) as can:
+    can.setsockopt(socket.SOL_CAN_RAW, socket.CAN_RAW_RECV_OWN_MSGS, 1)
+    can.bind(("can0",))
+    for _ in sys.argv[1:]:
+        can.send(struct.pack("=IB3x8s", 0x123, 0, b""))
+        for _ in range(2):
+            flags = can.recvmsg(72)[2]
+            print(bool(flags & 0x800), bool(flags & 4))
+"""
+
+
+def test_numbers_of_a_long_run():
+    """of a run with billions of frames a socket knows its own, and takes no other for one of them"""
+    numbers = [5, 6, 2**24 + 4, 2**24 + 6, 2**32 - 2]
+    # Each is followed by one that another socket has sent, which has a place that was one's own.
+    others = [4, 2**24 + 5, 2**24 + 5, 2**24 + 5, 2**24 + 6]
+    with socket.create_server(("127.0.0.1", 0)) as server:
+        address = f"127.0.0.1:{server.getsockname()[1]}"
+        words = ["--address", address, "/usr/bin/python3", "-c", OWN_FRAMES, *map(str, numbers)]
+        thread = threading.Thread(target=answer_sessions, args=(server, list(zip(numbers, others))), daemon=True)
+        thread.start()
+        ended = alone(*words)
+        assert ended.stdout.split("\n") == [*(len(numbers) * ["True True", "False True"]), ""], ended
+        server.close()
+
+
+def answer_sessions(server, numbers):
+    """Greets each session, and answers a frame with its number, and with the frame and another one of its interface."""
+    with contextlib.suppress(OSError):
+        while True:
+            connection, _ = server.accept()
+            threading.Thread(target=answer_session, args=(connection, numbers), daemon=True).start()
+
+
+def answer_session(connection, numbers):
+    connection.sendall(b"< hi >")
+    text = ""
+    with connection:
+        while piece := connection.recv(4096):
+            *messages, text = (text + piece.decode()).split(">")
+            for message in messages:
+                word = message.split()[1]
+                if word == "send":
+                    own, other = numbers.pop(0)
+                    handed = "".join(f"< frame 123 0.000000  same {number} >" for number in (own, other))
+                    answer = f"< ack {own} >{handed}"
+                else:
+                    answer = {"echo": "< echo >", "interfaces": "< interfaces can0 >"}.get(word, "< ok >")
+                connection.sendall(answer.encode())
 
 
 def test_interfaces():

@@ -15,8 +15,8 @@
 
 /* The bridge's end of the pair. */
 #define PROGRAM 3
-/* Numbers of frames are below the most entries of a record (`--limit` of canbusd.1). */
-#define MOST_NUMBERS (1u << 24)
+/* How many numbers of frames a session looks back: a frame that it sent before has left every queue long ago. */
+#define NUMBERS_KEPT (1u << 24)
 /* Seconds that a server is given for a reply. */
 #define PATIENCE 5
 #define SECOND 1000000000ull
@@ -82,7 +82,8 @@ struct session {
     char reply[64];       /* the first reply to what was given last that is not ok */
     size_t have;
     char input[32768];
-    uint8_t sent[MOST_NUMBERS / 8]; /* a bit for each number that a frame of this session has got */
+    uint64_t sent_end;              /* above each number that a frame of this session has got */
+    uint8_t sent[NUMBERS_KEPT / 8]; /* a bit for each of the last numbers below that: whether one has got it */
 };
 
 /* Connects to the server; NULL and the refusal where there is none. */

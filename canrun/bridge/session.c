@@ -54,6 +54,28 @@ void session_end(struct session *session) {
 
 /* ---- which received frames this session has sent ---- */
 
+static void mark_number(struct session *session, uint64_t number, bool is_own) {
+    uint8_t *marks = &session->sent[number % NUMBERS_KEPT / 8], mark = (uint8_t)(1 << number % 8);
+    *marks = is_own ? *marks | mark : *marks & (uint8_t)~mark;
+}
+
+/* A frame of this session has got this number, and others have got those since the last one. */
+static void keep_number(struct session *session, uint64_t number) {
+    if (number >= session->sent_end + NUMBERS_KEPT) {
+        memset(session->sent, 0, sizeof session->sent);
+        session->sent_end = number;
+    }
+    for (; session->sent_end <= number; session->sent_end++) {
+        mark_number(session, session->sent_end, false);
+    }
+    mark_number(session, number, true);
+}
+
+static bool is_own_number(const struct session *session, uint64_t number) {
+    bool is_kept = number < session->sent_end && session->sent_end - number <= NUMBERS_KEPT;
+    return is_kept && session->sent[number % NUMBERS_KEPT / 8] >> number % 8 & 1;
+}
+
 /* Takes the text that accepts a frame, with its number; false where it is another. */
 static bool note_sent(struct session *session, const char *text) {
     static const char word[] = "ack ";
@@ -62,8 +84,8 @@ static bool note_sent(struct session *session, const char *text) {
         return false;
     }
     text += sizeof word - 1;
-    if (message_number(&text, &number) && number < MOST_NUMBERS) {
-        session->sent[number / 8] |= (uint8_t)(1 << number % 8);
+    if (message_number(&text, &number)) {
+        keep_number(session, number);
     }
     return true;
 }
@@ -74,8 +96,7 @@ static uint32_t message_flags(const struct session *session, const struct item *
     if (item->origin != ORIGIN_SAME) {
         return 0;
     }
-    bool is_own = item->number < MOST_NUMBERS && session->sent[item->number / 8] >> item->number % 8 & 1;
-    return MSG_DONTROUTE | (is_own ? MSG_CONFIRM : 0);
+    return MSG_DONTROUTE | (is_own_number(session, item->number) ? MSG_CONFIRM : 0);
 }
 
 /* ---- what the server says ---- */
