@@ -68,6 +68,18 @@ MARKED = """[...lists[tab].body.querySelectorAll('[aria-selected]')].filter(row 
   const box = lists[tab].box.getBoundingClientRect(), one = row.getBoundingClientRect();
   return one.top >= box.top && one.bottom <= box.bottom + 1;
 }).map(row => row.firstChild.textContent)"""
+# The outcomes in the list of attempts, where the whole of them is seen in their rows.
+OUTCOMES = """[...lists[tab].body.children].map(row => {
+  const box = row.getBoundingClientRect(), words = row.querySelector('.mark').parentElement;
+  const one = words.getBoundingClientRect();
+  const isSeen = one.right <= box.right + 1 && one.bottom <= box.bottom + 1 && one.left >= box.left;
+  return isSeen ? words.textContent : null;
+})"""
+# The names of the lanes, where their ends are seen.
+ENDS = """lanes.map((lane, k) => {
+  const name = at('gutter').children[k + 1].querySelector('.name'), end = name.lastElementChild;
+  return end.getBoundingClientRect().right <= name.getBoundingClientRect().right + 1 ? end.textContent : null;
+})"""
 TABS = ["tab-events", "tab-attempts", "tab-items", "tab-nodes", "tab-sockets"]
 
 
@@ -227,6 +239,45 @@ def test_sixteen_nodes_of_which_one_sends(opened):
     shown.settle()
     assert shown.run("at('lanes').clientHeight - CURVES") == folded
     assert "256 bus off" in shown.run(WRITTEN)
+
+
+def long_names():
+    """16 nodes with names of 15 letters, of which each sends a frame of 64 bytes; the first one goes bus off with one."""
+    names, entries = [f"powertrain_can{number:X}" for number in range(16)], []
+    for number in range(16):
+        entries += [f"open {number} 256 = socket {number}", f"option {number} fd 1 = ok"]
+    for number in range(16):
+        frame = f"1FFFFF{number:02X}##0" + f"{number:02X}" * 64
+        others, attempt = f"{0xFFFF ^ 1 << number:04X} 0000", 1000 * number
+        entries += [
+            f"send {number} {frame} = number 0",
+            f"attempt 0.{attempt:06} good = tried {number} 0 {frame} done {others}",
+        ]
+    frame = "123##0" + "5A" * 64
+    entries.append(f"send 0 {frame} = number 1")
+    for k in range(32):
+        fate = f"destroyed 0000 000{k // 31}"
+        entries.append(f"attempt 1.{1000 * k:06} global-bit = tried 0 1 {frame} {fate}")
+    lines = ["canbus record 3", "bus 16 always 0000 10 1000 0", *entries, f"end {len(entries)}", ""]
+    return parse_record("\n".join(lines).encode(), names=names).replay, names
+
+
+@pytest.mark.parametrize("width", [320, 500, 640, 1600])
+def test_long_names_and_frames_have_room(opened, width):
+    shown = opened(*long_names())
+    shown.size(width)
+    for name in TABS:
+        shown.run(f"showTab('{name}')")
+        shown.settle()
+        assert shown.run("document.documentElement.scrollWidth") == width
+        assert shown.run(CUT) == []
+        assert shown.run(WIDE) == 0
+    # What became of an attempt is in its row, however long name and frame are.
+    shown.run("showTab('tab-attempts')")
+    shown.settle()
+    assert "destroyed" in shown.run(OUTCOMES) and None not in shown.run(OUTCOMES)
+    # So is the end of each name in its lane, by which it differs from the others.
+    assert shown.run(ENDS) == [name[-5:] for name in long_names()[1]]
 
 
 def long_run(count=5000):

@@ -69,11 +69,11 @@ def look(shown, first, last):
 def test_load_in_words(half):
     # 7 attempts of 108 microseconds, of which 6 are followed by as long a pause.
     assert "Bus load 53.8 % at 1 Mbit/s." in half.run("at('facts').textContent")
-    assert half.run(SEEN) == ["seen 53.8 %", "all 53.8 %"]
+    assert half.run(SEEN) == ["in view 53.8 %", "in all 53.8 %"]
     for first, last, share in [(0, 108, "100.0"), (108, 216, "0.0"), (54, 162, "50.0"), (0, 216, "50.0")]:
         look(half, first, last)
-        assert half.run(SEEN) == [f"seen {share} %", "all 53.8 %"]
-        assert f"seen {share} %" in half.run("at('gutter').textContent")
+        assert half.run(SEEN) == [f"in view {share} %", "in all 53.8 %"]
+        assert f"in view {share} %" in half.run("at('gutter').textContent")
 
 
 def test_the_track(half):
@@ -85,7 +85,7 @@ def test_the_track(half):
 
 def test_more_than_the_wire_can_carry(opened):
     shown = opened(three_messages(), NODES, DOUBLE)
-    assert shown.run(SEEN) == ["seen 175.0 %", "all 175.0 %"]
+    assert shown.run(SEEN) == ["in view 175.0 %", "in all 175.0 %"]
     assert shown.run(f"{DRAWN}([500 / 1e6])") == [[True, True]]
     assert "at 250 kbit/s." in shown.run("at('facts').textContent")
 
@@ -110,11 +110,11 @@ def test_by_attempts_the_load_is_that_of_their_time(half):
     half.key("t")
     assert half.run("at('by-time').getAttribute('aria-pressed')") == "false"
     assert half.run("[axis.stepAt(view.from), axis.from(view.to), nanosAt(axis.start[2])]") == [1, 6, 432000]
-    assert half.run(SEEN)[0] == "seen 50.0 %"
+    assert half.run(SEEN)[0] == "in view 50.0 %"
     assert "001#55555555555505" in half.run(WRITTEN)
     half.key("t")
     half.key("0")
-    assert half.run(SEEN)[0] == "seen 53.8 %"
+    assert half.run(SEEN)[0] == "in view 53.8 %"
 
 
 def test_the_detail(opened):
@@ -137,6 +137,32 @@ def test_the_detail(opened):
     assert "at least 210 \u00b5s, the frame alone" in shown.run("at('chosen').textContent")
 
 
+def test_an_attempt_that_failed_sent_no_whole_frame(opened):
+    # can0's frame is destroyed 32 times, a microsecond apart.
+    shown = opened(bus_off(), NAMES, FULL)
+    shown.run("choose(0)")
+    text = shown.run("at('chosen').textContent")
+    assert "whole frame90 \u00b5s: 45 bits, not all of which were sent" in text
+    assert "not sent in this attempt, the first in which it took part" in text
+    shown.run("choose(31)")
+    text = shown.run("at('chosen').textContent")
+    assert "not sent in this attempt; the first in which it took part, 0, began 31 \u00b5s before" in text
+
+
+def test_attempts_longer_than_the_axis(opened):
+    """Of a run whose frames took no time: nothing of the chosen attempt is beside the lanes, and the load is short."""
+    shown = opened(bus_off(), NAMES, FULL)
+    assert shown.run(SEEN) == ["in view > 999 %", "in all > 999 %"]
+    for width in (320, 500):
+        shown.size(width)
+        assert shown.run(CUT) == []
+    shown.run("choose(31), look(axis.start[31] + 2e-5, axis.start[31] + 4e-5)")
+    shown.settle()
+    cursor = "['cursor', 'lanes'].map(id => at(id).getBoundingClientRect()).map(({ left, right }) => [left, right])"
+    (left, right), (first, last) = shown.run(cursor)
+    assert left >= first and right <= last
+
+
 def test_identifiers_that_take_most(opened):
     shown = opened(three_messages(), NODES, FULL)
     shown.run("showTab('tab-load')")
@@ -148,7 +174,7 @@ def test_identifiers_that_take_most(opened):
     ]
     look(shown, 0, 432)
     assert [row[0] for row in shown.run(rows)[1:]] == ["001", "002"]
-    assert shown.run("at('load-words').textContent").startswith("Bus load 100.0 % of 432 \u00b5s that are seen.")
+    assert shown.run("at('load-words').textContent").startswith("Bus load in view: 100.0 % of 432 \u00b5s.")
 
 
 def test_shares_are_those_of_the_attempts(opened):
@@ -164,7 +190,7 @@ def test_shares_are_those_of_the_attempts(opened):
 def test_a_run_without_attempts(opened):
     shown = opened(record_of(), NAMES, FULL)
     assert shown.run("at('facts').textContent").endswith(" Bus load 0.0 % at 500 kbit/s.")
-    assert shown.run(SEEN) == ["seen 0.0 %", "all 0.0 %"]
+    assert shown.run(SEEN) == ["in view 0.0 %", "in all 0.0 %"]
     for key in "t+e":
         shown.key(key)
 
@@ -178,7 +204,9 @@ def test_a_run_with_bus_off(opened):
     assert shown.run("titleOf(view.step)") == "restart"
     long_text = shown.run("tipWords(0, 32)").splitlines()
     assert long_text[0] == "attempts 0 to 31" and long_text[-1].startswith("bus load ")
-    assert shown.run("tipWords(0, 1)").endswith("\u00b5s on the wire")
+    # 123# has 19 bits to its data length code and a stuff bit in its 7 zeros; 12 of flags, 8 of the delimiter, and 3 follow.
+    assert shown.run("tipWords(0, 1)").endswith("busy for 86 \u00b5s")
+    assert "31 attempts begin before the wire is free" in shown.run("at('facts').textContent")
 
 
 @pytest.mark.parametrize("dark", [False, True])

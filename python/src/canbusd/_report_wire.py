@@ -1,5 +1,6 @@
 """What the page of a run has of time on the wire: columns beside those of its steps, where its bus has bit rates."""
 
+import operator
 from collections.abc import Callable, Iterable, Sequence
 from typing import Any
 
@@ -30,8 +31,8 @@ def wire_of(
     return {
         "bitrate": rates.bitrate,
         "dbitrate": rates.dbitrate,
-        # In nanoseconds since the start of the first.
-        "begin": column("d", (begin - start for begin in begins)),
+        # In nanoseconds: how long after the one before, which is shorter than since the first.
+        "begin": [*column("d", map(operator.sub, begins, [start, *begins])), "rising"],
         "end": end - start,
         # How many bits the frame has at each bit rate, and how long it and the attempt take, in nanoseconds.
         "nominal": column("H", (each.bits.nominal for each in times)),

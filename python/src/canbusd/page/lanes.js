@@ -230,12 +230,14 @@ function rounded(from, to, most, least) {
   return { each, found };
 }
 
+// A name that is too long for its place is cut before its end, by which names differ most often.
+const nameParts = name => name.length < 9 ? name : [element("span", name.slice(0, -5)), element("span", name.slice(-5))];
 // The names at the left, with the values at the chosen step.
 function buildGutter() {
   const axisWords = element("div", time.axisWords.map(text => element("div", text)), { className: "axis" });
   at("gutter").replaceChildren(axisWords, ...lanes.map(lane => {
     const isButton = lane.canFold || lane.canGo;
-    const name = element(isButton ? "button" : "span", lane.name, { className: "name", title: lane.title || lane.name });
+    const name = element(isButton ? "button" : "span", nameParts(lane.name), { className: "name", title: lane.title || lane.name });
     if (isButton) name.type = "button";
     if (lane.canGo) {
       name.classList.add("goes");
@@ -258,19 +260,23 @@ function sayValues() {
   for (const lane of lanes) {
     const said = lane.values(view.step);
     if (lane.said.childElementCount !== said.length) {
-      lane.said.replaceChildren(...said.map(([name]) => element("div", [mark(name), ""])));
+      lane.said.replaceChildren(...said.map(([name]) => element("div", [...name ? [mark(name)] : [], ""])));
     }
     said.forEach(([, text], k) => { lane.said.children[k].lastChild.data = text; });
   }
 }
 // The chosen step, over ruler and lanes.
 function placeCursor() {
-  const plot = plotted(), cursor = at("cursor");
-  const from = placeOf(plot, axis.start[view.step]), to = placeOf(plot, axis.start[view.step + 1] ?? axis.length);
-  const wide = Math.min(Math.max(time.isInstant ? 3 : to - from, 3), plot.width);
-  cursor.hidden = !axis.count || from + wide < 0 || from > plot.width;
-  cursor.style.transform = `translateX(${from}px)`;
-  cursor.style.width = wide + "px";
+  const plot = plotted(), from = placeOf(plot, axis.start[view.step]);
+  const to = placeOf(plot, axis.start[view.step + 1] ?? axis.length);
+  moveCursor(plot, from, time.isInstant ? from : to);
+}
+// At least 3 pixels wide, and nothing of it beside the lanes.
+function moveCursor(plot, from, to) {
+  const cursor = at("cursor"), left = Math.min(Math.max(from, 0), plot.width - 3);
+  cursor.hidden = !axis.count || Math.max(to, from + 3) < 0 || from > plot.width;
+  cursor.style.transform = `translateX(${left}px)`;
+  cursor.style.width = Math.max(Math.min(to, plot.width) - left, 3) + "px";
 }
 // What is seen, in the overview of all.
 function placeWindow() {

@@ -4,8 +4,8 @@
 const MOST_ROOM = 8e6;
 
 // A list of which only the rows in view are made. A column is a heading, a width, and whether it has numbers ("n"), is
-// said with its heading where the page is narrow ("h"), or may be wrapped there ("w"). The arrow keys move in a list,
-// Enter chooses.
+// said with its heading where the page is narrow ("h"), may be wrapped there ("w"), or is cut there, with a sign, so that
+// there is room for what follows it ("f"). The arrow keys move in a list, Enter chooses.
 class Rolling {
   constructor(id, columns, cellsOf, choose = null) {
     Object.assign(this, { columns, cellsOf, choose, list: [], active: 0, rows: new Map() });
@@ -29,7 +29,7 @@ class Rolling {
     if (kind.includes("h") && role === "gridcell") made.dataset.head = head;
     return made;
   }
-  get line() { return isNarrow() ? 44 : 22; }
+  get line() { return window.innerWidth < 420 ? 64 : isNarrow() ? 44 : 22; }
   get inView() { return Math.max(Math.floor((this.box.clientHeight - this.head.offsetHeight) / this.line), 1); }
   get whole() { return Math.min(this.list.length * this.line, MOST_ROOM); }
   // How far one row scrolls.

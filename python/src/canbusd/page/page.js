@@ -412,6 +412,7 @@ function showChosen() {
 const attemptCell = step => isAttempt(step) ? grouped(attemptOf[step]) : steps.kind[step] === IDLE ? "idle" : "restart";
 function makeLists() {
   const moment = ["moment", `${Math.max(8, axis.count ? momentOf(axis.count - 1).length : 0)}ch`, "n"];
+  const nameWide = `minmax(0, ${Math.max(7, ...names.map(name => name.length))}ch)`;
   const toStep = (id, columns, cellsOf, stepOf) => {
     const list = new Rolling(id, columns, cellsOf, one => choose(stepOf(one)));
     list.isChosen = one => stepOf(one) === view.step;
@@ -422,15 +423,15 @@ function makeLists() {
     [["attempt", "7ch", "n"], moment, ["kind", "11ch"], ["what", "minmax(0, 1fr)", "w"]],
     ([step, kind, , words]) => [attemptCell(step), momentOf(step), kindCell(kind), words], event => event[0]);
   lists["tab-attempts"] = toStep("tried",
-    [["attempt", "8ch", "n"], moment, ["sender", "minmax(0, 0.8fr)"], ["frame no.", "7ch", "n h"],
-      ["frame", "minmax(0, 2.2fr)"], ["outcome", "minmax(0, 1.9fr)"], ["fault", "minmax(0, 1.4fr)", "w"],
+    [["attempt", "8ch", "n"], moment, ["sender", nameWide, "w"], ["frame no.", "8ch", "n h"],
+      ["frame", "minmax(0, 2.2fr)", "f"], ["outcome", "minmax(0, 1.9fr)"], ["fault", "minmax(0, 1.4fr)", "w"],
       ["accepted by", "minmax(0, 1.5fr)", "h w"]], attemptCells, step => step);
   lists["tab-items"] = toStep("items",
-    [["attempt", "8ch", "n"], moment, ["socket", "6ch", "n h"], ["from", "minmax(0, 1fr)", "h"],
-      ["frame no.", "8ch", "n h"], ["frame", "minmax(0, 2fr)"], ["says", "minmax(0, 2fr)", "w"],
+    [["attempt", "8ch", "n"], moment, ["socket", "6ch", "n h"], ["from", nameWide, "h w"],
+      ["frame no.", "8ch", "n h"], ["frame", "minmax(0, 2fr)", "f"], ["says", "minmax(0, 2fr)", "w"],
       ["what became of it", "minmax(0, 1.5fr)"]], itemCells, item => items.step[item]);
   lists["tab-sockets"] = new Rolling("sockets",
-    [["socket", "6ch", "n h"], ["node", "minmax(0, 1fr)"],
+    [["socket", "6ch", "n h"], ["node", nameWide, "w"],
       ...["capacity", "queued", "taken", "waiting", "unread", "dropped"].map(head => [head, "minmax(0, 9ch)", "n h"]),
       ["open", "minmax(0, 1fr)"]], one => [String(one.number), names[one.iface], ...[one.capacity, one.queued, one.taken,
       one.waiting, one.unread].map(grouped), one.dropped ? badText(grouped(one.dropped)) : "0", one.open],
@@ -557,6 +558,8 @@ function follow() {
 function showIfaces() {
   const heads = ["node", "state", "transmit count", "receive count", "sent", "done", "waiting", "lost",
     "refused: queue full", "refused: bus off"];
+  // Long names leave less room for the other columns.
+  at("ifaces").classList.toggle("long", names.some(name => name.length > 8));
   at("ifaces").replaceChildren(...rowsOf(heads, run.ifaces.map((one, i) => [names[i],
     element("td", stateWords(one.state), { className: one.state === "active" ? "" : "bad" }),
     one.tec, one.rec, one.sent, one.done, one.waiting, loss(one.lost), loss(one.full), loss(one.off)])));

@@ -48,7 +48,8 @@ const loadIn = (from, to) => to > from ? (busyUntil(to) - busyUntil(from)) / (to
 const loadOfAll = () => run.wire.end ? loadIn(0, run.wire.end) : 0;
 const loadSeen = () => loadIn(nanosAt(view.from), nanosAt(view.to));
 const fixed = (number, digits) => number.toLocaleString("en", { minimumFractionDigits: digits, maximumFractionDigits: digits });
-const percent = share => Number.isNaN(share) ? "none" : `${fixed(100 * share, share < 10 ? 1 : 0)} %`;
+// Of attempts that took no time it may be any number.
+const percent = share => Number.isNaN(share) ? "none" : share > 9.99 ? "> 999 %" : `${fixed(100 * share, 1)} %`;
 function duration(nanos) {
   const [unit, by] = nanos < 1e6 ? ["\u00b5s", 1e3] : nanos < 1e9 ? ["ms", 1e6] : ["s", 1e9];
   return `${grouped(Number((nanos / by).toFixed(3)))} ${unit}`;
@@ -58,7 +59,10 @@ function duration(nanos) {
 
 const BIN = 3;
 class LoadLane {
-  constructor() { Object.assign(this, { name: "bus load", height: 58, title: "share of the time in which the wire was busy" }); }
+  constructor() {
+    const title = "share of the time in which the wire was busy; red above: more than it can carry";
+    Object.assign(this, { name: "bus load", height: 58, title });
+  }
   draw(plot, top) {
     const { pen, width } = plot, high = this.height - 18, foot = top + 8 + high, each = (view.to - view.from) / width;
     const line = new Path2D();
@@ -79,11 +83,14 @@ class LoadLane {
     pen.stroke(line);
     pen.lineWidth = 1;
     across(plot, top + this.height - 6, theme.line);
-    if (plot.isNarrow) return;
+    if (plot.isNarrow) {
+      write(pen, "100 %", width - 1, top + 15, theme.soft, "right");
+      return;
+    }
     write(pen, "100 %", width + 6, top + 10, theme.soft);
     write(pen, "0 %", width + 6, foot - 4, theme.soft);
   }
-  values() { return [["tec", `seen ${percent(loadSeen())}`], ["queue", `all ${percent(loadOfAll())}`]]; }
+  values() { return [["", `in view ${percent(loadSeen())}`], ["", `in all ${percent(loadOfAll())}`]]; }
 }
 makeLanes = extend(makeLanes, () => {
   lanes.unshift(new LoadLane());
@@ -123,10 +130,8 @@ strip = (plain => (plot, i, top, fills) => {
 const widthOf = (plot, step) => wire.busy[step] / 1e9 / (view.to - view.from) * plot.width;
 placeCursor = extend(placeCursor, () => {
   if (!wire.isByTime || !axis.count) return;
-  const plot = plotted(), cursor = at("cursor"), from = placeOf(plot, axis.start[view.step]);
-  const wide = Math.min(Math.max(widthOf(plot, view.step), 3), plot.width);
-  cursor.hidden = from + wide < 0 || from > plot.width;
-  cursor.style.width = wide + "px";
+  const plot = plotted(), from = placeOf(plot, axis.start[view.step]);
+  moveCursor(plot, from, from + widthOf(plot, view.step));
 });
 
 // Words.
@@ -135,8 +140,20 @@ function rateWords() {
   const words = rate => rate % 1e6 ? `${grouped(rate / 1e3)} kbit/s` : `${grouped(rate / 1e6)} Mbit/s`;
   return words(run.wire.bitrate) + (run.wire.dbitrate ? `, data at ${words(run.wire.dbitrate)}` : "");
 }
+// How many attempts begin before those before them are over.
+function overlaps() {
+  let found = 0;
+  for (let k = 0, over = 0; k < axis.count; k++) {
+    if (!wire.busy[k]) continue;
+    if (wire.begin[k] < over) found++;
+    over = Math.max(over, wire.begin[k] + wire.busy[k]);
+  }
+  return found;
+}
 showWords = extend(showWords, () => {
-  at("facts").append(` Bus load ${percent(loadOfAll())} at ${rateWords()}.`);
+  const early = overlaps();
+  at("facts").append(` Bus load ${percent(loadOfAll())} at ${rateWords()}.`, early ? ` ${times(early, "attempt begins", "attempts begin")} `
+    + "before the wire is free: this run did not take the time of its bits, so times on the wire mean little." : "");
   const help = at("help").querySelector("p");
   help.textContent = help.textContent.replace(/By time an attempt is an instant.*?how many there were\./s,
     "By time an attempt is as long as it took the wire, until the next one might begin. Bus load is the share of the time "
@@ -145,13 +162,13 @@ showWords = extend(showWords, () => {
 });
 tipWords = extend(tipWords, (words, first, last) => {
   if (last - first > 1) return `${words}\nbus load ${percent(loadIn(wire.begin[first], wire.begin[last] ?? run.wire.end))}`;
-  return isAttempt(first) ? `${words}\n${duration(wire.frame[first])} on the wire` : words;
+  if (!isAttempt(first)) return words;
+  return `${words}\n${isWhole(first) ? `${duration(wire.frame[first])} on the wire` : `busy for ${duration(wire.busy[first])}`}`;
 });
 fieldList = extend(fieldList, (list, step) => {
-  const nominal = times(wire.nominal[step], "bit"), fast = wire.fast[step];
   const identifier = wire.identifierOf[steps.frame[step]], of = sumsSeen();
   const pairs = [
-    ["on the wire", `${duration(wire.frame[step])}: ${nominal}${fast ? `, and ${grouped(fast)} at the data bit rate` : ""}`],
+    [isWhole(step) ? "on the wire" : "whole frame", `${duration(wire.frame[step])}: ${bitWords(step)}`],
     ["attempt", `${duration(wire.busy[step])}, from its start until the next one may begin`],
     ["queueing delay", delayWords(step)],
     [`${wire.identifiers[identifier]} in view`, shareWords(of.busy[identifier], of)],
@@ -159,9 +176,20 @@ fieldList = extend(fieldList, (list, step) => {
   list.append(...pairs.flatMap(([name, value]) => [element("dt", name), element("dd", value)]));
   return list;
 });
+// Whether the frame came to its end: in other attempts it was destroyed before.
+const isWhole = step => ["done", "lastbit"].includes(KINDS[steps.kind[step]]);
+function bitWords(step) {
+  const nominal = times(wire.nominal[step], "bit"), fast = wire.fast[step];
+  return `${nominal}${fast ? `, and ${grouped(fast)} at the data bit rate` : ""}${isWhole(step) ? "" : ", not all of which were sent"}`;
+}
 // As far as the record has it: a send has no moment.
 function delayWords(step) {
   const first = step - wire.since[step], nanos = wire.begin[step] + wire.frame[step] - wire.begin[first];
+  if (!isWhole(step)) {
+    const before = duration(wire.begin[step] - wire.begin[first]);
+    return first === step ? "not sent in this attempt, the first in which it took part"
+      : `not sent in this attempt; the first in which it took part, ${grouped(attemptOf[first])}, began ${before} before`;
+  }
   if (first === step) return `at least ${duration(nanos)}, the frame alone: it took part in no attempt before`;
   return `at least ${duration(nanos)}, from the start of attempt ${grouped(attemptOf[first])}, its first, to this end of frame`;
 }
@@ -198,7 +226,7 @@ function makeTab() {
 function showLoads() {
   const sums = sumsSeen(), order = [...sums.busy.keys()].filter(one => sums.attempts[one]);
   const most = order.sort((one, other) => sums.busy[other] - sums.busy[one]).slice(0, MOST_IDENTIFIERS);
-  at("load-words").textContent = `Bus load ${percent(loadSeen())} of ${duration(sums.nanos)} that are seen. Below: the `
+  at("load-words").textContent = `Bus load in view: ${percent(loadSeen())} of ${duration(sums.nanos)}. Below: the `
     + `identifiers that take most, of the attempts that begin there${order.length > most.length ? `, ${MOST_IDENTIFIERS} of ${grouped(order.length)}` : ""}.`;
   const number = text => element("td", text, { className: "number" });
   at("loads").replaceChildren(...rowsOf(["identifier", "attempts", "failed", "busy, ms", "load", "of the busy time"],
