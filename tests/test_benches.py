@@ -23,8 +23,8 @@ def built(tmp_path_factory):
     return folder
 
 
-# The C programs have scripts, and no rules of faults.
-@pytest.mark.parametrize("name", sorted({*examples()} - {"one_goes_bus_off"}))
+# The C programs have scripts, and no rules of faults and no bit rates.
+@pytest.mark.parametrize("name", sorted({*examples()} - {"one_goes_bus_off", "response_times"}))
 def test_examples(built, name):
     with open(os.path.join(ROOT, "examples", f"{name}.bench"), encoding="utf-8") as file:
         words = re.search(r"\./canbusd (bench .+) < ", file.read())[1].split()

@@ -309,8 +309,10 @@ def test_an_audit_without_memory(refusing):
                 assert (done.returncode, done.stdout) == (1, ""), f"at {first}: {done}"
                 how = "no memory"
             else:
-                wanted = 1, "", ample.stderr.splitlines(True)[0]
-                assert (done.returncode, done.stdout, done.stderr) == wanted, f"at {first}: {done}"
+                fault, *helps = ample.stderr.splitlines(True)
+                said = done.stderr.splitlines(True)
+                assert (done.returncode, done.stdout, said[0]) == (1, "", fault), f"at {first}: {done}"
+                assert set(said[1:]) < set(helps), f"at {first}: {done}"
                 how = "without what helps"
             told[how] = told.get(how, 0) + 1
         tolds.append(told)
