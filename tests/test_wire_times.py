@@ -15,7 +15,7 @@ import pytest
 import random_benches
 from canbusd._wire import Rates as PackageRates, Wire
 from serving import ROOT
-from wire_model import FD_LENGTHS, Frame, bit_counts, random_data
+from wire_model import FD_LENGTHS, KNOWN_LENGTHS, Frame, bit_counts, random_data
 from wire_times import Ending, Message, Rates, Release, Sent, simulated, use, worst_response
 
 MICRO = 1000
@@ -29,19 +29,6 @@ OUTCOMES = {"done": Ending.DONE, "lastbit": Ending.LAST_BIT, "noack": Ending.NO_
 # of the third has the worst response (Davis, Burns, Bril and Lukkien, Real-Time Systems 35, 2007, section 3.2).
 THREE = [Frame.read(text) for text in ("001#55555555555505", "002#55555555555503", "003#5555555555557C")]
 PERIODS = [540 * MICRO, 756 * MICRO, 756 * MICRO]
-
-# How many bits frames have from start of frame to end of frame: 000# by hand (34 zeros, those of its CRC among them, 6
-# stuff bits, 10 at its end), the others by fields and a second model.
-KNOWN = [
-    ("000#", 50),
-    ("123#", 45),
-    ("123#R", 45),
-    ("123#11223344", 77),
-    ("555#5555555555555555", 109),
-    ("7FF#FFFFFFFFFFFFFFFF", 123),
-    ("048C0000#", 69),
-    ("1FFFFFFF#", 71),
-]
 
 # What a record says of attempts, by where they end.
 ENDINGS = {
@@ -208,7 +195,7 @@ def test_responses_of_random_messages(program: str, rng: random.Random, cases: i
     assert met, "no response meets its bound"
 
 
-@pytest.mark.parametrize("text, bits", KNOWN)
+@pytest.mark.parametrize("text, bits", KNOWN_LENGTHS)
 def test_known_lengths(program: str, text: str, bits: int) -> None:
     frame = Frame.read(text)
     assert bit_counts(frame) == (bits, 0)

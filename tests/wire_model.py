@@ -12,6 +12,18 @@ from collections.abc import Iterator, Sequence
 
 FD_LENGTHS = [0, 1, 2, 3, 4, 5, 6, 7, 8, 12, 16, 20, 24, 32, 48, 64]
 ACKNOWLEDGED_END = [1, 0, 1] + 7 * [1]
+# How many bits frames have from start of frame to end of frame: 000# by hand (34 zeros, those of its CRC among them, 6
+# stuff bits, 10 at its end), the others by fields and a second model.
+KNOWN_LENGTHS = [
+    ("000#", 50),
+    ("123#", 45),
+    ("123#R", 45),
+    ("123#11223344", 77),
+    ("555#5555555555555555", 109),
+    ("7FF#FFFFFFFFFFFFFFFF", 123),
+    ("048C0000#", 69),
+    ("1FFFFFFF#", 71),
+]
 
 
 @dataclasses.dataclass(frozen=True)

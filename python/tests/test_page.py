@@ -92,11 +92,11 @@ def browser(tmp_path_factory):
 
 @pytest.fixture
 def opened(browser, tmp_path):
-    """Opens the page of a run."""
+    """Opens the page of a run, of a bus with these bit rates if there are any."""
 
-    def open_page(run, names=NAMES):
+    def open_page(run, names=NAMES, rates=None):
         path = tmp_path / "run.html"
-        path.write_text(page(run, names, "run.rec"), encoding="utf-8")
+        path.write_text(page(run, names, "run.rec", rates=rates), encoding="utf-8")
         browser.size(1200)
         browser.open(f"file://{path}")
         return browser
@@ -173,18 +173,23 @@ def test_mouse(shown):
     assert shown.run(ATTEMPT) == attempt
 
 
-@pytest.mark.parametrize("dark", [False, True])
-@pytest.mark.parametrize("width", [320, 500, 1000, 1200, 1600])
-def test_nothing_is_cut_and_all_is_legible(shown, width, dark):
-    shown.size(width, dark=dark)
-    assert shown.run("theme.page") == ("#14181e" if dark else "#fff")
-    for name in TABS:
+def show_each(shown, width, tabs):
+    """Shows each list in turn: nothing is cut or wider than the page, and all is legible."""
+    for name in tabs:
         shown.run(f"showTab('{name}')")
         shown.settle()
         assert shown.run("document.documentElement.scrollWidth") == width
         assert shown.run(CUT) == []
         assert shown.run(WIDE) == 0
         assert shown.run(WEAK) == []
+
+
+@pytest.mark.parametrize("dark", [False, True])
+@pytest.mark.parametrize("width", [320, 500, 1000, 1200, 1600])
+def test_nothing_is_cut_and_all_is_legible(shown, width, dark):
+    shown.size(width, dark=dark)
+    assert shown.run("theme.page") == ("#14181e" if dark else "#fff")
+    show_each(shown, width, TABS)
 
 
 def test_wide_windows_have_the_list_beside_the_detail(shown):
@@ -266,12 +271,7 @@ def long_names():
 def test_long_names_and_frames_have_room(opened, width):
     shown = opened(*long_names())
     shown.size(width)
-    for name in TABS:
-        shown.run(f"showTab('{name}')")
-        shown.settle()
-        assert shown.run("document.documentElement.scrollWidth") == width
-        assert shown.run(CUT) == []
-        assert shown.run(WIDE) == 0
+    show_each(shown, width, TABS)
     # What became of an attempt is in its row, however long name and frame are.
     shown.run("showTab('tab-attempts')")
     shown.settle()

@@ -3,7 +3,7 @@ Chromium."""
 
 import pytest
 from browser import PROGRAM
-from test_page import ATTEMPT, CUT, TABS, WEAK, WIDE, WRITTEN, browser, long_run  # noqa: F401  a fixture
+from test_page import ATTEMPT, CUT, TABS, WRITTEN, browser, long_run, opened, show_each  # noqa: F401  two fixtures
 from test_report import NAMES, bus_off, record_of
 from test_time_on_wire import three_messages
 
@@ -40,22 +40,7 @@ EACH = """[...Array(axis.count - 1).keys()].every(step => {
 
 
 @pytest.fixture
-def opened(browser, tmp_path):  # noqa: F811
-    """Opens the page of a run, on a bus with these bit rates."""
-
-    def open_page(run, names, rates):
-        path = tmp_path / "run.html"
-        path.write_text(page(run, names, "run.rec", rates=rates), encoding="utf-8")
-        browser.size(1200)
-        browser.open(f"file://{path}")
-        return browser
-
-    yield open_page
-    assert browser.faults == []
-
-
-@pytest.fixture
-def half(opened):
+def half(opened):  # noqa: F811
     """The page of a run whose attempts take half of the time."""
     return opened(three_messages(), NODES, HALF)
 
@@ -216,10 +201,4 @@ def test_nothing_is_cut_and_all_is_legible(half, width, dark):
     half.run("at('help').open = true")
     assert "as long as it took" in half.run("at('help').textContent")
     assert "an instant" not in half.run("at('help').textContent")
-    for name in [*TABS, "tab-load"]:
-        half.run(f"showTab('{name}')")
-        half.settle()
-        assert half.run("document.documentElement.scrollWidth") == width
-        assert half.run(CUT) == []
-        assert half.run(WIDE) == 0
-        assert half.run(WEAK) == []
+    show_each(half, width, [*TABS, "tab-load"])

@@ -20,7 +20,15 @@ from canbusd.report import page
 
 sys.path.append(str(Path(__file__).parents[2] / "tests"))
 
-from wire_model import Sender, arbitration_bits, bit_counts, data_bits, number_bits, random_frames  # noqa: E402
+from wire_model import (  # noqa: E402
+    KNOWN_LENGTHS,
+    Sender,
+    arbitration_bits,
+    bit_counts,
+    data_bits,
+    number_bits,
+    random_frames,
+)
 
 SLOW, SWITCHING = Rates(500000), Rates(500000, 2000000)
 # Each way in which an attempt ends.
@@ -59,15 +67,7 @@ def test_frames_have_the_bits_of_the_model():
 @pytest.mark.parametrize(
     "text, bits",
     [
-        # 19 bits and 15 of the CRC are zeros, with 6 stuff bits.
-        ("000#", 50),
-        ("123#", 45),
-        ("123#R", 45),
-        ("123#11223344", 77),
-        ("555#5555555555555555", 109),
-        ("7FF#FFFFFFFFFFFFFFFF", 123),
-        ("048C0000#", 69),
-        ("1FFFFFFF#", 71),
+        *KNOWN_LENGTHS,
         *((text, 105) for text in (A, B, C)),
     ],
 )

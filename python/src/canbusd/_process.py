@@ -13,6 +13,7 @@ from types import TracebackType
 from typing import Optional, TypeVar, Union
 
 from canbusd._program import find_program
+from canbusd._wire import LEAST_BITRATE, MOST_BITRATE, MOST_DBITRATE
 
 Self = TypeVar("Self", bound="ProgramRun")
 
@@ -27,8 +28,8 @@ NUMBERS: dict[str, tuple[str, int, int]] = {
     "rxqueue": ("--rxqueue", 1, 65_536),
     "limit": ("--limit", 1, 1 << 24),
     "flush": ("--flush", 0, 60_000),
-    "bitrate": ("--bitrate", 5_000, 1_000_000),
-    "dbitrate": ("--dbitrate", 5_000, 20_000_000),
+    "bitrate": ("--bitrate", LEAST_BITRATE, MOST_BITRATE),
+    "dbitrate": ("--dbitrate", LEAST_BITRATE, MOST_DBITRATE),
 }
 
 

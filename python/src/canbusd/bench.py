@@ -199,9 +199,10 @@ class Session(InjectsFaults):
 class Bench(ProgramRun):
     """A bus with these interfaces, as `"can0,can1"` or a list, and the options of `canbusd bench`.
 
-    With a `bitrate` attempts take the time of their bits, and their moment is the end of their frame; with a `dbitrate` FD
-    frames switch to that for their data. `faults` is a script: Faults, a path, or a text. `out` is a folder for the log and the record, which are written at
-    the end and are called after the first interface; without it they are kept as long as the bench is.
+    With a `bitrate` attempts take the time of their bits, and their moment is the end of their frame; with a `dbitrate`
+    FD frames switch to that for their data. `faults` is a script: Faults, a path, or a text. `out` is a folder for the
+    log and the record, which are written at the end and are called after the first interface; without it they are kept
+    as long as the bench is.
     """
 
     def __init__(

@@ -4,7 +4,7 @@ import argparse
 from typing import Optional
 
 from canbusd._command import BadWords
-from canbusd._wire import Rates
+from canbusd._wire import LEAST_BITRATE, MOST_BITRATE, MOST_DBITRATE, Rates
 from canbusd.signals import Database, load_database
 
 
@@ -37,14 +37,17 @@ def database_of(options: argparse.Namespace) -> Optional[Database]:
 def add_rates(parser: argparse.ArgumentParser, what: str) -> None:
     """Adds the words that name bit rates; `what` says what they give."""
     parser.add_argument(
-        "--bitrate", type=digits, metavar="N", help=f"bits a second of the bus, from 5000 to 1000000: {what}"
+        "--bitrate",
+        type=digits,
+        metavar="N",
+        help=f"bits a second of the bus, from {LEAST_BITRATE} to {MOST_BITRATE}: {what}",
     )
     parser.add_argument(
         "--dbitrate",
         type=digits,
         metavar="M",
-        help="bits a second of the data of FD frames, from those of --bitrate to 20000000; without it FD frames do not "
-        "switch",
+        help=f"bits a second of the data of FD frames, from those of --bitrate to {MOST_DBITRATE}; without it FD frames "
+        "do not switch",
     )
 
 
