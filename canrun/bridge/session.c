@@ -54,21 +54,18 @@ void session_end(struct session *session) {
 
 /* ---- which received frames this session has sent ---- */
 
-static void mark_number(struct session *session, uint64_t number, bool is_own) {
-    uint8_t *marks = &session->sent[number % NUMBERS_KEPT / 8], mark = (uint8_t)(1 << number % 8);
-    *marks = is_own ? *marks | mark : *marks & (uint8_t)~mark;
-}
-
 /* A frame of this session has got this number, and others have got those since the last one. */
 static void keep_number(struct session *session, uint64_t number) {
-    if (number >= session->sent_end + NUMBERS_KEPT) {
+    if (!session->sent_end) {
+        session->sent_end = number;
+    } else if (number >= session->sent_end + NUMBERS_KEPT) {
         memset(session->sent, 0, sizeof session->sent);
         session->sent_end = number;
     }
     for (; session->sent_end <= number; session->sent_end++) {
-        mark_number(session, session->sent_end, false);
+        session->sent[session->sent_end % NUMBERS_KEPT / 8] &= (uint8_t)~(1 << session->sent_end % 8);
     }
-    mark_number(session, number, true);
+    session->sent[number % NUMBERS_KEPT / 8] |= (uint8_t)(1 << number % 8);
 }
 
 static bool is_own_number(const struct session *session, uint64_t number) {
