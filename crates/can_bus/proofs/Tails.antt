@@ -1,6 +1,6 @@
-use Rattle.std.proofs.Common.{◌≡◌, ◌↔◌, ℕ, ◌+◌, ◌<◌, ◌≤◌, Bool, IsTrue, List, [], ◌∷◌, ◌++◌, length, drop, reverse, refl, sym, ap, ◌∙◌, subst, arith}
-use Rattle.std.proofs.Math.Seq.{drop-length}
-use Rattle.std.proofs.lemmas.List.{length_push, length-reverse, reverse-append, drop-append-le}
+use Rattle.std.proofs.Common.{◌≡◌, ◌↔◌, ℕ, ◌+◌, ◌<◌, ◌≤◌, Bool, IsTrue, List, [], ◌∷◌, ◌++◌, length, drop, take, reverse, refl, sym, ap, ◌∙◌, subst, arith}
+use Rattle.std.proofs.Math.Seq.{drop-length, take-length}
+use Rattle.std.proofs.lemmas.List.{length_push, length-reverse, reverse-append, drop-append-le, take-append-drop, take-append-le}
 use Rattle.can_event.specs.declared.bus_config.BusConfig.{BusConfig}
 use Rattle.can_event.specs.declared.entry.Entry.{Entry}
 use Rattle.can_record.specs.Records.{Adds}
@@ -32,6 +32,22 @@ tail_taken past block handed empty all =
       counted = omega (arith, none, all);
       rest = empty ∙ sym (drop-length (reverse past)) ∙ ap (λ (n : ℕ). drop n (reverse past)) (length-reverse past ∙ sym all);
     }
+
+-- ---- what was handed out
+
+-- an entry more is not among it
+pub out_still : {past longer tail : List Entry} {handed : ℕ} (e : Entry) → HasTail past tail handed → longer ≡ e ∷ past → take handed (reverse longer) ≡ take handed (reverse past)
+out_still {past} {longer} {tail} {handed} e has is =
+    let within : handed ≤ length (reverse past) = omega (arith, has.counted, length-reverse past) in
+    ap (λ (h : List Entry). take handed (reverse h)) is ∙ ap (take handed) (reverse-append (e ∷ []) past) ∙ take-append-le handed (reverse past) (e ∷ []) within
+
+-- the tail comes after it, once that is handed out, too
+pub out_more : {past tail : List Entry} {handed all : ℕ} → HasTail past tail handed → all ≡ length past → take all (reverse past) ≡ take handed (reverse past) ++ tail
+out_more {past} {tail} {handed} {all} has is =
+    ap (λ (n : ℕ). take n (reverse past)) (is ∙ sym (length-reverse past))
+    ∙ take-length (reverse past)
+    ∙ sym (take-append-drop handed (reverse past))
+    ∙ ap (λ (es : List Entry). take handed (reverse past) ++ es) (sym has.rest)
 
 -- ---- what its readers return
 

@@ -1,4 +1,4 @@
-use Rattle.std.specs.Prelude.{◌≡◌, ℕ, ◌+◌, ◌-◌, ◌<◌, ◌≤◌, List, length, drop, reverse}
+use Rattle.std.specs.Prelude.{◌≡◌, ℕ, ◌+◌, ◌-◌, ◌<◌, ◌≤◌, List, length, drop, take, reverse}
 use Rattle.can_event.specs.declared.bus_config.BusConfig.{BusConfig}
 use Rattle.can_event.specs.declared.entry.Entry.{Entry}
 use Rattle.can_event.specs.Events.{IsLongConfig}
@@ -24,6 +24,10 @@ journal_of j = record { config = j.config; history = j.history }
 -- the entries that were not handed out, the oldest first
 abbrev pub held_back : LongJournal → List Entry
 held_back j = drop j.handed (reverse j.history)
+
+-- the entries that were handed out, the oldest first
+abbrev pub handed_entries : LongJournal → List Entry
+handed_entries j = take j.handed (reverse j.history)
 
 -- how many entries more the tail takes
 abbrev pub places_left : LongJournal → ℕ

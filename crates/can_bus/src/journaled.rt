@@ -1,16 +1,17 @@
-ghost use Rattle.std.specs.Prelude.{◌≡◌, ◌≢◌, ◌<◌, [], ℕ, true, Ok, length};
+ghost use Rattle.std.specs.Prelude.{◌≡◌, ◌≢◌, ◌<◌, [], ◌++◌, ℕ, List, true, Ok, length};
 ghost use Rattle.can_bus.specs.Answer.{Answers};
 ghost use Rattle.can_bus.specs.Attempts.{winner};
 ghost use Rattle.can_bus.specs.AutoRestart.{is_counting};
 ghost use Rattle.can_bus.specs.Heads.{next_head};
 ghost use Rattle.can_record.specs.Journal.{Journal};
 ghost use Rattle.can_bus.specs.Legal.{IsLegal};
-ghost use Rattle.can_bus.specs.Long.{HasTail, journal_of, places_left};
+ghost use Rattle.can_bus.specs.Long.{HasTail, handed_entries, journal_of, places_left};
 ghost use Rattle.can_bus.specs.Run.{IsAnswered};
 ghost use Rattle.can_bus.specs.Stats.{socket_stats_of, iface_stats_of, all_counts};
 ghost use Rattle.can_record.specs.Tapes.{tape};
 ghost use Rattle.can_event.specs.Events.{IsLongConfig};
 ghost use Rattle.can_event.specs.Replies.{taken_reply};
+ghost use Rattle.can_event.specs.declared.entry.Entry.{Entry};
 ghost use Rattle.can_event.specs.declared.event.Event.TheVariants as event;
 
 use crate::bus::RingBus;
@@ -31,11 +32,17 @@ pub trait Journaled: Drop {
     /// How many entries more it takes before some are handed out.
     ghost places_in: { Self → ℕ };
 
+    /// The entries that it has handed out, the oldest first.
+    ghost handed_out: { Self → List Entry };
+
     /// What it leaves at its end.
     type Left: Drop;
 
     /// The configuration and the entries of the bus that left it.
     ghost left: { Self.Left → Journal };
+
+    /// The entries that the bus which left it had handed out.
+    ghost handed_by: { Self.Left → List Entry };
 
     /// How many entries more it takes before some are handed out. Where there is always a place it is `usize::MAX`.
     fn places(&self) -> usize
@@ -50,25 +57,29 @@ pub trait Journaled: Drop {
     /// Carries out an event, and returns its reply.
     fn answer(&mut self, alloc: Global, event: &Event) -> Reply
         requires { 0 < places_in self.old }
-        ensures { IsAnswered (journal self.old) event.now result (journal self.new) };
+        ensures answered { IsAnswered (journal self.old) event.now result (journal self.new) }
+        ensures out { handed_out self.new ≡ handed_out self.old };
 
     /// Takes the oldest item of a socket into the room, and returns whether there was one.
     fn receive_into(&mut self, id: SocketId, room: &mut Received) -> Result<bool, Refusal>
         requires { 0 < places_in self.old }
         ensures answer { Answers (taken_reply room.new) (journal self.old) (event.Receive id) result
             (journal self.new) }
-        ensures stays { result ≢ Ok true → room.new ≡ room.old };
+        ensures stays { result ≢ Ok true → room.new ≡ room.old }
+        ensures out { handed_out self.new ≡ handed_out self.old };
 
     /// Hands out the entries that were not handed out yet, in order, for an empty block, and returns how many came before
     /// them. A bus with its whole record keeps them all: it hands out none.
     fn hand_out(&mut self, block: &mut PackedRecord) -> u64
         requires { block.old.entries ≡ [] }
         ensures handed { HasTail (journal self.old).history block.new.entries result }
-        ensures same { journal self.new ≡ journal self.old };
+        ensures same { journal self.new ≡ journal self.old }
+        ensures out { handed_out self.new ≡ handed_out self.old ++ block.new.entries };
 
     /// What it leaves.
     fn into_left(self) -> Self::Left
-        ensures { left result ≡ journal self };
+        ensures left { left result ≡ journal self }
+        ensures out { handed_by result ≡ handed_out self };
 
     /// The number of the next attempt that tries a frame.
     fn next_attempt(&self) -> u64
@@ -107,9 +118,13 @@ impl Journaled for RingBus {
     // The greatest usize.
     ghost places_in = { λ b. 18446744073709551615 };
 
+    ghost handed_out = { λ b. [] };
+
     type Left = Record;
 
     ghost left = { λ r. record { config = r.config; history = r.history } };
+
+    ghost handed_by = { λ r. [] };
 
     fn places(&self) -> usize {
         usize::MAX
@@ -169,9 +184,13 @@ impl Journaled for LongRingBus {
 
     ghost places_in = { places_left };
 
+    ghost handed_out = { handed_entries };
+
     type Left = LongEnd;
 
     ghost left = { journal_of };
+
+    ghost handed_by = { handed_entries };
 
     fn places(&self) -> usize {
         LongRingBus::places(self)

@@ -1,11 +1,11 @@
-ghost use Rattle.std.specs.Prelude.{◌≡◌, ◌≢◌, ◌<◌, ◌≤◌, [], length, true, Ok, Err, IfOk, OnOk, IsTrue, ◌↔◌};
+ghost use Rattle.std.specs.Prelude.{◌≡◌, ◌≢◌, ◌<◌, ◌≤◌, [], ◌++◌, length, true, Ok, Err, IfOk, OnOk, IsTrue, ◌↔◌};
 ghost use Rattle.can_bus.specs.Answer.{Answers};
 ghost use Rattle.can_bus.specs.Attempts.{winner};
 ghost use Rattle.can_bus.specs.AutoRestart.{is_counting};
 ghost use Rattle.can_bus.specs.Headline.{Headline};
 ghost use Rattle.can_bus.specs.Heads.{next_head};
 ghost use Rattle.can_bus.specs.Legal.{IsLegal};
-ghost use Rattle.can_bus.specs.Long.{HandsOut, HasPlace, KeepsTail, held_back, journal_of, places_left};
+ghost use Rattle.can_bus.specs.Long.{HandsOut, HasPlace, KeepsTail, handed_entries, held_back, journal_of, places_left};
 ghost use Rattle.can_bus.specs.Run.{IsAnswered};
 ghost use Rattle.can_bus.specs.Stats.{socket_stats_of, iface_stats_of, all_counts};
 ghost use Rattle.can_record.specs.Tapes.{tape};
@@ -73,6 +73,7 @@ impl<T: BoundedQueue<Pending>, R: BoundedQueue<Received>, A: Arbiter> LongBus<T,
     pub fn new(alloc: Global, config: BusConfig, size: u32) -> Result<LongBus<T, R, A>, BusFault>
         ensures made { IfOk result (λ b. journal_of b ≡ record { config = config; history = [] }) }
         ensures tail { IfOk result (λ b. (b.handed ≡ 0) × (size ≤ b.room)) }
+        ensures out { IfOk result (λ b. handed_entries b ≡ []) }
         ensures proper { OnOk result (IsLongConfig config) }
         ensures bad { (result ≡ Err BusFault.BadConfig) ↔ (¬ IsLongConfig config) }
     {
@@ -128,6 +129,7 @@ impl<T: BoundedQueue<Pending>, R: BoundedQueue<Received>, A: Arbiter> LongBus<T,
         requires { HasPlace self.old }
         ensures answered { IsAnswered (journal_of self.old) event.now result (journal_of self.new) }
         ensures tail { KeepsTail self.old self.new }
+        ensures out { handed_entries self.new ≡ handed_entries self.old }
     {
         if self.is_full() {
             return Reply::Refused(Refusal::RecordFull);
@@ -152,6 +154,7 @@ impl<T: BoundedQueue<Pending>, R: BoundedQueue<Received>, A: Arbiter> LongBus<T,
         ensures answered { IsAnswered (journal_of self.old) (event.SetFilters id filters.now) result
             (journal_of self.new) }
         ensures tail { KeepsTail self.old self.new }
+        ensures out { handed_entries self.new ≡ handed_entries self.old }
     {
         let Ok(mut entry) = filters_entry(alloc, id, filters) else {
             return Reply::Refused(Refusal::NoMemory);
@@ -173,6 +176,7 @@ impl<T: BoundedQueue<Pending>, R: BoundedQueue<Received>, A: Arbiter> LongBus<T,
             result (journal_of self.new) }
         ensures stays { result ≢ Ok true → room.new ≡ room.old }
         ensures tail { KeepsTail self.old self.new }
+        ensures out { handed_entries self.new ≡ handed_entries self.old }
     {
         if self.is_full() {
             return Err(Refusal::RecordFull);
@@ -190,6 +194,7 @@ impl<T: BoundedQueue<Pending>, R: BoundedQueue<Received>, A: Arbiter> LongBus<T,
         requires { block.old.entries ≡ [] }
         ensures handed { HandsOut self.old block.old.room block.new.entries self.new }
         ensures room { block.new.room ≡ self.old.room }
+        ensures out { handed_entries self.new ≡ handed_entries self.old ++ block.new.entries }
     {
         let handed = self.len();
         mem::swap(&mut self.tail, block);

@@ -1,9 +1,11 @@
-use Rattle.std.proofs.Common.{◌≡◌, ◌+◌, ℕ, suc, List, [], ◌∷◌, ◌++◌, length, Vec, sym, subst, arith}
+use Rattle.std.proofs.Common.{◌≡◌, ◌+◌, ℕ, suc, List, [], ◌∷◌, ◌++◌, ◌∙◌, length, Vec, ap, sym, subst, arith}
 use Rattle.can_record.specs.Journal.{Journal}
 use Rattle.can_station.specs.declared.pass.Settled.{Settled}
 use Rattle.can_station.specs.Passes.{PassSeen, AllOf, SettlesIn}
 use Rattle.can_hub.specs.Buses.{BusSeen}
-use Rattle.can_hub.specs.Settling.{AllConfigured, AllOwn, AllSettleIn}
+use Rattle.can_event.specs.declared.entry.Entry.{Entry}
+use Rattle.can_roll.specs.Seen.{ScrollSeen, scroll_seen}
+use Rattle.can_hub.specs.Settling.{AllConfigured, AllHanded, AllOwn, AllOwnScrolls, AllSettleIn, AreNewScrolls}
 
 -- one list more, whose passes are all of its bus
 pub own_push : {A : Type 0} (n m : ℕ) (before : List (Vec PassSeen A)) (own : Vec PassSeen A) → AllOwn n before → n + length before ≡ m → AllOf m own.items → AllOwn n (before ++ own ∷ [])
@@ -29,3 +31,21 @@ configured_push left (x ∷ xs) (y ∷ ys) bus s h one = (h.0, configured_push l
 -- no list of passes, and nothing settled
 pub settle_none : (A : Type 0) {L : Type 0} (left : L → Journal) (done : List (Settled L)) → done ≡ [] → AllSettleIn {A = A} left [] done
 settle_none A {L} left done none = subst (λ (d : List (Settled L)). AllSettleIn {A = A} left [] d) (sym none) tt
+
+-- one scroll more, to which nothing was handed out
+pub new_push : (n m : ℕ) (before : List ScrollSeen) (scroll : ScrollSeen) → AreNewScrolls n before → n + length before ≡ m → scroll ≡ scroll_seen m [] → AreNewScrolls n (before ++ scroll ∷ [])
+new_push n m [] scroll h at is = let same : m ≡ n = omega (arith, at) in (is ∙ ap (λ (k : ℕ). scroll_seen k []) same, tt)
+new_push n m (x ∷ xs) scroll h at is = (h.0, new_push (suc n) m xs scroll h.1 (omega (arith, at)) is)
+
+-- one scroll more, which is its bus's
+pub own_scroll_push : (n m : ℕ) (before : List ScrollSeen) (scroll : ScrollSeen) → AllOwnScrolls n before → n + length before ≡ m → scroll.number ≡ m → AllOwnScrolls n (before ++ scroll ∷ [])
+own_scroll_push n m [] scroll h at is = let same : m ≡ n = omega (arith, at) in (is ∙ same, tt)
+own_scroll_push n m (x ∷ xs) scroll h at is = (h.0, own_scroll_push (suc n) m xs scroll h.1 (omega (arith, at)) is)
+
+-- one bus more, which leaves what its scroll says
+pub handed_push : {L : Type 0} (handed : L → List Entry) (before : List ScrollSeen) (done : List (Settled L)) (scroll : ScrollSeen) (s : Settled L) → AllHanded handed before done → scroll.entries ≡ handed s.history
+    → AllHanded handed (before ++ scroll ∷ []) (done ++ s ∷ [])
+handed_push handed [] [] scroll s h one = (one, tt)
+handed_push handed [] (y ∷ ys) scroll s h one = absurd h
+handed_push handed (x ∷ xs) [] scroll s h one = absurd h
+handed_push handed (x ∷ xs) (y ∷ ys) scroll s h one = (h.0, handed_push handed xs ys scroll s h.1 one)

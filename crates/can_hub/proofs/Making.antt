@@ -2,6 +2,7 @@ use Rattle.std.proofs.Common.{◌≡◌, ◌-◌, ◌≤◌, ℕ, suc, List, [],
 use Rattle.std.specs.Prelude.{All}
 use Rattle.std.proofs.lemmas.List.Elements.{All-cons, All-head, All-nil, All-tail}
 use Rattle.atomic_table.specs.Seated.{TableId}
+use Rattle.can_roll.specs.Rule.{RollId}
 use Rattle.can_hub.specs.Buses.{BusSeen, NumberedFrom, names_of}
 use Rattle.can_hub.specs.Benches.{IsWithin, NamedFrom, bench_names, bus_of, buses_from}
 use Rattle.can_event.specs.declared.bus_config.BusConfig.{BusConfig}
@@ -26,7 +27,7 @@ module _ {F G : Type 0} where
   pub made_first : (made : List BusSeen) (rest bs : List (Bench F G)) → made ≡ [] → rest ≡ bs → made ++ buses_from (length made) rest ≡ buses_from 0 bs
   made_first made rest bs none same = ap (λ (m : List BusSeen). m ++ buses_from (length m) rest) none ∙ ap (buses_from 0) same
 
-  pub named_first : (roll meter : ℕ → TableId) (made : List BusSeen) (rest bs : List (Bench F G)) → made ≡ [] → rest ≡ bs → NamedFrom roll meter 0 bs → NamedFrom roll meter (length made) rest
+  pub named_first : (roll : ℕ → RollId) (meter : ℕ → TableId) (made : List BusSeen) (rest bs : List (Bench F G)) → made ≡ [] → rest ≡ bs → NamedFrom roll meter 0 bs → NamedFrom roll meter (length made) rest
   named_first roll meter made rest bs none same h = subst (λ (m : List BusSeen). NamedFrom roll meter (length m) rest) (sym none) (subst (λ (r : List (Bench F G)). NamedFrom roll meter 0 r) (sym same) h)
 
   pub made_next : (made new : List BusSeen) (w : BusSeen) (b : Bench F G) (rest more : List (Bench F G)) (all : List BusSeen) (n : ℕ)
@@ -38,11 +39,11 @@ module _ {F G : Type 0} where
       ap (λ (m : List BusSeen). m ++ buses_from (length new) more) grown ∙ append_assoc made (bus_of (length made) b ∷ []) (buses_from (length new) more)
       ∙ ap (λ (k : ℕ). made ++ bus_of (length made) b ∷ buses_from k more) long ∙ ap (λ (r : List (Bench F G)). made ++ buses_from (length made) r) (sym er) ∙ h
 
-  pub named_here : (roll meter : ℕ → TableId) (n m : ℕ) (b : Bench F G) (rest more : List (Bench F G)) → rest ≡ b ∷ more → n ≡ m → NamedFrom roll meter n rest → (b.blanks.roll ≡ roll m) × (b.blanks.meter ≡ meter m)
+  pub named_here : (roll : ℕ → RollId) (meter : ℕ → TableId) (n m : ℕ) (b : Bench F G) (rest more : List (Bench F G)) → rest ≡ b ∷ more → n ≡ m → NamedFrom roll meter n rest → (b.blanks.roll ≡ roll m) × (b.blanks.meter ≡ meter m)
   named_here roll meter n m b rest more er en h =
       let now = subst (λ (k : ℕ). NamedFrom roll meter k (b ∷ more)) en (subst (λ (r : List (Bench F G)). NamedFrom roll meter n r) er h) in (now.0, now.1)
 
-  pub named_next : (roll meter : ℕ → TableId) (n m : ℕ) (b : Bench F G) (rest more : List (Bench F G)) → rest ≡ b ∷ more → m ≡ suc n → NamedFrom roll meter n rest → NamedFrom roll meter m more
+  pub named_next : (roll : ℕ → RollId) (meter : ℕ → TableId) (n m : ℕ) (b : Bench F G) (rest more : List (Bench F G)) → rest ≡ b ∷ more → m ≡ suc n → NamedFrom roll meter n rest → NamedFrom roll meter m more
   named_next roll meter n m b rest more er en h =
       subst (λ (k : ℕ). NamedFrom roll meter k more) (sym en) (subst (λ (r : List (Bench F G)). NamedFrom roll meter n r) er h).2
 

@@ -1,5 +1,6 @@
 use Rattle.std.proofs.Common.{◌≡◌, ◌+◌, ℕ, zero, suc, List, [], ◌∷◌, ap, sym, ◌∙◌, arith}
 use Rattle.atomic_table.specs.Seated.{TableId}
+use Rattle.can_roll.specs.Rule.{RollId, no_roll}
 use Rattle.can_hub.specs.Benches.{NamedFrom}
 use Rattle.can_hub.specs.declared.bench.Bench.{Bench}
 
@@ -11,8 +12,8 @@ no_table = record { words = 0; slots = 0; views_name = 0; atom = 0; block = 0; o
 
 module _ {F G : Type 0} where
   -- the table of the roll that bench k brings
-  abbrev pub roll_at : List (Bench F G) → ℕ → TableId
-  roll_at [] k = no_table
+  abbrev pub roll_at : List (Bench F G) → ℕ → RollId
+  roll_at [] k = no_roll
   roll_at (b ∷ more) zero = b.blanks.roll
   roll_at (b ∷ more) (suc k) = roll_at more k
 
@@ -23,7 +24,7 @@ module _ {F G : Type 0} where
   meter_at (b ∷ more) (suc k) = meter_at more k
 
   -- benches whose tables are those of a shorter list, from n on
-  named_from : (roll meter : ℕ → TableId) (n : ℕ) (bs : List (Bench F G)) → ((k : ℕ) → roll (n + k) ≡ roll_at bs k) → ((k : ℕ) → meter (n + k) ≡ meter_at bs k) → NamedFrom roll meter n bs
+  named_from : (roll : ℕ → RollId) (meter : ℕ → TableId) (n : ℕ) (bs : List (Bench F G)) → ((k : ℕ) → roll (n + k) ≡ roll_at bs k) → ((k : ℕ) → meter (n + k) ≡ meter_at bs k) → NamedFrom roll meter n bs
   named_from roll meter n [] rolls meters = tt
   named_from roll meter n (b ∷ more) rolls meters =
       let here : n ≡ n + 0 = omega arith in

@@ -3,6 +3,7 @@ use Rattle.atomic_table.specs.Seated.{TableId}
 use Rattle.can_frame.specs.Names.{AreNames}
 use Rattle.can_event.specs.Events.{IsConfig, max_rx_capacity}
 use Rattle.can_event.specs.declared.bus_config.BusConfig.{BusConfig}
+use Rattle.can_roll.specs.Rule.{RollId}
 use Rattle.can_hub.specs.Buses.{BusSeen, AllApart}
 use Rattle.can_hub.specs.HubBuses.{IsOfLongRuns}
 use Rattle.can_hub.specs.declared.bench.Bench.{Bench}
@@ -44,7 +45,7 @@ module _ {F G : Type 0} where
   MakeLongHub benches = MakeHubWithin IsOfLongRuns benches
 
   -- the blanks are named by the numbers of their buses, the first of them n
-  abbrev pub NamedFrom : (ℕ → TableId) → (ℕ → TableId) → ℕ → List (Bench F G) → Type 0
+  abbrev pub NamedFrom : (ℕ → RollId) → (ℕ → TableId) → ℕ → List (Bench F G) → Type 0
   NamedFrom roll meter n [] = Unit {0}
   NamedFrom roll meter n (b ∷ more) = (b.blanks.roll ≡ roll n) × (b.blanks.meter ≡ meter n) × NamedFrom roll meter (suc n) more
 

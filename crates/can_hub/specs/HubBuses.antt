@@ -1,8 +1,9 @@
-use Rattle.std.specs.Prelude.{ℕ, ◌<◌}
+use Rattle.std.specs.Prelude.{ℕ, ◌<◌, List, []}
 use Rattle.can_event.specs.declared.bus_config.BusConfig.{BusConfig}
+use Rattle.can_event.specs.declared.entry.Entry.{Entry}
 use Rattle.can_event.specs.Events.{IsConfig, IsLongConfig, max_limit}
 use Rattle.can_record.specs.Journal.{Journal}
-use Rattle.can_bus.specs.Long.{journal_of, places_left}
+use Rattle.can_bus.specs.Long.{handed_entries, journal_of, places_left}
 use Rattle.can_hub.specs.declared.hub_bus.AnyBus.{AnyBus}
 use Rattle.can_hub.specs.declared.hub_bus.AnyBus.TheVariants as bus
 use Rattle.can_hub.specs.declared.hub_bus.AnyEnd.{AnyEnd}
@@ -24,6 +25,11 @@ abbrev pub places_in : AnyBus → ℕ
 places_in (bus.Whole b) = 18446744073709551615
 places_in (bus.Long b) = places_left b
 
+-- the entries that a bus has handed out, the oldest first: with its whole record none
+abbrev pub handed_in : AnyBus → List Entry
+handed_in (bus.Whole b) = []
+handed_in (bus.Long b) = handed_entries b
+
 -- a bus has the configuration of its kind
 abbrev pub HasItsLength : AnyBus → Type 0
 HasItsLength (bus.Whole b) = IsConfig b.config
@@ -33,6 +39,11 @@ HasItsLength (bus.Long b) = IsOfLongRuns b.config
 abbrev pub left_in : AnyEnd → Journal
 left_in (end.Whole r) = record { config = r.config; history = r.history }
 left_in (end.Long e) = journal_of e
+
+-- the entries that the bus which left this had handed out
+abbrev pub handed_by : AnyEnd → List Entry
+handed_by (end.Whole r) = []
+handed_by (end.Long e) = handed_entries e
 
 -- what a bus leaves has the configuration of its kind
 abbrev pub EndsAtItsLength : AnyEnd → Type 0

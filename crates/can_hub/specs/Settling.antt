@@ -1,6 +1,8 @@
-use Rattle.std.specs.Prelude.{◌≡◌, ℕ, suc, List, [], ◌∷◌, ◌++◌, length, Vec}
+use Rattle.std.specs.Prelude.{◌≡◌, ◌⊎◌, ℕ, suc, List, [], ◌∷◌, ◌++◌, length, Vec}
 use Rattle.std.specs.List.{AllZip}
+use Rattle.can_event.specs.declared.entry.Entry.{Entry}
 use Rattle.can_record.specs.Journal.{Journal, Kept}
+use Rattle.can_roll.specs.Seen.{ScrollSeen, scroll_seen}
 use Rattle.can_hub.specs.Buses.{BusSeen}
 use Rattle.can_station.specs.declared.pass.Settled.{Settled}
 use Rattle.can_station.specs.Passes.{PassSeen, AllOf, SomeOther, SettlesIn}
@@ -36,3 +38,33 @@ pub record FirstForeign {A : Type 0} (passes : List (Vec PassSeen A)) (bus : ℕ
   pub place : bus ≡ length before
   pub earlier : AllOwn 0 before
   pub foreign : SomeOther bus own.items
+
+-- a scroll for each bus, the first of them that of bus n, to which nothing was handed out
+abbrev pub AreNewScrolls : ℕ → List ScrollSeen → Type 0
+AreNewScrolls n [] = Unit {0}
+AreNewScrolls n (scroll ∷ more) = (scroll ≡ scroll_seen n []) × AreNewScrolls (suc n) more
+
+-- each scroll is that of its bus, the first of them of bus n
+abbrev pub AllOwnScrolls : ℕ → List ScrollSeen → Type 0
+AllOwnScrolls n [] = Unit {0}
+AllOwnScrolls n (scroll ∷ more) = (scroll.number ≡ n) × AllOwnScrolls (suc n) more
+
+-- each scroll has what its bus had handed out
+abbrev pub AllHanded : {L : Type 0} → (L → List Entry) → List ScrollSeen → List (Settled L) → Type 0
+AllHanded handed scrolls settled = AllZip (λ scroll s. scroll.entries ≡ handed s.history) scrolls settled
+
+-- this bus is the first with another station's scroll, or with a pass of another station in its list
+pub record FirstForeignScroll {A : Type 0} (passes : List (Vec PassSeen A)) (scrolls : List ScrollSeen) (bus : ℕ) : Type 0 where
+  pub before : List (Vec PassSeen A)
+  pub own : Vec PassSeen A
+  pub after : List (Vec PassSeen A)
+  pub lists : passes ≡ before ++ own ∷ after
+  pub place : bus ≡ length before
+  pub earlier : AllOwn 0 before
+  pub scrolls_before : List ScrollSeen
+  pub scroll : ScrollSeen
+  pub scrolls_after : List ScrollSeen
+  pub scrolls_are : scrolls ≡ scrolls_before ++ scroll ∷ scrolls_after
+  pub scroll_place : bus ≡ length scrolls_before
+  pub earlier_scrolls : AllOwnScrolls 0 scrolls_before
+  pub foreign : ¬ (scroll.number ≡ bus) ⊎ SomeOther bus own.items

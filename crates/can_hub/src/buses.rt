@@ -1,9 +1,11 @@
 //! The buses of a hub: what sessions and drivers need of it.
-ghost use Rattle.std.specs.Prelude.{◌≡◌, ◌<◌, ◌≤◌, ◌++◌, length, OnOk, IfOk, IfErr, All, option_map, slice_index_or, slice_get};
+ghost use Rattle.std.specs.Prelude.{◌≡◌, ◌<◌, ◌≤◌, ◌++◌, [], length, OnOk, IfOk, IfErr, All, option_map, slice_index_or, slice_get};
 ghost use Rattle.can_frame.specs.Names.{place_of};
 ghost use Rattle.can_proto.specs.Spelling.{spaced};
 ghost use Rattle.can_hub.specs.Buses.{BusSeen, IsFirstNamed, config_on, items_on, names_on, all_names};
 ghost use Rattle.can_hub.specs.Benches.{IsWithin, NamedFrom, bus_of, buses_from};
+ghost use Rattle.can_hub.specs.Settling.{AreNewScrolls};
+ghost use Rattle.can_roll.specs.Seen.{scroll_seen};
 
 use crate::bench::Bench;
 use crate::hub_bus::{HubBus, Leaves};
@@ -13,7 +15,7 @@ use can_fault::FaultSource;
 use can_frame::{Iface, Names};
 use can_meter::{Gauge, MeterName};
 use can_roll::RollName;
-use can_station::{Gate, Station};
+use can_station::{Gate, Scroll, Station};
 use std::alloc::{AllocError, Global};
 use std::marker::Model;
 use std::sync::Wait;
@@ -42,18 +44,19 @@ impl<N: RollName + MeterName, F: FaultSource + Drop, G: Gate + Drop> Model for W
 }
 
 impl<N: RollName + MeterName, F: FaultSource + Drop, G: Gate + Drop> Wire<N, F, G> {
-    /// The bus that a bench makes under a number, one that leaves an `L`: in a long run it has memory for this many
-    /// entries at once. `NoMemory` where memory was refused.
+    /// The bus that a bench makes under a number, one that leaves an `L`, and its scroll: in a long run it has memory for this
+    /// many entries at once. `NoMemory` where memory was refused.
     fn new<L: Leaves>(
         alloc: Global,
         number: u8,
         bench: Bench<F, G>,
         size: u32,
-    ) -> Result<Wire<N, F, G>, BusFault>
+    ) -> Result<(Wire<N, F, G>, Scroll<N>), BusFault>
         requires roll { bench.blanks.roll ≡ N.roll number }
         requires meter { bench.blanks.meter ≡ N.meter number }
         requires proper { IsWithin L.limits bench }
-        ensures made { IfOk result (λ w. w ≡ bus_of number bench) }
+        ensures made { IfOk result (λ w. w.0 ≡ bus_of number bench) }
+        ensures scroll { IfOk result (λ w. w.1 ≡ scroll_seen number []) }
         ensures fault { IfErr result (λ e. e ≡ BusFault.NoMemory) }
     {
         let Bench {
@@ -67,12 +70,16 @@ impl<N: RollName + MeterName, F: FaultSource + Drop, G: Gate + Drop> Wire<N, F, 
             rx_capacity,
         } = bench;
         let bus = L::bus(alloc, config, size)?;
-        Ok(Wire {
+        let (station, scroll) = Station::over(
+            alloc, blanks, number, bus, config, source, plan, gate,
+        )?;
+        let wire = Wire {
             names,
-            station: Station::over(alloc, blanks, number, bus, config, source, plan, gate)?,
+            station,
             pace_ms,
             rx_capacity,
-        })
+        };
+        Ok((wire, scroll))
     }
 }
 
@@ -210,22 +217,27 @@ impl<N: RollName + MeterName, F: FaultSource + Drop, G: Gate + Drop> Buses<N, F,
     }
 }
 
-/// The buses that these benches make, numbered from 0.
+/// The buses that these benches make, numbered from 0, and the scroll of each.
 pub(crate) fn wires_of<N: RollName + MeterName, F: FaultSource + Drop, G: Gate + Drop, L: Leaves>(
     alloc: Global,
     benches: Vec<Bench<F, G>>,
     size: u32,
-) -> Result<Vec<Wire<N, F, G>>, BusFault>
+) -> Result<(Vec<Wire<N, F, G>>, Vec<Scroll<N>>), BusFault>
     requires few { length benches.items ≤ 16 }
     requires named { NamedFrom N.roll N.meter 0 benches.items }
     requires proper { All (λ b. IsWithin L.limits b) benches.items }
-    ensures made { IfOk result (λ v. v.items ≡ buses_from 0 benches.items) }
+    ensures made { IfOk result (λ v. v.0.items ≡ buses_from 0 benches.items) }
+    ensures scrolls { IfOk result (λ v.
+        AreNewScrolls 0 v.1.items × (length v.1.items ≡ length v.0.items)) }
     ensures fault { IfErr result (λ e. e ≡ BusFault.NoMemory) }
 {
     let mut wires = Vec::with_capacity(alloc, benches.len())?;
+    let mut scrolls = Vec::with_capacity(alloc, benches.len())?;
     for bench in benches {
         let number = wires.len() as u8;
-        wires.push_reserved(Wire::new::<L>(alloc, number, bench, size)?);
+        let (wire, scroll) = Wire::new::<L>(alloc, number, bench, size)?;
+        wires.push_reserved(wire);
+        scrolls.push_reserved(scroll);
     }
-    Ok(wires)
+    Ok((wires, scrolls))
 }

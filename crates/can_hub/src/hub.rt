@@ -1,8 +1,8 @@
 ghost use Rattle.std.specs.Prelude.{◌≡◌, ◌<◌, ◌≤◌, length, IfOk, MatchResult, ◌↔◌};
 ghost use Rattle.can_hub.specs.Buses.{BusSeen, IsFirstNamed};
 ghost use Rattle.can_hub.specs.Benches.{MakeHub, MakeHubWithin, MakeLongHub, NamedFrom, buses_from};
-ghost use Rattle.can_hub.specs.HubBuses.{left_in};
-ghost use Rattle.can_hub.specs.Settling.{AllConfigured, AllOwn, AllSettleIn, FirstForeign};
+ghost use Rattle.can_hub.specs.HubBuses.{handed_by, left_in};
+ghost use Rattle.can_hub.specs.Settling.{AllConfigured, AllHanded, AllOwn, AllOwnScrolls, AllSettleIn, AreNewScrolls, FirstForeign, FirstForeignScroll};
 
 use crate::bench::{Bench, make_hub};
 use crate::buses::{Buses, Wire, wires_of};
@@ -12,13 +12,14 @@ use can_fault::FaultSource;
 use can_frame::Iface;
 use can_meter::{Gauge, MeterName};
 use can_roll::RollName;
-use can_station::{Gate, Pass, Settled};
+use can_station::{Gate, Pass, Scroll, Settled};
 use std::alloc::{AllocError, Global};
 use std::marker::Model;
 use std::sync::Wait;
 use thiserror::Error;
 
-/// A bus that can't be settled: a pass of another station is in its list. It is the first such bus.
+/// A bus that can't be settled: a pass of another station is in its list, or its scroll is another station's. It is the first
+/// such bus.
 #[derive(Debug, Clone, Copy, PartialEq, Eq, Error)]
 #[error("bus {bus}: wrong station")]
 pub struct SettleFault {
@@ -59,22 +60,25 @@ impl<N: RollName + MeterName, F: FaultSource + Drop, G: Gate + Drop> Hub<N, F, G
         ensures made { IfOk result (λ h. h ≡ buses_from 0 benches.items) }
         ensures bad { (result ≡ Err BusFault.BadConfig) ↔ (¬ MakeHub benches.items) }
     {
-        Hub::make(alloc, benches, 0)
+        let (hub, _) = Hub::make(alloc, benches, 0)?;
+        Ok(hub)
     }
 }
 
 impl<N: RollName + MeterName, F: FaultSource + Drop, G: Gate + Drop> Hub<N, F, G, LongEnd> {
-    /// The same with buses of long runs, each of which keeps in memory only the entries that were not taken yet. It takes
-    /// memory for this many of each: `TAIL_SIZE`, but for tests.
+    /// The same with buses of long runs, each of which keeps in memory only the entries that were not taken yet; and the
+    /// scroll of each. It takes memory for this many entries of each: `TAIL_SIZE`, but for tests.
     ///
     /// `BadConfig` as by `new`, but for configurations outside the limits of a long run, and for limits that a record may have.
     pub fn new_long(
         alloc: Global,
         benches: Vec<Bench<F, G>>,
         size: u32,
-    ) -> Result<Hub<N, F, G, LongEnd>, BusFault>
+    ) -> Result<(Hub<N, F, G, LongEnd>, Vec<Scroll<N>>), BusFault>
         requires { NamedFrom N.roll N.meter 0 benches.items }
-        ensures made { IfOk result (λ h. h ≡ buses_from 0 benches.items) }
+        ensures made { IfOk result (λ h. h.0 ≡ buses_from 0 benches.items) }
+        ensures scrolls { IfOk result (λ h.
+            AreNewScrolls 0 h.1.items × (length h.1.items ≡ length h.0)) }
         ensures bad { (result ≡ Err BusFault.BadConfig) ↔ (¬ MakeLongHub benches.items) }
     {
         Hub::make(alloc, benches, size)
@@ -83,23 +87,25 @@ impl<N: RollName + MeterName, F: FaultSource + Drop, G: Gate + Drop> Hub<N, F, G
 
 impl<N: RollName + MeterName, F: FaultSource + Drop, G: Gate + Drop, L: Leaves> Hub<N, F, G, L> {
     /// A station for each bench over a bus on which nothing was done, in a long run with memory for this many entries at
-    /// once.
+    /// once, and the scroll of each.
     fn make(
         alloc: Global,
         benches: Vec<Bench<F, G>>,
         size: u32,
-    ) -> Result<Hub<N, F, G, L>, BusFault>
+    ) -> Result<(Hub<N, F, G, L>, Vec<Scroll<N>>), BusFault>
         requires { NamedFrom N.roll N.meter 0 benches.items }
-        ensures made { IfOk result (λ h. h ≡ buses_from 0 benches.items) }
+        ensures made { IfOk result (λ h. h.0 ≡ buses_from 0 benches.items) }
+        ensures scrolls { IfOk result (λ h.
+            AreNewScrolls 0 h.1.items × (length h.1.items ≡ length h.0)) }
         ensures bad { (result ≡ Err BusFault.BadConfig) ↔ (¬ MakeHubWithin L.limits benches.items) }
     {
         if !make_hub::<L, F, G>(&benches) {
             return Err(BusFault::BadConfig);
         }
         let settled = Vec::with_capacity(alloc, benches.len())?;
-        let wires = wires_of::<N, F, G, L>(alloc, benches, size)?;
+        let (wires, scrolls) = wires_of::<N, F, G, L>(alloc, benches, size)?;
         let buses = Buses { wires };
-        Ok(Hub { buses, settled })
+        Ok((Hub { buses, settled }, scrolls))
     }
 
     /// Its buses.
@@ -166,12 +172,53 @@ impl<N: RollName + MeterName, F: FaultSource + Drop, G: Gate + Drop, L: Leaves> 
         }
         Ok(settled)
     }
+
+    /// Takes the scroll of each bus back as well: what was handed out to it is what its bus handed out of the history that it
+    /// leaves, in a long run the first entries of it.
+    ///
+    /// `SettleFault` also exactly where some scroll is another station's.
+    pub fn settle_scrolls<R: Wait>(
+        self,
+        rt: &R,
+        alloc: Global,
+        passes: Vec<Vec<Pass<N>>>,
+        scrolls: Vec<Scroll<N>>,
+    ) -> Result<Vec<Settled<L>>, SettleFault>
+        requires passes { length passes.items ≡ length self }
+        requires scrolls { length scrolls.items ≡ length self }
+        ensures handed { IfOk result (λ v. AllHanded L.handed scrolls.items v.items) }
+        ensures settled { IfOk result (λ v. AllSettleIn L.journal passes.items v.items) }
+        ensures configured { IfOk result (λ v. AllConfigured L.journal self v.items) }
+        ensures refused { MatchResult result
+            (λ _. AllOwn 0 passes.items × AllOwnScrolls 0 scrolls.items)
+            (λ f. FirstForeignScroll passes.items scrolls.items f.bus) }
+    {
+        let Hub { buses, mut settled } = self;
+        let Buses { wires } = buses;
+        let mut lists = passes.into_iter();
+        let mut scrolls = scrolls.into_iter();
+        for wire in wires {
+            let Wire { station, .. } = wire;
+            let Some(own) = lists.next() else {
+                unreachable!()
+            };
+            let Some(scroll) = scrolls.next() else {
+                unreachable!()
+            };
+            let Ok(left) = station.settle_scroll(rt, scroll, own, Vec::new(alloc)) else {
+                return Err(SettleFault { bus: settled.len() });
+            };
+            settled.push_reserved(settled_as(left));
+        }
+        Ok(settled)
+    }
 }
 
 /// What a bus left, as that of its kind.
 fn settled_as<L: Leaves>(left: Settled<HubEnd>) -> Settled<L>
     requires { L.limits (left_in left.history).config }
     ensures history { L.journal result.history ≡ left_in left.history }
+    ensures out { L.handed result.history ≡ handed_by left.history }
     ensures passes { result.passes ≡ left.passes }
 {
     Settled {

@@ -67,15 +67,19 @@ fn is_of_long_runs(config: &BusConfig) -> bool
 }
 
 impl Journaled for HubBus {
-    ghost use Rattle.can_hub.specs.HubBuses.{journal_in, places_in as places, left_in};
+    ghost use Rattle.can_hub.specs.HubBuses.{handed_by as by, handed_in, journal_in, left_in, places_in as places};
 
     ghost journal = { journal_in };
 
     ghost places_in = { places };
 
+    ghost handed_out = { handed_in };
+
     type Left = HubEnd;
 
     ghost left = { left_in };
+
+    ghost handed_by = { by };
 
     fn places(&self) -> usize {
         match &self.bus {
@@ -173,15 +177,19 @@ impl Journaled for HubBus {
 
 /// What the buses of a hub leave, and so which buses they are: those of records, or those of long runs.
 pub trait Leaves: Drop {
-    ghost use Rattle.std.specs.Prelude.{◌≡◌, ◌↔◌, [], IfErr, IfOk, IsTrue, OnOk};
+    ghost use Rattle.std.specs.Prelude.{◌≡◌, ◌↔◌, [], List, IfErr, IfOk, IsTrue, OnOk};
     ghost use Rattle.can_bus.specs.declared.bus.BusFault.TheVariants as BusFault;
     ghost use Rattle.can_event.specs.Events.{IsLongConfig};
     ghost use Rattle.can_event.specs.declared.bus_config.BusConfig.{BusConfig};
-    ghost use Rattle.can_hub.specs.HubBuses.{journal_in, left_in};
+    ghost use Rattle.can_event.specs.declared.entry.Entry.{Entry};
+    ghost use Rattle.can_hub.specs.HubBuses.{handed_by, handed_in, journal_in, left_in};
     ghost use Rattle.can_record.specs.Journal.{Journal};
 
     /// The configuration and the entries of the bus that left it.
     ghost journal: { Self → Journal };
+
+    /// The entries that the bus had handed out, the oldest first.
+    ghost handed: { Self → List Entry };
 
     /// The configurations that these buses may have.
     ghost limits: { BusConfig → Type 0 };
@@ -195,19 +203,24 @@ pub trait Leaves: Drop {
     fn bus(alloc: Global, config: BusConfig, size: u32) -> Result<HubBus, BusFault>
         requires { limits config }
         ensures made { IfOk result (λ b. journal_in b ≡ record { config = config; history = [] }) }
+        ensures out { IfOk result (λ b. handed_in b ≡ []) }
         ensures proper { OnOk result (IsLongConfig config) }
         ensures fault { IfErr result (λ e. e ≡ BusFault.NoMemory) };
 
     /// What such a bus left.
     fn of(end: HubEnd) -> Self
         requires { limits (left_in end).config }
-        ensures { journal result ≡ left_in end };
+        ensures left { journal result ≡ left_in end }
+        ensures out { handed result ≡ handed_by end };
 }
 
 impl Leaves for Record {
+    ghost use Rattle.std.specs.Prelude.{[]};
     ghost use Rattle.can_event.specs.Events.{IsConfig};
 
     ghost journal = { λ r. record { config = r.config; history = r.history } };
+
+    ghost handed = { λ r. [] };
 
     ghost limits = { IsConfig };
 
@@ -230,9 +243,11 @@ impl Leaves for Record {
 }
 
 impl Leaves for LongEnd {
-    ghost use Rattle.can_bus.specs.Long.{journal_of};
+    ghost use Rattle.can_bus.specs.Long.{handed_entries, journal_of};
 
     ghost journal = { journal_of };
+
+    ghost handed = { handed_entries };
 
     ghost limits = { IsOfLongRuns };
 

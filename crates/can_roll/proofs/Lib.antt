@@ -2,3 +2,4 @@ pub mod Rows
 pub mod Passes
 pub mod Steps
 pub mod Noting
+pub mod Scrolls

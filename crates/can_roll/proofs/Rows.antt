@@ -3,7 +3,7 @@ use Rattle.std.proofs.Common.{◌≡◌, ◌≢◌, ◌⊎◌, ℕ, zero, suc, �
 use mathlib.Core.Option.{some, some-injective, some-ne-none}
 use lib.ListN.{get_elem?}
 use Rattle.can_event.specs.declared.entry.Entry.{Entry}
-use Rattle.can_roll.specs.Lists.{row, added}
+use Rattle.can_roll.specs.Lists.{row, added, added_all}
 
 pub row_front : (ls : List (List Entry)) (p : ℕ) → row (ls ++ [] ∷ []) p ≡ row ls p
 row_front [] zero = refl
@@ -15,22 +15,31 @@ pub row_past : (ls : List (List Entry)) → row ls (length ls) ≡ []
 row_past [] = refl
 row_past (l ∷ ls) = row_past ls
 
+pub row_added_all : (ls : List (List Entry)) (p : ℕ) (cs : List Entry) → p < length ls → row (added_all ls p cs) p ≡ cs ++ row ls p
+row_added_all [] p cs h = absurd (omega arith)
+row_added_all (l ∷ ls) zero cs h = refl
+row_added_all (l ∷ ls) (suc p) cs h = row_added_all ls p cs (omega arith)
+
+pub row_added_all_else : (ls : List (List Entry)) (p q : ℕ) (cs : List Entry) → q ≢ p → row (added_all ls p cs) q ≡ row ls q
+row_added_all_else [] p q cs n = refl
+row_added_all_else (l ∷ ls) zero zero cs n = absurd (n refl)
+row_added_all_else (l ∷ ls) zero (suc q) cs n = refl
+row_added_all_else (l ∷ ls) (suc p) zero cs n = refl
+row_added_all_else (l ∷ ls) (suc p) (suc q) cs n = row_added_all_else ls p q cs (λ e. n (ap suc e))
+
+pub length-added_all : (ls : List (List Entry)) (p : ℕ) (cs : List Entry) → length (added_all ls p cs) ≡ length ls
+length-added_all [] p cs = refl
+length-added_all (l ∷ ls) zero cs = refl
+length-added_all (l ∷ ls) (suc p) cs = ap suc (length-added_all ls p cs)
+
 pub row_added : (ls : List (List Entry)) (p : ℕ) (c : Entry) → p < length ls → row (added ls p c) p ≡ c ∷ row ls p
-row_added [] p c h = absurd (omega arith)
-row_added (l ∷ ls) zero c h = refl
-row_added (l ∷ ls) (suc p) c h = row_added ls p c (omega arith)
+row_added ls p c h = row_added_all ls p (c ∷ []) h
 
 pub row_added_else : (ls : List (List Entry)) (p q : ℕ) (c : Entry) → q ≢ p → row (added ls p c) q ≡ row ls q
-row_added_else [] p q c n = refl
-row_added_else (l ∷ ls) zero zero c n = absurd (n refl)
-row_added_else (l ∷ ls) zero (suc q) c n = refl
-row_added_else (l ∷ ls) (suc p) zero c n = refl
-row_added_else (l ∷ ls) (suc p) (suc q) c n = row_added_else ls p q c (λ e. n (ap suc e))
+row_added_else ls p q c n = row_added_all_else ls p q (c ∷ []) n
 
 pub length-added : (ls : List (List Entry)) (p : ℕ) (c : Entry) → length (added ls p c) ≡ length ls
-length-added [] p c = refl
-length-added (l ∷ ls) zero c = refl
-length-added (l ∷ ls) (suc p) c = ap suc (length-added ls p c)
+length-added ls p c = length-added_all ls p (c ∷ [])
 
 -- what is in a list with one more at its end
 pub at_end : {A : Type 0} (l : List A) (a b : A) (j : ℕ) → get_elem? (l ++ a ∷ []) j ≡ some b → (get_elem? l j ≡ some b) ⊎ ((j ≡ length l) × (a ≡ b))

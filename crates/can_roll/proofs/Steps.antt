@@ -8,9 +8,9 @@ use Rattle.atomic_table.proofs.Lists.{at_set}
 use Rattle.can_event.specs.declared.entry.Entry.{Entry}
 use Rattle.can_roll.specs.declared.rule.View.{View}
 use Rattle.can_roll.specs.declared.rule.View.TheVariants.{OfRoll, OfSlip, Spent}
-use Rattle.can_roll.specs.Lists.{row, added, last_of, without_last, NotIn, Distinct, AllBelow}
+use Rattle.can_roll.specs.Lists.{row, added_all, last_of, without_last, NotIn, Distinct, AllBelow}
 use Rattle.can_roll.specs.Rule.{IsBrought, Knows, Apart, IsRolled, entered, newcomer, called_in, sent_out, sent, returned, Shows, Returns, noted, Notes, IsAtTable}
-use Rattle.can_roll.proofs.Rows.{row_front, row_past, row_added_else, length-added, at_end}
+use Rattle.can_roll.proofs.Rows.{row_front, row_past, row_added_all_else, length-added_all, at_end}
 use Rattle.can_roll.proofs.Passes.{not_in_below, below_more, last_at_end, without_at_end, not_in_end, distinct_end, below_end, not_the_last, not_in_rest, distinct_rest, last_not_in_rest, below_rest, last_below}
 
 -- ---- the rule where a roll's view is
@@ -206,13 +206,13 @@ module _ {S : Type 0} where
       stay id lists called calls j (OfSlip q m) n k = k
       stay id lists called calls j Spent n k = tt
 
-  pub notes : (call : Entry) (slots id : ℕ) (lists : List (List Entry)) (called : List ℕ) → 0 < length called
-      → Allows Holds slots id (OfRoll lists called [], []) 0 (λ n. n) (Notes call (step slots 0 0 0 none) (OfRoll lists called [], []))
-  notes call slots id lists called some_in s h homes at fits =
+  pub notes : (calls : List Entry) (slots id : ℕ) (lists : List (List Entry)) (called : List ℕ) → 0 < length called
+      → Allows Holds slots id (OfRoll lists called [], []) 0 (λ n. n) (Notes calls (step slots 0 0 0 none) (OfRoll lists called [], []))
+  notes calls slots id lists called some_in s h homes at fits =
       let t = standing s.words s.views id lists called [] h at in
-      let more = added lists (last_of called) call in
+      let more = added_all lists (last_of called) calls in
       let w = OfRoll more called [] in
-      let len : length more ≡ length lists = length-added lists (last_of called) call in (
+      let len : length more ≡ length lists = length-added_all lists (last_of called) calls in (
         w,
         keeps,
         tt,
@@ -225,21 +225,21 @@ module _ {S : Type 0} where
           t.1,
           subst (λ n. AllBelow n called) (sym len) t.2,
           tt,
-          knows_set s.views id more called [] (λ j u n e. stay call id lists called some_in j u n (t.4 j u e)),
+          knows_set s.views id more called [] (λ j u n e. stay calls id lists called some_in j u n (t.4 j u e)),
           apart_set s.views id w (roll_is_no_slip more called []) t.5,
         ),
         (refl, refl),
       )
     where
-      stay : (call : Entry) (id : ℕ) (lists : List (List Entry)) (called : List ℕ) → 0 < length called → (j : ℕ) (u : View)
-          → j ≢ id → Knows id lists called [] j u → Knows id (added lists (last_of called) call) called [] j u
-      stay call id lists called some_in j (OfRoll a b d) n k = absurd (n k.0)
-      stay call id lists called some_in j (OfSlip q m) n k = (
-        row_added_else lists (last_of called) q call (not_the_last q called some_in k.2) ∙ k.0,
-        subst (λ n. q < n) (sym (length-added lists (last_of called) call)) k.1,
+      stay : (calls : List Entry) (id : ℕ) (lists : List (List Entry)) (called : List ℕ) → 0 < length called → (j : ℕ) (u : View)
+          → j ≢ id → Knows id lists called [] j u → Knows id (added_all lists (last_of called) calls) called [] j u
+      stay calls id lists called some_in j (OfRoll a b d) n k = absurd (n k.0)
+      stay calls id lists called some_in j (OfSlip q m) n k = (
+        row_added_all_else lists (last_of called) q calls (not_the_last q called some_in k.2) ∙ k.0,
+        subst (λ n. q < n) (sym (length-added_all lists (last_of called) calls)) k.1,
         k.2,
       )
-      stay call id lists called some_in j Spent n k = tt
+      stay calls id lists called some_in j Spent n k = tt
 
   pub sends : (id : ℕ) (lists : List (List Entry)) (called : List ℕ) → 0 < length called
       → Splits Holds id (OfRoll lists called []) (sent_out (OfRoll lists called [])) (sent (OfRoll lists called []))
@@ -302,14 +302,14 @@ returns_as {S} slots id me lists called calls some_in is =
     (sym is)
     (tells slots id lists called calls some_in)
 
-pub notes_as : {S : Type 0} (call : Entry) (slots id : ℕ) (me : Me S View) (lists : List (List Entry)) (called : List ℕ) → 0 < length called
+pub notes_as : {S : Type 0} (calls : List Entry) (slots id : ℕ) (me : Me S View) (lists : List (List Entry)) (called : List ℕ) → 0 < length called
     → me ≡ (OfRoll lists called [], [])
-    → Allows (λ (s : State S View). IsRolled s.words s.views) slots id me 0 (λ n. n) (Notes call (step slots 0 0 0 none) me)
-notes_as {S} call slots id me lists called some_in is =
+    → Allows (λ (s : State S View). IsRolled s.words s.views) slots id me 0 (λ n. n) (Notes calls (step slots 0 0 0 none) me)
+notes_as {S} calls slots id me lists called some_in is =
     subst
-    (λ (m : Me S View). Allows (λ (s : State S View). IsRolled s.words s.views) slots id m 0 (λ n. n) (Notes call (step slots 0 0 0 none) m))
+    (λ (m : Me S View). Allows (λ (s : State S View). IsRolled s.words s.views) slots id m 0 (λ n. n) (Notes calls (step slots 0 0 0 none) m))
     (sym is)
-    (notes call slots id lists called some_in)
+    (notes calls slots id lists called some_in)
 
 pub sends_as : {S : Type 0} (id : ℕ) (me : Me S View) (lists : List (List Entry)) (called : List ℕ) → 0 < length called
     → me ≡ (OfRoll lists called [], []) → Splits (λ (s : State S View). IsRolled s.words s.views) id me.0 (sent_out me.0) (sent me.0)
@@ -346,10 +346,10 @@ then_returned {S} new me lists called p calls is t =
       subst (λ (x : ℕ × List ℕ). NotIn x.0 x.1) (λ k. (last k, without_at_end called p k)) shown.2,
     )
 
--- once a call is noted
-pub then_noted : {S : Type 0} (call : Entry) (new me : Me S View) (lists : List (List Entry)) (called : List ℕ)
-    → me ≡ (OfRoll lists called [], []) → (new.0 ≡ noted call me.0) × (new.1 ≡ me.1) → new ≡ (OfRoll (added lists (last_of called) call) called [], [])
-then_noted {S} call new me lists called is t = (λ k. (t.0 k, t.1 k)) ∙ (λ k. (noted call (is k).0, (is k).1))
+-- once calls are noted
+pub then_noted : {S : Type 0} (calls : List Entry) (new me : Me S View) (lists : List (List Entry)) (called : List ℕ)
+    → me ≡ (OfRoll lists called [], []) → (new.0 ≡ noted calls me.0) × (new.1 ≡ me.1) → new ≡ (OfRoll (added_all lists (last_of called) calls) called [], [])
+then_noted {S} calls new me lists called is t = (λ k. (t.0 k, t.1 k)) ∙ (λ k. (noted calls (is k).0, (is k).1))
 
 -- and once the pass is sent out
 pub then_sent : {S : Type 0} (new me : Me S View) (lists : List (List Entry)) (called : List ℕ)

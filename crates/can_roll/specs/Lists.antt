@@ -1,5 +1,5 @@
 -- Lists of calls, one for each pass, each with the newest call in front; and lists of passes.
-use Rattle.std.specs.Prelude.{◌≢◌, ℕ, zero, suc, ◌<◌, List, [], ◌∷◌}
+use Rattle.std.specs.Prelude.{◌≢◌, ℕ, zero, suc, ◌<◌, List, [], ◌∷◌, ◌++◌}
 use Rattle.can_event.specs.declared.entry.Entry.{Entry}
 
 -- the calls of pass p, none where there is no such pass
@@ -8,11 +8,15 @@ row [] p = []
 row (calls ∷ others) zero = calls
 row (calls ∷ others) (suc p) = row others p
 
+-- these lists with more calls in front of those of pass p
+abbrev pub added_all : List (List Entry) → ℕ → List Entry → List (List Entry)
+added_all [] p calls = []
+added_all (own ∷ others) zero calls = (calls ++ own) ∷ others
+added_all (own ∷ others) (suc p) calls = own ∷ added_all others p calls
+
 -- these lists with one more call in front of those of pass p
 abbrev pub added : List (List Entry) → ℕ → Entry → List (List Entry)
-added [] p call = []
-added (calls ∷ others) zero call = (call ∷ calls) ∷ others
-added (calls ∷ others) (suc p) call = calls ∷ added others p call
+added lists p call = added_all lists p (call ∷ [])
 
 -- the last of these passes, 0 where there is none
 abbrev pub last_of : List ℕ → ℕ

@@ -7,7 +7,7 @@ use Rattle.atomic_table.specs.Seated.{TableId}
 use Rattle.can_event.specs.declared.entry.Entry.{Entry}
 use Rattle.can_roll.specs.declared.rule.View.{View}
 use Rattle.can_roll.specs.declared.rule.View.TheVariants.{OfRoll, OfSlip, Spent}
-use Rattle.can_roll.specs.Lists.{row, added, last_of, without_last, NotIn, Distinct, AllBelow}
+use Rattle.can_roll.specs.Lists.{row, added_all, last_of, without_last, NotIn, Distinct, AllBelow}
 
 -- ---- the rule
 
@@ -75,15 +75,15 @@ Shows Spent = Unit {0}
 abbrev pub Returns : {S : Type 0} → Step S → Me S View → ℕ → Me S View → Type 0
 Returns step old found new = (new.0 ≡ returned old.0) × (new.1 ≡ old.1) × Shows old.0
 
--- the roll with one more call of the pass called in last
-abbrev pub noted : Entry → View → View
-noted call (OfRoll lists called brought) = OfRoll (added lists (last_of called) call) called brought
-noted call (OfSlip p calls) = OfSlip p calls
-noted call Spent = Spent
+-- the roll with more calls of the pass called in last, the newest first
+abbrev pub noted : List Entry → View → View
+noted more (OfRoll lists called brought) = OfRoll (added_all lists (last_of called) more) called brought
+noted more (OfSlip p calls) = OfSlip p calls
+noted more Spent = Spent
 
--- the load that notes a call
-abbrev pub Notes : Entry → {S : Type 0} → Step S → Me S View → ℕ → Me S View → Type 0
-Notes call step old found new = (new.0 ≡ noted call old.0) × (new.1 ≡ old.1)
+-- the load that notes calls
+abbrev pub Notes : List Entry → {S : Type 0} → Step S → Me S View → ℕ → Me S View → Type 0
+Notes more step old found new = (new.0 ≡ noted more old.0) × (new.1 ≡ old.1)
 
 -- sending out leaves the roll without the pass called in last
 abbrev pub sent_out : View → View
@@ -141,3 +141,16 @@ IsSlipBadge name pass table views = (table ≡ name) × (views ≡ OfSlip pass (
 -- the name of no table
 abbrev pub no_table : TableId
 no_table = record { words = 0; slots = 0; views_name = 0; atom = 0; block = 0; offset = 0; slot_names = [] }
+
+-- the names of a roll's table and of its scroll's
+pub record RollId : Type 0 where
+  pub passes : TableId
+  pub scroll : TableId
+
+-- those of no tables
+abbrev pub no_roll : RollId
+no_roll = record { passes = no_table; scroll = no_table }
+
+-- a roll whose one pass is a scroll, at the scroll's table
+abbrev pub at_scroll : RollId → RollId
+at_scroll id = record { passes = id.scroll; scroll = no_table }

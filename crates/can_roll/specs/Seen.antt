@@ -1,7 +1,7 @@
 -- What contracts see of a roll and of a slip.
 use Rattle.std.specs.Prelude.{ℕ, List, [], ◌∷◌, ◌++◌}
 use Rattle.can_event.specs.declared.entry.Entry.{Entry}
-use Rattle.can_roll.specs.Lists.{added}
+use Rattle.can_roll.specs.Lists.{added, added_all}
 
 -- a roll: its number, the calls of each pass, and the passes called in, the last one at the end
 pub record RollSeen : Type 0 where
@@ -21,6 +21,10 @@ with_pass roll = roll_seen roll.number (roll.lists ++ [] ∷ []) roll.called
 abbrev pub with_call : ℕ → Entry → RollSeen → RollSeen
 with_call p call roll = roll_seen roll.number (added roll.lists p call) roll.called
 
+-- the roll with more calls, the newest first, in front of those of pass p
+abbrev pub with_calls : ℕ → List Entry → RollSeen → RollSeen
+with_calls p calls roll = roll_seen roll.number (added_all roll.lists p calls) roll.called
+
 -- the roll with pass p called in
 abbrev pub with_called_in : ℕ → RollSeen → RollSeen
 with_called_in p roll = roll_seen roll.number roll.lists (roll.called ++ p ∷ [])
@@ -38,3 +42,20 @@ slip_seen number pass calls = record { number = number; pass = pass; calls = cal
 -- the slip with one more call in front
 abbrev pub slip_with_call : Entry → SlipSeen → SlipSeen
 slip_with_call call slip = slip_seen slip.number slip.pass (call ∷ slip.calls)
+
+-- the slip with more calls in front, the newest first
+abbrev pub slip_with_calls : List Entry → SlipSeen → SlipSeen
+slip_with_calls calls slip = slip_seen slip.number slip.pass (calls ++ slip.calls)
+
+-- what was handed out under a roll's number, the oldest entry first: to a scroll, and as the roll's side knows it
+pub record ScrollSeen : Type 0 where
+  pub number : ℕ
+  pub entries : List Entry
+
+-- these entries under this number
+abbrev pub scroll_seen : ℕ → List Entry → ScrollSeen
+scroll_seen number entries = record { number = number; entries = entries }
+
+-- with a block more
+abbrev pub scroll_with : List Entry → ScrollSeen → ScrollSeen
+scroll_with block scroll = scroll_seen scroll.number (scroll.entries ++ block)

@@ -10,6 +10,9 @@
 //! slip, [`Roll::note`] puts one call in front of both lists, and [`Roll::recall`] takes a slip back for
 //! good. The last two show their caller that the slip's list is the roll's list of its pass.
 //!
+//! A roll has a scroll beside it, for entries that are handed out in blocks: [`HandedOut`] is under the lock, and who takes
+//! the blocks has the [`Scroll`]. It is a roll of one pass, whose calls are the entries.
+//!
 //! When it runs, a roll is one atomic word that is always 0 beside two numbers, and a slip is two numbers.
 //! What they know is in the views of an `atomic_table`, and the table's rule ties the views together:
 //! slips of one roll are of different passes, and the list of each is the roll's (`specs/Rule.antt`). Each
@@ -20,8 +23,10 @@
 mod roll;
 mod roll_name;
 mod rule;
+mod scroll;
 mod slip;
 
 pub use roll::{Roll, RollBlank, roll_blank};
 pub use roll_name::RollName;
+pub use scroll::{HandedOut, Scroll, roll_with_scroll};
 pub use slip::Slip;

@@ -1,14 +1,15 @@
-ghost use Rattle.std.specs.Prelude.{◌≡◌, ◌<◌, [], ◌∷◌, length};
+ghost use Rattle.std.specs.Prelude.{◌≡◌, ◌<◌, [], ◌∷◌, length, reverse};
 ghost use Rattle.can_event.specs.Replies.{entry_of};
 ghost use Rattle.can_roll.specs.Lists.{row, last_of, without_last, NotIn};
 ghost use Rattle.can_roll.specs.Rule.{slip_view};
-ghost use Rattle.can_roll.specs.Seen.{roll_seen, slip_seen, slip_with_call, with_call, with_called_in, with_pass};
+ghost use Rattle.can_roll.specs.Seen.{roll_seen, slip_seen, slip_with_call, slip_with_calls, with_call, with_calls, with_called_in, with_pass};
 
 use crate::roll_name::RollName;
 use crate::rule::{CallsIn, Enters, Law, Note, Return, Says, Sends, View};
 use crate::slip::Slip;
 use atomic_table::{Badge, Seat, Table};
 use can_event::{Event, Reply};
+use can_record::PackedRecord;
 use std::alloc::{AllocError, Global};
 use std::marker::{Brand, Model, PhantomData};
 use std::mem;
@@ -16,14 +17,34 @@ use std::mem;
 /// The table of a roll: one word, and no slot.
 type Word = Table<(), View, (), Law, Global>;
 
-/// A roll that has no number yet. To a contract it is the identity of its table, which a [`RollName`] can name.
+/// A roll and its scroll that have no number yet. To a contract they are the identities of their tables, which a
+/// [`RollName`] can name.
 #[derive(Drop)]
 pub struct RollBlank {
+    pub(crate) passes: WordBlank,
+    pub(crate) scroll: WordBlank,
+}
+
+impl Model for RollBlank {
+    ghost use Rattle.std.specs.Coded.{codes};
+    ghost use Rattle.atomic_table.specs.Seated.{table_id_coded};
+    ghost use Rattle.can_roll.specs.Rule.{RollId};
+
+    ghost Value = { RollId };
+
+    ghost coded = { Prim.hlevel (codes, table_id_coded) };
+
+    ghost view = { λ b. record { passes = b.passes; scroll = b.scroll } };
+}
+
+/// A table without a slip that has no number yet. To a contract it is its identity.
+#[derive(Drop)]
+pub(crate) struct WordBlank {
     table: Word,
     seat: Seat<(), View>,
 }
 
-impl Model for RollBlank {
+impl Model for WordBlank {
     ghost use Rattle.std.specs.Prelude.{◌≡◌, []};
     ghost use Rattle.atomic_table.specs.Seated.{TableId, table_id_coded};
     ghost use Rattle.can_roll.specs.declared.rule.View.TheVariants.{OfRoll};
@@ -56,23 +77,41 @@ impl<N: RollName> Model for Roll<N> {
 
     ghost view = { λ r. record { number = r.number; lists = lists_of r.seat.me.0; called = called_of r.seat.me.0 } };
 
-    ghost invariant = { λ r. IsAtTable (N.roll r.number) r.table.shared.table_id r.seat.table_id × IsRollSeat r.seat.me r.passes };
+    ghost invariant = { λ r. IsAtTable (N.roll r.number).passes r.table.shared.table_id r.seat.table_id × IsRollSeat r.seat.me r.passes };
 }
 
-/// A roll without passes, for [`Roll::new`]. It fails only where memory is refused.
-#[tactic(auto, using(crate::proofs::Steps::begins))]
+/// A roll without passes and its scroll, for [`Roll::new`] or [`roll_with_scroll`](crate::roll_with_scroll). It fails only
+/// where memory is refused.
 pub fn roll_blank(alloc: Global) -> Result<RollBlank, AllocError> {
+    Ok(RollBlank {
+        passes: word_blank(alloc)?,
+        scroll: word_blank(alloc)?,
+    })
+}
+
+#[tactic(auto, using(crate::proofs::Steps::begins))]
+fn word_blank(alloc: Global) -> Result<WordBlank, AllocError> {
     let (table, seat) = Table::of_words(alloc, &[0], &())?;
-    Ok(RollBlank { table, seat })
+    Ok(WordBlank { table, seat })
 }
 
 impl<N: RollName> Roll<N> {
-    /// The blank as the roll of this number, with no pass. The caller shows that `N` names the blank so.
+    /// The blank as the roll of this number, with no pass, and without its scroll. The caller shows that `N` names the blank
+    /// so.
     pub fn new(blank: RollBlank, number: u8) -> Roll<N>
         requires { blank ≡ N.roll number }
         ensures { result ≡ roll_seen number [] [] }
     {
-        let RollBlank { table, seat } = blank;
+        let RollBlank { passes, scroll: _ } = blank;
+        Roll::of(passes, number)
+    }
+
+    /// One of the blanks as the roll of this number.
+    pub(crate) fn of(blank: WordBlank, number: u8) -> Roll<N>
+        requires { blank ≡ (N.roll number).passes }
+        ensures { result ≡ roll_seen number [] [] }
+    {
+        let WordBlank { table, seat } = blank;
         Roll {
             table,
             seat,
@@ -136,6 +175,25 @@ impl<N: RollName> Roll<N> {
         slip.badge = self.send_last();
     }
 
+    /// Notes calls with their replies, which came in this order, as `note` does one.
+    pub(crate) fn note_all(&mut self, slip: &mut Slip<N>, calls: &PackedRecord)
+        requires { slip.old.number ≡ self.old.number }
+        ensures roll { self.new ≡ with_calls slip.old.pass (reverse calls.now.entries) self.old }
+        ensures slip { slip.new ≡ slip_with_calls (reverse calls.now.entries) slip.old }
+        ensures below { slip.old.pass < length self.old.lists }
+        ensures before { row self.old.lists slip.old.pass ≡ slip.old.calls }
+    {
+        let taken: Slip<N> = Slip {
+            badge: mem::replace(&mut slip.badge, Badge::blank()),
+            number: slip.number,
+            pass: slip.pass,
+            name: PhantomData,
+        };
+        self.recall(taken);
+        self.note_all_last::<Brand>(calls);
+        slip.badge = self.send_last();
+    }
+
     /// Calls a slip's pass in, for good. Its calls are the roll's list of its pass, which had not been called in
     /// before. The caller shows that the slip is of this roll's number.
     pub fn recall(&mut self, slip: Slip<N>)
@@ -160,9 +218,19 @@ impl<N: RollName> Roll<N> {
 
     // Notes a call of the pass that was called in last.
     fn note_last<C: Says>(&mut self, event: &Event, reply: &Reply)
-        requires said { C.said ≡ entry_of event.now reply.now }
+        requires said { C.said ≡ entry_of event.now reply.now ∷ [] }
         requires some_in { 0 < length self.old.called }
         ensures { self.new ≡ with_call (last_of self.old.called) (entry_of event.now reply.now) self.old }
+    {
+        let table = &self.table;
+        table.shared.load::<Note<C>>(&mut self.seat, 0);
+    }
+
+    // Notes calls of the pass that was called in last.
+    fn note_all_last<C: Says>(&mut self, calls: &PackedRecord)
+        requires said { C.said ≡ reverse calls.now.entries }
+        requires some_in { 0 < length self.old.called }
+        ensures { self.new ≡ with_calls (last_of self.old.called) (reverse calls.now.entries) self.old }
     {
         let table = &self.table;
         table.shared.load::<Note<C>>(&mut self.seat, 0);
@@ -172,7 +240,7 @@ impl<N: RollName> Roll<N> {
     fn send_last(&mut self) -> Badge<View>
         requires { 0 < length self.old.called }
         ensures roll { self.new ≡ roll_seen self.old.number self.old.lists (without_last self.old.called) }
-        ensures table { result.table_id ≡ N.roll self.old.number }
+        ensures table { result.table_id ≡ (N.roll self.old.number).passes }
         ensures views { result.views ≡ slip_view self.old.lists (last_of self.old.called) ∷ [] }
     {
         let table = &self.table;

@@ -59,7 +59,7 @@ impl<S> Play<S, View> for Return {
     ghost then = { Returns };
 }
 
-/// A load that notes a call of the pass called in last.
+/// A load that notes calls of the pass called in last.
 pub struct Note<C> {
     call: PhantomData<C>,
 }
@@ -81,16 +81,16 @@ impl Split<View> for Sends {
     ghost right = { sent };
 }
 
-/// Names a call with its reply, for contracts only.
+/// Names calls with their replies, the newest first, for contracts only.
 pub trait Says {
+    ghost use Rattle.std.specs.Prelude.{List};
     ghost use Rattle.can_event.specs.declared.entry.Entry.{Entry};
 
-    ghost said: { Entry };
+    ghost said: { List Entry };
 }
 
 impl Says for Brand {
-    ghost use Rattle.can_event.specs.declared.event.Event.TheVariants.{Receive};
-    ghost use Rattle.can_event.specs.declared.reply.Reply.TheVariants.{Done};
+    ghost use Rattle.std.specs.Prelude.{[]};
 
-    ghost said = { record { event = Receive (record { 0 = 0 }); reply = Done } };
+    ghost said = { [] };
 }

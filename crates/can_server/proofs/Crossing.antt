@@ -1,4 +1,5 @@
--- What goes from one thread of a server to another, and what they share.
+-- What goes from one thread of a server to another, and what they share: what a keeper was given is an enum in itself, of which
+-- the rules of the language say nothing.
 use denote.RattleType.{RattleType}
 use denote.Ref.{NamedLft}
 use denote.Param.Send.{IsSend, IsSync, sendable}
@@ -21,10 +22,16 @@ use Rattle.can_server.proofs.guests.Guests.TheSendSync as guests
 use Rattle.can_server.proofs.opening.Opening.TheSendSync as opening
 use Rattle.can_server.proofs.opening.FirstBytes.TheSendSync as first
 use Rattle.can_server.proofs.scribing.Scribe.TheSendSync as scribe
+use Rattle.can_server.specs.contracts.given.Given as given
+use Rattle.can_server.specs.declared.scribing.Keeper as keeper
 use Rattle.can_server.specs.contracts.server.Server as server
 use Rattle.can_server.specs.contracts.serving.LongServer as long_server
 use Rattle.can_server.specs.contracts.talk.Talk as talk
 use Rattle.can_server.specs.contracts.delivering.Delivery as delivery
+
+-- what contracts know of what a keeper was given
+pub given_send : IsSend given.the_row
+given_send = search sendable depth 20
 
 module _ (N F G : RattleType) (g : roll.Ghosts N.Denot) (g' : meter.Ghosts N.Denot) (g'' : source.Ghosts F.Denot) (f : IsSend F) (s : IsSync G) (κ : NamedLft) where
   -- what all threads of a server share
@@ -62,7 +69,7 @@ module _ (N F G : RattleType) (g : roll.Ghosts N.Denot) (g' : meter.Ghosts N.Den
       declared_sync (delivery.the_type ν κ N F G R g g' g'') (search (sendable, r) depth 20, (shared ν _ _ talks, (search (sendable, conn.the_sync) depth 20, tt)))
 
   -- a server with its scribes
-  pub long_server_sync : (ν : NamedLft) (C R K : RattleType) → IsSync C → IsSync R → IsSend K → IsSync (long_server.the_row ν κ N F G C R K g g' g'')
-  long_server_sync ν C R K c r k =
-      declared_sync (long_server.the_type ν κ N F G C R K g g' g'')
-      (shared ν _ _ (server_sync C R c r), (search (sendable, door.the_sync) depth 20, (search (sendable, crosses, stream.the_sync) depth 20, (shared ν _ _ (mutex_sync.the_sync _ (Vec-send _ (scribe.the_send _ k))), tt))))
+  pub long_server_sync : (ν ι : NamedLft) (C R K : RattleType) (k : keeper.Ghosts K.Denot) → IsSync C → IsSync R → IsSend K → IsSync (long_server.the_row ν κ ι N F G C R K g g' g'' k)
+  long_server_sync ν ι C R K k c r kept =
+      declared_sync (long_server.the_type ν κ ι N F G C R K g g' g'' k)
+      (shared ν _ _ (server_sync C R c r), (search (sendable, door.the_sync) depth 20, (search (sendable, crosses, stream.the_sync) depth 20, (shared ν _ _ (mutex_sync.the_sync _ (Vec-send _ (scribe.the_send ι N K g k kept))), tt))))

@@ -1,4 +1,3 @@
 pub mod Crossing
 pub mod Rooms
 pub mod Batching
-pub mod Keeping

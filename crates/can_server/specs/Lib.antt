@@ -3,3 +3,4 @@ pub mod Driving
 pub mod Openings
 pub mod Batches
 pub mod Keeping
+pub mod Givens

@@ -1,15 +1,14 @@
 //! Where the entries of long runs go while they are served: a thread for each bus takes them in blocks.
-ghost use Rattle.std.specs.Prelude.{◌≡◌, IfOk};
-ghost use Rattle.can_bus.specs.Long.{HasTail};
-ghost use Rattle.can_station.specs.Passes.{InSome};
-ghost use Rattle.can_server.specs.Keeping.{KeepsAll};
+ghost use Rattle.std.specs.Prelude.{◌≡◌};
 
+use crate::given::Given;
 use can_bus::Journaled;
 use can_fault::FaultSource;
 use can_meter::MeterName;
 use can_roll::RollName;
-use can_station::{Block, Gate, Station, Wake};
+use can_station::{Block, Gate, Scroll, Station, Wake, WrongStation};
 use std::alloc::{AllocError, Global};
+use std::marker::Model;
 use std::sync::Wait;
 use std::time::{Clock, Duration};
 
@@ -18,56 +17,114 @@ const IDLE_SECONDS: u64 = 1;
 
 /// Where the entries of the bus of a long run go.
 pub trait Keeper {
-    ghost use Rattle.std.specs.Prelude.{List};
+    ghost use Rattle.std.specs.Prelude.{◌≡◌, ◌++◌, List};
     ghost use Rattle.can_event.specs.declared.entry.Entry.{Entry};
     ghost use Rattle.can_server.specs.Keeping.{AreLegalLast};
 
-    /// The state before, entries that were given, and the state after.
-    ghost keeps: { Self → List Entry → Self → Type 0 };
+    /// The entries that it was given, the oldest first.
+    ghost given: { Self → List Entry };
 
     /// Keeps the entries of a block, which come after all that it was given before. There may be none: then only time has
     /// passed. No lock is held meanwhile; while it lasts the bus goes on, until its tail is full.
     fn keep(&mut self, block: &Block)
         requires { AreLegalLast block.now.entries.entries }
-        ensures { keeps self.old block.now.entries.entries self.new };
+        ensures { given self.new ≡ given self.old ++ block.now.entries.entries };
 }
 
 /// The keeper of a server whose buses keep their records: it has no scribes.
 #[derive(Drop)]
-pub struct Unkept;
+pub struct Unkept {
+    given: Given,
+}
 
 impl Keeper for Unkept {
-    ghost keeps = { λ old entries new. Unit {0} };
+    ghost given = { λ keeper. keeper.given };
 
-    fn keep(&mut self, _block: &Block) {}
+    fn keep(&mut self, block: &Block) {
+        self.given.note(&block.entries);
+    }
+}
+
+/// A keeper with the scroll of its bus: it was given the entries that were handed out to the scroll, and no others. Contracts
+/// see the scroll.
+#[derive(Drop)]
+pub struct Kept<N: RollName, K: Keeper + Drop> {
+    keeper: K,
+    scroll: Scroll<N>,
+}
+
+impl<N: RollName, K: Keeper + Drop> Model for Kept<N, K> {
+    ghost use Rattle.std.specs.Prelude.{◌≡◌};
+    ghost use Rattle.can_roll.specs.Seen.{ScrollSeen};
+
+    ghost Value = { ScrollSeen };
+
+    ghost view = { λ k. k.scroll };
+
+    ghost invariant = { λ k. K.given k.keeper ≡ k.scroll.entries };
+}
+
+impl<N: RollName + MeterName, K: Keeper + Drop> Kept<N, K> {
+    /// A keeper that was given what was handed out to the scroll.
+    pub fn new(keeper: K, scroll: Scroll<N>) -> Kept<N, K>
+        requires { K.given keeper ≡ scroll.entries }
+        ensures { result ≡ scroll }
+    {
+        Kept { keeper, scroll }
+    }
+
+    /// The number of its bus.
+    pub fn bus(&self) -> usize
+        ensures { result ≡ self.now.number }
+    {
+        usize::from(self.scroll.number())
+    }
+
+    /// The keeper, and the scroll of what it was given.
+    pub fn into_parts(self) -> (K, Scroll<N>)
+        ensures given { K.given result.0 ≡ self.entries }
+        ensures scroll { result.1 ≡ self }
+    {
+        let Kept { keeper, scroll } = self;
+        (keeper, scroll)
+    }
+
+    /// Takes the entries of a station that were not taken yet into a block, and gives them to the keeper.
+    fn keep_next<F: FaultSource + Drop, G: Gate + Drop, B: Journaled, R: Wait>(
+        &mut self,
+        rt: &R,
+        station: &Station<N, F, G, B>,
+        block: &mut Block,
+    ) -> Result<(), WrongStation>
+        ensures { self.new.number ≡ self.old.number }
+    {
+        station.take_entries(rt, &mut self.scroll, block)?;
+        self.keeper.keep(block);
+        Ok(())
+    }
 }
 
 /// Takes the entries of a bus in blocks, and gives them to a keeper.
 #[derive(Drop)]
-pub struct Scribe<K: Keeper + Drop> {
-    bus: usize,
-    keeper: K,
+pub struct Scribe<'k, N: RollName, K: Keeper + Drop> {
+    kept: &'k mut Kept<N, K>,
     block: Block,
     /// For how many entries it waits, and how long at most after the first of them.
     many: u64,
     patience: Duration,
 }
 
-impl<K: Keeper + Drop> Scribe<K> {
-    /// A scribe of this bus of a hub, with memory for this many entries, as many as the bus's tail has places. It gives its
+impl<'k, N: RollName + MeterName, K: Keeper + Drop> Scribe<'k, N, K> {
+    /// A scribe of the scroll's bus, with memory for this many entries, as many as the bus's tail has places. It gives the
     /// keeper a block once there are half as many, or so long after the first of them.
     pub fn new(
         alloc: Global,
-        bus: usize,
         size: u32,
         patience: Duration,
-        keeper: K,
-    ) -> Result<Scribe<K>, AllocError>
-        ensures { IfOk result (λ s. s.keeper ≡ keeper) }
-    {
+        kept: &'k mut Kept<N, K>,
+    ) -> Result<Scribe<'k, N, K>, AllocError> {
         Ok(Scribe {
-            bus,
-            keeper,
+            kept,
             block: Block::new(alloc, size)?,
             many: u64::from(size / 2),
             patience,
@@ -76,55 +133,30 @@ impl<K: Keeper + Drop> Scribe<K> {
 
     /// The place of its bus among those of a hub.
     pub fn bus(&self) -> usize {
-        self.bus
+        self.kept.bus()
     }
 
-    /// Gives the keeper all entries of a station, until nobody makes calls any more, and returns it.
-    pub fn keep_all<
-        N: RollName + MeterName,
-        F: FaultSource + Drop,
-        G: Gate + Drop,
-        B: Journaled,
-        R: Wait + Clock,
-    >(self, rt: &R, station: &Station<N, F, G, B>) -> K
-        ensures { KeepsAll F K.keeps station.now self.keeper result }
-    {
+    /// Gives the keeper all entries of the station, until nobody makes calls any more. `WrongStation` where the scroll is
+    /// another station's: then the keeper gets nothing.
+    pub fn keep_all<F: FaultSource + Drop, G: Gate + Drop, B: Journaled, R: Wait + Clock>(
+        self,
+        rt: &R,
+        station: &Station<N, F, G, B>,
+    ) -> Result<(), WrongStation> {
         let Scribe {
-            bus: _,
-            mut keeper,
+            kept,
             mut block,
             many,
             patience,
         } = self;
-        let mut kept = 0;
         for _ in rt.forever() {
             let _ = station.wait_entries(rt, 1, Duration::from_secs(IDLE_SECONDS));
             let wake = station.wait_entries(rt, many, patience);
-            take_next(rt, station, kept, &mut block);
-            keeper.keep(&block);
-            kept += block.entries.len() as u64;
+            kept.keep_next(rt, station, &mut block)?;
             if wake == Wake::Stopped {
                 break;
             }
         }
-        keeper
-    }
-}
-
-/// Takes the entries of a station that were not taken yet, the first of which has this number. No type says so: for others
-/// this would wait for ever.
-fn take_next<N: RollName + MeterName, F: FaultSource + Drop, G: Gate + Drop, B: Journaled, R: Wait>(
-    rt: &R,
-    station: &Station<N, F, G, B>,
-    start: u64,
-    block: &mut Block,
-)
-    ensures { InSome F station.now (λ held.
-        HasTail held.journal.history block.new.entries.entries start) }
-{
-    station.take_entries(rt, block);
-    if block.start != start {
-        for _ in rt.forever() {}
-        unreachable!()
+        Ok(())
     }
 }

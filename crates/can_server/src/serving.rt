@@ -102,7 +102,7 @@ pub fn serve_long<
     doors: &[Door],
     host: &C,
     until: Option<&UnixStream>,
-    scribes: Vec<Scribe<K>>,
+    scribes: Vec<Scribe<'_, N, K>>,
 ) -> Result<Vec<Vec<Pass<N>>>, AllocError>
     ensures { IfOk result (λ passes. length passes.items ≡ length hub.now) }
 {
@@ -114,6 +114,7 @@ pub fn serve_long<
 struct LongServer<
     's,
     'a,
+    'k,
     N: RollName + MeterName,
     F: FaultSource + Drop,
     G: Gate + Drop,
@@ -124,19 +125,20 @@ struct LongServer<
     server: &'s Server<'a, N, F, G, C, R>,
     doors: &'a [Door],
     until: Option<&'a UnixStream>,
-    scribes: &'s Mutex<Vec<Scribe<K>>>,
+    scribes: &'s Mutex<Vec<Scribe<'k, N, K>>>,
 }
 
 impl<
     's,
     'a,
+    'k,
     N: RollName + MeterName + Send + Sync,
     F: FaultSource + Drop + Send,
     G: Gate + Drop + Send + Sync,
     C: Clock + Sync,
     R: Threads + Wait + time::Clock + Sync,
     K: Keeper + Drop + Send,
-> LongServer<'s, 'a, N, F, G, C, R, K> {
+> LongServer<'s, 'a, 'k, N, F, G, C, R, K> {
     /// Serves to the end, with a scribe for each bus: they go on until all other threads are over.
     fn run(&self) -> Result<(), AllocError> {
         thread::scope(thread::scope_env(), self.server.rt, |scope| {
@@ -189,7 +191,7 @@ fn serve_buses<
     doors: &'x [Door],
     host: &'x C,
     until: Option<&'x UnixStream>,
-    scribes: Option<Vec<Scribe<K>>>,
+    scribes: Option<Vec<Scribe<'x, N, K>>>,
 ) -> Result<Vec<Vec<Pass<N>>>, AllocError>
     ensures { IfOk result (λ passes. length passes.items ≡ length buses.now) }
 {

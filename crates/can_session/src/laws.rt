@@ -1,4 +1,9 @@
-ghost use Rattle.std.specs.Prelude.{◌≡◌, ◌<◌, ◌∷◌, ◌++◌, ◌↔◌, ◌||◌, [], Bool, false, List, ℕ, Some, length};
+ghost use Rattle.std.specs.Prelude.{◌≡◌, ◌<◌, ◌≤◌, ◌*◌, ◌^◌, ◌∷◌, ◌++◌, ◌↔◌, ◌||◌, [], Bool, false, List, ℕ, Some, None, Result, length};
+ghost use Rattle.can_fault.specs.declared.verdict.Verdict.{Verdict};
+ghost use Rattle.can_event.specs.declared.attempt.Attempt.{Attempt};
+ghost use Rattle.can_event.specs.declared.refusal.Refusal.{Refusal};
+ghost use Rattle.can_session.specs.Benches.{BenchState, is_due, next_moment, passed, said_moment};
+ghost use Rattle.can_session.specs.Wires.{Wire, begin_of, wire_after};
 ghost use Rattle.can_session.specs.Lines.{FindsEnd, Given, Input, IsWithin, Stops, StopsBehind, TakesLine, left_of, lines_of};
 ghost use Rattle.can_session.specs.declared.lines.LineFault.{LineFault};
 ghost use Rattle.can_session.specs.declared.lines.LineFault.TheVariants.{TooLong, Read};
@@ -33,4 +38,24 @@ pub fn nothing_is_outside_messages_and_blanks()
         ≡ (has_outside begun piece || has_outside (begun_after begun piece) more) }
     ensures begun { (begun : Bool) (piece more : List ℕ) →
         begun_after begun (piece ++ more) ≡ begun_after (begun_after begun piece) more }
+{}
+
+/// On a bus without bit rates attempts have the moment that is set, their lines do not say it, and they take no time.
+pub fn attempts_take_no_time_without_bit_rates()
+    ensures moment { (b : BenchState) → b.wire ≡ None → next_moment b ≡ b.moment }
+    ensures said { (b : BenchState) (moment : ℕ) → b.wire ≡ None →
+        said_moment b.wire moment ≡ None }
+    ensures passed { (b : BenchState) (v : Verdict) (outcome : Result Attempt Refusal) →
+        b.wire ≡ None → passed v outcome b ≡ b }
+    ensures due { (b : BenchState) (moment : ℕ) → b.wire ≡ None → is_due moment b ≡ false }
+{}
+
+/// On one with bit rates an attempt begins neither before the moment that is set nor before the wire is free, and
+/// afterwards the wire is free no earlier than that.
+pub fn one_attempt_comes_after_another()
+    ensures begins { (w : Wire) (moment : ℕ) →
+        (moment * 1000 ≤ begin_of moment w) × (w.free ≤ begin_of moment w) }
+    ensures ends { (w : Wire) (moment : ℕ) (v : Verdict) (outcome : Result Attempt Refusal) →
+        moment < 10 ^ 16 → w.free < 10 ^ 19 →
+        begin_of moment w ≤ (wire_after moment v outcome w).free }
 {}

@@ -1,8 +1,9 @@
 //! The bench: one bus with up to 64 sessions, driven by the lines of an input.
 //!
 //! `bench` reads the lines, carries them out one after another, and writes what each puts out. `specs/Benches.antt`
-//! says what a line does, `specs/Runs.antt` how a run ends. The sessions are can_dialog's, over the bus with its names as
-//! a port ([`BusPort`]), and can be named through this crate too.
+//! says what a line does, `specs/Runs.antt` how a run ends. Where the bus has bit rates its attempts take time, as
+//! `specs/Wires.antt` says. The sessions are can_dialog's, over the bus with its names as a port ([`BusPort`]), and can be
+//! named through this crate too.
 #![tactic(auto)]
 
 mod attempt_lines;

@@ -1,5 +1,5 @@
-use Rattle.std.proofs.Common.{◌≡◌, ℕ, suc, ◌<◌, ◌≤◌, ◌==◌, Bool, true, false, ◌&&◌, List, [], ◌∷◌, length, refl, ap, sym, ◌∙◌, subst, arith}
-use Rattle.std.specs.Prelude.{Option, Some, None, if◌then◌else◌}
+use Rattle.std.proofs.Common.{◌≡◌, ℕ, suc, ◌<◌, ◌≤◌, ◌==◌, Bool, true, false, ◌&&◌, List, [], ◌∷◌, length, inr, refl, ap, sym, ◌∙◌, subst, arith}
+use Rattle.std.specs.Prelude.{Option, Some, None, Result, Ok, Err, if◌then◌else◌}
 use Rattle.std.proofs.lemmas.Bool.Decides.{nat_tests}
 use Rattle.std.proofs.lemmas.List.Elements.{All-weaker}
 use mathlib.Core.List.{IsSuffix}
@@ -21,7 +21,8 @@ use Rattle.can_meter.specs.declared.status.Status.{Status}
 use Rattle.can_meter.specs.Publications.{published, newest, Ends}
 use Rattle.can_meter.specs.Readings.{Readings, readings}
 use Rattle.can_event.specs.Replies.{enters, entry_of}
-use Rattle.can_station.specs.Published.{published_after, publications_of, counts_before, counts_in, IsPublished, AllEarlier, Publishes, AllSeen, AreTrue}
+use Rattle.can_station.specs.Passes.{PassSeen}
+use Rattle.can_station.specs.Published.{published_after, publications_of, counts_before, counts_in, IsPublished, AllEarlier, Publishes, AllSeen, AreTrue, TakesBack, TakesBackScroll}
 use Rattle.can_station.proofs.Replies.{after-entered, after-kept}
 
 -- Publications of a history that is one entry longer.
@@ -145,3 +146,9 @@ pub short : (c : BusConfig) (past : List Entry) (n : ℕ) → IsLongConfig c →
 short c past n proper legal is =
     let few : length past ≤ c.limit = legal-short c past legal in
     omega (arith, proper.few_entries)
+
+-- with a scroll of the station's, too
+pub with_scroll : {A E : Type 0} (number scroll : ℕ) (passes : List PassSeen) (gauges : List Readings) (result : Result A E) → scroll ≡ number → TakesBack number passes gauges result
+    → TakesBackScroll number scroll passes gauges result
+with_scroll number scroll passes gauges (Ok left) own back = (own, back.0, back.1)
+with_scroll number scroll passes gauges (Err refused) own back = inr back

@@ -66,6 +66,11 @@ abbrev pub TakesBack : {A E : Type 0} → ℕ → List PassSeen → List Reading
 TakesBack number passes gauges (Ok left) = AllOf number passes × GaugesOf number gauges
 TakesBack number passes gauges (Err refused) = SomeOther number passes ⊎ SomeOtherGauge number gauges
 
+-- a scroll, passes and gauges are taken back exactly where all are of the station with this number
+abbrev pub TakesBackScroll : {A E : Type 0} → ℕ → ℕ → List PassSeen → List Readings → Result A E → Type 0
+TakesBackScroll number scroll passes gauges (Ok left) = (scroll ≡ number) × AllOf number passes × GaugesOf number gauges
+TakesBackScroll number scroll passes gauges (Err refused) = ¬ (scroll ≡ number) ⊎ (SomeOther number passes ⊎ SomeOtherGauge number gauges)
+
 -- what each gauge has seen was published by this keeper
 abbrev pub AllSeen : List Readings → Readings → Type 0
 AllSeen gauges keeper = All (λ g. Ends g.lists keeper.lists) gauges

@@ -7,7 +7,8 @@
 //!
 //! A station is over any bus that is [`Journaled`](can_bus::Journaled), and if none is named over one with its whole
 //! record. Over the bus of a long run (`new_long`) another thread takes the entries in a [`Block`] at a time, and calls
-//! wait where it is late.
+//! wait where it is late. It has the station's [`Scroll`], and `settle_scroll` says that all blocks together are the first
+//! entries of the history.
 //!
 //! What the lock keeps is a [`StationState`]. Its calls carry the proofs; a [`Station`] adds the lock and the
 //! waiting. Who waits sleeps, and is woken only by a call that can matter to it.
@@ -31,6 +32,7 @@ pub mod station_state;
 mod taking;
 mod waits;
 
+pub use can_roll::Scroll;
 pub use gate::{Gate, Open, Point};
 pub use hold::Hold;
 pub use long::Block;

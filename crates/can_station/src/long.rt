@@ -1,16 +1,18 @@
-ghost use Rattle.std.specs.Prelude.{◌≡◌, [], Err, IfOk, ◌↔◌};
+ghost use Rattle.std.specs.Prelude.{◌≡◌, ◌≢◌, [], Err, IfOk, OnErr, OnOk, ◌↔◌};
 ghost use Rattle.can_bus.specs.Long.{HasTail};
 ghost use Rattle.can_event.specs.Events.{IsLongConfig};
+ghost use Rattle.can_roll.specs.Seen.{scroll_seen, scroll_with};
 ghost use Rattle.can_station.specs.Held.{station_seen};
 ghost use Rattle.can_station.specs.Passes.{InSome};
 
 use crate::gate::Gate;
+use crate::refusals::WrongStation;
 use crate::station::{Blanks, Station};
 use crate::waits::Wake;
 use can_bus::{BusConfig, BusFault, Journaled, LongRingBus, PackedRecord};
 use can_fault::FaultSource;
 use can_meter::MeterName;
-use can_roll::RollName;
+use can_roll::{RollName, Scroll};
 use can_rules::Plan;
 use std::alloc::{AllocError, Global};
 use std::sync::Wait;
@@ -38,8 +40,8 @@ impl Block {
 }
 
 impl<N: RollName + MeterName, F: FaultSource + Drop, G: Gate + Drop> Station<N, F, G, LongRingBus> {
-    /// A station over the bus of a long run, which keeps in memory only the entries that were not taken yet. It takes
-    /// memory for this many: `TAIL_SIZE`, but for tests.
+    /// A station over the bus of a long run, which keeps in memory only the entries that were not taken yet, and the scroll
+    /// of who takes them. It takes memory for this many: `TAIL_SIZE`, but for tests.
     ///
     /// `BadConfig` exactly where the configuration is outside the limits of a long run, or has another number of
     /// interfaces than the blanks; else `NoMemory` where memory was refused.
@@ -51,10 +53,11 @@ impl<N: RollName + MeterName, F: FaultSource + Drop, G: Gate + Drop> Station<N, 
         size: u32,
         source: F,
         gate: G,
-    ) -> Result<Station<N, F, G, LongRingBus>, BusFault>
+    ) -> Result<(Station<N, F, G, LongRingBus>, Scroll<N>), BusFault>
         requires roll { blanks.roll ≡ N.roll number }
         requires meter { blanks.meter ≡ N.meter number }
-        ensures made { IfOk result (λ s. s ≡ station_seen number config) }
+        ensures made { IfOk result (λ s. s.0 ≡ station_seen number config) }
+        ensures scroll { IfOk result (λ s. s.1 ≡ scroll_seen number []) }
         ensures bad { (result ≡ Err BusFault.BadConfig)
             ↔ (¬ (IsLongConfig config × (blanks.meter.words ≡ config.ifaces))) }
     {
@@ -73,19 +76,34 @@ impl<N: RollName + MeterName, F: FaultSource + Drop, G: Gate + Drop, B: Journale
     G,
     B,
 > {
-    /// Takes the entries that were not taken yet, in order, into a block, whose own are let go. Calls that wait for a
-    /// place go on. A bus with its whole record gives none.
+    /// Takes the entries that were not taken yet, in order, into a block, whose own are let go, and puts them at the end of
+    /// the scroll's. Calls that wait for a place go on. A bus with its whole record gives none.
+    ///
+    /// `WrongStation` exactly where the scroll is another station's; then nothing changes.
     ///
     /// The lock is held while two pointers are swapped, and no memory is taken: from then on the station's entries go
     /// where the block had memory for its own. Where that is none, each call is refused with `NoMemory`.
-    pub fn take_entries<R: Wait>(&self, rt: &R, block: &mut Block)
-        ensures { InSome F self.now (λ held.
-            HasTail held.journal.history block.new.entries.entries block.new.start) }
+    pub fn take_entries<R: Wait>(
+        &self,
+        rt: &R,
+        scroll: &mut Scroll<N>,
+        block: &mut Block,
+    ) -> Result<(), WrongStation>
+        ensures taken { OnOk result (InSome F self.now (λ held.
+            HasTail held.journal.history block.new.entries.entries block.new.start)) }
+        ensures scroll { OnOk result (scroll.new ≡ scroll_with block.new.entries.entries scroll.old) }
+        ensures own { OnOk result (scroll.old.number ≡ self.now.number) }
+        ensures wrong { OnErr result (scroll.old.number ≢ self.now.number) }
+        ensures same { OnErr result ((scroll.new ≡ scroll.old) × (block.new ≡ block.old)) }
     {
+        if scroll.number() != self.number {
+            return Err(WrongStation);
+        }
         block.entries.clear();
-        self.hold(rt).take_entries(block);
+        self.hold(rt).take_entries(scroll, block);
         self.room.notify_all();
         self.work.notify_all();
+        Ok(())
     }
 
     /// Waits until there are this many entries that were not taken yet, or too few places for a call, or so long.

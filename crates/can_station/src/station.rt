@@ -1,9 +1,10 @@
 ghost use Rattle.std.specs.Prelude.{◌≡◌, ◌≢◌, ◌<◌, ◌≤◌, [], length, IfOk, OnErr, ◌↔◌};
 ghost use Rattle.std.specs.Sync.Mutex.{mutex_guard_value};
 ghost use Rattle.can_event.specs.Events.{IsConfig, IsLongConfig};
+ghost use Rattle.can_roll.specs.Seen.{scroll_seen};
 ghost use Rattle.can_station.specs.Held.{station_seen};
 ghost use Rattle.can_station.specs.Passes.{HadNoPassLeft, InSome, InjectsIn, IsNewLightPass, IsNewPass, IsStateOf, SettlesIn, Suits, Answered, Called, Stepped, same};
-ghost use Rattle.can_station.specs.Published.{AreTrue, TakesBack};
+ghost use Rattle.can_station.specs.Published.{AreTrue, TakesBack, TakesBackScroll};
 
 use crate::attempts::attempt_in;
 use crate::gate::{Gate, Point};
@@ -18,7 +19,7 @@ use can_fault::FaultSource;
 use can_frame::{Moment, Names};
 use can_meter::{Gauge, MeterBlank, MeterName, meter, meter_blank};
 use can_record::PackedList;
-use can_roll::{RollBlank, RollName, Slip, roll_blank};
+use can_roll::{RollBlank, RollName, Scroll, Slip, roll_blank};
 use can_rules::{Plan, RuleRefusal};
 use std::alloc::{AllocError, Global};
 use std::marker::Model;
@@ -134,7 +135,8 @@ impl<N: RollName + MeterName, F: FaultSource + Drop, G: Gate + Drop> Station<N, 
             return Err(BusFault::BadConfig);
         }
         let bus = RingBus::new(alloc, config)?;
-        Station::over(alloc, blanks, number, bus, config, source, plan, gate)
+        let (station, _) = Station::over(alloc, blanks, number, bus, config, source, plan, gate)?;
+        Ok(station)
     }
 }
 
@@ -144,8 +146,8 @@ impl<N: RollName + MeterName, F: FaultSource + Drop, G: Gate + Drop, B: Journale
     G,
     B,
 > {
-    /// A station over a bus with this configuration, on which nothing was done, with this plan of faults. `NoMemory` where
-    /// memory was refused.
+    /// A station over a bus with this configuration, on which nothing was done, with this plan of faults, and the scroll of
+    /// who takes its entries. `NoMemory` where memory was refused.
     pub fn over(
         alloc: Global,
         blanks: Blanks,
@@ -155,21 +157,25 @@ impl<N: RollName + MeterName, F: FaultSource + Drop, G: Gate + Drop, B: Journale
         source: F,
         plan: Plan,
         gate: G,
-    ) -> Result<Station<N, F, G, B>, BusFault>
+    ) -> Result<(Station<N, F, G, B>, Scroll<N>), BusFault>
         requires roll { blanks.roll ≡ N.roll number }
         requires meter { blanks.meter ≡ N.meter number }
         requires bus { B.journal bus ≡ record { config = config; history = [] } }
+        requires out { B.handed_out bus ≡ [] }
         requires proper { IsLongConfig config }
         requires ifaces { blanks.meter.words ≡ config.ifaces }
-        ensures made { IfOk result (λ s. s ≡ station_seen number config) }
+        ensures made { IfOk result (λ s. s.0 ≡ station_seen number config) }
+        ensures scroll { IfOk result (λ s. s.1 ≡ scroll_seen number []) }
         ensures err { result ≢ Err BusFault.BadConfig }
     {
         let Blanks { roll, meter: blank } = blanks;
         let Ok((keeper, spare)) = meter::<N>(alloc, blank, number) else {
             return Err(BusFault::NoMemory);
         };
-        let state = StationState::new(roll, number, bus, config, source, plan, keeper, spare);
-        Ok(Station {
+        let (state, scroll) = StationState::new(
+            roll, number, bus, config, source, plan, keeper, spare,
+        );
+        let station = Station {
             state: Mutex::new(state),
             work: Condvar::new(),
             items: Rooms::new(),
@@ -180,7 +186,8 @@ impl<N: RollName + MeterName, F: FaultSource + Drop, G: Gate + Drop, B: Journale
             number,
             config,
             fullness: AtomicU8::new(ROOM),
-        })
+        };
+        Ok((station, scroll))
     }
 
     /// The number of the station.
@@ -363,23 +370,44 @@ impl<N: RollName + MeterName, F: FaultSource + Drop, G: Gate + Drop, B: Journale
         ensures gauges { IfOk result (λ s. AreTrue (B.left s.history) gauges.items) }
         ensures refused { TakesBack self.number passes.items gauges.items result }
     {
+        self.into_state(rt).settle(passes, gauges)
+    }
+
+    /// Takes the scroll back as well: what was handed out to it is what the bus handed out, of the one history that settles all
+    /// passes; so these are the first entries of what a long run's bus leaves.
+    ///
+    /// `WrongStation` also exactly where the scroll is another station's.
+    pub fn settle_scroll<R: Wait>(
+        self,
+        rt: &R,
+        scroll: Scroll<N>,
+        passes: Vec<Pass<N>>,
+        gauges: Vec<Gauge<N>>,
+    ) -> Result<Settled<B::Left>, WrongStation>
+        ensures scroll { IfOk result (λ s. scroll.entries ≡ B.handed_by s.history) }
+        ensures settled { IfOk result (λ s. SettlesIn (B.left s.history) s.passes passes.items) }
+        ensures config { IfOk result (λ s. (B.left s.history).config ≡ self.config) }
+        ensures gauges { IfOk result (λ s. AreTrue (B.left s.history) gauges.items) }
+        ensures refused { TakesBackScroll self.number scroll.number passes.items gauges.items result }
+    {
+        self.into_state(rt).settle_scroll(scroll, passes, gauges)
+    }
+
+    /// What the lock kept, which is the station's state, as `own` has it.
+    fn into_state<R: Wait>(self, rt: &R) -> StationState<N, F, B>
+        ensures { IsStateOf self result }
+    {
         let Station {
             state,
-            work: _,
-            items: _,
-            ends: _,
-            room: _,
-            written: _,
-            gate: _,
             number,
             config,
-            fullness: _,
+            ..
         } = self;
         let state = state.into_inner();
-        if !state.is_of(number, &config) {
-            for _ in rt.forever() {}
-            unreachable!()
+        if state.is_of(number, &config) {
+            return state;
         }
-        state.settle(passes, gauges)
+        for _ in rt.forever() {}
+        unreachable!()
     }
 }

@@ -10,7 +10,8 @@ ghost use Rattle.can_rules.specs.Plans.{Injected, given, plan_after, without_rul
 ghost use Rattle.can_station.specs.Marks.{IsBooked, IsMarked};
 ghost use Rattle.can_station.specs.Passes.{IsCarriedOut, IsReceived, IsStateOf, IsStepped, SettlesIn, Suits, head_on, next_verdict};
 ghost use Rattle.can_bus.specs.Run.{IsAnswered};
-ghost use Rattle.can_station.specs.Published.{AreTrue, IsPublished, TakesBack};
+ghost use Rattle.can_roll.specs.Seen.{scroll_seen};
+ghost use Rattle.can_station.specs.Published.{AreTrue, IsPublished, TakesBack, TakesBackScroll};
 ghost use Rattle.can_station.specs.Waits.{AreCounts, IsNearlyFull, frame_wake, has_work, work_wake, stopped_wake, waiting_at};
 
 use crate::gauges::{absorb_all, are_gauges_of};
@@ -28,7 +29,7 @@ use can_fault::{FaultSource, Verdict};
 use can_frame::{Frame, Iface, Moment, Names};
 use can_meter::{Gauge, Keeper, MeterName};
 use can_record::receive_reply;
-use can_roll::{Roll, RollBlank, RollName, Slip};
+use can_roll::{HandedOut, Roll, RollBlank, RollName, Scroll, Slip, roll_with_scroll};
 use can_rules::{Plan, RuleRefusal};
 use std::alloc::{AllocError, Global};
 use std::marker::Model;
@@ -40,8 +41,8 @@ const MAX_PASSES: u32 = 4096;
 /// keeper of its meter.
 ///
 /// Whenever the lock is free the record is a legal history, its entries can be marked with passes so that the roll's
-/// list of each pass is the entries marked with it, and the keeper has published each change of an interface's error
-/// counters.
+/// list of each pass is the entries marked with it, the keeper has published each change of an interface's error
+/// counters, and what was handed out to the scroll is what the bus has handed out.
 #[derive(Drop)]
 pub struct StationState<N: RollName + MeterName, F: FaultSource + Drop, B: Journaled = RingBus> {
     pub(crate) bus: B,
@@ -49,6 +50,7 @@ pub struct StationState<N: RollName + MeterName, F: FaultSource + Drop, B: Journ
     source: F,
     plan: Plan,
     roll: Roll<N>,
+    pub(crate) handed: HandedOut<N>,
     keeper: Keeper<N>,
     spare: Gauge<N>,
     stopped: bool,
@@ -60,6 +62,7 @@ impl<N: RollName + MeterName, F: FaultSource + Drop, B: Journaled> Model for Sta
     ghost use Rattle.std.specs.Coded.{codes};
     ghost use Rattle.std.specs.Prelude.{◌≡◌};
     ghost use Rattle.can_fault.specs.Sources.{verdict_map_code};
+    ghost use Rattle.can_roll.specs.Seen.{scroll_seen};
     ghost use Rattle.can_station.specs.Held.{Held};
     ghost use Rattle.can_station.specs.Marks.{IsBooked};
     ghost use Rattle.can_station.specs.Published.{IsPublished};
@@ -79,7 +82,8 @@ impl<N: RollName + MeterName, F: FaultSource + Drop, B: Journaled> Model for Sta
 
     ghost invariant = { λ s. IsBooked s.roll (B.journal s.bus)
         × IsPublished s.keeper s.roll.number (B.journal s.bus)
-        × (s.spare.number ≡ s.roll.number) × ((B.journal s.bus).config ≡ s.config) };
+        × (s.spare.number ≡ s.roll.number) × ((B.journal s.bus).config ≡ s.config)
+        × (s.handed ≡ scroll_seen s.roll.number (B.handed_out s.bus)) };
 }
 
 impl<N: RollName + MeterName, F: FaultSource + Drop> StationState<N, F> {
@@ -95,7 +99,7 @@ impl<N: RollName + MeterName, F: FaultSource + Drop> StationState<N, F> {
 }
 
 impl<N: RollName + MeterName, F: FaultSource + Drop, B: Journaled> StationState<N, F, B> {
-    /// The state of a station whose bus has no entry.
+    /// The state of a station whose bus has no entry, and its scroll.
     pub(crate) fn new(
         blank: RollBlank,
         number: u8,
@@ -105,26 +109,31 @@ impl<N: RollName + MeterName, F: FaultSource + Drop, B: Journaled> StationState<
         plan: Plan,
         keeper: Keeper<N>,
         spare: Gauge<N>,
-    ) -> StationState<N, F, B>
+    ) -> (StationState<N, F, B>, Scroll<N>)
         requires name { blank ≡ N.roll number }
         requires bus { B.journal bus ≡ record { config = config; history = [] } }
+        requires out { B.handed_out bus ≡ [] }
         requires proper { IsLongConfig config }
         requires keeper { keeper ≡ readings number config.ifaces [] }
         requires spare { spare.number ≡ number }
-        ensures { result ≡ new_held number (B.journal bus) source plan }
+        ensures state { result.0 ≡ new_held number (B.journal bus) source plan }
+        ensures scroll { result.1 ≡ scroll_seen number [] }
     {
-        StationState {
+        let (roll, handed, scroll) = roll_with_scroll(blank, number);
+        let state = StationState {
             bus,
             config,
             source,
             plan,
-            roll: Roll::new(blank, number),
+            roll,
+            handed,
             keeper,
             spare,
             stopped: false,
             sleepers: Sleepers::none(),
             taking: Taking::none(),
-        }
+        };
+        (state, scroll)
     }
 
     /// The number of the station.
@@ -421,29 +430,72 @@ impl<N: RollName + MeterName, F: FaultSource + Drop, B: Journaled> StationState<
     {
         let StationState {
             bus,
-            config: _,
-            source: _,
-            plan: _,
-            mut roll,
-            mut keeper,
-            spare: _,
-            stopped: _,
-            sleepers: _,
-            taking: _,
+            roll,
+            keeper,
+            ..
         } = self;
-        if !are_all_of(&passes, roll.number()) {
-            return Err(WrongStation);
-        }
-        if !are_gauges_of(&gauges, roll.number()) {
-            return Err(WrongStation);
-        }
-        recall_all(&mut roll, passes);
-        absorb_all(&mut keeper, gauges);
-        Ok(Settled {
-            history: bus.into_left(),
-            passes: roll.passes(),
-        })
+        settle_bus(bus, roll, keeper, passes, gauges)
     }
+
+    /// What the bus leaves, as by `settle`, with the scroll taken in as well: it has what the bus handed out, which are the
+    /// first entries of its history. `WrongStation` also exactly where the scroll is another station's.
+    pub fn settle_scroll(
+        self,
+        scroll: Scroll<N>,
+        passes: Vec<Pass<N>>,
+        gauges: Vec<Gauge<N>>,
+    ) -> Result<Settled<B::Left>, WrongStation>
+        ensures left { IfOk result (λ s. B.left s.history ≡ self.journal) }
+        ensures scroll { IfOk result (λ s. scroll.entries ≡ B.handed_by s.history) }
+        ensures settled { IfOk result (λ s. SettlesIn (B.left s.history) s.passes passes.items) }
+        ensures gauges { IfOk result (λ s. AreTrue (B.left s.history) gauges.items) }
+        ensures refused { TakesBackScroll self.number scroll.number passes.items gauges.items result }
+    {
+        let StationState {
+            bus,
+            roll,
+            mut handed,
+            keeper,
+            ..
+        } = self;
+        if scroll.number() != roll.number() {
+            return Err(WrongStation);
+        }
+        handed.recall(scroll);
+        settle_bus(bus, roll, keeper, passes, gauges)
+    }
+}
+
+/// What a bus leaves, with all these passes and gauges taken in. `WrongStation` exactly where some of them is another
+/// station's than the roll's.
+fn settle_bus<N: RollName + MeterName, B: Journaled>(
+    bus: B,
+    mut roll: Roll<N>,
+    mut keeper: Keeper<N>,
+    passes: Vec<Pass<N>>,
+    gauges: Vec<Gauge<N>>,
+) -> Result<Settled<B::Left>, WrongStation>
+    requires booked { IsBooked roll (B.journal bus) }
+    requires published { IsPublished keeper roll.number (B.journal bus) }
+    ensures left { IfOk result (λ s. B.left s.history ≡ B.journal bus) }
+    ensures out { IfOk result (λ s. B.handed_by s.history ≡ B.handed_out bus) }
+    ensures passes { IfOk result (λ s. s.passes ≡ length roll.lists) }
+    ensures settled { IfOk result (λ s. SettlesIn (B.left s.history) s.passes passes.items) }
+    ensures gauges { IfOk result (λ s. AreTrue (B.left s.history) gauges.items) }
+    ensures refused { TakesBack roll.number passes.items gauges.items result }
+{
+    if !are_all_of(&passes, roll.number()) {
+        return Err(WrongStation);
+    }
+    if !are_gauges_of(&gauges, roll.number()) {
+        return Err(WrongStation);
+    }
+    recall_all(&mut roll, passes);
+    absorb_all(&mut keeper, gauges);
+    Ok(Settled {
+        history: bus.into_left(),
+        passes: roll.passes(),
+    })
 }
 
 /// The verdict of a bus's next attempt, which has this number and for which the source has this verdict. The plan counts it.
@@ -476,6 +528,7 @@ fn carry_out<N: RollName + MeterName, B: Journaled>(
     ensures slip { slip.new ≡ slip_after event.now result slip.old }
     ensures booked { IsBooked roll.new (B.journal bus.new) }
     ensures published { IsPublished keeper.new roll.new.number (B.journal bus.new) }
+    ensures out { B.handed_out bus.new ≡ B.handed_out bus.old }
 {
     let before = counters_before(bus, event);
     let reply = bus.answer(alloc, event);

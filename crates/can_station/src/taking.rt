@@ -1,5 +1,6 @@
 ghost use Rattle.std.specs.Prelude.{◌≡◌, [], false, is_none};
 ghost use Rattle.can_bus.specs.Long.{HasTail};
+ghost use Rattle.can_roll.specs.Seen.{scroll_with};
 ghost use Rattle.can_station.specs.Waits.{work_wake};
 
 use crate::long::Block;
@@ -8,7 +9,7 @@ use crate::waits::Wake;
 use can_bus::Journaled;
 use can_fault::FaultSource;
 use can_meter::MeterName;
-use can_roll::RollName;
+use can_roll::{RollName, Scroll};
 
 /// How many places a call waits for: a hold of a server makes fewer entries.
 const HOLD_PLACES: usize = 512;
@@ -104,13 +105,16 @@ impl<N: RollName + MeterName, F: FaultSource + Drop, B: Journaled> StationState<
         self.taking.is_over = true;
     }
 
-    /// Hands out the entries that were not handed out yet, in order, for a block without entries.
-    pub(crate) fn take_entries(&mut self, block: &mut Block)
-        requires { block.old.entries.entries ≡ [] }
+    /// Hands out the entries that were not handed out yet, in order, for a block without entries, to who has the scroll.
+    pub(crate) fn take_entries(&mut self, scroll: &mut Scroll<N>, block: &mut Block)
+        requires own { scroll.old.number ≡ self.old.number }
+        requires empty { block.old.entries.entries ≡ [] }
         ensures taken { HasTail self.old.journal.history block.new.entries.entries block.new.start }
+        ensures scroll { scroll.new ≡ scroll_with block.new.entries.entries scroll.old }
         ensures same { self.new ≡ self.old }
     {
         block.start = self.bus.hand_out(&mut block.entries);
+        self.handed.hand_out(scroll, &block.entries);
         self.taking.taken = self.bus.len();
     }
 }

@@ -1,15 +1,17 @@
 //! Where the entries of a long run go: into the files of its bus, while it is served.
-ghost use Rattle.std.specs.Prelude.{◌≡◌, All};
+ghost use Rattle.std.specs.Prelude.{◌≡◌, [], All};
 ghost use Rattle.can_record_text.specs.inner.Stored.{HasFittingReply};
 ghost use Rattle.canbusd_serve.specs.LongRuns.{LogGets, RecordGets};
 
 use crate::host::Host;
 use crate::live_files::LiveFiles;
 use can_bus::PackedRecord;
-use can_server::Keeper;
+use can_server::{Given, Keeper};
 use can_station::Block;
 use std::fs::OpenFile;
 use std::io::Write;
+use std::marker::Model;
+use std::snapshot::Snapshot;
 use std::sync::Wait;
 use std::time::Instant;
 use std::{io, time};
@@ -20,74 +22,115 @@ const PATIENCE: u64 = 1;
 /// How many seconds pass at least before that is reported again.
 const PAUSE: u64 = 60;
 
+/// The files of a bus, which have the lines of the entries that they were given after what they had at first, as far as they
+/// are not over. Contracts see these entries.
+#[derive(Drop)]
+pub struct KeptFiles<F: Write + OpenFile + Drop> {
+    files: LiveFiles<F>,
+    given: Given,
+    // The files as they were at first: they take no memory.
+    start: Snapshot<LiveFiles<F>>,
+}
+
+impl<F: Write + OpenFile + Drop> Model for KeptFiles<F> {
+    ghost use Rattle.std.specs.Prelude.{List};
+    ghost use Rattle.can_event.specs.declared.entry.Entry.{Entry};
+    ghost use Rattle.canbusd_serve.specs.LongRuns.{KeepsInFiles};
+
+    ghost Value = { List Entry };
+
+    ghost view = { λ k. k.given };
+
+    ghost invariant = { λ k. KeepsInFiles F.contents k.start.value k.given k.files };
+}
+
+impl<F: Write + OpenFile + Drop> KeptFiles<F> {
+    /// Files that were given nothing.
+    pub fn new(files: LiveFiles<F>) -> KeptFiles<F>
+        ensures { result ≡ [] }
+    {
+        KeptFiles {
+            start: Snapshot::of(&files),
+            files,
+            given: Given::new(),
+        }
+    }
+
+    /// The files.
+    pub fn into_files(self) -> LiveFiles<F> {
+        let KeptFiles { files, .. } = self;
+        files
+    }
+}
+
 /// Writes the entries of a bus to its files.
 #[derive(Drop)]
-pub struct FileKeeper<'o, 'k, 'h, 'a, 'l, F: Write + OpenFile + Drop, H, E: Write> {
+pub struct FileKeeper<'o, 'h, 'a, 'l, F: Write + OpenFile + Drop, H, E: Write> {
     pub host: &'o Host<'h, 'a, 'l, H, E>,
     pub bus: usize,
-    pub files: &'k mut LiveFiles<F>,
+    pub kept: KeptFiles<F>,
     /// When it was reported last that the bus waits for a file.
     pub reported: Option<Instant>,
 }
 
 impl<F: Write + OpenFile + Drop, H: Wait + time::Clock, E: Write> Keeper
-    for FileKeeper<'_, '_, '_, '_, '_, F, H, E> {
-    ghost use Rattle.canbusd_serve.specs.LongRuns.{KeepsInFiles};
-
-    ghost keeps = { λ old entries new. KeepsInFiles F.contents old.files.now entries new.files.now };
+    for FileKeeper<'_, '_, '_, '_, F, H, E> {
+    ghost given = { λ keeper. keeper.kept };
 
     fn keep(&mut self, block: &Block) {
-        if block.entries.len() == 0 {
+        let entries = &block.entries;
+        if entries.len() == 0 {
             return;
         }
-        self.keep_record(&block.entries);
-        self.keep_log(&block.entries);
+        let files = &mut self.kept.files;
+        keep_record(self.host, self.bus, files, entries, &mut self.reported);
+        keep_log(self.host, self.bus, files, entries, &mut self.reported);
+        self.kept.given.note(entries);
     }
 }
 
-impl<F: Write + OpenFile + Drop, H: Wait + time::Clock, E: Write> FileKeeper<
-    '_,
-    '_,
-    '_,
-    '_,
-    '_,
-    F,
-    H,
-    E,
-> {
-    // Writes the lines of entries to the record.
-    fn keep_record(&mut self, entries: &PackedRecord)
-        requires { All HasFittingReply entries.now.entries }
-        ensures kept { RecordGets F.contents self.old.files.now.record entries.now.entries
-            self.new.files.now.record }
-        ensures same { self.new.files.now.log ≡ self.old.files.now.log }
-    {
-        let begun = Instant::now(self.host.rt);
-        let kept = self.files.keep_record(self.host.alloc, entries);
-        if is_late(self.host.rt, begun, &mut self.reported) {
-            if let Some(record) = &self.files.record {
-                self.host.note_wait(self.bus, record.path());
-            }
+// Writes the lines of entries to the record of a bus.
+fn keep_record<F: Write + OpenFile + Drop, H: Wait + time::Clock, E: Write>(
+    host: &Host<'_, '_, '_, H, E>,
+    bus: usize,
+    files: &mut LiveFiles<F>,
+    entries: &PackedRecord,
+    reported: &mut Option<Instant>,
+)
+    requires { All HasFittingReply entries.now.entries }
+    ensures kept { RecordGets F.contents files.old.record entries.now.entries files.new.record }
+    ensures same { files.new.log ≡ files.old.log }
+{
+    let begun = Instant::now(host.rt);
+    let kept = files.keep_record(host.alloc, entries);
+    if is_late(host.rt, begun, reported) {
+        if let Some(record) = &files.record {
+            host.note_wait(bus, record.path());
         }
-        self.host.report(kept);
     }
+    host.report(kept);
+}
 
-    // Writes the lines of their tried frames to the log.
-    fn keep_log(&mut self, entries: &PackedRecord)
-        ensures kept { LogGets F.contents self.old.files.now.log entries.now.entries
-            self.new.files.now.log }
-        ensures same { self.new.files.now.record ≡ self.old.files.now.record }
-    {
-        let begun = Instant::now(self.host.rt);
-        let name = self.host.name_of(self.bus);
-        let kept = self.files.keep_log(self.host.alloc, name, entries);
-        if is_late(self.host.rt, begun, &mut self.reported) {
-            if let Some(log) = &self.files.log {
-                self.host.note_wait(self.bus, log.path());
-            }
+// Writes the lines of their tried frames to its log.
+fn keep_log<F: Write + OpenFile + Drop, H: Wait + time::Clock, E: Write>(
+    host: &Host<'_, '_, '_, H, E>,
+    bus: usize,
+    files: &mut LiveFiles<F>,
+    entries: &PackedRecord,
+    reported: &mut Option<Instant>,
+)
+    ensures kept { LogGets F.contents files.old.log entries.now.entries files.new.log }
+    ensures same { files.new.record ≡ files.old.record }
+{
+    let begun = Instant::now(host.rt);
+    let name = host.name_of(bus);
+    let kept = files.keep_log(host.alloc, name, entries);
+    if is_late(host.rt, begun, reported) {
+        if let Some(log) = &files.log {
+            host.note_wait(bus, log.path());
         }
-        self.host.report(kept);
     }
+    host.report(kept);
 }
 
 // Whether it is to be reported that a write which began then took long. If so, it counts as reported now.

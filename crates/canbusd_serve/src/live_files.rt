@@ -4,6 +4,7 @@ ghost use Rattle.can_record_text.specs.inner.Stored.{HasFittingReply};
 ghost use Rattle.canbusd_serve.specs.LongRuns.{LogGets, RecordGets};
 ghost use Rattle.canbusd_serve.specs.Served.{IsOfServing};
 
+use crate::file_keeper::KeptFiles;
 use crate::serve_files::{draft_of, open_failure};
 use can_bus::{LongEnd, PackedRecord};
 use can_frame::Names;
@@ -153,7 +154,7 @@ fn log_path(alloc: Global, folder: &str, name: &str) -> Result<String, AllocErro
 pub fn finish_all<H: Files, E: Write>(
     rt: &H,
     alloc: Global,
-    files: Vec<LiveFiles<File>>,
+    files: Vec<KeptFiles<File>>,
     buses: &[BusWord<'_>],
     settled: &[Settled<LongEnd>],
     telling: &mut Telling<'_, E>,
@@ -161,7 +162,14 @@ pub fn finish_all<H: Files, E: Write>(
     ensures { IsTrue telling.old.has_told → IsTrue telling.new.has_told }
 {
     for ((files, bus), settled) in files.into_iter().zip(buses).zip(settled) {
-        finish(rt, alloc, files, bus, &settled.history, telling);
+        finish(
+            rt,
+            alloc,
+            files.into_files(),
+            bus,
+            &settled.history,
+            telling,
+        );
     }
 }
 

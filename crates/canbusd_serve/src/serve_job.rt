@@ -5,12 +5,13 @@ ghost use Rattle.can_hub.specs.Benches.{NamedFrom};
 ghost use Rattle.can_hub.specs.HubBuses.{IsOfLongRuns};
 ghost use Rattle.canbusd_faults.specs.declared.fault.Fault.TheVariants as fault;
 ghost use Rattle.canbusd_files.specs.Files.{Took};
-ghost use Rattle.canbusd_serve.specs.LongRuns.{HasFiles, buses_in};
+ghost use Rattle.can_hub.specs.Settling.{AreNewScrolls};
+ghost use Rattle.canbusd_serve.specs.LongRuns.{AllGiven, AllGivenFirst, HasFiles, HasGiven, HasNewScrolls, buses_in};
 ghost use Rattle.canbusd_serve.specs.Served.{AreAllBenches, AreEnds, IsBenchOf, IsHeardAt, IsListening, IsOfBus, IsOfHub, IsOfServer, IsOfServing, IsServed, Serves, journals, listening_line, record_journal};
 
 use crate::buses_notes::buses_note;
 use crate::ends::put_ends;
-use crate::file_keeper::FileKeeper;
+use crate::file_keeper::{FileKeeper, KeptFiles};
 use crate::host::Host;
 use crate::listening::{Listening, leave, listen, listen_failure};
 use crate::live_files::{LiveFiles, finish_all, open_all};
@@ -20,13 +21,13 @@ use can_bus::{BusFault, LongEnd, TAIL_SIZE};
 use can_fault::Perfect;
 use can_meter::MeterName;
 use can_roll::RollName;
-use can_server::{Bench, Door, Hub, Scribe, serve, serve_long};
-use can_station::{Blanks, Open, Pass, Settled};
+use can_server::{Bench, Door, Hub, Kept, Scribe, serve, serve_long};
+use can_station::{Blanks, Open, Pass, Scroll, Settled};
 use canbusd_faults::{Failure, Fault, Telling, fixed_note};
 use canbusd_files::{INPUT, OUTPUT, bus_config, read_names, read_plan, write_failure};
 use canbusd_options::{BusWord, Recording, ServeOptions};
 use std::alloc::{AllocError, Global};
-use std::fs::File;
+use std::fs::{File, OpenFile};
 use std::io::{ErrorKind, Read, Write};
 use std::marker::Brand;
 use std::net::{Net, Shutdown, TcpListener, TcpStream};
@@ -89,18 +90,19 @@ pub fn run_serve<'a, H: ServerRuntime, R: Read + Drop + Send + 'static, W: Write
     Ok(!has_told && !run.has_lost.load(Ordering::SeqCst))
 }
 
-// The buses that are served: of a hub that keeps their records, or of long runs.
+// The buses that are served: of a hub that keeps their records, or of long runs, with the scroll of each.
 #[derive(Drop)]
 enum Served<'h, N: RollName + MeterName> {
     Whole(&'h Hub<N, Perfect, Open>),
-    Long(&'h Hub<N, Perfect, Open, LongEnd>),
+    Long(&'h Hub<N, Perfect, Open, LongEnd>, Vec<Scroll<N>>),
 }
 
-// What is there after serving: the passes of each bus, and in long runs its files.
+// What is there after serving: the passes of each bus, and in long runs its files with the scroll of what they were given.
 #[derive(Drop)]
 struct Run<N: RollName> {
     passes: Vec<Vec<Pass<N>>>,
-    files: Vec<LiveFiles<File>>,
+    files: Vec<KeptFiles<File>>,
+    scrolls: Vec<Scroll<N>>,
 }
 
 // What a server runs with.
@@ -250,21 +252,27 @@ impl<'r, 'a, H: ServerRuntime> ServerRun<'r, 'a, H> {
         input: R,
         output: &mut W,
         errors: &mut E,
-    ) -> Result<(Vec<Settled<LongEnd>>, Vec<LiveFiles<File>>), Failure<'a>>
+    ) -> Result<(Vec<Settled<LongEnd>>, Vec<KeptFiles<File>>), Failure<'a>>
         requires named { NamedFrom N.roll N.meter 0 benches.items }
         requires each { length benches.items ≡ length self.now.options.now.buses.items }
         ensures ends { IfOk result (λ end.
             AreEnds benches.items (journals journal_of end.0.items)) }
+        ensures handed { IfOk result (λ end. AllGivenFirst end.1.items end.0.items) }
         ensures listening { OnOk result
             (IsListening W.contents self.now.options.now.address.now output.old output.new) }
         ensures fault { IfErr result (λ failure. IsOfHub IsOfLongRuns benches.items failure.fault) }
     {
-        let hub = match Hub::<N, Perfect, Open, LongEnd>::new_long(self.alloc, benches, TAIL_SIZE) {
+        let made = Hub::<N, Perfect, Open, LongEnd>::new_long(self.alloc, benches, TAIL_SIZE);
+        let (hub, scrolls) = match made {
             Ok(hub) => hub,
             Err(fault) => return Err(self.hub_failure(fault)),
         };
-        let Run { passes, files } = self.serve_hub(Served::Long(&hub), input, output, errors)?;
-        match hub.settle(self.rt, self.alloc, passes) {
+        let Run {
+            passes,
+            files,
+            scrolls,
+        } = self.serve_hub(Served::Long(&hub, scrolls), input, output, errors)?;
+        match hub.settle_scrolls(self.rt, self.alloc, passes, scrolls) {
             Ok(settled) => Ok((settled, files)),
             Err(fault) => Err(self.wrong_station(fault.bus)),
         }
@@ -301,7 +309,10 @@ impl<'r, 'a, H: ServerRuntime> ServerRun<'r, 'a, H> {
         errors: &mut E,
     ) -> Result<Run<N>, Failure<'a>>
         requires each { length (buses_in hub) ≡ length self.now.options.now.buses.items }
+        requires scrolls { HasNewScrolls hub }
         ensures passes { IfOk result (λ run. length run.passes.items ≡ length (buses_in hub.entry)) }
+        ensures given { IfOk result (λ run.
+            HasGiven hub.entry run.files.items run.scrolls.items) }
         ensures listening { OnOk result
             (IsListening W.contents self.now.options.now.address.now output.old output.new) }
         ensures fault { IfErr result (λ failure. IsOfServing failure.fault) }
@@ -331,8 +342,11 @@ impl<'r, 'a, H: ServerRuntime> ServerRun<'r, 'a, H> {
         errors: &mut E,
     ) -> Result<Run<N>, Failure<'a>>
         requires each { length (buses_in hub) ≡ length self.now.options.now.buses.items }
+        requires scrolls { HasNewScrolls hub }
         requires heard { IsHeardAt self.now.options.now.address.now heard.now }
         ensures passes { IfOk result (λ run. length run.passes.items ≡ length (buses_in hub.entry)) }
+        ensures given { IfOk result (λ run.
+            HasGiven hub.entry run.files.items run.scrolls.items) }
         ensures listening { OnOk result
             (IsListening W.contents self.now.options.now.address.now output.old output.new) }
         ensures fault { IfErr result (λ failure. IsOfServing failure.fault) }
@@ -342,10 +356,9 @@ impl<'r, 'a, H: ServerRuntime> ServerRun<'r, 'a, H> {
         } else {
             None
         };
-        let mut files = self.open_files(&hub, errors)?;
+        let files = self.open_files(&hub, errors)?;
         put_listening(self.alloc, heard, output)?;
-        let passes = self.serve_until(&hub, &mut files, doors, until, errors)?;
-        Ok(Run { passes, files })
+        self.serve_until(hub, files, doors, until, errors)
     }
 
     // Looks whether the folder takes files, and opens those of long runs.
@@ -365,20 +378,23 @@ impl<'r, 'a, H: ServerRuntime> ServerRun<'r, 'a, H> {
                 }
                 Ok(Vec::new(self.alloc))
             }
-            Served::Long(_) => open_all(self.rt, self.alloc, self.options, errors),
+            Served::Long(_, _) => open_all(self.rt, self.alloc, self.options, errors),
         }
     }
 
     fn serve_until<N: RollName + MeterName + Send + Sync, E: Write + Send>(
         &self,
-        hub: &Served<'_, N>,
-        files: &mut [LiveFiles<File>],
+        hub: Served<'_, N>,
+        files: Vec<LiveFiles<File>>,
         doors: &[Door],
         until: Option<UnixStream>,
         errors: &mut E,
-    ) -> Result<Vec<Vec<Pass<N>>>, Failure<'a>>
-        requires { HasFiles hub.now (length files.old) }
-        ensures passes { IfOk result (λ passes. length passes.items ≡ length (buses_in hub.now)) }
+    ) -> Result<Run<N>, Failure<'a>>
+        requires files { HasFiles hub (length files.items) }
+        requires scrolls { HasNewScrolls hub }
+        ensures passes { IfOk result (λ run. length run.passes.items ≡ length (buses_in hub.entry)) }
+        ensures given { IfOk result (λ run.
+            HasGiven hub.entry run.files.items run.scrolls.items) }
         ensures fault { IfErr result (λ failure. IsOfServing failure.fault) }
     {
         let host = Host {
@@ -389,41 +405,69 @@ impl<'r, 'a, H: ServerRuntime> ServerRun<'r, 'a, H> {
             has_lost: &self.has_lost,
         };
         let served = match hub {
-            Served::Whole(hub) => serve(self.rt, self.alloc, hub, doors, &host, until.as_ref()),
-            Served::Long(hub) => self.serve_long(hub, files, doors, &host, until),
+            Served::Whole(hub) => self.serve_whole(hub, doors, &host, until),
+            Served::Long(hub, scrolls) => self.serve_long(hub, files, scrolls, doors, &host, until),
         };
         match served {
-            Ok(passes) => Ok(passes),
+            Ok(run) => Ok(run),
             Err(_) => Err(Failure::new(self.alloc, Fault::NoMemory)),
         }
+    }
+
+    // Serves buses that keep their records.
+    fn serve_whole<N: RollName + MeterName + Send + Sync, E: Write + Send>(
+        &self,
+        hub: &Hub<N, Perfect, Open>,
+        doors: &[Door],
+        host: &Host<'_, 'a, '_, H, E>,
+        until: Option<UnixStream>,
+    ) -> Result<Run<N>, AllocError>
+        ensures { IfOk result (λ run. length run.passes.items ≡ length hub.now) }
+    {
+        let passes = serve(self.rt, self.alloc, hub, doors, host, until.as_ref())?;
+        Ok(Run {
+            passes,
+            files: Vec::new(self.alloc),
+            scrolls: Vec::new(self.alloc),
+        })
     }
 
     // Serves the buses of long runs, each with a scribe that writes its files.
     fn serve_long<N: RollName + MeterName + Send + Sync, E: Write + Send>(
         &self,
         hub: &Hub<N, Perfect, Open, LongEnd>,
-        files: &mut [LiveFiles<File>],
+        files: Vec<LiveFiles<File>>,
+        scrolls: Vec<Scroll<N>>,
         doors: &[Door],
         host: &Host<'_, 'a, '_, H, E>,
         until: Option<UnixStream>,
-    ) -> Result<Vec<Vec<Pass<N>>>, AllocError>
-        requires { length files.old ≡ length hub.now }
-        ensures { IfOk result (λ passes. length passes.items ≡ length hub.now) }
+    ) -> Result<Run<N>, AllocError>
+        requires files { length files.items ≡ length hub.now }
+        requires scrolls { AreNewScrolls 0 scrolls.items }
+        requires each { length scrolls.items ≡ length hub.now }
+        ensures passes { IfOk result (λ run. length run.passes.items ≡ length hub.now) }
+        ensures given { IfOk result (λ run. AllGiven run.files.items run.scrolls.items) }
+        ensures each { IfOk result (λ run. length run.scrolls.items ≡ length hub.now) }
     {
+        let mut run = Run {
+            passes: Vec::new(self.alloc),
+            files: Vec::with_capacity(self.alloc, hub.count())?,
+            scrolls: Vec::with_capacity(self.alloc, hub.count())?,
+        };
+        let mut kept = keepers_of(self.alloc, host, files, scrolls)?;
         let patience = Duration::from_millis(u64::from(self.options.flush_ms));
         let mut scribes = Vec::new(self.alloc);
-        let files = files.iter_mut().enumerate();
-        for (bus, files) in files {
-            let keeper = FileKeeper {
-                host,
-                bus,
-                files,
-                reported: None,
-            };
-            scribes.push(Scribe::new(self.alloc, bus, TAIL_SIZE, patience, keeper)?)?;
+        for kept in kept.iter_mut() {
+            scribes.push(Scribe::new(self.alloc, TAIL_SIZE, patience, kept)?)?;
         }
         let until = until.as_ref();
-        serve_long(self.rt, self.alloc, hub, doors, host, until, scribes)
+        run.passes = serve_long(self.rt, self.alloc, hub, doors, host, until, scribes)?;
+        for kept in kept {
+            let (keeper, scroll) = kept.into_parts();
+            run.files.push_reserved(keeper.kept);
+            run.scrolls.push_reserved(scroll);
+        }
+        Ok(run)
     }
 
     // A stream that ends where the input does. Its reader is a thread that nobody joins, since a read of the input
@@ -440,6 +484,39 @@ impl<'r, 'a, H: ServerRuntime> ServerRun<'r, 'a, H> {
             Err(_) => Err(Failure::new(self.alloc, Fault::NoMemory)),
         }
     }
+}
+
+// The keepers of these files, each with the scroll of its bus.
+fn keepers_of<
+    'o,
+    'h,
+    'a,
+    'l,
+    N: RollName + MeterName,
+    F: Write + OpenFile + Drop,
+    H: Wait + Clock,
+    E: Write,
+>(
+    alloc: Global,
+    host: &'o Host<'h, 'a, 'l, H, E>,
+    files: Vec<LiveFiles<F>>,
+    scrolls: Vec<Scroll<N>>,
+) -> Result<Vec<Kept<N, FileKeeper<'o, 'h, 'a, 'l, F, H, E>>>, AllocError>
+    requires scrolls { AreNewScrolls 0 scrolls.items }
+    requires each { length files.items ≡ length scrolls.items }
+    ensures { IfOk result (λ kept. length kept.items ≡ length scrolls.items) }
+{
+    let mut kept = Vec::new(alloc);
+    for (files, scroll) in files.into_iter().zip(scrolls) {
+        let keeper = FileKeeper {
+            host,
+            bus: kept.len(),
+            kept: KeptFiles::new(files),
+            reported: None,
+        };
+        kept.push(Kept::new(keeper, scroll))?;
+    }
+    Ok(kept)
 }
 
 // Reads an input to its end, and then shuts a stream down.

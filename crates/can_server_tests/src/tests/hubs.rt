@@ -4,9 +4,10 @@ ghost use Rattle.std.specs.Prelude.{◌≡◌, ◌<◌};
 ghost use Rattle.can_hub.specs.Benches.{NamedFrom};
 
 use super::*;
-use can_bus::{BusFault, Event};
-use can_server::SettleFault;
-use can_station::Settled;
+use can_bus::{BusFault, Event, LongEnd};
+use can_event::MAX_LONG_LIMIT;
+use can_server::{Leaves, SettleFault};
+use can_station::{Block, Scroll, Settled};
 use std::marker::Brand;
 use std::test::Fail;
 
@@ -132,10 +133,10 @@ fn a_gauge_of_a_new_hub_reads_nothing(rt: HostRuntime) {
 }
 
 /// A pass of the bus that has this name, with one call: it opened a socket there, of as many items as the bus says.
-fn caller<N: RollName + MeterName, R: Wait + Abort>(
+fn caller<N: RollName + MeterName, R: Wait + Abort, L: Leaves>(
     rt: &R,
     alloc: Global,
-    hub: &Hub<N, Perfect, Open>,
+    hub: &Hub<N, Perfect, Open, L>,
     name: &[u8],
 ) -> Pass<N> {
     let mut port = PassPort::new(rt, alloc, hub.buses());
@@ -196,4 +197,81 @@ fn each_bus_is_settled_with_its_own_passes(rt: HostRuntime) {
     assert!(&rt; buses.len() == 2);
     assert!(&rt; has_opened(&buses[0], iface(&rt, 0)));
     assert!(&rt; has_opened(&buses[1], iface(&rt, 1)));
+}
+
+/// The two buses, of long runs.
+fn two_long_buses<R: Abort>(rt: &R, alloc: Global) -> Vec<Bench<Perfect, Open>> {
+    let mut near = bench(rt, alloc, names(rt, alloc, "can0,can1"));
+    near.config.limit = MAX_LONG_LIMIT;
+    let mut far = bench(rt, alloc, names(rt, alloc, "far0,far1"));
+    far.config.limit = MAX_LONG_LIMIT;
+    two(rt, alloc, near, far)
+}
+
+/// Takes the one entry of the first bus into a block. The scrolls stay in order, or are exchanged.
+fn takes_first<N: RollName + MeterName, R: Wait + Abort>(
+    rt: &R,
+    alloc: Global,
+    hub: &Hub<N, Perfect, Open, LongEnd>,
+    scrolls: Vec<Scroll<N>>,
+    is_exchanged: bool,
+) -> Vec<Scroll<N>> {
+    let mut scrolls = scrolls;
+    let (Some(far), Some(mut near)) = (scrolls.pop(), scrolls.pop()) else {
+        panic!(rt; "no scrolls");
+    };
+    let Ok(mut block) = Block::new(alloc, 4) else {
+        panic!(rt; "no block");
+    };
+    assert!(rt; hub.count() == 2);
+    let taken = hub
+        .buses()
+        .station(0)
+        .take_entries(rt, &mut near, &mut block);
+    assert!(rt; taken.is_ok() && block.entries.len() == 1);
+    if is_exchanged {
+        two(rt, alloc, far, near)
+    } else {
+        two(rt, alloc, near, far)
+    }
+}
+
+/// Settles a hub of two long buses, each with one pass that opened a socket, the first of which was handed out.
+fn settled_long<N: RollName + MeterName, R: Wait + Abort>(
+    rt: &R,
+    alloc: Global,
+    benches: Vec<Bench<Perfect, Open>>,
+    is_exchanged: bool,
+) -> Result<Vec<Settled<LongEnd>>, SettleFault>
+    requires { NamedFrom N.roll N.meter 0 benches.items }
+{
+    let Ok((hub, scrolls)) = Hub::<N, Perfect, Open, LongEnd>::new_long(alloc, benches, 4) else {
+        panic!(rt; "no hub");
+    };
+    let near = caller(rt, alloc, &hub, b"can0");
+    let far = caller(rt, alloc, &hub, b"far1");
+    let scrolls = takes_first(rt, alloc, &hub, scrolls, is_exchanged);
+    let near = one(rt, alloc, near);
+    let far = one(rt, alloc, far);
+    let passes = two(rt, alloc, near, far);
+    assert!(rt; hub.count() == 2);
+    hub.settle_scrolls(rt, alloc, passes, scrolls)
+}
+
+#[test]
+fn each_bus_is_settled_with_its_own_scroll(rt: HostRuntime) {
+    let benches = two_long_buses(&rt, rt.alloc());
+    let Ok(buses) = settled_long::<Brand, _>(&rt, rt.alloc(), benches, false) else {
+        panic!(&rt; "not settled");
+    };
+    assert!(&rt; buses.len() == 2);
+    assert!(&rt; buses[0].history.handed() == 1 && buses[0].history.entries().len() == 0);
+    assert!(&rt; buses[1].history.handed() == 0 && buses[1].history.entries().len() == 1);
+}
+
+#[test]
+fn exchanged_scrolls_are_refused(rt: HostRuntime) {
+    let benches = two_long_buses(&rt, rt.alloc());
+    let outcome = settled_long::<Brand, _>(&rt, rt.alloc(), benches, true);
+    assert!(&rt; matches!(outcome, Err(SettleFault { bus: 0 })));
 }

@@ -5,9 +5,9 @@ ghost use Rattle.std.specs.Prelude.{◌≡◌};
 use super::twins::{PLAIN, RESTARTING, Run, are_answered_alike, busy, faults, run_beside};
 use super::*;
 use can_attempt::Class;
-use can_bus::{BusFault, LongRingBus, PackedRecord, Record, Refusal};
+use can_bus::{BusFault, LongEnd, LongRingBus, PackedRecord, Record, Refusal};
 use can_fault::Perfect;
-use can_station::{Block, Open, Wake};
+use can_station::{Block, Open, Scroll, Wake, WrongStation};
 use std::marker::Brand;
 use std::test::Fail;
 use std::thread::{Threads, join};
@@ -34,10 +34,25 @@ fn made_long<N: RollName + MeterName, F: FaultSource + Drop, R: Abort>(
     config: BusConfig,
     size: u32,
     source: F,
-) -> LongStation<N, F>
+) -> (LongStation<N, F>, Scroll<N>)
     requires { (blanks.roll ≡ N.roll 0) × (blanks.meter ≡ N.meter 0) }
 {
-    let station = Station::new_long(alloc, blanks, 0, config, size, source, Open);
+    made_under::<N, _, _>(rt, alloc, blanks, 0, config, size, source)
+}
+
+/// The same under another number.
+fn made_under<N: RollName + MeterName, F: FaultSource + Drop, R: Abort>(
+    rt: &R,
+    alloc: Global,
+    blanks: Blanks,
+    number: u8,
+    config: BusConfig,
+    size: u32,
+    source: F,
+) -> (LongStation<N, F>, Scroll<N>)
+    requires { (blanks.roll ≡ N.roll number) × (blanks.meter ≡ N.meter number) }
+{
+    let station = Station::new_long(alloc, blanks, number, config, size, source, Open);
     let Ok(station) = station else {
         panic!(rt; "no station");
     };
@@ -52,6 +67,20 @@ fn new_block<R: Abort>(rt: &R, alloc: Global, size: u32) -> Block {
 }
 
 // ---- A thread that takes blocks beside 200 calls.
+
+/// Settles with a scroll and these passes.
+fn settled_scroll<N: RollName + MeterName, F: FaultSource + Drop, R: Wait + Abort>(
+    rt: &R,
+    station: LongStation<N, F>,
+    alloc: Global,
+    scroll: Scroll<N>,
+    passes: Vec<Pass<N>>,
+) -> Settled<LongEnd> {
+    let Ok(settled) = station.settle_scroll(rt, scroll, passes, Vec::new(alloc)) else {
+        panic!(rt; "not settled");
+    };
+    settled
+}
 
 /// How many entries the tail holds beside the 200 calls.
 const SIZE: u32 = 16;
@@ -74,6 +103,7 @@ fn takes<N: RollName + MeterName, R: Wait + Abort + Clock>(
     rt: &R,
     alloc: Global,
     station: &LongStation<N, Script>,
+    scroll: &mut Scroll<N>,
     seed: u64,
 ) -> Vec<Block> {
     let mut chance = Chance(seed);
@@ -84,7 +114,7 @@ fn takes<N: RollName + MeterName, R: Wait + Abort + Clock>(
         if station.wait_entries(rt, chance.next(20), duration) == Wake::Stopped {
             break;
         }
-        station.take_entries(rt, &mut block);
+        assert!(rt; station.take_entries(rt, scroll, &mut block).is_ok());
         if block.entries.len() > 0 {
             assert!(rt; blocks.push(block).is_ok());
             block = new_block(rt, alloc, SIZE);
@@ -134,14 +164,14 @@ fn run_both_long<N: RollName + MeterName + Send + Sync, R: Threads + Wait + Abor
     requires { (blanks.roll ≡ N.roll 0) × (blanks.meter ≡ N.meter 0) }
 {
     let followed = faults(rt, alloc);
-    let station = made_long::<N, _, _>(rt, alloc, blanks, busy(run), SIZE, followed);
+    let (station, mut scroll) = made_long::<N, _, _>(rt, alloc, blanks, busy(run), SIZE, followed);
     let ((pass, bus), blocks) = join(
         rt,
         || runs_long(rt, alloc, &station, run),
-        || takes(rt, alloc, &station, seed),
+        || takes(rt, alloc, &station, &mut scroll, seed),
     );
     are_answered_alike(rt, &pass, &bus, run);
-    let settled = settled(rt, station, one(rt, alloc, pass), Vec::new(alloc));
+    let settled = settled_scroll(rt, station, alloc, scroll, one(rt, alloc, pass));
     let mut place = 0;
     for block in &blocks {
         assert!(rt; block.start == place);
@@ -172,7 +202,7 @@ fn made_short<N: RollName + MeterName, R: Abort>(
     rt: &R,
     alloc: Global,
     blanks: Blanks,
-) -> LongStation<N, Perfect>
+) -> (LongStation<N, Perfect>, Scroll<N>)
     requires { (blanks.roll ≡ N.roll 0) × (blanks.meter ≡ N.meter 0) }
 {
     made_long::<N, _, _>(rt, alloc, blanks, config(2), SHORT, Perfect)
@@ -181,12 +211,13 @@ fn made_short<N: RollName + MeterName, R: Abort>(
 /// The next block, which has this many entries and begins at this one.
 fn takes_block<N: RollName + MeterName, R: Wait + Abort>(
     caller: &Party<'_, N, R>,
+    scroll: &mut Scroll<N>,
     start: u64,
     count: usize,
 ) {
     let rt = caller.rt;
     let mut block = new_block(rt, caller.alloc, SHORT);
-    caller.station.take_entries(rt, &mut block);
+    assert!(rt; caller.station.take_entries(rt, scroll, &mut block).is_ok());
     assert!(rt; block.start == start && block.entries.len() == count);
 }
 
@@ -211,18 +242,18 @@ fn send_held<N: RollName + MeterName, R: Wait + Abort>(
 fn finds_no_place<N: RollName + MeterName, R: Wait + Abort>(rt: &R, alloc: Global, blanks: Blanks)
     requires { (blanks.roll ≡ N.roll 0) × (blanks.meter ≡ N.meter 0) }
 {
-    let station = made_short::<N, _>(rt, alloc, blanks);
+    let (station, mut scroll) = made_short::<N, _>(rt, alloc, blanks);
     let mut caller = entered(rt, alloc, &station);
     let socket = caller.open(0, 4);
     caller.sends(socket, 0x123, 0);
     assert!(rt; send_held(&mut caller, socket, 3) == Some(NO_PLACE));
     assert!(rt; caller.calls() == 4);
-    takes_block(&caller, 0, 4);
+    takes_block(&caller, &mut scroll, 0, 4);
     assert!(rt; caller.receive_held(socket) == Ok(None));
     caller.tries(1);
     caller.sends(socket, 0x123, 3);
-    takes_block(&caller, 4, 3);
-    takes_block(&caller, 7, 0);
+    takes_block(&caller, &mut scroll, 4, 3);
+    takes_block(&caller, &mut scroll, 7, 0);
 }
 
 /// Two sends in one hold of the lock, and a step that finds no place. Returns how many rules are left then.
@@ -245,7 +276,7 @@ fn step_held<N: RollName + MeterName, R: Wait + Abort>(
 fn keeps_its_rules<N: RollName + MeterName, R: Wait + Abort>(rt: &R, alloc: Global, blanks: Blanks)
     requires { (blanks.roll ≡ N.roll 0) × (blanks.meter ≡ N.meter 0) }
 {
-    let station = made_short::<N, _>(rt, alloc, blanks);
+    let (station, mut scroll) = made_short::<N, _>(rt, alloc, blanks);
     let mut caller = entered(rt, alloc, &station);
     let Ok(names) = Names::read(alloc, "can0,can1") else {
         panic!(rt; "no names");
@@ -254,7 +285,7 @@ fn keeps_its_rules<N: RollName + MeterName, R: Wait + Abort>(rt: &R, alloc: Glob
     let socket = caller.open(0, 4);
     caller.sends(socket, 0x123, 0);
     assert!(rt; step_held(&mut caller, socket) == 1);
-    takes_block(&caller, 0, 4);
+    takes_block(&caller, &mut scroll, 0, 4);
     let Ok(Attempt::Tried(tried)) = caller.step(1) else {
         panic!(rt; "no frame");
     };
@@ -284,12 +315,13 @@ fn sends_eight<N: RollName + MeterName, R: Wait + Abort>(
 /// Takes blocks of three entries twice, each time once the sender waits, and sees it go on to its end.
 fn takes_twice<N: RollName + MeterName, R: Wait + Abort + Clock>(
     taker: Party<'_, N, R>,
+    scroll: &mut Scroll<N>,
     sent: &AtomicU64,
 ) -> Pass<N> {
     lets_some_by(&taker, sent, 2);
-    takes_block(&taker, 0, 3);
+    takes_block(&taker, scroll, 0, 3);
     lets_some_by(&taker, sent, 5);
-    takes_block(&taker, 3, 3);
+    takes_block(&taker, scroll, 3, 3);
     lets_some_by(&taker, sent, 8);
     taker.leave()
 }
@@ -314,7 +346,7 @@ fn waits_for_places<
 >(rt: &R, alloc: Global, blanks: Blanks)
     requires { (blanks.roll ≡ N.roll 0) × (blanks.meter ≡ N.meter 0) }
 {
-    let station = made_short::<N, _>(rt, alloc, blanks);
+    let (station, mut scroll) = made_short::<N, _>(rt, alloc, blanks);
     let mut caller = entered(rt, alloc, &station);
     let taker = entered(rt, alloc, &station);
     let socket = caller.open(0, 4);
@@ -322,10 +354,10 @@ fn waits_for_places<
     let (pass, other) = join(
         rt,
         || sends_eight(caller, socket, &sent),
-        || takes_twice(taker, &sent),
+        || takes_twice(taker, &mut scroll, &sent),
     );
     let passes = two(rt, alloc, pass, other);
-    let settled = settled(rt, station, passes, Vec::new(alloc));
+    let settled = settled_scroll(rt, station, alloc, scroll, passes);
     assert!(rt; settled.history.handed() == 6 && settled.history.entries().len() == 3);
 }
 
@@ -348,12 +380,13 @@ fn drives_once<N: RollName + MeterName, R: Wait + Abort>(
 /// Takes a block once the driver waits, and sees it go on.
 fn lets_drive<'s, N: RollName + MeterName, R: Wait + Abort + Clock>(
     taker: Party<'s, N, R>,
+    scroll: &mut Scroll<N>,
     driven: &AtomicU64,
 ) -> Party<'s, N, R> {
     let rt = taker.rt;
     pause(rt);
     assert!(rt; driven.load(Ordering::SeqCst) == 0);
-    takes_block(&taker, 0, 3);
+    takes_block(&taker, scroll, 0, 3);
     assert!(rt; reaches(rt, driven, 1));
     taker
 }
@@ -366,7 +399,7 @@ fn driver_waits<N: RollName + MeterName + Send + Sync, R: Threads + Wait + Abort
 )
     requires { (blanks.roll ≡ N.roll 0) × (blanks.meter ≡ N.meter 0) }
 {
-    let station = made_short::<N, _>(rt, alloc, blanks);
+    let (station, mut scroll) = made_short::<N, _>(rt, alloc, blanks);
     let mut caller = entered(rt, alloc, &station);
     let driver = entered(rt, alloc, &station);
     let socket = caller.open(0, 4);
@@ -376,13 +409,13 @@ fn driver_waits<N: RollName + MeterName + Send + Sync, R: Threads + Wait + Abort
     let (_, mut caller) = join(
         rt,
         || drives_once(driver, &driven),
-        || lets_drive(caller, &driven),
+        || lets_drive(caller, &mut scroll, &driven),
     );
     assert!(rt; matches!(caller.receive(SocketId(1)), Ok(Some(_))));
     assert!(rt; caller.set_option(socket, Opt::Join(true)).is_ok());
     station.stop(rt);
     assert!(rt; station.hold_work(rt).is_none());
-    takes_block(&caller, 3, 3);
+    takes_block(&caller, &mut scroll, 3, 3);
 }
 
 /// Once nobody takes entries any more no call waits for a place, and nobody for entries.
@@ -393,7 +426,7 @@ fn goes_on_to_the_end<N: RollName + MeterName, R: Wait + Abort + Clock>(
 )
     requires { (blanks.roll ≡ N.roll 0) × (blanks.meter ≡ N.meter 0) }
 {
-    let station = made_short::<N, _>(rt, alloc, blanks);
+    let (station, mut scroll) = made_short::<N, _>(rt, alloc, blanks);
     let mut caller = entered(rt, alloc, &station);
     assert!(rt; station.wait_entries(rt, 1, Duration::from_millis(1)) == Wake::Ready);
     let socket = caller.open(0, 4);
@@ -406,7 +439,37 @@ fn goes_on_to_the_end<N: RollName + MeterName, R: Wait + Abort + Clock>(
     assert!(rt; caller.send(socket, 0x123) == Err(NO_PLACE));
     assert!(rt; caller.close(socket) == Err(NO_PLACE));
     assert!(rt; caller.calls() == 4);
-    takes_block(&caller, 0, 4);
+    takes_block(&caller, &mut scroll, 0, 4);
+}
+
+/// A station gives no block to another's scroll, and does not settle with it.
+fn strange_scroll<N: RollName + MeterName, R: Wait + Abort>(
+    rt: &R,
+    alloc: Global,
+    here: Blanks,
+    there: Blanks,
+)
+    requires here { (here.roll ≡ N.roll 0) × (here.meter ≡ N.meter 0) }
+    requires there { (there.roll ≡ N.roll 1) × (there.meter ≡ N.meter 1) }
+{
+    let (station, mut scroll) = made_short::<N, _>(rt, alloc, here);
+    let (_, mut far) = made_under::<N, _, _>(rt, alloc, there, 1, config(2), SHORT, Perfect);
+    let mut caller = entered(rt, alloc, &station);
+    caller.open(0, 4);
+    let mut block = new_block(rt, alloc, SHORT);
+    let taken = station.take_entries(rt, &mut far, &mut block);
+    assert!(rt; taken == Err(WrongStation) && block.entries.len() == 0);
+    takes_block(&caller, &mut scroll, 0, 1);
+    let outcome = station.settle_scroll(rt, far, Vec::new(alloc), Vec::new(alloc));
+    assert!(rt; matches!(outcome, Err(WrongStation)));
+}
+
+#[test]
+fn a_scroll_of_another_station_is_refused(rt: HostRuntime) -> Result<(), Fail> {
+    let here = Blanks::new(rt.alloc(), 2)?;
+    let there = Blanks::new(rt.alloc(), 2)?;
+    strange_scroll::<Brand, _>(&rt, rt.alloc(), here, there);
+    Ok(())
 }
 
 /// Whether a station over the bus of a long run may have this configuration.

@@ -2,6 +2,9 @@ use Rattle.std.proofs.Common.{◌≡◌, ◌+◌, [], ◌∷◌, ◌++◌, lengt
 use Rattle.std.specs.Vec.Iter.{into_iter_items}
 use Rattle.can_hub.proofs.Making.{emptied, made_first, named_first, made_next, named_next, proper_here, proper_next, made_last}
 use Rattle.can_hub.specs.Benches.{IsWithin}
+use Rattle.can_hub.specs.Settling.{AreNewScrolls}
+use Rattle.can_roll.specs.Seen.{ScrollSeen}
+use Rattle.can_hub.proofs.Ending.{new_push}
 use Rattle.can_hub.proofs.buses.wires_of.Goals as goal
 
 pub loop-bench-init : goal.loop-bench-init
@@ -20,6 +23,9 @@ loop-bench-init g c =
       count = omega (arith, zero, given.1, c.args.benches.ok.0);
       room = search (rules, c.in_ok-wires.ensures, c.len.ensures, c.args.benches.ok);
       few = c.requires.few;
+      scrolls = subst (λ (ss : List ScrollSeen). AreNewScrolls 0 ss) (sym c.in_ok-scrolls.ensures.items) tt;
+      same = ap length c.in_ok-scrolls.ensures.items ∙ sym zero;
+      scroll_room = search (rules, c.in_ok-scrolls.ensures, c.len-2.ensures, c.args.benches.ok);
     }
 
 pub new-requires-clause-proper : goal.new-requires-clause-proper
@@ -35,17 +41,24 @@ loop-bench-preserved g c =
     let more = into_iter_items c.next.new.self in
     let steps = c.in-Some.ensures.steps in
     let shorter = ap length steps.0 in
-    let pushed : new ≡ made ++ c.in_ok-new.field-0 ∷ [] = c.push_reserved.ensures.items in
-    let longer : length new ≡ length made + 1 = ap length pushed ∙ length-append made (c.in_ok-new.field-0 ∷ []) in
+    let pushed : new ≡ made ++ c.in_ok-wire.wire ∷ [] = c.push_reserved.ensures.items in
+    let longer : length new ≡ length made + 1 = ap length pushed ∙ length-append made (c.in_ok-wire.wire ∷ []) in
+    let scrolls = c.loop-bench.scrolls.items in
+    let scroll = c.in_ok-wire.scroll in
+    let scrolled = c.push_reserved-in-loop-bench.ensures.items in
+    let more_scrolls : length c.push_reserved-in-loop-bench.new.self.items ≡ length scrolls + 1 = ap length scrolled ∙ length-append scrolls (scroll ∷ []) in
     let n : length made ≡ c.len-number.result = omega (arith, c.len-number.ensures, c.loop-bench.wires.ok.0) in
     record {
-      made = made_next made new c.in_ok-new.field-0 b items more _ c.len-number.result steps.0 pushed c.in_ok-new.ensures.made n i.made;
+      made = made_next made new c.in_ok-wire.wire b items more _ c.len-number.result steps.0 pushed c.in_ok-wire.ensures.made n i.made;
       named = named_next g.N.RollName.roll g.N.MeterName.meter (length made) (length new) b items more steps.0 (omega (arith, longer)) i.named;
       proper = proper_next g.L.Leaves.limits b items more steps.0 i.proper;
       left = omega (arith, steps.1, i.left, shorter);
       count = omega (arith, steps.1, i.count, longer);
       room = omega (arith, i.room, c.push_reserved.ensures.capacity);
       few = i.few;
+      scrolls = subst (λ (ss : List ScrollSeen). AreNewScrolls 0 ss) (sym scrolled) (new_push 0 c.len-number.result scrolls scroll i.scrolls (omega (arith, i.same, n)) c.in_ok-wire.ensures.scroll);
+      same = omega (arith, i.same, longer, more_scrolls);
+      scroll_room = omega (arith, i.scroll_room, c.push_reserved-in-loop-bench.ensures.capacity);
     }
 
 pub returns-clause-made : goal.returns-clause-made

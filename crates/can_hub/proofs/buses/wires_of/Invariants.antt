@@ -1,6 +1,7 @@
 use Rattle.std.proofs.Common.{◌≡◌, ◌≤◌, ◌+◌, ◌++◌, All, length, vec_capacity}
 use Rattle.std.specs.Vec.Iter.{into_iter_items, into_iter_len}
 use Rattle.can_hub.specs.Benches.{IsWithin, NamedFrom, buses_from}
+use Rattle.can_hub.specs.Settling.{AreNewScrolls}
 use Rattle.can_hub.proofs.buses.wires_of.Given as goal
 
 abbrev pub invariant-loop-bench : goal.invariant-loop-bench
@@ -12,4 +13,7 @@ invariant-loop-bench g l = record {
   count : length l.wires.items + into_iter_len l.bench-iterator ≡ length l.fn.benches.items;
   room : length l.fn.benches.items ≤ vec_capacity l.wires;
   few : length l.fn.benches.items ≤ 16;
+  scrolls : AreNewScrolls 0 l.scrolls.items;
+  same : length l.scrolls.items ≡ length l.wires.items;
+  scroll_room : length l.fn.benches.items ≤ vec_capacity l.scrolls;
 }

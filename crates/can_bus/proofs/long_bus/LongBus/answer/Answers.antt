@@ -1,11 +1,11 @@
-use Rattle.std.proofs.Common.{◌≤◌, IsTrue, refl, ap, subst}
+use Rattle.std.proofs.Common.{◌≤◌, IsTrue, refl, ap, ◌∙◌, subst}
 use Rattle.can_bus.specs.Lean.{record_of}
-use Rattle.can_bus.specs.Long.{LongJournal, journal_of}
+use Rattle.can_bus.specs.Long.{LongJournal, handed_entries, journal_of}
 use Rattle.can_event.specs.Replies.{entry_of}
 use Rattle.can_bus.proofs.Answering.{KeepsAnswer, carries, entered, entered_is_legal, is_ready, not_filters}
 use Rattle.can_bus.proofs.Keeping.{not_full}
 use Rattle.can_bus.proofs.Narrow.{legal_fits}
-use Rattle.can_bus.proofs.Tails.{full_in, longer_by, place_in, tail_more}
+use Rattle.can_bus.proofs.Tails.{full_in, longer_by, out_still, place_in, tail_more}
 use Rattle.can_bus.proofs.long_bus.LongBus.answer.Given as given
 use Rattle.can_bus.proofs.long_bus.LongBus.answer.Goals as goal
 use Rattle.can_bus.proofs.long_bus.LongBus.answer.Goals.{After-note}
@@ -39,3 +39,6 @@ returns-clause-answered g c = (noted g c).answered
 
 pub returns-clause-tail : goal.returns-clause-tail
 returns-clause-tail g c = record { handed = ap (λ (j : LongJournal). j.handed) c.self.view_is; room = subst (λ (j : LongJournal). j.room ≤ c.push.new.self.room) c.self.view_is c.push.ensures.room }
+
+pub returns-clause-out : goal.returns-clause-out
+returns-clause-out g c = out_still (entry_of c.args.event.now c.answer-reply.result) c.self.invariant.holds c.note.ensures ∙ ap handed_entries c.self.view_is

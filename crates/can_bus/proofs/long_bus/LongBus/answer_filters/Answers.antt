@@ -6,9 +6,9 @@ use Rattle.can_event.specs.declared.reply.Reply.{Reply}
 use Rattle.can_event.specs.Replies.{entry_of}
 use Rattle.can_record.specs.Records.{Adds}
 use Rattle.can_bus.specs.Lean.{record_of}
-use Rattle.can_bus.specs.Long.{LongJournal, journal_of}
+use Rattle.can_bus.specs.Long.{LongJournal, handed_entries, journal_of}
 use Rattle.can_bus.proofs.Answering.{KeepsAnswer, carries, entered, is_ready}
-use Rattle.can_bus.proofs.Tails.{longer_by, place_in, room_in, tail_more}
+use Rattle.can_bus.proofs.Tails.{longer_by, out_still, place_in, room_in, tail_more}
 use Rattle.can_bus.proofs.long_bus.LongBus.answer_filters.Given as given
 use Rattle.can_bus.proofs.long_bus.LongBus.answer_filters.Goals as goal
 use Rattle.can_bus.proofs.long_bus.LongBus.answer_filters.Goals.{After-push_boxed}
@@ -48,3 +48,6 @@ returns-clause-answered g c = (noted g c).answered
 
 pub returns-clause-tail : goal.returns-clause-tail
 returns-clause-tail g c = record { handed = ap (λ (j : LongJournal). j.handed) c.self.view_is; room = subst (λ (j : LongJournal). j.room ≤ c.push_boxed.new.self.room) c.self.view_is c.push_boxed.ensures.room }
+
+pub returns-clause-out : goal.returns-clause-out
+returns-clause-out g c = out_still (entry_of (asked g c) c.answer-reply.result) c.self.invariant.holds (is_noted g c) ∙ ap handed_entries c.self.view_is

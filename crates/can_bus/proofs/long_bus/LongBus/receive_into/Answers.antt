@@ -1,16 +1,16 @@
-use Rattle.std.proofs.Common.{◌≤◌, refl, ap, subst}
+use Rattle.std.proofs.Common.{◌≤◌, refl, ap, ◌∙◌, subst}
 use Rattle.can_event.specs.Replies.{receive_reply, taken_reply}
 use Rattle.can_event.specs.declared.event.Event.TheVariants as event
 use Rattle.can_record.specs.Kept.{receive_entry}
 use Rattle.can_bus.specs.Changes.{Receives}
 use Rattle.can_bus.specs.Lean.{record_of}
-use Rattle.can_bus.specs.Long.{LongJournal, journal_of}
+use Rattle.can_bus.specs.Long.{LongJournal, handed_entries, journal_of}
 use Rattle.can_bus.specs.State.{Parts}
 use Rattle.can_bus.proofs.Bounds.{small_taken}
 use Rattle.can_bus.proofs.Keeping.{IsDone, done}
 use Rattle.can_bus.proofs.Narrow.{legal_fits}
 use Rattle.can_bus.proofs.Receiving.{received_follows}
-use Rattle.can_bus.proofs.Tails.{full_in, longer_by, place_in, tail_more}
+use Rattle.can_bus.proofs.Tails.{full_in, longer_by, out_still, place_in, tail_more}
 use Rattle.can_bus.proofs.long_bus.LongBus.receive_into.Given as given
 use Rattle.can_bus.proofs.long_bus.LongBus.receive_into.Goals as goal
 use Rattle.can_bus.proofs.long_bus.LongBus.receive_into.Goals.{After-note_receive}
@@ -44,3 +44,7 @@ returns-clause-answer g c = (is_done g c).answers
 
 pub returns-clause-tail : goal.returns-clause-tail
 returns-clause-tail g c = record { handed = ap (λ (j : LongJournal). j.handed) c.self.view_is; room = subst (λ (j : LongJournal). j.room ≤ c.push_receive.new.self.room) c.self.view_is c.push_receive.ensures.room }
+
+pub returns-clause-out : goal.returns-clause-out
+returns-clause-out g c =
+    out_still (receive_entry c.args.id c.receive_into-outcome.new.room c.receive_into-outcome.result) c.self.invariant.holds c.note_receive.ensures ∙ ap handed_entries c.self.view_is

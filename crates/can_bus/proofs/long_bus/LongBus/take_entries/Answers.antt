@@ -1,7 +1,7 @@
-use Rattle.std.proofs.Common.{ℕ, length, ap, sym, ◌∙◌}
+use Rattle.std.proofs.Common.{◌++◌, ℕ, length, ap, sym, ◌∙◌}
 use Rattle.can_record.specs.Records.{PackedEntries}
-use Rattle.can_bus.specs.Long.{LongJournal, held_back}
-use Rattle.can_bus.proofs.Tails.{tail_taken}
+use Rattle.can_bus.specs.Long.{LongJournal, handed_entries, held_back}
+use Rattle.can_bus.proofs.Tails.{out_more, tail_taken}
 use Rattle.can_bus.proofs.long_bus.LongBus.take_entries.Goals as goal
 
 pub invariant_of-self : goal.invariant_of-self
@@ -23,3 +23,8 @@ returns-clause-handed g c =
 
 pub returns-clause-room : goal.returns-clause-room
 returns-clause-room g c = ap (λ (b : PackedEntries). b.room) c.swap.ensures.y_after ∙ ap (λ (j : LongJournal). j.room) c.self.view_is
+
+pub returns-clause-out : goal.returns-clause-out
+returns-clause-out g c =
+    out_more c.self.invariant.holds (c.len-handed.ensures.len ∙ ap (λ (j : LongJournal). length j.history) (sym c.self.view_is))
+    ∙ (λ k. handed_entries (c.self.view_is k) ++ (sym c.swap.ensures.y_after k).entries)

@@ -1,4 +1,4 @@
-use Rattle.std.proofs.Common.{length, arith, ap, ◌∙◌}
+use Rattle.std.proofs.Common.{length, arith, ap}
 use Rattle.can_bus.specs.Long.{LongJournal}
 use Rattle.can_bus.proofs.Bounds.{legal-short}
 use Rattle.can_bus.proofs.long_bus.LongEnd.len.Goals as goal

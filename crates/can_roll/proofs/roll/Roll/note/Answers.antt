@@ -13,10 +13,11 @@ invariant_of-slip g c =
     let old = c.args.self.now in
     let p = c.slip.inside.pass in
     let call = entry_of c.args.event.now c.args.reply.now in
-    let noted = once_noted old c.recall.new.self c.note_last.new.self p call c.recall.ensures.roll c.note_last.ensures in
-    let views = slip_again old c.note_last.new.self p call c.send_last.result.views noted c.recall.ensures.below c.send_last.ensures.views in
+    let calls = call ∷ [] in
+    let noted = once_noted old c.recall.new.self c.note_last.new.self p calls c.recall.ensures.roll c.note_last.ensures in
+    let views = slip_again old c.note_last.new.self p calls c.send_last.result.views noted c.recall.ensures.below c.send_last.ensures.views in
     let same : old.number ≡ c.slip.inside.number = sym (ap (λ (v : SlipSeen). v.number) c.slip.view_is ∙ c.requires) in (
-      c.send_last.ensures.table ∙ ap (λ (v : RollSeen). g.N.RollName.roll v.number) noted ∙ ap g.N.RollName.roll same,
+      c.send_last.ensures.table ∙ ap (λ (v : RollSeen). (g.N.RollName.roll v.number).passes) noted ∙ ap (λ n. (g.N.RollName.roll n).passes) same,
       views ∙ sym (ap (λ vs. OfSlip p (calls_of (view_in vs)) ∷ []) views),
     )
 
@@ -25,12 +26,13 @@ returns g c =
     let old = c.args.self.now in
     let p = c.slip.inside.pass in
     let call = entry_of c.args.event.now c.args.reply.now in
+    let calls = call ∷ [] in
     let slip : slip_seen c.slip.inside.number p (calls_of (view_in c.slip.inside.badge.views)) ≡ c.args.slip.now = c.slip.view_is in
     let before : row old.lists p ≡ calls_of (view_in c.slip.inside.badge.views) =
     c.recall.ensures.calls ∙ ap (λ b. calls_of (view_in b.views)) c.replace.ensures.value in
-    let noted = once_noted old c.recall.new.self c.note_last.new.self p call c.recall.ensures.roll c.note_last.ensures in
-    let sent = once_sent old c.note_last.new.self c.send_last.new.self p call noted c.send_last.ensures.roll in
-    let views = slip_again old c.note_last.new.self p call c.send_last.result.views noted c.recall.ensures.below c.send_last.ensures.views in
+    let noted = once_noted old c.recall.new.self c.note_last.new.self p calls c.recall.ensures.roll c.note_last.ensures in
+    let sent = once_sent old c.note_last.new.self c.send_last.new.self p calls noted c.send_last.ensures.roll in
+    let views = slip_again old c.note_last.new.self p calls c.send_last.result.views noted c.recall.ensures.below c.send_last.ensures.views in
     record {
       roll = sent ∙ ap (λ (v : SlipSeen). roll_seen old.number (added old.lists v.pass call) old.called) slip;
       slip = ap (λ vs. slip_seen c.slip.inside.number p (calls_of (view_in vs))) views

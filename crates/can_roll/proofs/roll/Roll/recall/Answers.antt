@@ -16,7 +16,7 @@ join_seat-requires g c =
     ap (λ (v : SlipSeen). v.number) c.slip.view_is ∙ c.requires ∙ sym (ap (λ (v : RollSeen). v.number) c.self.view_is) in
     let you = seated c.slip.inside.badge.views c.into_seat.result.me c.slip.inside.pass _ j.1 e.2 e.3 in (
       at.0,
-      e.0 ∙ j.0 ∙ ap g.N.RollName.roll same ∙ sym i.0.0,
+      e.0 ∙ j.0 ∙ ap (λ n. (g.N.RollName.roll n).passes) same ∙ sym i.0.0,
       e.3,
       at.1,
       calls_in_as _ _ c.self.inside.seat.me c.into_seat.result.me _ _ _ _ i.1.0 you,

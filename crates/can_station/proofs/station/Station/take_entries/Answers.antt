@@ -3,5 +3,5 @@ use Rattle.can_station.specs.Held.{Held}
 use Rattle.can_station.specs.Passes.{IsStateOf}
 use Rattle.can_station.proofs.station.Station.take_entries.Goals as goal
 
-pub returns : goal.returns
-returns g c = (c.deref_mut.result.now, subst (λ (h : Held g.row.F.Denot). IsStateOf c.args.self.now h) (sym c.deref_mut.ensures.value) c.hold.ensures, c.take_entries.ensures.taken)
+pub returns-clause-taken : goal.returns-clause-taken
+returns-clause-taken g c = (c.deref_mut.result.now, subst (λ (h : Held g.row.F.Denot). IsStateOf c.args.self.now h) (sym c.deref_mut.ensures.value) c.hold.ensures, c.take_entries.ensures.taken)

@@ -1,5 +1,5 @@
 use Rattle.std.proofs.Common.{◌≡◌, ◌<◌, ℕ, length, sym, ap, ◌∙◌, subst, arith}
-use Rattle.can_roll.specs.Seen.{RollSeen}
+use Rattle.can_roll.specs.Seen.{RollSeen, scroll_seen}
 use Rattle.can_station.specs.Published.{IsPublished}
 use Rattle.can_station.proofs.Marking.{booked_enter}
 use Rattle.can_station.proofs.station_state.StationState.enter.Goals as goal
@@ -12,4 +12,5 @@ invariant_of-self g c =
       subst (λ (n : ℕ). IsPublished c.self.inside.keeper n (g.B.Journaled.journal c.self.inside.bus)) (sym number) c.self.invariant.1,
       c.self.invariant.2 ∙ sym number,
       c.self.invariant.3,
+      c.self.invariant.4 ∙ ap (λ (n : ℕ). scroll_seen n (g.B.Journaled.handed_out c.self.inside.bus)) (sym number),
     )

@@ -3,7 +3,7 @@ use Rattle.std.specs.Prelude.{None}
 use Rattle.can_record.specs.Journal.{Journal}
 use Rattle.can_event.specs.declared.event.Event.{Event}
 use Rattle.can_event.specs.declared.event.Event.TheVariants as event
-use Rattle.can_roll.specs.Seen.{RollSeen}
+use Rattle.can_roll.specs.Seen.{RollSeen, scroll_seen}
 use Rattle.can_station.proofs.Marking.{booked_after}
 use Rattle.can_station.proofs.PublishedFacts.{published_still}
 use Rattle.can_station.proofs.Receiving.{answer_of, bus_after}
@@ -21,4 +21,5 @@ invariant_of-self g c =
       published_still c.self.inside.keeper c.self.inside.roll.number c.book.new.roll.number old new e c.receive_reply-reply.result None refl refl c.self.invariant.1 number after,
       c.self.invariant.2 ∙ sym number,
       ap (λ (j : Journal). j.config) after ∙ c.self.invariant.3,
+      c.self.invariant.4 ∙ (λ k. scroll_seen (sym number k) (sym c.receive_into-outcome.ensures.out k)),
     )

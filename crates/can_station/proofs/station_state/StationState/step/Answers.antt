@@ -4,7 +4,7 @@ use Rattle.can_event.specs.declared.event.Event.TheVariants as event
 use Rattle.can_fault.specs.Sources.{verdict_in}
 use Rattle.can_record.specs.Journal.{Journal}
 use Rattle.can_record.specs.Tapes.{tape}
-use Rattle.can_roll.specs.Seen.{RollSeen}
+use Rattle.can_roll.specs.Seen.{RollSeen, scroll_seen}
 use Rattle.can_rules.specs.Plans.{given, plan_after}
 use Rattle.can_station.specs.Held.{Held}
 use Rattle.can_station.specs.Passes.{IsCarriedOut, head_on, next_plan, next_verdict}
@@ -13,8 +13,13 @@ use Rattle.can_station.proofs.station_state.StationState.step.Goals as goal
 pub invariant_of-self : goal.invariant_of-self
 invariant_of-self g c =
     let done = c.carry_out-reply.ensures in
-    let number : c.carry_out-reply.new.roll.number ≡ c.self.inside.roll.number = ap (λ (r : RollSeen). r.number) done.roll in
-    (done.booked, done.published, c.self.invariant.2 ∙ sym number, ap (λ (j : Journal). j.config) done.answered.after ∙ c.self.invariant.3)
+    let number : c.carry_out-reply.new.roll.number ≡ c.self.inside.roll.number = ap (λ (r : RollSeen). r.number) done.roll in (
+      done.booked,
+      done.published,
+      c.self.invariant.2 ∙ sym number,
+      ap (λ (j : Journal). j.config) done.answered.after ∙ c.self.invariant.3,
+      c.self.invariant.4 ∙ (λ k. scroll_seen (sym number k) (sym done.out k)),
+    )
 
 pub returns-clause-carried : goal.returns-clause-carried
 returns-clause-carried g c =

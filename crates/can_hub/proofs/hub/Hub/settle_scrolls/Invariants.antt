@@ -1,0 +1,28 @@
+use Rattle.std.proofs.Common.{◌≡◌, ◌≤◌, ◌+◌, ◌++◌, All, List, length, vec_capacity}
+use Rattle.std.specs.Vec.Iter.{into_iter_items, into_iter_len}
+use Rattle.can_roll.specs.Seen.{ScrollSeen}
+use Rattle.can_hub.specs.Buses.{BusSeen, NumberedFrom}
+use Rattle.can_hub.specs.Settling.{AllConfigured, AllHanded, AllOwn, AllOwnScrolls, AllSettleIn}
+use Rattle.can_hub.proofs.hub.Hub.settle_scrolls.Given as goal
+
+abbrev pub invariant-loop-wire : goal.invariant-loop-wire
+invariant-loop-wire g l = (before : List _) × (gone : List BusSeen) × (known : List ScrollSeen) × record {
+  buses : gone ++ into_iter_items l.wire-iterator ≡ l.fn.self;
+  configured : AllConfigured g.L.Leaves.journal gone l.settled.items;
+  limited : All (λ (b : BusSeen). g.L.Leaves.limits b.config) (into_iter_items l.wire-iterator);
+  lists : before ++ into_iter_items l.lists ≡ l.fn.passes.items;
+  own : AllOwn 0 before;
+  settled : AllSettleIn g.L.Leaves.journal before l.settled.items;
+  place : length before ≡ length l.settled.items;
+  numbered : NumberedFrom (length l.settled.items) (into_iter_items l.wire-iterator);
+  wires : into_iter_len l.wire-iterator ≡ length (into_iter_items l.wire-iterator);
+  passes : into_iter_len l.lists ≡ length (into_iter_items l.lists);
+  same : into_iter_len l.wire-iterator ≡ into_iter_len l.lists;
+  scrolls : known ++ into_iter_items l.scrolls ≡ l.fn.scrolls.items;
+  own_scrolls : AllOwnScrolls 0 known;
+  handed : AllHanded g.L.Leaves.handed known l.settled.items;
+  scroll_place : length known ≡ length l.settled.items;
+  scroll_count : into_iter_len l.scrolls ≡ length (into_iter_items l.scrolls);
+  scroll_same : into_iter_len l.wire-iterator ≡ into_iter_len l.scrolls;
+  room : length l.settled.items + into_iter_len l.wire-iterator ≤ vec_capacity l.settled;
+}

@@ -1,0 +1,52 @@
+ghost use Rattle.std.specs.Prelude.{◌≡◌, ◌++◌, []};
+
+use can_bus::PackedRecord;
+use std::marker::Model;
+use std::mem::{self, size_of};
+use std::snapshot::Snapshot;
+
+const _: () = prove!(size_of::<Given>() == 0);
+
+// The entries as contracts see them: no value of this type is kept.
+#[derive(Drop)]
+enum Chain {
+    Empty,
+    Block(Snapshot<Chain>, Snapshot<PackedRecord>),
+}
+
+/// The entries that a keeper was given, the oldest first, which only contracts see: it takes no memory, and its methods do
+/// nothing.
+#[derive(Drop)]
+pub struct Given {
+    chain: Snapshot<Chain>,
+}
+
+impl Model for Given {
+    ghost use Rattle.std.specs.Prelude.{List};
+    ghost use Rattle.can_event.specs.declared.entry.Entry.{Entry};
+    ghost use Rattle.can_server.specs.Givens.{entries_of};
+
+    ghost Value = { List Entry };
+
+    ghost view = { λ g. entries_of g.chain.value };
+}
+
+impl Given {
+    /// No entries.
+    pub fn new() -> Given
+        ensures { result ≡ [] }
+    {
+        Given {
+            chain: Snapshot::of(&Chain::Empty),
+        }
+    }
+
+    /// A block was given.
+    pub fn note(&mut self, block: &PackedRecord)
+        ensures { self.new ≡ self.old ++ block.now.entries }
+    {
+        let before = mem::replace(&mut self.chain, Snapshot::of(&Chain::Empty));
+        let chain = Chain::Block(before, Snapshot::of(block));
+        self.chain = Snapshot::of(&chain);
+    }
+}
