@@ -32,6 +32,7 @@ def pytest_addoption(parser):
     group.addoption(
         "--minutes", type=float, default=1, help="how long test_long_runs.py keeps up a steady load (1), 72 MB each"
     )
+    group.addoption("--entries", type=int, default=20_000, help="of that load, how many entries a second (20000)")
     group.addoption(
         "--all-bytes", action="store_true", help="change each byte of a record to all others (test_damage.py)"
     )

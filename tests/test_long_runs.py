@@ -913,8 +913,8 @@ def test_what_many_sessions_leave():
 
 @pytest.mark.slow
 def test_a_steady_load(request):
-    """20,000 entries a second for --minutes, and a record that is right"""
-    rate, seconds = 20_000, 60 * request.config.getoption("minutes")
+    """--entries a second for --minutes, and a record that is right"""
+    rate, seconds = request.config.getoption("entries"), 60 * request.config.getoption("minutes")
     with serving_alone(*LIVE, *FAST, "can0,can1") as server:
         # Each frame is a send, an attempt and a receive.
         load = Load(server, many=100, rate=rate / 3)
