@@ -11,7 +11,7 @@
 
 mod program;
 
-use canbusd_faults::{Failure, Fault};
+use canbusd_io::{ProgramError, Report};
 use program::{fail, run_words};
 use std::io::{BufWriter, ErrorKind};
 use std::net::{TcpListener, TcpStream};
@@ -25,12 +25,12 @@ fn main(rt: HostRuntime) -> ExitCode {
     let alloc = rt.alloc();
     let errors = &mut rt.stderr();
     let Ok(mut output) = BufWriter::new(alloc, rt.stdout()) else {
-        return ExitCode::from(fail(&Failure::new(alloc, Fault::NoMemory), errors));
+        return ExitCode::from(fail(&Report::new(alloc, ProgramError::NoMemory), errors));
     };
     let status = match read_words(&rt) {
         Ok(words) => run_words(&rt, alloc, &words, rt.stdin(), &mut output, errors),
         Err(error) if error.kind() == ErrorKind::OutOfMemory => {
-            fail(&Failure::new(alloc, Fault::NoMemory), errors)
+            fail(&Report::new(alloc, ProgramError::NoMemory), errors)
         }
         Err(_) => {
             let _ = eprintln!(rt; "error: the command line is no UTF-8 text");

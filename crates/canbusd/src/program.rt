@@ -8,8 +8,7 @@ ghost use Rattle.canbusd_options.specs.Program.{AskJob};
 use can_session::Unheard;
 use canbusd_audit::audit_files;
 use canbusd_bench::{run_bench, tell_unheard};
-use canbusd_faults::{Failure, Fault};
-use canbusd_files::{OUTPUT, write_failure};
+use canbusd_io::{OUTPUT, ProgramError, Report, write_failure};
 use canbusd_options::{Job, read_options};
 use canbusd_serve::{ServerRuntime, run_serve};
 use clap::Error;
@@ -88,7 +87,7 @@ fn do_job<'a, H: ServerRuntime, R: Read + Drop + Send + 'static, W: Write + Drop
     output: &mut BufWriter<W>,
     errors: &mut E,
     unheard: &mut Unheard,
-) -> Result<bool, Failure<'a>>
+) -> Result<bool, Report<'a>>
     ensures { IfOk result (λ whole. IsTrue whole → IsDone (writer_contents W.contents) job.entry (R.remaining input) output.old output.new) }
 {
     match job {
@@ -112,7 +111,7 @@ fn tell_words<W: Write + Drop, E: Write>(
     ensures flushed { result ≡ 0 → writer_buffer output.new ≡ [] }
 {
     if error.kind() == ErrorKind::OutOfMemory {
-        return fail(&Failure::new(alloc, Fault::NoMemory), errors);
+        return fail(&Report::new(alloc, ProgramError::NoMemory), errors);
     }
     if error.use_stderr() {
         let _ = write!(errors, "{error}");
@@ -125,7 +124,7 @@ fn tell_words<W: Write + Drop, E: Write>(
 // Writes what was put out, also before a fault. If that fails, that is reported. Returns the status.
 fn finish<W: Write + Drop, E: Write>(
     alloc: Global,
-    outcome: Result<(), Failure<'_>>,
+    outcome: Result<(), Report<'_>>,
     output: &mut BufWriter<W>,
     errors: &mut E,
 ) -> u8
@@ -144,19 +143,23 @@ fn finish<W: Write + Drop, E: Write>(
     }
 }
 
-// The fault of a job whose output was not written: as the job reports it, if it met that itself.
-fn write_fault<'a>(outcome: Result<(), Failure<'a>>, late: Failure<'a>) -> Failure<'a> {
+// The report of a job whose output was not written: as the job gives it, if it met that itself.
+fn write_fault<'a>(outcome: Result<(), Report<'a>>, late: Report<'a>) -> Report<'a> {
     let Err(failure) = outcome else {
         return late;
     };
-    let fault = failure.fault;
-    if fault == Fault::Write { failure } else { late }
+    let error = failure.error;
+    if error == ProgramError::Write {
+        failure
+    } else {
+        late
+    }
 }
 
 /// Reports why a command line was not carried out, and returns its status.
-pub fn fail<E: Write>(failure: &Failure<'_>, errors: &mut E) -> u8
+pub fn fail<E: Write>(failure: &Report<'_>, errors: &mut E) -> u8
     ensures { result ≡ 1 }
 {
-    failure.tell(errors);
+    failure.write_to(errors);
     FAILED
 }

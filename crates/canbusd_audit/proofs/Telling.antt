@@ -25,10 +25,10 @@ use Rattle.can_text_audit.specs.declared.fault.WrongLine.{WrongLine}
 use Rattle.can_text_audit.specs.TextAudits.{AreTaken, EndsNoLine, Tells, TellsCut}
 use Rattle.can_text_audit.specs.inner.Bodies.{IsWrongIn}
 use Rattle.can_text_audit.specs.declared.text_audit.TextAudit.{TextAudit}
-use Rattle.canbusd_faults.specs.declared.fault.Failure.{Failure}
-use Rattle.canbusd_faults.specs.declared.fault.Fault.{Fault}
-use Rattle.canbusd_faults.specs.declared.fault.Fault.TheVariants as fault
-use Rattle.canbusd_files.specs.Files.{IsOfFile}
+use Rattle.canbusd_io.specs.declared.report.Report.{Report}
+use Rattle.canbusd_io.specs.declared.program_error.ProgramError.{ProgramError}
+use Rattle.canbusd_io.specs.declared.program_error.ProgramError.TheVariants as fault
+use Rattle.canbusd_io.specs.Files.{IsOfFile}
 use Rattle.canbusd_audit.specs.Audited.{AuditsFiles, Faults, FaultsBy, FaultsCut, FaultsFiles, FaultsInput, FaultsLast, FitsLines, HasNote, IsAudited, IsAuditedBy, IsBlamedCut, IsCutWritten, IsInputTaken, IsOfFiles, IsTextIn, IsTold, IsWritten, TakesLast, cut_line, entries_line}
 
 -- a reply that is told is the legal one
@@ -64,7 +64,7 @@ written : (text : List ℕ) (r : Result ℕ TextFault) (old new : Option (List �
 written text (Ok count) old new h wrote = record { config = h.config; entries = h.entries; whole = h.whole; legal = h.legal; wrote = subst (λ (n : ℕ). Appends old new (entries_line n)) h.counted wrote }
 written text (Err why) old new h wrote = absurd wrote
 
-told : (text : List ℕ) (r : Result ℕ TextFault) (why : Fault) → Tells text r → IsTold r why → Faults text why
+told : (text : List ℕ) (r : Result ℕ TextFault) (why : ProgramError) → Tells text r → IsTold r why → Faults text why
 told text (Ok count) why h is = subst (Faults text) (sym is) (record { config = h.config; entries = h.entries; whole = h.whole; says = tt })
 told text (Err (found.Read what)) why h is = subst (Faults text) (sym is) h
 told text (Err (found.Wrong w)) why h is = subst (Faults text) (sym is) (record { config = h.config; entries = h.entries; whole = h.whole; says = h.wrong.told.first })
@@ -75,7 +75,7 @@ written_cut text (Ok (cut.Whole count)) old new h wrote = inl (written text (Ok 
 written_cut text (Ok (cut.Off count)) old new h wrote = inr (record { config = h.config; entries = h.entries; front = h.front; legal = h.legal; wrote = subst (λ (n : ℕ). Appends old new (cut_line n)) h.counted wrote })
 written_cut text (Err why) old new h wrote = absurd wrote
 
-told_cut : (text : List ℕ) (r : Result Cut TextFault) (why : Fault) → TellsCut text r → IsTold r why → FaultsBy true text why
+told_cut : (text : List ℕ) (r : Result Cut TextFault) (why : ProgramError) → TellsCut text r → IsTold r why → FaultsBy true text why
 told_cut text (Ok (cut.Whole count)) why h is = inl (told text (Ok count) why h is)
 told_cut text (Ok (cut.Off count)) why h is = inr (subst (IsBlamedCut text) (sym is) (record { config = h.config; entries = h.entries; front = h.front; says = tt }))
 told_cut text (Err (found.Read what)) why h is = inl (told text (Err (found.Read what)) why h is)
@@ -84,57 +84,57 @@ told_cut text (Err (found.Wrong w)) why (inr h) is = inr (subst (IsBlamedCut tex
 
 -- ---- what is told, of the text that a reader had
 
-pub all_written : (first old new : Option (List ℕ)) (torn : List ℕ) (before audit : TextAudit) (found : Result ℕ TextFault) (r : Result (Unit {0}) Failure) → IsInputTaken first before torn → TakesLast before torn audit
+pub all_written : (first old new : Option (List ℕ)) (torn : List ℕ) (before audit : TextAudit) (found : Result ℕ TextFault) (r : Result (Unit {0}) Report) → IsInputTaken first before torn → TakesLast before torn audit
     → ((text : List ℕ) → AreTaken text audit → Tells text found) → OnOk r (IsWritten found old new) → OnOk r ((text : List ℕ) × IsTextIn first text × IsAudited text old new)
 all_written first old new torn before audit found (Ok u) t last tells h = (t.lines ++ torn, t.is_text, written (t.lines ++ torn) found old new (tells (t.lines ++ torn) (last t.lines t.taken)) h)
 all_written first old new torn before audit found (Err why) t last tells h = tt
 
-pub all_told : (first : Option (List ℕ)) (torn : List ℕ) (before audit : TextAudit) (found : Result ℕ TextFault) (r : Result (Unit {0}) Failure) → IsInputTaken first before torn → TakesLast before torn audit
-    → ((text : List ℕ) → AreTaken text audit → Tells text found) → IfErr r (λ failure. IsTold found failure.fault) → IfErr r (λ failure. FaultsInput first failure.fault)
+pub all_told : (first : Option (List ℕ)) (torn : List ℕ) (before audit : TextAudit) (found : Result ℕ TextFault) (r : Result (Unit {0}) Report) → IsInputTaken first before torn → TakesLast before torn audit
+    → ((text : List ℕ) → AreTaken text audit → Tells text found) → IfErr r (λ failure. IsTold found failure.error) → IfErr r (λ failure. FaultsInput first failure.error)
 all_told first torn before audit found (Ok u) t last tells h = tt
-all_told first torn before audit found (Err failure) t last tells h = (t.lines ++ torn, t.is_text, told (t.lines ++ torn) found failure.fault (tells (t.lines ++ torn) (last t.lines t.taken)) h)
+all_told first torn before audit found (Err failure) t last tells h = (t.lines ++ torn, t.is_text, told (t.lines ++ torn) found failure.error (tells (t.lines ++ torn) (last t.lines t.taken)) h)
 
 -- the last line is at fault
-pub last_told : (first : Option (List ℕ)) (torn : List ℕ) (audit : TextAudit) (why : Fault) → IsInputTaken first audit torn → FaultsLast audit torn why → FaultsInput first why
+pub last_told : (first : Option (List ℕ)) (torn : List ℕ) (audit : TextAudit) (why : ProgramError) → IsInputTaken first audit torn → FaultsLast audit torn why → FaultsInput first why
 last_told first torn audit why t h = (t.lines ++ torn, t.is_text, h t.lines t.taken)
 
 -- the same of a text that may be cut off
-pub cut_written : (first old new : Option (List ℕ)) (torn : List ℕ) (audit : TextAudit) (found : Result Cut TextFault) (r : Result (Unit {0}) Failure) → IsInputTaken first audit torn → ((text : List ℕ) → AreTaken text audit → EndsNoLine torn → TellsCut (text ++ torn) found)
+pub cut_written : (first old new : Option (List ℕ)) (torn : List ℕ) (audit : TextAudit) (found : Result Cut TextFault) (r : Result (Unit {0}) Report) → IsInputTaken first audit torn → ((text : List ℕ) → AreTaken text audit → EndsNoLine torn → TellsCut (text ++ torn) found)
     → OnOk r (IsCutWritten found old new) → OnOk r ((text : List ℕ) × IsTextIn first text × IsAuditedBy true text old new)
 cut_written first old new torn audit found (Ok u) t tells h = (t.lines ++ torn, t.is_text, written_cut (t.lines ++ torn) found old new (tells t.lines t.taken t.unended) h)
 cut_written first old new torn audit found (Err why) t tells h = tt
 
-pub all_told_cut : (first : Option (List ℕ)) (torn : List ℕ) (audit : TextAudit) (found : Result Cut TextFault) (r : Result (Unit {0}) Failure) → IsInputTaken first audit torn → ((text : List ℕ) → AreTaken text audit → EndsNoLine torn → TellsCut (text ++ torn) found)
-    → IfErr r (λ failure. IsTold found failure.fault) → IfErr r (λ failure. FaultsCut first failure.fault)
+pub all_told_cut : (first : Option (List ℕ)) (torn : List ℕ) (audit : TextAudit) (found : Result Cut TextFault) (r : Result (Unit {0}) Report) → IsInputTaken first audit torn → ((text : List ℕ) → AreTaken text audit → EndsNoLine torn → TellsCut (text ++ torn) found)
+    → IfErr r (λ failure. IsTold found failure.error) → IfErr r (λ failure. FaultsCut first failure.error)
 all_told_cut first torn audit found (Ok u) t tells h = tt
-all_told_cut first torn audit found (Err failure) t tells h = (t.lines ++ torn, t.is_text, told_cut (t.lines ++ torn) found failure.fault (tells t.lines t.taken t.unended) h)
+all_told_cut first torn audit found (Err failure) t tells h = (t.lines ++ torn, t.is_text, told_cut (t.lines ++ torn) found failure.error (tells t.lines t.taken t.unended) h)
 
 -- ---- the same of files
 
-pub files_written : {W : Type 0} (is_cut : Bool) (first : Option (List ℕ)) (contents : W → Option (List ℕ)) (old new : W) (r : Result (Unit {0}) Failure) → is_cut ≡ false
+pub files_written : {W : Type 0} (is_cut : Bool) (first : Option (List ℕ)) (contents : W → Option (List ℕ)) (old new : W) (r : Result (Unit {0}) Report) → is_cut ≡ false
     → OnOk r ((text : List ℕ) × IsTextIn first text × IsAudited text (contents old) (contents new)) → OnOk r (AuditsFiles is_cut contents old new)
 files_written true first contents old new r is h = absurd cc
 files_written false first contents old new (Ok u) is h = (h.0, h.2)
 files_written false first contents old new (Err why) is h = tt
 
-pub cut_files_written : {W : Type 0} (is_cut : Bool) (first : Option (List ℕ)) (contents : W → Option (List ℕ)) (old new : W) (r : Result (Unit {0}) Failure) → is_cut ≡ true
+pub cut_files_written : {W : Type 0} (is_cut : Bool) (first : Option (List ℕ)) (contents : W → Option (List ℕ)) (old new : W) (r : Result (Unit {0}) Report) → is_cut ≡ true
     → OnOk r ((text : List ℕ) × IsTextIn first text × IsAuditedBy true text (contents old) (contents new)) → OnOk r (AuditsFiles is_cut contents old new)
 cut_files_written false first contents old new r is h = absurd cc
 cut_files_written true first contents old new (Ok u) is h = (h.0, h.2)
 cut_files_written true first contents old new (Err why) is h = tt
 
-pub files_told : (is_cut : Bool) (paths : List (List ℕ)) (first : Option (List ℕ)) (r : Result (Unit {0}) Failure) → is_cut ≡ false → IfErr r (λ failure. FaultsInput first failure.fault) → IfErr r (λ failure. FaultsFiles is_cut paths failure.fault)
+pub files_told : (is_cut : Bool) (paths : List (List ℕ)) (first : Option (List ℕ)) (r : Result (Unit {0}) Report) → is_cut ≡ false → IfErr r (λ failure. FaultsInput first failure.error) → IfErr r (λ failure. FaultsFiles is_cut paths failure.error)
 files_told true paths first r is h = absurd cc
 files_told false paths first (Ok u) is h = tt
 files_told false paths first (Err failure) is h = inr (h.0, h.2)
 
-pub cut_files_told : (is_cut : Bool) (paths : List (List ℕ)) (first : Option (List ℕ)) (r : Result (Unit {0}) Failure) → is_cut ≡ true → IfErr r (λ failure. FaultsCut first failure.fault) → IfErr r (λ failure. FaultsFiles is_cut paths failure.fault)
+pub cut_files_told : (is_cut : Bool) (paths : List (List ℕ)) (first : Option (List ℕ)) (r : Result (Unit {0}) Report) → is_cut ≡ true → IfErr r (λ failure. FaultsCut first failure.error) → IfErr r (λ failure. FaultsFiles is_cut paths failure.error)
 cut_files_told false paths first r is h = absurd cc
 cut_files_told true paths first (Ok u) is h = tt
 cut_files_told true paths first (Err failure) is h = inr (h.0, h.2)
 
 -- a failure is passed on
-pub passed_on : {A : Type 0} (P : Failure → Type 0) (failure : Failure) (r : Result A Failure) → IsErrAnd r (λ x. x ≡ failure) → P failure → IfErr r P
+pub passed_on : {A : Type 0} (P : Report → Type 0) (failure : Report) (r : Result A Report) → IsErrAnd r (λ x. x ≡ failure) → P failure → IfErr r P
 passed_on P failure (Ok a) passed h = tt
 passed_on P failure (Err x) passed h = subst P (sym passed) h
 
@@ -146,11 +146,11 @@ paths_of named = map (λ (path : Bor (List ℕ)). path.now) named
 path_at : (named : List (Bor (List ℕ))) (i : ℕ) (d : Bor (List ℕ)) → i < length named → Contains (paths_of named) (get_or named i d).now
 path_at named i d low = (i, omega (arith, length-map named (λ (path : Bor (List ℕ)). path.now)), get_or-map (λ (path : Bor (List ℕ)). path.now) named i d (get_or named i d).now low)
 
-pub of_file : (named : List (Bor (List ℕ))) (i : ℕ) (d : Bor (List ℕ)) (why : Fault) → i < length named → why ≡ fault.CannotOpen (get_or named i d) → IsOfFiles (paths_of named) why
+pub of_file : (named : List (Bor (List ℕ))) (i : ℕ) (d : Bor (List ℕ)) (why : ProgramError) → i < length named → why ≡ fault.CannotOpen (get_or named i d) → IsOfFiles (paths_of named) why
 of_file named i d why low is =
     let path = (get_or named i d).now in
     (path, path_at named i d low, subst (IsOfFile path) (sym is) refl)
 
-pub of_memory : (named : List (Bor (List ℕ))) (i : ℕ) (why : Fault) → i < length named → why ≡ fault.NoMemory → IsOfFiles (paths_of named) why
+pub of_memory : (named : List (Bor (List ℕ))) (i : ℕ) (why : ProgramError) → i < length named → why ≡ fault.NoMemory → IsOfFiles (paths_of named) why
 of_memory [] i why low is = absurd (omega arith)
 of_memory (path ∷ more) i why low is = (path.now, (0, omega arith, refl), subst (IsOfFile path.now) (sym is) tt)

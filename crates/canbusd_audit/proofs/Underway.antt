@@ -11,9 +11,9 @@ use Rattle.can_record_text.specs.RecordFaults.{Reads}
 use Rattle.can_text_audit.specs.declared.text_audit.TextAudit.{TextAudit}
 use Rattle.can_text_audit.specs.TextAudits.{AreTaken, EndsNoLine, IsLine, MayFollow}
 use Rattle.can_text_audit.proofs.LineEnds.{nothing_more}
-use Rattle.canbusd_faults.specs.declared.fault.Fault.{Fault}
-use Rattle.canbusd_faults.specs.declared.fault.Fault.TheVariants as fault
-use Rattle.canbusd_files.specs.Files.{IsOfReading}
+use Rattle.canbusd_io.specs.declared.program_error.ProgramError.{ProgramError}
+use Rattle.canbusd_io.specs.declared.program_error.ProgramError.TheVariants as fault
+use Rattle.canbusd_io.specs.Files.{IsOfReading}
 use Rattle.canbusd_audit.specs.Audited.{Faults, FaultsInput, FaultsLast, IsAtFault, IsBefore, IsInputTaken, IsNextLine, IsOfLine, IsRead, IsTextIn, IsUnderway}
 
 pub more_read : (a b c : Option (List ℕ)) (x y : List ℕ) → Consumes a b x → Consumes b c y → Consumes a c (x ++ y)
@@ -63,24 +63,24 @@ fails (Some all) (Some xs) None line audit why u read step = absurd read.consume
 fails (Some all) (Some xs) (Some rest) line audit why u read step =
     (u.text ++ (line ++ rest), sym (u.consumed ∙ ap (λ (x : List ℕ). u.text ++ x) read.consumed), step u.text rest u.taken read.is_line read.before)
 
-of_reading : (text : List ℕ) (why : Fault) → IsOfReading why → Faults text why
+of_reading : (text : List ℕ) (why : ProgramError) → IsOfReading why → Faults text why
 of_reading text fault.Read h = tt
 of_reading text fault.NoMemory h = tt
 of_reading text why h = absurd h
 
 -- the reader failed, or memory was refused
-pub stops : (first : Option (List ℕ)) (why : Fault) → IsOfReading why → FaultsInput first why
+pub stops : (first : Option (List ℕ)) (why : ProgramError) → IsOfReading why → FaultsInput first why
 stops None why h = ([], tt, of_reading [] why h)
 stops (Some all) why h = (all, refl, of_reading all why h)
 
 -- a line was at fault, or the reader failed behind it
-pub fails_so : (first now after : Option (List ℕ)) (line : List ℕ) (audit : TextAudit) (what : ReadFault) (why : Fault) → IsOfLine what why → IsUnderway first now audit → IsRead now after line
+pub fails_so : (first now after : Option (List ℕ)) (line : List ℕ) (audit : TextAudit) (what : ReadFault) (why : ProgramError) → IsOfLine what why → IsUnderway first now audit → IsRead now after line
     → ((text rest : List ℕ) → AreTaken text audit → IsLine line → MayFollow line rest → Reads (text ++ (line ++ rest)) (Err what)) → FaultsInput first why
 fails_so first now after line audit what why (inl is) u read step = subst (FaultsInput first) (sym is) (fails first now after line audit what u read step)
 fails_so first now after line audit what why (inr h) u read step = stops first why h
 
 -- the same of a line that the reader still holds
-pub fails_held : (first now : Option (List ℕ)) (audit : TextAudit) (what : ReadFault) (why : Fault) → IsOfLine what why → IsUnderway first now audit → IsAtFault now audit what → FaultsInput first why
+pub fails_held : (first now : Option (List ℕ)) (audit : TextAudit) (what : ReadFault) (why : ProgramError) → IsOfLine what why → IsUnderway first now audit → IsAtFault now audit what → FaultsInput first why
 fails_held first now audit what why (inl is) u fault = subst (FaultsInput first) (sym is) (fault first u)
 fails_held first now audit what why (inr h) u fault = stops first why h
 
@@ -135,7 +135,7 @@ some_of (x ∷ xs) is none = cc
 pub last_line : (torn : List ℕ) → torn ≢ [] → EndsNoLine torn → IsLine torn
 last_line torn some h = record { some = some; stops = All-take (λ b. b ≢ 10) (length torn - 1) torn h }
 
-pub fails_last : (torn : List ℕ) (audit : TextAudit) (what : ReadFault) (why : Fault) → IsOfLine what why → torn ≢ [] → EndsNoLine torn
+pub fails_last : (torn : List ℕ) (audit : TextAudit) (what : ReadFault) (why : ProgramError) → IsOfLine what why → torn ≢ [] → EndsNoLine torn
     → ((text rest : List ℕ) → AreTaken text audit → IsLine torn → MayFollow torn rest → Reads (text ++ (torn ++ rest)) (Err what)) → FaultsLast audit torn why
 fails_last torn audit what why (inl is) some h step = λ lines taken.
     let line = last_line torn some h in

@@ -16,9 +16,9 @@ use Rattle.can_text_audit.specs.declared.fault.TextFault.TheVariants as found
 use Rattle.can_text_audit.specs.declared.fault.WrongLine.{WrongLine}
 use Rattle.can_text_audit.specs.declared.text_audit.TextAudit.{TextAudit}
 use Rattle.can_text_audit.specs.TextAudits.{AreTaken, EndsNoLine, IsFrontOf, IsLine, MayFollow}
-use Rattle.canbusd_faults.specs.declared.fault.Fault.{Fault}
-use Rattle.canbusd_faults.specs.declared.fault.Fault.TheVariants as fault
-use Rattle.canbusd_files.specs.Files.{IsOfFile, IsOfReading}
+use Rattle.canbusd_io.specs.declared.program_error.ProgramError.{ProgramError}
+use Rattle.canbusd_io.specs.declared.program_error.ProgramError.TheVariants as fault
+use Rattle.canbusd_io.specs.Files.{IsOfFile, IsOfReading}
 use Rattle.canbusd_audit.specs.declared.held.Held.{Held}
 use Rattle.canbusd_audit.specs.declared.held.Held.TheVariants as held
 
@@ -58,35 +58,35 @@ abbrev pub AuditsFiles : {W : Type 0} → Bool → (W → Option (List ℕ)) →
 AuditsFiles is_cut contents old new = (text : List ℕ) × IsAuditedBy is_cut text (contents old) (contents new)
 
 -- what a fault says of a record's entries: the first wrong one is told; of the writer and of memory it says nothing
-abbrev pub SaysOf : BusConfig → List Entry → Fault → Type 0
+abbrev pub SaysOf : BusConfig → List Entry → ProgramError → Type 0
 SaysOf c entries (fault.WrongEntry k) = IsFirstWrong c entries k
 SaysOf c entries fault.Write = Unit {0}
 SaysOf c entries fault.NoMemory = Unit {0}
 SaysOf c entries _ = ⊥
 
 -- the text is a record's, and a fault says this of its entries
-pub record IsBlamed (text : List ℕ) (why : Fault) : Type 0 where
+pub record IsBlamed (text : List ℕ) (why : ProgramError) : Type 0 where
   pub config : BusConfig
   pub entries : List Entry
   pub whole : IsTextOf text config entries
   pub says : SaysOf config entries why
 
 -- the text is the front of a record's, and a fault says this of its entries
-pub record IsBlamedCut (text : List ℕ) (why : Fault) : Type 0 where
+pub record IsBlamedCut (text : List ℕ) (why : ProgramError) : Type 0 where
   pub config : BusConfig
   pub entries : List Entry
   pub front : IsFrontOf text config entries
   pub says : SaysOf config entries why
 
 -- what a fault says of a text: it is no record's, or a record's that is wrong; of reading and of memory it says nothing
-abbrev pub Faults : List ℕ → Fault → Type 0
+abbrev pub Faults : List ℕ → ProgramError → Type 0
 Faults text (fault.Record why) = Reads text (Err why)
 Faults text fault.Read = Unit {0}
 Faults text fault.NoMemory = Unit {0}
 Faults text why = IsBlamed text why
 
 -- what a fault says of a text that may be cut off
-abbrev pub FaultsBy : Bool → List ℕ → Fault → Type 0
+abbrev pub FaultsBy : Bool → List ℕ → ProgramError → Type 0
 FaultsBy false text why = Faults text why
 FaultsBy true text why = Faults text why ⊎ IsBlamedCut text why
 
@@ -104,19 +104,19 @@ abbrev pub AuditsCut : {W : Type 0} → Option (List ℕ) → (W → Option (Lis
 AuditsCut input contents old new = (text : List ℕ) × IsTextIn input text × IsAuditedBy true text (contents old) (contents new)
 
 -- what a fault says of the text that a reader had
-abbrev pub FaultsInput : Option (List ℕ) → Fault → Type 0
+abbrev pub FaultsInput : Option (List ℕ) → ProgramError → Type 0
 FaultsInput input why = (text : List ℕ) × IsTextIn input text × Faults text why
 
 -- the same of a text that may be cut off
-abbrev pub FaultsCut : Option (List ℕ) → Fault → Type 0
+abbrev pub FaultsCut : Option (List ℕ) → ProgramError → Type 0
 FaultsCut input why = (text : List ℕ) × IsTextIn input text × FaultsBy true text why
 
 -- a fault of one of the files with these paths
-abbrev pub IsOfFiles : List (List ℕ) → Fault → Type 0
+abbrev pub IsOfFiles : List (List ℕ) → ProgramError → Type 0
 IsOfFiles paths why = (path : List ℕ) × Contains paths path × IsOfFile path why
 
 -- a fault of one of the files with these paths, or of memory, or of a text that they may hold
-abbrev pub FaultsFiles : Bool → List (List ℕ) → Fault → Type 0
+abbrev pub FaultsFiles : Bool → List (List ℕ) → ProgramError → Type 0
 FaultsFiles is_cut paths why = IsOfFiles paths why ⊎ ((text : List ℕ) × FaultsBy is_cut text why)
 
 -- the lines of the text that a reader had were taken, up to bytes that end no line
@@ -131,7 +131,7 @@ abbrev pub TakesLast : TextAudit → List ℕ → TextAudit → Type 0
 TakesLast before torn after = (lines : List ℕ) → AreTaken lines before → AreTaken (lines ++ torn) after
 
 -- they are at fault
-abbrev pub FaultsLast : TextAudit → List ℕ → Fault → Type 0
+abbrev pub FaultsLast : TextAudit → List ℕ → ProgramError → Type 0
 FaultsLast audit torn why = (lines : List ℕ) → AreTaken lines audit → Faults (lines ++ torn) why
 
 -- an audit takes these lines too
@@ -143,7 +143,7 @@ abbrev pub IsWrongNext : TextAudit → List ℕ → ReadFault → Type 0
 IsWrongNext audit next why = (text after : List ℕ) → AreTaken text audit → Reads (text ++ (next ++ after)) (Err why)
 
 -- the fault of a line, or one of reading or of memory
-abbrev pub IsOfLine : ReadFault → Fault → Type 0
+abbrev pub IsOfLine : ReadFault → ProgramError → Type 0
 IsOfLine what why = (why ≡ fault.Record what) ⊎ IsOfReading why
 
 -- what a reader has left may follow the line, where it is known
@@ -204,11 +204,11 @@ IsCutWritten (Ok (cut.Off count)) old new = Appends old new (cut_line count)
 IsCutWritten (Err why) old new = ⊥
 
 -- a fault is that of the text
-abbrev pub IsToldFault : TextFault → Fault → Type 0
+abbrev pub IsToldFault : TextFault → ProgramError → Type 0
 IsToldFault (found.Read what) why = why ≡ fault.Record what
 IsToldFault (found.Wrong w) why = why ≡ fault.WrongEntry w.place
 
 -- a fault is that which was found, or of the writer
-abbrev pub IsTold : {A : Type 0} → Result A TextFault → Fault → Type 0
+abbrev pub IsTold : {A : Type 0} → Result A TextFault → ProgramError → Type 0
 IsTold (Ok count) why = why ≡ fault.Write
 IsTold (Err what) why = IsToldFault what why

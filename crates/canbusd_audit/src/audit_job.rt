@@ -6,8 +6,7 @@ use crate::ends::{tell_cut, tell_end};
 use crate::joined::Joined;
 use crate::line_taking::{take_last, take_lines};
 use can_text_audit::TextAudit;
-use canbusd_faults::{Failure, Fault};
-use canbusd_files::{FewReads, open_file};
+use canbusd_io::{FewReads, ProgramError, Report, open_file};
 use canbusd_options::AuditOptions;
 use std::alloc::{AllocError, Global};
 use std::io::{BufRead, BufReader, Write};
@@ -21,18 +20,18 @@ pub fn audit_files<'a, H: Files, W: Write, E: Write>(
     options: &AuditOptions<'a>,
     output: &mut W,
     errors: &mut E,
-) -> Result<(), Failure<'a>>
+) -> Result<(), Report<'a>>
     ensures legal { OnOk result (AuditsFiles options.now.is_cut W.contents output.old output.new) }
     ensures fault { IfErr result (λ failure.
         FaultsFiles options.now.is_cut (map (λ file. file.now) options.now.files.items)
-        failure.fault) }
+        failure.error) }
 {
     let files = open_files(rt, alloc, &options.files)?;
     let Ok(name) = joined_name(alloc, &options.files) else {
-        return Err(Failure::new(alloc, Fault::NoMemory));
+        return Err(Report::new(alloc, ProgramError::NoMemory));
     };
     let Ok(mut input) = BufReader::new(alloc, Joined::new(files)) else {
-        return Err(Failure::new(alloc, Fault::NoMemory));
+        return Err(Report::new(alloc, ProgramError::NoMemory));
     };
     if options.is_cut {
         audit_cut_lines(alloc, &name, &mut input, output, errors)
@@ -46,14 +45,14 @@ fn open_files<'a, H: Files>(
     rt: &H,
     alloc: Global,
     paths: &[&'a str],
-) -> Result<Vec<FewReads<H::File>>, Failure<'a>>
-    ensures { IfErr result (λ failure. IsOfFiles (map (λ path. path.now) paths.now) failure.fault) }
+) -> Result<Vec<FewReads<H::File>>, Report<'a>>
+    ensures { IfErr result (λ failure. IsOfFiles (map (λ path. path.now) paths.now) failure.error) }
 {
     let mut files = Vec::new(alloc);
     for path in paths {
         let file = open_file(rt, alloc, path)?;
         if files.push(file).is_err() {
-            return Err(Failure::new(alloc, Fault::NoMemory));
+            return Err(Report::new(alloc, ProgramError::NoMemory));
         }
     }
     Ok(files)
@@ -80,9 +79,9 @@ pub fn audit_lines<'a, R: BufRead, W: Write>(
     path: &str,
     input: &mut R,
     output: &mut W,
-) -> Result<(), Failure<'a>>
+) -> Result<(), Report<'a>>
     ensures legal { OnOk result (Audits (R.remaining input.old) W.contents output.old output.new) }
-    ensures fault { IfErr result (λ failure. FaultsInput (R.remaining input.old) failure.fault) }
+    ensures fault { IfErr result (λ failure. FaultsInput (R.remaining input.old) failure.error) }
 {
     let mut audit = TextAudit::new(alloc);
     let mut torn = Vec::new(alloc);
@@ -99,10 +98,10 @@ pub fn audit_cut_lines<'a, R: BufRead, W: Write, E: Write>(
     input: &mut R,
     output: &mut W,
     errors: &mut E,
-) -> Result<(), Failure<'a>>
+) -> Result<(), Report<'a>>
     ensures legal { OnOk result
         (AuditsCut (R.remaining input.old) W.contents output.old output.new) }
-    ensures fault { IfErr result (λ failure. FaultsCut (R.remaining input.old) failure.fault) }
+    ensures fault { IfErr result (λ failure. FaultsCut (R.remaining input.old) failure.error) }
 {
     let mut audit = TextAudit::new(alloc);
     let mut torn = Vec::new(alloc);

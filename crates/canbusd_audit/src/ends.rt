@@ -1,14 +1,13 @@
 ghost use Rattle.std.specs.Prelude.{◌≡◌, IfErr, OnOk};
 ghost use Rattle.std.specs.Io.KnownBytes.{Appends};
-ghost use Rattle.canbusd_faults.specs.declared.fault.Fault.TheVariants as told;
+ghost use Rattle.canbusd_io.specs.declared.program_error.ProgramError.TheVariants as told;
 ghost use Rattle.canbusd_audit.specs.Audited.{FitsLines, HasNote, IsCutWritten, IsTold, IsWritten, cut_line};
 
 use crate::notes::{record_note, with_cut_note};
 use crate::wrong_entries::wrong_note;
 use can_record_text::ReadFault;
 use can_text_audit::{Cut, TextFault, WrongLine};
-use canbusd_faults::{Failure, Fault};
-use canbusd_files::{OUTPUT, write_failure};
+use canbusd_io::{OUTPUT, ProgramError, Report, write_failure};
 use std::alloc::Global;
 use std::io::Write;
 
@@ -19,10 +18,10 @@ pub fn tell_end<'a, W: Write>(
     lines: u64,
     found: Result<usize, TextFault>,
     output: &mut W,
-) -> Result<(), Failure<'a>>
+) -> Result<(), Report<'a>>
     requires { IfErr found HasNote }
     ensures legal { OnOk result (IsWritten found (W.contents output.old) (W.contents output.new)) }
-    ensures fault { IfErr result (λ failure. IsTold found failure.fault) }
+    ensures fault { IfErr result (λ failure. IsTold found failure.error) }
 {
     match found {
         Ok(count) => writeln!(output, "ok {count} entries").map_err(|error| write_failure(
@@ -45,11 +44,11 @@ pub fn tell_cut<'a, W: Write, E: Write>(
     torn: &[u8],
     output: &mut W,
     errors: &mut E,
-) -> Result<(), Failure<'a>>
+) -> Result<(), Report<'a>>
     requires { IfErr found HasNote }
     ensures legal { OnOk result
         (IsCutWritten found (W.contents output.old) (W.contents output.new)) }
-    ensures fault { IfErr result (λ failure. IsTold found failure.fault) }
+    ensures fault { IfErr result (λ failure. IsTold found failure.error) }
 {
     match found {
         Ok(Cut::Whole(count)) => tell_end(alloc, path, lines, Ok(count), output),
@@ -66,10 +65,10 @@ fn tell_off<'a, W: Write, E: Write>(
     torn: &[u8],
     output: &mut W,
     errors: &mut E,
-) -> Result<(), Failure<'a>>
+) -> Result<(), Report<'a>>
     ensures legal { OnOk result
         (Appends (W.contents output.old) (W.contents output.new) (cut_line count)) }
-    ensures fault { IfErr result (λ failure. failure.fault ≡ told.Write) }
+    ensures fault { IfErr result (λ failure. failure.error ≡ told.Write) }
 {
     if !torn.is_empty() {
         let bytes = torn.len();
@@ -90,20 +89,20 @@ fn text_failure<'a>(
     lines: u64,
     torn: &[u8],
     fault: ReadFault,
-) -> Failure<'a>
-    ensures { result.fault ≡ told.Record fault }
+) -> Report<'a>
+    ensures { result.error ≡ told.Record fault }
 {
     let note = record_note(alloc, path, last_shown(lines, torn, fault), fault);
-    Failure::with(alloc, Fault::Record(fault), note)
+    Report::with(alloc, ProgramError::Record(fault), note)
 }
 
 // What is reported of a record with a wrong entry.
-fn wrong_failure<'a>(alloc: Global, path: &str, wrong: &WrongLine) -> Failure<'a>
+fn wrong_failure<'a>(alloc: Global, path: &str, wrong: &WrongLine) -> Report<'a>
     requires { FitsLines wrong.now }
-    ensures { result.fault ≡ told.WrongEntry wrong.now.place }
+    ensures { result.error ≡ told.WrongEntry wrong.now.place }
 {
     let note = wrong_note(alloc, path, wrong);
-    Failure::with(alloc, Fault::WrongEntry(wrong.place), note)
+    Report::with(alloc, ProgramError::WrongEntry(wrong.place), note)
 }
 
 // The line of the text that a fault of the whole text is about: its last bytes, which there are none of where a line is

@@ -1,14 +1,13 @@
 ghost use Rattle.std.specs.Prelude.{◌≡◌, ◌≢◌, ◌-◌, [], IfErr, IfOk, IsTrue, OnOk, Some, false, length, slice_get};
 ghost use Rattle.can_text_audit.specs.TextAudits.{AreTaken, EndsNoLine};
 ghost use Rattle.canbusd_audit.specs.Audited.{FaultsInput, FaultsLast, IsInputTaken, IsNextLine, IsOfLine, TakesLast};
-ghost use Rattle.canbusd_files.specs.Files.{IsOfReading};
+ghost use Rattle.canbusd_io.specs.Files.{IsOfReading};
 
 use crate::held::{Held, take_held};
 use crate::notes::{record_note, with_cut_note};
 use can_record_text::ReadFault;
 use can_text_audit::TextAudit;
-use canbusd_faults::{Failure, Fault};
-use canbusd_files::{read_failure, utf8_note};
+use canbusd_io::{ProgramError, Report, read_failure, utf8_note};
 use std::alloc::Global;
 use std::io::BufRead;
 use std::str;
@@ -23,10 +22,10 @@ pub fn take_lines<'a, R: BufRead>(
     input: &mut R,
     audit: &mut TextAudit,
     torn: &mut Vec<u8>,
-) -> Result<u64, Failure<'a>>
+) -> Result<u64, Report<'a>>
     requires { AreTaken [] audit.old }
     ensures taken { OnOk result (IsInputTaken (R.remaining input.old) audit.new torn.new.items) }
-    ensures fault { IfErr result (λ failure. FaultsInput (R.remaining input.old) failure.fault) }
+    ensures fault { IfErr result (λ failure. FaultsInput (R.remaining input.old) failure.error) }
 {
     let mut lines = 0;
     for _ in 0..u64::MAX {
@@ -54,7 +53,7 @@ pub fn take_lines<'a, R: BufRead>(
             }
         }
     }
-    Err(Failure::new(alloc, Fault::Read))
+    Err(Report::new(alloc, ProgramError::Read))
 }
 
 /// Takes the bytes after the last LF as the last line, if there are any: how many lines there are then.
@@ -64,10 +63,10 @@ pub fn take_last<'a>(
     lines: u64,
     audit: &mut TextAudit,
     torn: &[u8],
-) -> Result<u64, Failure<'a>>
+) -> Result<u64, Report<'a>>
     requires { EndsNoLine torn.now }
     ensures taken { OnOk result (TakesLast audit.old torn.now audit.new) }
-    ensures fault { IfErr result (λ failure. FaultsLast audit.old torn.now failure.fault) }
+    ensures fault { IfErr result (λ failure. FaultsLast audit.old torn.now failure.error) }
 {
     if torn.is_empty() {
         return Ok(lines);
@@ -94,15 +93,15 @@ fn torn_failure<'a>(
     number: u64,
     torn: &[u8],
     fault: ReadFault,
-) -> Failure<'a>
-    ensures { IsOfLine fault result.fault }
+) -> Report<'a>
+    ensures { IsOfLine fault result.error }
 {
     if str::from_utf8(torn).is_err() {
         let note = utf8_note(alloc, path, number, torn);
-        return Failure::with(alloc, Fault::Read, note);
+        return Report::with(alloc, ProgramError::Read, note);
     }
     let note = record_note(alloc, path, torn, fault);
-    Failure::with(alloc, Fault::Record(fault), note)
+    Report::with(alloc, ProgramError::Record(fault), note)
 }
 
 // What is reported of a line at fault that the input still holds, and that follows this many others.
@@ -114,8 +113,8 @@ fn held_failure<'a, R: BufRead>(
     input: &mut R,
     line: &mut Vec<u8>,
     fault: ReadFault,
-) -> Failure<'a>
-    ensures { IsOfLine fault result.fault }
+) -> Report<'a>
+    ensures { IsOfLine fault result.error }
 {
     match next_line(alloc, path, input, line) {
         Ok(_) => line_failure(alloc, path, lines.saturating_add(1), input, line, fault),
@@ -131,12 +130,12 @@ fn line_failure<'a, R: BufRead>(
     input: &mut R,
     line: &mut Vec<u8>,
     fault: ReadFault,
-) -> Failure<'a>
-    ensures { IsOfLine fault result.fault }
+) -> Report<'a>
+    ensures { IsOfLine fault result.error }
 {
     let note = record_note(alloc, path, line, fault);
     match read_rest(alloc, path, number, input, line) {
-        Ok(()) => Failure::with(alloc, Fault::Record(fault), note),
+        Ok(()) => Report::with(alloc, ProgramError::Record(fault), note),
         Err(failure) => failure,
     }
 }
@@ -148,19 +147,19 @@ fn read_rest<'a, R: BufRead>(
     first: u64,
     input: &mut R,
     line: &mut Vec<u8>,
-) -> Result<(), Failure<'a>>
-    ensures { IfErr result (λ failure. IsOfReading failure.fault) }
+) -> Result<(), Report<'a>>
+    ensures { IfErr result (λ failure. IsOfReading failure.error) }
 {
     for number in first..u64::MAX {
         if str::from_utf8(line).is_err() {
             let note = utf8_note(alloc, path, number, line);
-            return Err(Failure::with(alloc, Fault::Read, note));
+            return Err(Report::with(alloc, ProgramError::Read, note));
         }
         if !next_line(alloc, path, input, line)? {
             return Ok(());
         }
     }
-    Err(Failure::new(alloc, Fault::Read))
+    Err(Report::new(alloc, ProgramError::Read))
 }
 
 // Reads the next line, with its LF: whether there is one. Else what is left of the input was read, which has no LF.
@@ -169,9 +168,9 @@ fn next_line<'a, R: BufRead>(
     path: &str,
     input: &mut R,
     line: &mut Vec<u8>,
-) -> Result<bool, Failure<'a>>
+) -> Result<bool, Report<'a>>
     ensures read { IfOk result (λ is. IsNextLine is (R.remaining input.old) (R.remaining input.new) line.new.items) }
-    ensures fault { IfErr result (λ failure. IsOfReading failure.fault) }
+    ensures fault { IfErr result (λ failure. IsOfReading failure.error) }
 {
     line.clear();
     match input.read_until(b'\n', line) {

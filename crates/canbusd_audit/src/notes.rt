@@ -2,7 +2,7 @@
 ghost use Rattle.std.specs.Prelude.{◌≡◌};
 
 use can_record_text::ReadFault;
-use canbusd_faults::{Failure, Line, WITH_CR};
+use canbusd_io::{Report, SourceLine, WITH_CR};
 use std::alloc::{AllocError, Global};
 
 /// How many lines of a record's text come before those of its entries.
@@ -32,7 +32,7 @@ pub fn record_note(
     } else {
         form
     };
-    let line = Line::new(path, number, line.strip_suffix(b"\n").unwrap_or(line));
+    let line = SourceLine::new(path, number, line.strip_suffix(b"\n").unwrap_or(line));
     format!(in alloc; "  {line}\n  {form}\n")
 }
 
@@ -48,8 +48,8 @@ fn entry_form(line: &[u8]) -> &'static str {
 }
 
 /// The fault of a text that ends before its last line, with what `--cut` does of it, if it has the lines before its entries.
-pub fn with_cut_note<'a>(alloc: Global, failure: Failure<'a>, fault: ReadFault) -> Failure<'a>
-    ensures { result.fault ≡ failure.entry.fault }
+pub fn with_cut_note<'a>(alloc: Global, failure: Report<'a>, fault: ReadFault) -> Report<'a>
+    ensures { result.error ≡ failure.entry.error }
 {
     match fault {
         ReadFault::BadLine(number) if number > HEAD => match cut_note(alloc, number - HEAD - 1) {

@@ -5,7 +5,7 @@ use crate::notes::HEAD;
 use can_bus::{Event, Reply};
 use can_record_text::line_text;
 use can_text_audit::WrongLine;
-use canbusd_faults::{Line, Shown};
+use canbusd_io::{Shown, SourceLine};
 use std::alloc::{AllocError, Global};
 
 /// The line of a wrong entry in the text of a record, and the one that would be legal there.
@@ -14,7 +14,7 @@ pub fn wrong_note(alloc: Global, path: &str, wrong: &WrongLine) -> Result<String
 {
     let event = &wrong.entry.event;
     let text = shown_line(alloc, event, &wrong.entry.reply)?;
-    let line = Line::new(path, (wrong.place as u64).saturating_add(HEAD + 1), &text);
+    let line = SourceLine::new(path, (wrong.place as u64).saturating_add(HEAD + 1), &text);
     match &wrong.legal {
         Some(reply) => {
             let legal = shown_line(alloc, event, reply)?;

@@ -15,9 +15,9 @@ use Rattle.can_session.specs.declared.bench_run.BenchFault.TheVariants.{BadConfi
 use Rattle.can_session.specs.Benches.{BenchState}
 use Rattle.can_session.specs.Runs.{EndsOver, IsBench, Ran, at_start_with}
 use Rattle.canbusd_options.specs.declared.bench_options.BenchOptions.{BenchOptions}
-use Rattle.canbusd_faults.specs.declared.fault.Fault.{Fault}
-use Rattle.canbusd_faults.specs.declared.fault.Fault.TheVariants as fault
-use Rattle.canbusd_files.specs.Buses.{IsPlan, config_of}
+use Rattle.canbusd_io.specs.declared.program_error.ProgramError.{ProgramError}
+use Rattle.canbusd_io.specs.declared.program_error.ProgramError.TheVariants as fault
+use Rattle.canbusd_io.specs.Buses.{IsPlan, config_of}
 use Rattle.canbusd_bench.specs.Benched.{FailsBy, IsBenched, IsRun, IsStopped, MeetsRefusal, StopsBy, begun}
 use Rattle.canbusd_bench.specs.Refusals.{GrowsByRefusal, GrowsQuietly}
 use Rattle.canbusd_bench.specs.inner.Watched.{told}
@@ -48,11 +48,11 @@ stops contents o names plan input out new Write a = a.runs (search rules)
 stops contents o names plan input out new NoMemory a = a.runs (search rules)
 
 -- a run that ended in a fault
-pub stopped : {W : Type 0} (contents : W → Option (List ℕ)) (c : BusConfig) (o : BenchOptions) (names : List (List ℕ)) (plan : PlanSeen) (input : Option (List ℕ)) (out new : W) (why : BenchFault) (f : Fault)
+pub stopped : {W : Type 0} (contents : W → Option (List ℕ)) (c : BusConfig) (o : BenchOptions) (names : List (List ℕ)) (plan : PlanSeen) (input : Option (List ℕ)) (out new : W) (why : BenchFault) (f : ProgramError)
     → c ≡ config_of o.settings (length names) → f ≡ fault.Bench why → Answered contents o.timing c o.settings.rx_capacity names plan input out (Err why) new
     → StopsBy contents o names plan input out f new
 stopped contents c o names plan input out new why f is told a =
-    subst (λ (x : Fault). StopsBy contents o names plan input out x new) (sym told)
+    subst (λ (x : ProgramError). StopsBy contents o names plan input out x new) (sym told)
     (stops contents o names plan input out new why (subst (λ (k : BusConfig). Answered contents o.timing k o.settings.rx_capacity names plan input out (Err why) new) is a))
 
 -- the same under the faults of the script that the options name
@@ -178,7 +178,7 @@ untouched : {W : Type 0} (contents : W → Option (List ℕ)) (before after : Op
 untouched contents before after strict old behind flushed new seen (is, same) =
     subst (λ x. Keeps (contents old) (contents x)) (sym (seen.back is)) (subst (λ x. Keeps (contents x) (contents flushed)) same seen.kept)
 
-fails_so : {V W : Type 0} (outer : V → Option (List ℕ)) (contents : W → Option (List ℕ)) (o : BenchOptions) (names : List (List ℕ)) (plan : PlanSeen) (input : Option (List ℕ)) (v w : V) (old behind flushed new : W) (why : Fault)
+fails_so : {V W : Type 0} (outer : V → Option (List ℕ)) (contents : W → Option (List ℕ)) (o : BenchOptions) (names : List (List ℕ)) (plan : PlanSeen) (input : Option (List ℕ)) (v w : V) (old behind flushed new : W) (why : ProgramError)
     → (seen : Watching contents (outer v) (outer w) o.is_strict old behind flushed new) → (w ≡ v → (seen.is ≡ seen.name) × (behind ≡ old))
     → StopsBy outer o names plan input v why w → Stopped (λ x. StopsBy contents o names plan input old why x) contents new
 fails_so outer contents o names plan input v w old behind flushed new (fault.Bench BadConfig) seen same (bad, is) =
@@ -191,7 +191,7 @@ fails_so outer contents o names plan input v w old behind flushed new (fault.Ben
 fails_so outer contents o names plan input v w old behind flushed new _ seen same stops = absurd stops
 
 -- a run that failed, whose output went through a watcher
-pub failed : {V W : Type 0} (outer : V → Option (List ℕ)) (contents : W → Option (List ℕ)) (o : BenchOptions) (input : Option (List ℕ)) (v w : V) (old behind flushed new : W) (why : Fault)
+pub failed : {V W : Type 0} (outer : V → Option (List ℕ)) (contents : W → Option (List ℕ)) (o : BenchOptions) (input : Option (List ℕ)) (v w : V) (old behind flushed new : W) (why : ProgramError)
     → AreNames (names_in o.bus.names.now) → (seen : Watching contents (outer v) (outer w) o.is_strict old behind flushed new) → (w ≡ v → (seen.is ≡ seen.name) × (behind ≡ old))
     → FailsBy outer o (names_in o.bus.names.now) input v why w → IsStopped contents o input old why new
 failed outer contents o input v w old behind flushed new why named seen same (inl (source, is)) =

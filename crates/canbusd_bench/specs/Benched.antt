@@ -10,12 +10,12 @@ use Rattle.can_session.specs.declared.bench_run.BenchFault.TheVariants.{BadConfi
 use Rattle.can_session.specs.Benches.{BenchState}
 use Rattle.can_session.specs.Runs.{EndsOver, IsBench, at_start_with}
 use Rattle.canbusd_options.specs.declared.bench_options.BenchOptions.{BenchOptions}
-use Rattle.canbusd_files.specs.Buses.{IsPlan, config_of}
-use Rattle.canbusd_files.specs.Files.{IsOfLogFile, IsOfNames, IsOfRecordFile, IsOfPlan}
+use Rattle.canbusd_io.specs.Buses.{IsPlan, config_of}
+use Rattle.canbusd_io.specs.Files.{IsOfLogFile, IsOfNames, IsOfRecordFile, IsOfPlan}
 use Rattle.canbusd_bench.specs.declared.bench_job.Ran.{Ran}
 use Rattle.canbusd_bench.specs.Refusals.{GrowsByRefusal, GrowsQuietly}
-use Rattle.canbusd_faults.specs.declared.fault.Fault.{Fault}
-use Rattle.canbusd_faults.specs.declared.fault.Fault.TheVariants as fault
+use Rattle.canbusd_io.specs.declared.program_error.ProgramError.{ProgramError}
+use Rattle.canbusd_io.specs.declared.program_error.ProgramError.TheVariants as fault
 
 -- What the options of a bench ask for (own choice).
 
@@ -24,13 +24,13 @@ abbrev pub begun : PlanSeen → BenchOptions → List (List ℕ) → BenchState
 begun plan o names = at_start_with plan o.timing names (config_of o.settings (length names)) o.settings.rx_capacity
 
 -- how a run that options describe ends in a fault: nothing was read or written where a number is outside its limits
-abbrev pub StopsBy : {W : Type 0} → (W → Option (List ℕ)) → BenchOptions → List (List ℕ) → PlanSeen → Option (List ℕ) → W → Fault → W → Type 0
+abbrev pub StopsBy : {W : Type 0} → (W → Option (List ℕ)) → BenchOptions → List (List ℕ) → PlanSeen → Option (List ℕ) → W → ProgramError → W → Type 0
 StopsBy contents o names plan input out (fault.Bench BadConfig) new = (IsBench names (config_of o.settings (length names)) o.settings.rx_capacity → ⊥) × (new ≡ out)
 StopsBy contents o names plan input out (fault.Bench why) new = EndsOver contents no_verdicts input (begun plan o names) out (Err why) new
 StopsBy contents o names plan input out _ new = ⊥
 
 -- how a run that options describe ends in a fault of its script, before anything was written, or under the faults of one
-abbrev pub FailsBy : {W : Type 0} → (W → Option (List ℕ)) → BenchOptions → List (List ℕ) → Option (List ℕ) → W → Fault → W → Type 0
+abbrev pub FailsBy : {W : Type 0} → (W → Option (List ℕ)) → BenchOptions → List (List ℕ) → Option (List ℕ) → W → ProgramError → W → Type 0
 FailsBy contents o names input out why new =
     (IsOfPlan o.bus.script names why × (new ≡ out))
     ⊎ ((plan : PlanSeen) × IsPlan o.bus.script names plan × StopsBy contents o names plan input out why new)
@@ -67,22 +67,22 @@ pub record MeetsRefusal {W : Type 0} (contents : W → Option (List ℕ)) (o : B
 -- a run came to its end, with a message that was refused or without one
 abbrev pub HasRun : {W : Type 0} → (W → Option (List ℕ)) → BenchOptions → Option (List ℕ) → W → Ran → W → Type 0
 HasRun contents o input old ran new =
-    MatchOption ran.refusal (IsBenched contents o input old new) (λ failure. (failure.fault ≡ fault.Refused) × MeetsRefusal contents o input old new)
+    MatchOption ran.refusal (IsBenched contents o input old new) (λ failure. (failure.error ≡ fault.Refused) × MeetsRefusal contents o input old new)
 
 -- how the bench that options describe ends before the end of its run: with a fault of its names, before anything was written, of the
 -- writer, or of the run, whose output was written
-abbrev pub IsStopped : {W : Type 0} → (W → Option (List ℕ)) → BenchOptions → Option (List ℕ) → W → Fault → W → Type 0
+abbrev pub IsStopped : {W : Type 0} → (W → Option (List ℕ)) → BenchOptions → Option (List ℕ) → W → ProgramError → W → Type 0
 IsStopped {W} contents o input old why new =
     (IsOfNames o.bus.names.now why × (new ≡ old))
     ⊎ ((why ≡ fault.Write)
     ⊎ (AreNames (names_in o.bus.names.now) × (written : W) × FailsBy contents o (names_in o.bus.names.now) input old why written × Keeps (contents written) (contents new)))
 
 -- a fault of the record's file or of the log's, where options ask for one
-abbrev pub IsOfFiles : BenchOptions → Fault → Type 0
+abbrev pub IsOfFiles : BenchOptions → ProgramError → Type 0
 IsOfFiles o why = IsSomeAnd o.record (λ path. IsOfRecordFile path.now why) ⊎ IsSomeAnd o.log (λ path. IsOfLogFile o.bus path.now why)
 
 -- how the bench that options describe ends in a fault: before the end of its run, or at a file or a refused message after it
-abbrev pub FailsAs : {W : Type 0} → (W → Option (List ℕ)) → BenchOptions → Option (List ℕ) → W → Fault → W → Type 0
+abbrev pub FailsAs : {W : Type 0} → (W → Option (List ℕ)) → BenchOptions → Option (List ℕ) → W → ProgramError → W → Type 0
 FailsAs contents o input old why new =
     IsStopped contents o input old why new
     ⊎ ((IsOfFiles o why × (IsBenched contents o input old new ⊎ MeetsRefusal contents o input old new))

@@ -3,7 +3,7 @@ ghost use Rattle.can_fault.specs.Sources.{no_verdicts};
 ghost use Rattle.can_event.specs.Events.{IsConfig};
 ghost use Rattle.can_bus.specs.Legal.{IsLegal};
 ghost use Rattle.can_session.specs.Runs.{EndsOver};
-ghost use Rattle.canbusd_files.specs.Buses.{config_of};
+ghost use Rattle.canbusd_io.specs.Buses.{config_of};
 ghost use Rattle.canbusd_bench.specs.Benched.{FailsAs, FailsBy, HasRun, IsBenched, IsOfFiles, IsRun, IsStopped, StopsBy, begun};
 
 use crate::input_notes::input_note;
@@ -15,10 +15,9 @@ use can_fault::Perfect;
 use can_frame::Names;
 use can_rules::Plan;
 use can_session::{BenchConfig, BenchFault, Unheard, bench_noting};
-use canbusd_faults::{Failure, Fault, fixed_note, reason_note};
-use canbusd_files::{
-    INPUT, OUTPUT, bus_config, limits_note, read_names, read_plan, save_log, save_record, without,
-    write_failure,
+use canbusd_io::{
+    INPUT, OUTPUT, ProgramError, Report, bus_config, fixed_note, limits_note, read_names,
+    read_plan, reason_note, save_log, save_record, without, write_failure,
 };
 use canbusd_options::BenchOptions;
 use std::alloc::{AllocError, Global};
@@ -32,7 +31,7 @@ use std::rt::Files;
 struct Ran<'a> {
     record: Record,
     /// The fault of a message that was refused, where the options are strict.
-    refusal: Option<Failure<'a>>,
+    refusal: Option<Report<'a>>,
 }
 
 /// Runs the bench that the options describe, over the lines of an input. The names are looked at first, then the
@@ -46,10 +45,10 @@ pub fn run_bench<'a, H: Files, R: Read + Drop, W: Write>(
     input: R,
     output: &mut W,
     unheard: &mut Unheard,
-) -> Result<(), Failure<'a>>
+) -> Result<(), Report<'a>>
     ensures done { OnOk result (IsBenched W.contents options.now (R.remaining input) output.old output.new) }
     ensures fault { IfErr result (λ failure.
-        FailsAs W.contents options.now (R.remaining input) output.old failure.fault output.new) }
+        FailsAs W.contents options.now (R.remaining input) output.old failure.error output.new) }
 {
     match run_out(rt, alloc, options, input, output, unheard) {
         Ok(Ran { record, refusal }) => {
@@ -75,11 +74,11 @@ fn run_out<'a, H: Files, R: Read + Drop, W: Write>(
     input: R,
     output: &mut W,
     unheard: &mut Unheard,
-) -> Result<Ran<'a>, Failure<'a>>
+) -> Result<Ran<'a>, Report<'a>>
     ensures ran { IfOk result (λ ran.
         HasRun W.contents options.now (R.remaining input) output.old ran output.new) }
     ensures fault { IfErr result (λ failure.
-        IsStopped W.contents options.now (R.remaining input) output.old failure.fault
+        IsStopped W.contents options.now (R.remaining input) output.old failure.error
         output.new) }
 {
     let names = read_names(alloc, options.bus.names)?;
@@ -99,8 +98,8 @@ fn save_run<'a, H: Files>(
     alloc: Global,
     options: &BenchOptions<'a>,
     record: &Record,
-) -> Result<(), Failure<'a>>
-    ensures { IfErr result (λ failure. IsOfFiles options.now failure.fault) }
+) -> Result<(), Report<'a>>
+    ensures { IfErr result (λ failure. IsOfFiles options.now failure.error) }
 {
     let recorded = match options.record {
         Some(path) => save_record(rt, alloc, path, record),
@@ -109,7 +108,7 @@ fn save_run<'a, H: Files>(
     let logged = match options.log {
         Some(path) if is_one_file(rt, options.record, path) => {
             let note = fixed_note(alloc, "--record names this file too");
-            Err(Failure::with(alloc, Fault::CannotOpen(path), note))
+            Err(Report::with(alloc, ProgramError::CannotOpen(path), note))
         }
         Some(path) => save_log(rt, alloc, path, options.bus, record),
         None => Ok(()),
@@ -140,11 +139,11 @@ fn run_scripted<'a, H: Files, R: Read + Drop, W: Write>(
     input: R,
     output: &mut W,
     unheard: &mut Unheard,
-) -> Result<Record, Failure<'a>>
+) -> Result<Record, Report<'a>>
     ensures run { IfOk result (λ r.
         IsRun W.contents options.now names (R.remaining input) output.old r output.new) }
     ensures fault { IfErr result (λ failure.
-        FailsBy W.contents options.now names (R.remaining input) output.old failure.fault
+        FailsBy W.contents options.now names (R.remaining input) output.old failure.error
         output.new) }
 {
     let plan = read_plan(rt, alloc, options.bus, &names)?;
@@ -160,7 +159,7 @@ fn run_on<'a, R: Read + Drop, W: Write>(
     input: R,
     output: &mut W,
     unheard: &mut Unheard,
-) -> Result<Record, Failure<'a>>
+) -> Result<Record, Report<'a>>
     ensures ends { IfOk result (λ r.
         EndsOver W.contents no_verdicts (R.remaining input) (begun plan options.now names)
         output.old (Ok r) output.new) }
@@ -169,7 +168,7 @@ fn run_on<'a, R: Read + Drop, W: Write>(
     ensures legal { IfOk result (λ r. IsLegal r.config r.history) }
     ensures fault { IfErr result (λ failure.
         StopsBy W.contents options.now names plan (R.remaining input)
-        output.old failure.fault output.new) }
+        output.old failure.error output.new) }
 {
     let config = BenchConfig {
         config: bus_config(options.settings, &names),
@@ -183,7 +182,7 @@ fn run_on<'a, R: Read + Drop, W: Write>(
         Ok(record) => Ok(record),
         Err(fault) => {
             let notes = bench_note(alloc, fault, options, &input);
-            Err(Failure::with(alloc, Fault::Bench(fault), notes))
+            Err(Report::with(alloc, ProgramError::Bench(fault), notes))
         }
     }
 }

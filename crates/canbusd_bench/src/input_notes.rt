@@ -1,8 +1,7 @@
 //! What is reported of a wrong line of the bench's input.
 use can_session::lines::LONGEST_LINE;
 use can_session::{Order, SessionNumber, read_order};
-use canbusd_faults::{Line, WITH_CR, fixed_note};
-use canbusd_files::rule_note;
+use canbusd_io::{SourceLine, WITH_CR, fixed_note, rule_note};
 use std::alloc::{AllocError, Global};
 use std::str;
 
@@ -29,7 +28,7 @@ pub fn input_note(
         Some(Order::Fault(rule)) => rule_note(alloc, str::from_utf8(rule).unwrap_or(""), bus)?,
         _ => fixed_note(alloc, form_of(line, is_timed))?,
     };
-    let line = Line::new(place, u64::from(number), line);
+    let line = SourceLine::new(place, u64::from(number), line);
     format!(in alloc; "  {line}\n{note}")
 }
 

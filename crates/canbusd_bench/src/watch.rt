@@ -1,10 +1,9 @@
 //! A writer that looks for refusals among what goes through it.
 ghost use Rattle.std.specs.Prelude.{◌≡◌, ◌≢◌, ◌+◌, ◌<◌, ◌^◌, ◌⊎◌, [], false, true, length, IfNone, IfSome, IsSome, Some};
-ghost use Rattle.canbusd_faults.specs.declared.fault.Fault.TheVariants as fault;
+ghost use Rattle.canbusd_io.specs.declared.program_error.ProgramError.TheVariants as fault;
 ghost use Rattle.canbusd_bench.specs.inner.Watched.{seen_after as seen_after_byte, seen_in, told};
 
-use canbusd_faults::{Failure, Fault, Shown};
-use canbusd_files::OUTPUT;
+use canbusd_io::{OUTPUT, ProgramError, Report, Shown};
 use std::alloc::{AllocError, Global};
 use std::io;
 use std::io::{Error, ErrorKind, Write};
@@ -51,9 +50,9 @@ impl<'w, W> Watch<'w, W> {
     }
 
     /// Its writer, and the fault of a run in which a message was refused, if one was seen.
-    pub fn finish<'a>(self, alloc: Global) -> (&'w mut W, Option<Failure<'a>>)
+    pub fn finish<'a>(self, alloc: Global) -> (&'w mut W, Option<Report<'a>>)
         ensures writer { result.0 ≡ self.entry.writer }
-        ensures some { IfSome result.1 (λ failure. failure.fault ≡ fault.Refused) }
+        ensures some { IfSome result.1 (λ failure. failure.error ≡ fault.Refused) }
         ensures seen { IsSome result.1 → (self.entry.is_on ≡ true) × (self.entry.seen ≡ 9) }
         ensures none { IfNone result.1 ((self.entry.is_on ≡ false) ⊎ (self.entry.seen ≢ 9)) }
     {
@@ -61,7 +60,7 @@ impl<'w, W> Watch<'w, W> {
             let note = self.note(alloc);
             (
                 self.writer,
-                Some(Failure::with(alloc, Fault::Refused, note)),
+                Some(Report::with(alloc, ProgramError::Refused, note)),
             )
         } else {
             (self.writer, None)

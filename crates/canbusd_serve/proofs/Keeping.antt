@@ -7,9 +7,9 @@ use Rattle.can_logfile.specs.Log.{joined, log_lines}
 use Rattle.can_logfile.proofs.Fronts.{blocks-log}
 use Rattle.can_record_text.specs.Spelling.{entry_line, entry_lines}
 use Rattle.can_record_text.proofs.LineLists.{lines-rest}
-use Rattle.canbusd_files.specs.Live.{whole_contents}
-use Rattle.canbusd_files.specs.declared.live.LiveLog.{LiveLog}
-use Rattle.canbusd_files.specs.declared.live.LiveRecord.{LiveRecord}
+use Rattle.canbusd_io.specs.Live.{whole_contents}
+use Rattle.canbusd_io.specs.declared.live.LiveLog.{LiveLog}
+use Rattle.canbusd_io.specs.declared.live.LiveRecord.{LiveRecord}
 use Rattle.canbusd_serve.specs.LongRuns.{KeepsInFiles, LogGets, MayGet, RecordGets}
 use Rattle.canbusd_serve.specs.declared.live_files.LiveFiles.{LiveFiles}
 

@@ -12,9 +12,9 @@ use Rattle.can_hub.specs.Benches.{buses_from}
 use Rattle.can_hub.specs.Buses.{BusSeen}
 use Rattle.can_hub.specs.Settling.{AllConfigured, AllSettleIn}
 use Rattle.std.specs.List.{AllZip}
-use Rattle.canbusd_files.specs.Buses.{config_of}
-use Rattle.canbusd_faults.specs.declared.fault.Failure.{Failure}
-use Rattle.canbusd_faults.specs.declared.fault.Fault.{Fault}
+use Rattle.canbusd_io.specs.Buses.{config_of}
+use Rattle.canbusd_io.specs.declared.report.Report.{Report}
+use Rattle.canbusd_io.specs.declared.program_error.ProgramError.{ProgramError}
 use Rattle.canbusd_options.specs.declared.bus_word.BusWord.{BusWord}
 use Rattle.can_fault.specs.declared.fault_source.Perfect.{Perfect}
 use Rattle.canbusd_options.specs.declared.serve_options.ServeOptions.{ServeOptions}
@@ -35,17 +35,17 @@ benches-more o buses bs i bus b below here are is =
     subst (λ l. AreBenches o l (bs ++ b ∷ [])) (ap (λ z. take i buses ++ z ∷ []) here ∙ sym (take_more buses i bus below)) (benches-push o (take i buses) bs bus b are is)
 
 -- the bus of the next word is at fault
-of-next : (o : ServeOptions) (buses : List BusWord) (bs : List (Bench Perfect Open)) (i : ℕ) (d : BusWord) (why : Fault) → buses ≡ o.buses.items → i < length buses → AreBenches o (take i buses) bs → IsOfBus (get_or buses i d) why → IsOfBuses o why
+of-next : (o : ServeOptions) (buses : List BusWord) (bs : List (Bench Perfect Open)) (i : ℕ) (d : BusWord) (why : ProgramError) → buses ≡ o.buses.items → i < length buses → AreBenches o (take i buses) bs → IsOfBus (get_or buses i d) why → IsOfBuses o why
 of-next o buses bs i d why same below are is =
     subst (λ (l : List BusWord). (k : ℕ) × MakeBenches o (take k l) × IsSomeAnd (slice_get l k) (λ bus. IsOfBus bus why)) same
     (i, (bs, are), subst (λ (b : Option BusWord). IsSomeAnd b (λ bus. IsOfBus bus why)) (sym (slice_get-get_or buses i d below)) is)
 
 -- and its fault is passed on
-pub next-fails : {T : Type 0} (o : ServeOptions) (buses : List BusWord) (bs : List (Bench Perfect Open)) (i : ℕ) (d : BusWord) (failure : Failure) (r : Result T Failure) → buses ≡ o.buses.items → i < length buses → AreBenches o (take i buses) bs
-    → IsOfBus (get_or buses i d) failure.fault → IsErrAnd r (λ x. x ≡ failure) → IfErr r (λ x. IsOfServer o x.fault)
+pub next-fails : {T : Type 0} (o : ServeOptions) (buses : List BusWord) (bs : List (Bench Perfect Open)) (i : ℕ) (d : BusWord) (failure : Report) (r : Result T Report) → buses ≡ o.buses.items → i < length buses → AreBenches o (take i buses) bs
+    → IsOfBus (get_or buses i d) failure.error → IsErrAnd r (λ x. x ≡ failure) → IfErr r (λ x. IsOfServer o x.error)
 next-fails o buses bs i d failure (Ok t) same below are is passed = tt
 next-fails o buses bs i d failure (Err x) same below are is passed =
-    inl (of-next o buses bs i d x.fault same below are (subst (λ (f : Failure). IsOfBus (get_or buses i d) f.fault) (sym passed) is))
+    inl (of-next o buses bs i d x.error same below are (subst (λ (f : Report). IsOfBus (get_or buses i d) f.error) (sym passed) is))
 
 -- there is one for each word
 pub benches-length : (o : ServeOptions) (buses : List BusWord) (bs : List (Bench Perfect Open)) → AreBenches o buses bs → length bs ≡ length buses

@@ -9,9 +9,9 @@ use Rattle.can_logfile.specs.Log.{joined, log_lines}
 use Rattle.can_roll.specs.Seen.{ScrollSeen}
 use Rattle.can_station.specs.declared.pass.Settled.{Settled}
 use Rattle.can_record_text.specs.Spelling.{entry_lines}
-use Rattle.canbusd_files.specs.Live.{whole_contents}
-use Rattle.canbusd_files.specs.declared.live.LiveLog.{LiveLog}
-use Rattle.canbusd_files.specs.declared.live.LiveRecord.{LiveRecord}
+use Rattle.canbusd_io.specs.Live.{whole_contents}
+use Rattle.canbusd_io.specs.declared.live.LiveLog.{LiveLog}
+use Rattle.canbusd_io.specs.declared.live.LiveRecord.{LiveRecord}
 use Rattle.canbusd_serve.specs.declared.live_files.LiveFiles.{LiveFiles}
 use Rattle.canbusd_serve.specs.declared.serve_job.Served.{Served}
 use Rattle.canbusd_serve.specs.declared.serve_job.Served.TheVariants as served

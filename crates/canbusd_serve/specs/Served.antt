@@ -17,10 +17,10 @@ use Rattle.can_fault.specs.declared.fault_source.Perfect.{Perfect}
 use Rattle.canbusd_options.specs.declared.recording.Recording.{Recording}
 use Rattle.canbusd_options.specs.declared.recording.Recording.TheVariants as recording
 use Rattle.canbusd_options.specs.declared.serve_options.ServeOptions.{ServeOptions}
-use Rattle.canbusd_files.specs.Buses.{IsPlan, config_of}
-use Rattle.canbusd_files.specs.Files.{IsOfNames, IsOfPlan}
-use Rattle.canbusd_faults.specs.declared.fault.Fault.{Fault}
-use Rattle.canbusd_faults.specs.declared.fault.Fault.TheVariants as fault
+use Rattle.canbusd_io.specs.Buses.{IsPlan, config_of}
+use Rattle.canbusd_io.specs.Files.{IsOfNames, IsOfPlan}
+use Rattle.canbusd_io.specs.declared.program_error.ProgramError.{ProgramError}
+use Rattle.canbusd_io.specs.declared.program_error.ProgramError.TheVariants as fault
 use Rattle.canbusd_options.specs.BusWords.{first_name_of}
 
 -- A server's buses, and what it puts out at its end (own choice).
@@ -48,12 +48,12 @@ abbrev pub MakeBenches : ServeOptions → List BusWord → Type 0
 MakeBenches o buses = (benches : List (Bench Perfect Open)) × AreBenches o buses benches
 
 -- a fault of a bus of a server: of its names, or of its script
-abbrev pub IsOfBus : BusWord → Fault → Type 0
+abbrev pub IsOfBus : BusWord → ProgramError → Type 0
 IsOfBus bus why = IsOfNames bus.names.now why ⊎ (AreNames (names_in bus.names.now) × IsOfPlan bus.script (names_in bus.names.now) why)
 
 -- a fault of serving: the server cannot listen or write, its folder takes no files, a bus got the pass of another, or memory was
 -- refused
-abbrev pub IsOfServing : Fault → Type 0
+abbrev pub IsOfServing : ProgramError → Type 0
 IsOfServing fault.CannotListen = Unit {0}
 IsOfServing (fault.CannotOpen folder) = Unit {0}
 IsOfServing (fault.WrongStation name) = Unit {0}
@@ -63,7 +63,7 @@ IsOfServing why = ⊥
 
 -- a fault of a server with these buses: no hub can be made of them whose configurations have these limits, or memory for it was
 -- refused; or of serving
-abbrev pub IsOfHub : (BusConfig → Type 0) → List (Bench Perfect Open) → Fault → Type 0
+abbrev pub IsOfHub : (BusConfig → Type 0) → List (Bench Perfect Open) → ProgramError → Type 0
 IsOfHub limits benches (fault.Buses BadConfig) = MakeHubWithin limits benches → ⊥
 IsOfHub limits benches (fault.Buses NoMemory) = Unit {0}
 IsOfHub limits benches why = IsOfServing why
@@ -75,11 +75,11 @@ limits_of recording.Live = IsOfLongRuns
 limits_of recording.Never = IsOfLongRuns
 
 -- a fault of one of the buses of a server; those before it are what their words describe
-abbrev pub IsOfBuses : ServeOptions → Fault → Type 0
+abbrev pub IsOfBuses : ServeOptions → ProgramError → Type 0
 IsOfBuses o why = (i : ℕ) × MakeBenches o (take i o.buses.items) × IsSomeAnd (slice_get o.buses.items i) (λ bus. IsOfBus bus why)
 
 -- a fault of a server: of one of its buses, of serving, or with the buses that its options describe
-abbrev pub IsOfServer : ServeOptions → Fault → Type 0
+abbrev pub IsOfServer : ServeOptions → ProgramError → Type 0
 IsOfServer o why = IsOfBuses o why ⊎ (IsOfServing why ⊎ ((benches : List (Bench Perfect Open)) × AreAllBenches o benches × IsOfHub (limits_of o.recording) benches why))
 
 -- the history is legal

@@ -1,5 +1,5 @@
 use can_event::{MAX_LIMIT, MAX_LONG_LIMIT};
-use canbusd_files::{has_name, limits_note};
+use canbusd_io::{has_name, limits_note};
 use canbusd_options::{BusWord, Recording, ServeOptions};
 use std::alloc::{AllocError, Global};
 

@@ -1,12 +1,11 @@
 //! What the buses of a server leave at its end.
 ghost use Rattle.std.specs.Prelude.{◌≡◌, OnOk};
-ghost use Rattle.canbusd_files.specs.Files.{Took};
+ghost use Rattle.canbusd_io.specs.Files.{Took};
 ghost use Rattle.canbusd_serve.specs.Served.{end_line, end_lines, journals};
 
 use can_bus::{LongEnd, Record};
 use can_station::Settled;
-use canbusd_faults::Failure;
-use canbusd_files::{OUTPUT, write_failure};
+use canbusd_io::{OUTPUT, Report, write_failure};
 use canbusd_options::BusWord;
 use std::alloc::Global;
 use std::io::Write;
@@ -48,7 +47,7 @@ pub fn put_ends<'a, L: Ended, W: Write>(
     buses: &[BusWord<'_>],
     settled: &[Settled<L>],
     output: &mut W,
-) -> Result<(), Failure<'a>>
+) -> Result<(), Report<'a>>
     ensures { OnOk result (Took W.contents output.old output.new
         (end_lines buses.now (journals L.journal settled.now))) }
 {
@@ -63,7 +62,7 @@ fn put_each_end<'a, L: Ended, W: Write>(
     buses: &[BusWord<'_>],
     settled: &[Settled<L>],
     output: &mut W,
-) -> Result<(), Failure<'a>>
+) -> Result<(), Report<'a>>
     ensures { OnOk result (Took W.contents output.old output.new
         (end_lines buses.now (journals L.journal settled.now))) }
 {
@@ -82,7 +81,7 @@ fn put_end<'a, L: Ended, W: Write>(
     bus: &BusWord<'_>,
     end: &L,
     output: &mut W,
-) -> Result<(), Failure<'a>>
+) -> Result<(), Report<'a>>
     ensures { OnOk result (Took W.contents output.old output.new
         (end_line bus.now (L.journal end.now))) }
 {

@@ -5,7 +5,7 @@ ghost use Rattle.std.specs.Duration.{as_nanos};
 use crate::notices::{first_name_at, notice_line};
 use can_frame::Moment;
 use can_server::{Clock, Notice};
-use canbusd_faults::{Failure, Shown};
+use canbusd_io::{Report, Shown};
 use canbusd_options::{Recording, ServeOptions};
 use std::alloc::Global;
 use std::io::Write;
@@ -80,11 +80,11 @@ impl<'a, H: Wait + time::Clock, E: Write> Host<'_, 'a, '_, H, E> {
     }
 
     /// Reports that a file is over, if it is.
-    pub fn report(&self, kept: Result<(), Failure<'_>>) {
+    pub fn report(&self, kept: Result<(), Report<'_>>) {
         if let Err(failure) = kept {
             self.has_lost.store(true, Ordering::SeqCst);
             let mut errors = self.errors.lock(self.rt);
-            failure.tell(&mut **errors);
+            failure.write_to(&mut **errors);
         }
     }
 

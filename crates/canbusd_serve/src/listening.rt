@@ -1,11 +1,11 @@
 //! Where a server listens: a Unix path, or a host and a port.
 ghost use Rattle.std.specs.Prelude.{◌≡◌, IfErr, IfOk, IsTrue, string_bytes};
-ghost use Rattle.canbusd_faults.specs.declared.fault.Fault.TheVariants as fault;
+ghost use Rattle.canbusd_io.specs.declared.program_error.ProgramError.TheVariants as fault;
 ghost use Rattle.canbusd_serve.specs.Served.{IsHeardAt, IsOfServing, LeavesPort};
 
 use crate::socket_file::SocketFile;
 use can_server::{Door, Listener};
-use canbusd_faults::{Failure, Fault, reason_note};
+use canbusd_io::{ProgramError, Report, reason_note};
 use std::alloc::{AllocError, Global};
 use std::fs::File;
 use std::io;
@@ -32,9 +32,9 @@ pub fn listen<'a, H: Files<File = File> + Net<Listener = TcpListener, Stream = T
     alloc: Global,
     address: &str,
     sessions: u32,
-) -> Result<Listening, Failure<'a>>
+) -> Result<Listening, Report<'a>>
     ensures heard { IfOk result (λ listening. IsHeardAt address.now (string_bytes listening.heard)) }
-    ensures fault { IfErr result (λ failure. IsOfServing failure.fault) }
+    ensures fault { IfErr result (λ failure. IsOfServing failure.error) }
 {
     let (listener, file) = match bind(rt, alloc, address) {
         Ok(bound) => bound,
@@ -58,12 +58,12 @@ fn open<'a>(
     address: &str,
     listener: Listener,
     sessions: u32,
-) -> Result<(Door, String), Failure<'a>>
+) -> Result<(Door, String), Report<'a>>
     ensures heard { IfOk result (λ opened. IsHeardAt address.now (string_bytes opened.1)) }
-    ensures fault { IfErr result (λ failure. IsOfServing failure.fault) }
+    ensures fault { IfErr result (λ failure. IsOfServing failure.error) }
 {
     let Ok(heard) = heard_at(alloc, address, &listener) else {
-        return Err(Failure::new(alloc, Fault::NoMemory));
+        return Err(Report::new(alloc, ProgramError::NoMemory));
     };
     match Door::new(listener, sessions) {
         Ok(door) => Ok((door, heard)),
@@ -72,10 +72,14 @@ fn open<'a>(
 }
 
 /// Why nobody can connect.
-pub fn listen_failure<'a>(alloc: Global, place: &str, error: &Error) -> Failure<'a>
-    ensures { result.fault ≡ fault.CannotListen }
+pub fn listen_failure<'a>(alloc: Global, place: &str, error: &Error) -> Report<'a>
+    ensures { result.error ≡ fault.CannotListen }
 {
-    let failure = Failure::with(alloc, Fault::CannotListen, reason_note(alloc, place, error));
+    let failure = Report::with(
+        alloc,
+        ProgramError::CannotListen,
+        reason_note(alloc, place, error),
+    );
     if error.kind() == ErrorKind::AddrInUse && !is_path(place) {
         return failure.and(FREE_PORT);
     }

@@ -9,8 +9,7 @@ use crate::serve_files::{draft_of, open_failure};
 use can_bus::{LongEnd, PackedRecord};
 use can_frame::Names;
 use can_station::Settled;
-use canbusd_faults::{Failure, Fault, Telling};
-use canbusd_files::{LiveLog, LiveRecord, bus_config, read_names};
+use canbusd_io::{LiveLog, LiveRecord, ProgramError, Report, Reporter, bus_config, read_names};
 use canbusd_options::{BusWord, Recording, ServeOptions};
 use std::alloc::{AllocError, Global};
 use std::fs::{File, OpenFile};
@@ -30,7 +29,7 @@ impl<F: Write + OpenFile + Drop> LiveFiles<F> {
         &mut self,
         alloc: Global,
         entries: &PackedRecord,
-    ) -> Result<(), Failure<'static>>
+    ) -> Result<(), Report<'static>>
         requires { All HasFittingReply entries.now.entries }
         ensures kept { RecordGets F.contents self.old.record entries.now.entries self.new.record }
         ensures same { self.new.log ≡ self.old.log }
@@ -47,7 +46,7 @@ impl<F: Write + OpenFile + Drop> LiveFiles<F> {
         alloc: Global,
         name: &'a str,
         entries: &PackedRecord,
-    ) -> Result<(), Failure<'a>>
+    ) -> Result<(), Report<'a>>
         ensures kept { LogGets F.contents self.old.log entries.now.entries self.new.log }
         ensures same { self.new.record ≡ self.old.record }
     {
@@ -67,15 +66,15 @@ pub fn open_all<'a, H: Files<File = File>, E: Write>(
     alloc: Global,
     options: &ServeOptions<'a>,
     errors: &mut E,
-) -> Result<Vec<LiveFiles<File>>, Failure<'a>>
+) -> Result<Vec<LiveFiles<File>>, Report<'a>>
     ensures each { IfOk result (λ files. length files.items ≡ length options.now.buses.items) }
-    ensures fault { IfErr result (λ failure. IsOfServing failure.fault) }
+    ensures fault { IfErr result (λ failure. IsOfServing failure.error) }
 {
     let mut all = Vec::new(alloc);
     for bus in &options.buses {
         let files = open_files(rt, alloc, options, *bus, errors)?;
         let Ok(()) = all.push(files) else {
-            return Err(Failure::new(alloc, Fault::NoMemory));
+            return Err(Report::new(alloc, ProgramError::NoMemory));
         };
     }
     Ok(all)
@@ -87,8 +86,8 @@ fn open_files<'a, H: Files<File = File>, E: Write>(
     options: &ServeOptions<'a>,
     bus: BusWord<'a>,
     errors: &mut E,
-) -> Result<LiveFiles<File>, Failure<'a>>
-    ensures { IfErr result (λ failure. IsOfServing failure.fault) }
+) -> Result<LiveFiles<File>, Report<'a>>
+    ensures { IfErr result (λ failure. IsOfServing failure.error) }
 {
     let Some(folder) = options.folder else {
         return Ok(LiveFiles {
@@ -97,7 +96,7 @@ fn open_files<'a, H: Files<File = File>, E: Write>(
         });
     };
     let Ok(names) = read_names(alloc, bus.names) else {
-        return Err(Failure::new(alloc, Fault::NoMemory));
+        return Err(Report::new(alloc, ProgramError::NoMemory));
     };
     let record = match options.recording {
         Recording::Live => Some(open_record(rt, alloc, options, folder, bus, &names, errors)?),
@@ -115,8 +114,8 @@ fn open_record<'a, H: Files<File = File>, E: Write>(
     bus: BusWord<'a>,
     names: &Names,
     errors: &mut E,
-) -> Result<LiveRecord<File>, Failure<'a>>
-    ensures { IfErr result (λ failure. IsOfServing failure.fault) }
+) -> Result<LiveRecord<File>, Report<'a>>
+    ensures { IfErr result (λ failure. IsOfServing failure.error) }
 {
     let draft = draft_of(rt, alloc, folder, &bus, errors)?;
     let config = bus_config(options.settings, names);
@@ -135,11 +134,11 @@ fn open_log<'a, H: Files<File = File>>(
     folder: &'a str,
     bus: BusWord<'a>,
     names: Names,
-) -> Result<LiveLog<File>, Failure<'a>>
-    ensures { IfErr result (λ failure. IsOfServing failure.fault) }
+) -> Result<LiveLog<File>, Report<'a>>
+    ensures { IfErr result (λ failure. IsOfServing failure.error) }
 {
     let Ok(path) = log_path(alloc, folder, bus.first_name()) else {
-        return Err(Failure::new(alloc, Fault::NoMemory));
+        return Err(Report::new(alloc, ProgramError::NoMemory));
     };
     LiveLog::new(rt, alloc, &path, names, options.is_synced).map_err(|error| open_failure(
         alloc, folder, &path, &error,
@@ -157,9 +156,9 @@ pub fn finish_all<H: Files, E: Write>(
     files: Vec<KeptFiles<File>>,
     buses: &[BusWord<'_>],
     settled: &[Settled<LongEnd>],
-    telling: &mut Telling<'_, E>,
+    reporter: &mut Reporter<'_, E>,
 )
-    ensures { IsTrue telling.old.has_told → IsTrue telling.new.has_told }
+    ensures { IsTrue reporter.old.has_reported → IsTrue reporter.new.has_reported }
 {
     for ((files, bus), settled) in files.into_iter().zip(buses).zip(settled) {
         finish(
@@ -168,7 +167,7 @@ pub fn finish_all<H: Files, E: Write>(
             files.into_files(),
             bus,
             &settled.history,
-            telling,
+            reporter,
         );
     }
 }
@@ -179,16 +178,16 @@ fn finish<H: Files, E: Write>(
     files: LiveFiles<File>,
     bus: &BusWord<'_>,
     end: &LongEnd,
-    telling: &mut Telling<'_, E>,
+    reporter: &mut Reporter<'_, E>,
 )
-    ensures { IsTrue telling.old.has_told → IsTrue telling.new.has_told }
+    ensures { IsTrue reporter.old.has_reported → IsTrue reporter.new.has_reported }
 {
     let LiveFiles { record, log } = files;
     let rest = end.entries();
     if let Some(record) = record {
-        telling.pass_on(record.finish(rt, alloc, rest, end.len()));
+        reporter.report(record.finish(rt, alloc, rest, end.len()));
     }
     if let Some(mut log) = log {
-        telling.pass_on(log.keep(alloc, bus.first_name(), rest));
+        reporter.report(log.keep(alloc, bus.first_name(), rest));
     }
 }

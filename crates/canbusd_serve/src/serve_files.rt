@@ -4,8 +4,9 @@ ghost use Rattle.canbusd_serve.specs.Served.{IsOfServing};
 
 use can_bus::Record;
 use can_station::Settled;
-use canbusd_faults::{Failure, Fault, Telling, reason_note};
-use canbusd_files::{Draft, save_log_at, save_record_at, set_aside};
+use canbusd_io::{
+    Draft, ProgramError, Report, Reporter, reason_note, save_log_at, save_record_at, set_aside,
+};
 use canbusd_options::BusWord;
 use std::alloc::Global;
 use std::fs::File;
@@ -20,8 +21,8 @@ pub fn look_at_folder<'a, H: Files<File = File>, E: Write>(
     folder: &'a str,
     buses: &[BusWord<'_>],
     errors: &mut E,
-) -> Result<(), Failure<'a>>
-    ensures { IfErr result (λ failure. IsOfServing failure.fault) }
+) -> Result<(), Report<'a>>
+    ensures { IfErr result (λ failure. IsOfServing failure.error) }
 {
     for bus in buses {
         let draft = draft_of(rt, alloc, folder, bus, errors)?;
@@ -39,11 +40,11 @@ pub fn draft_of<'a, H: Files<File = File>, E: Write>(
     folder: &'a str,
     bus: &BusWord<'_>,
     errors: &mut E,
-) -> Result<Draft, Failure<'a>>
-    ensures { IfErr result (λ failure. IsOfServing failure.fault) }
+) -> Result<Draft, Report<'a>>
+    ensures { IfErr result (λ failure. IsOfServing failure.error) }
 {
     let Ok(draft) = Draft::new(rt, alloc, folder, bus.first_name(), "rec") else {
-        return Err(Failure::new(alloc, Fault::NoMemory));
+        return Err(Report::new(alloc, ProgramError::NoMemory));
     };
     match set_aside(rt, alloc, &draft) {
         Ok(Some(note)) => {
@@ -56,12 +57,12 @@ pub fn draft_of<'a, H: Files<File = File>, E: Write>(
 }
 
 /// How a folder is reported that does not take a file.
-pub fn open_failure<'a>(alloc: Global, folder: &'a str, path: &str, error: &Error) -> Failure<'a>
-    ensures { IsOfServing result.fault }
+pub fn open_failure<'a>(alloc: Global, folder: &'a str, path: &str, error: &Error) -> Report<'a>
+    ensures { IsOfServing result.error }
 {
-    Failure::with(
+    Report::with(
         alloc,
-        Fault::CannotOpen(folder),
+        ProgramError::CannotOpen(folder),
         reason_note(alloc, path, error),
     )
 }
@@ -73,12 +74,12 @@ pub fn save_all<H: Files, E: Write>(
     folder: &str,
     buses: &[BusWord<'_>],
     settled: &[Settled],
-    telling: &mut Telling<'_, E>,
+    reporter: &mut Reporter<'_, E>,
 )
-    ensures { IsTrue telling.old.has_told → IsTrue telling.new.has_told }
+    ensures { IsTrue reporter.old.has_reported → IsTrue reporter.new.has_reported }
 {
     for (bus, settled) in buses.iter().zip(settled) {
-        save_bus(rt, alloc, folder, bus, &settled.history, telling);
+        save_bus(rt, alloc, folder, bus, &settled.history, reporter);
     }
 }
 
@@ -88,9 +89,9 @@ fn save_bus<H: Files, E: Write>(
     folder: &str,
     bus: &BusWord<'_>,
     record: &Record,
-    telling: &mut Telling<'_, E>,
+    reporter: &mut Reporter<'_, E>,
 )
-    ensures { IsTrue telling.old.has_told → IsTrue telling.new.has_told }
+    ensures { IsTrue reporter.old.has_reported → IsTrue reporter.new.has_reported }
 {
     let name = bus.first_name();
     match (
@@ -100,11 +101,11 @@ fn save_bus<H: Files, E: Write>(
         (Ok(rec), Ok(log)) => {
             rec.clear(rt);
             let saved = save_record_at(rt, alloc, rec.path(), rec.draft(), record);
-            telling.pass_on(rec.keep(rt, alloc, saved));
+            reporter.report(rec.keep(rt, alloc, saved));
             log.clear(rt);
             let saved = save_log_at(rt, alloc, log.path(), log.draft(), *bus, record);
-            telling.pass_on(log.keep_part(rt, alloc, saved));
+            reporter.report(log.keep_part(rt, alloc, saved));
         }
-        _ => telling.pass_on(Err(Failure::new(alloc, Fault::NoMemory))),
+        _ => reporter.report(Err(Report::new(alloc, ProgramError::NoMemory))),
     }
 }

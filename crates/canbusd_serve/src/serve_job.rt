@@ -3,8 +3,8 @@ ghost use Rattle.can_bus.specs.Long.{journal_of};
 ghost use Rattle.can_event.specs.Events.{IsConfig};
 ghost use Rattle.can_hub.specs.Benches.{NamedFrom};
 ghost use Rattle.can_hub.specs.HubBuses.{IsOfLongRuns};
-ghost use Rattle.canbusd_faults.specs.declared.fault.Fault.TheVariants as fault;
-ghost use Rattle.canbusd_files.specs.Files.{Took};
+ghost use Rattle.canbusd_io.specs.declared.program_error.ProgramError.TheVariants as fault;
+ghost use Rattle.canbusd_io.specs.Files.{Took};
 ghost use Rattle.can_hub.specs.Settling.{AreNewScrolls};
 ghost use Rattle.canbusd_serve.specs.LongRuns.{AllGiven, AllGivenFirst, HasFiles, HasGiven, HasNewScrolls, buses_in};
 ghost use Rattle.canbusd_serve.specs.Served.{AreAllBenches, AreEnds, IsBenchOf, IsHeardAt, IsListening, IsOfBus, IsOfHub, IsOfServer, IsOfServing, IsServed, Serves, journals, listening_line, record_journal};
@@ -23,8 +23,10 @@ use can_meter::MeterName;
 use can_roll::RollName;
 use can_server::{Bench, Door, Hub, Kept, Scribe, serve, serve_long};
 use can_station::{Blanks, Open, Pass, Scroll, Settled};
-use canbusd_faults::{Failure, Fault, Telling, fixed_note};
-use canbusd_files::{INPUT, OUTPUT, bus_config, read_names, read_plan, write_failure};
+use canbusd_io::{
+    INPUT, OUTPUT, ProgramError, Report, Reporter, bus_config, fixed_note, read_names, read_plan,
+    write_failure,
+};
 use canbusd_options::{BusWord, Recording, ServeOptions};
 use std::alloc::{AllocError, Global};
 use std::fs::{File, OpenFile};
@@ -70,9 +72,9 @@ pub fn run_serve<'a, H: ServerRuntime, R: Read + Drop + Send + 'static, W: Write
     input: R,
     output: &mut W,
     errors: &mut E,
-) -> Result<bool, Failure<'a>>
+) -> Result<bool, Report<'a>>
     ensures served { IfOk result (λ whole. IsTrue whole → IsServed W.contents options.now output.old output.new) }
-    ensures fault { IfErr result (λ failure. IsOfServer options.now failure.fault) }
+    ensures fault { IfErr result (λ failure. IsOfServer options.now failure.error) }
 {
     let run = ServerRun {
         rt,
@@ -81,13 +83,13 @@ pub fn run_serve<'a, H: ServerRuntime, R: Read + Drop + Send + 'static, W: Write
         has_lost: AtomicBool::new(false),
     };
     let benches = run.read_benches()?;
-    let has_told = match options.recording {
+    let has_reported = match options.recording {
         Recording::AtEnd => run.run_whole::<Brand, _, _, _>(benches, input, output, errors)?,
         Recording::Live | Recording::Never => {
             run.run_live::<Brand, _, _, _>(benches, input, output, errors)?
         }
     };
-    Ok(!has_told && !run.has_lost.load(Ordering::SeqCst))
+    Ok(!has_reported && !run.has_lost.load(Ordering::SeqCst))
 }
 
 // The buses that are served: of a hub that keeps their records, or of long runs, with the scroll of each.
@@ -117,28 +119,28 @@ struct ServerRun<'r, 'a, H: ServerRuntime> {
 
 impl<'r, 'a, H: ServerRuntime> ServerRun<'r, 'a, H> {
     // What the buses of the options are made of.
-    fn read_benches(&self) -> Result<Vec<Bench<Perfect, Open>>, Failure<'a>>
+    fn read_benches(&self) -> Result<Vec<Bench<Perfect, Open>>, Report<'a>>
         ensures made { IfOk result (λ benches. AreAllBenches self.now.options.now benches.items) }
-        ensures fault { IfErr result (λ failure. IsOfServer self.now.options.now failure.fault) }
+        ensures fault { IfErr result (λ failure. IsOfServer self.now.options.now failure.error) }
     {
         let mut benches = Vec::new(self.alloc);
         for bus in &self.options.buses {
             let bench = self.read_bench(*bus)?;
             let Ok(()) = benches.push(bench) else {
-                return Err(Failure::new(self.alloc, Fault::NoMemory));
+                return Err(Report::new(self.alloc, ProgramError::NoMemory));
             };
         }
         Ok(benches)
     }
 
-    fn read_bench(&self, bus: BusWord<'a>) -> Result<Bench<Perfect, Open>, Failure<'a>>
+    fn read_bench(&self, bus: BusWord<'a>) -> Result<Bench<Perfect, Open>, Report<'a>>
         ensures made { IfOk result (λ bench. IsBenchOf self.now.options.now bus.entry bench) }
-        ensures fault { IfErr result (λ failure. IsOfBus bus.entry failure.fault) }
+        ensures fault { IfErr result (λ failure. IsOfBus bus.entry failure.error) }
     {
         let names = read_names(self.alloc, bus.names)?;
         let plan = read_plan(self.rt, self.alloc, bus, &names)?;
         let Ok(blanks) = Blanks::new(self.alloc, usize::from(names.count())) else {
-            return Err(Failure::new(self.alloc, Fault::NoMemory));
+            return Err(Report::new(self.alloc, ProgramError::NoMemory));
         };
         Ok(Bench {
             config: bus_config(self.options.settings, &names),
@@ -164,21 +166,21 @@ impl<'r, 'a, H: ServerRuntime> ServerRun<'r, 'a, H> {
         input: R,
         output: &mut W,
         errors: &mut E,
-    ) -> Result<bool, Failure<'a>>
+    ) -> Result<bool, Report<'a>>
         requires named { NamedFrom N.roll N.meter 0 benches.items }
         requires each { length benches.items ≡ length self.now.options.now.buses.items }
         ensures served { IfOk result (λ told. told ≡ false
             → Serves W.contents self.now.options.now benches.items output.old output.new) }
-        ensures fault { IfErr result (λ failure. IsOfHub IsConfig benches.items failure.fault) }
+        ensures fault { IfErr result (λ failure. IsOfHub IsConfig benches.items failure.error) }
     {
         let settled = self.settle_whole::<N, R, W, E>(benches, input, output, errors)?;
         let buses = &self.options.buses;
-        let mut telling = Telling::new(errors);
-        telling.pass_on(put_ends(self.alloc, buses, &settled, output));
+        let mut reporter = Reporter::new(errors);
+        reporter.report(put_ends(self.alloc, buses, &settled, output));
         if let Some(folder) = self.options.folder {
-            save_all(self.rt, self.alloc, folder, buses, &settled, &mut telling);
+            save_all(self.rt, self.alloc, folder, buses, &settled, &mut reporter);
         }
-        Ok(telling.has_told())
+        Ok(reporter.has_reported())
     }
 
     // Serves the buses of long runs that are made of these, and ends their files. Returns whether a fault was reported.
@@ -193,19 +195,19 @@ impl<'r, 'a, H: ServerRuntime> ServerRun<'r, 'a, H> {
         input: R,
         output: &mut W,
         errors: &mut E,
-    ) -> Result<bool, Failure<'a>>
+    ) -> Result<bool, Report<'a>>
         requires named { NamedFrom N.roll N.meter 0 benches.items }
         requires each { length benches.items ≡ length self.now.options.now.buses.items }
         ensures served { IfOk result (λ told. told ≡ false
             → Serves W.contents self.now.options.now benches.items output.old output.new) }
-        ensures fault { IfErr result (λ failure. IsOfHub IsOfLongRuns benches.items failure.fault) }
+        ensures fault { IfErr result (λ failure. IsOfHub IsOfLongRuns benches.items failure.error) }
     {
         let (settled, files) = self.settle_live::<N, R, W, E>(benches, input, output, errors)?;
         let buses = &self.options.buses;
-        let mut telling = Telling::new(errors);
-        telling.pass_on(put_ends(self.alloc, buses, &settled, output));
-        finish_all(self.rt, self.alloc, files, buses, &settled, &mut telling);
-        Ok(telling.has_told())
+        let mut reporter = Reporter::new(errors);
+        reporter.report(put_ends(self.alloc, buses, &settled, output));
+        finish_all(self.rt, self.alloc, files, buses, &settled, &mut reporter);
+        Ok(reporter.has_reported())
     }
 
     // Serves the buses that are made of these, and settles them.
@@ -220,14 +222,14 @@ impl<'r, 'a, H: ServerRuntime> ServerRun<'r, 'a, H> {
         input: R,
         output: &mut W,
         errors: &mut E,
-    ) -> Result<Vec<Settled>, Failure<'a>>
+    ) -> Result<Vec<Settled>, Report<'a>>
         requires named { NamedFrom N.roll N.meter 0 benches.items }
         requires each { length benches.items ≡ length self.now.options.now.buses.items }
         ensures ends { IfOk result (λ settled.
             AreEnds benches.items (journals record_journal settled.items)) }
         ensures listening { OnOk result
             (IsListening W.contents self.now.options.now.address.now output.old output.new) }
-        ensures fault { IfErr result (λ failure. IsOfHub IsConfig benches.items failure.fault) }
+        ensures fault { IfErr result (λ failure. IsOfHub IsConfig benches.items failure.error) }
     {
         let hub = match Hub::<N, Perfect, Open>::new(self.alloc, benches) {
             Ok(hub) => hub,
@@ -252,7 +254,7 @@ impl<'r, 'a, H: ServerRuntime> ServerRun<'r, 'a, H> {
         input: R,
         output: &mut W,
         errors: &mut E,
-    ) -> Result<(Vec<Settled<LongEnd>>, Vec<KeptFiles<File>>), Failure<'a>>
+    ) -> Result<(Vec<Settled<LongEnd>>, Vec<KeptFiles<File>>), Report<'a>>
         requires named { NamedFrom N.roll N.meter 0 benches.items }
         requires each { length benches.items ≡ length self.now.options.now.buses.items }
         ensures ends { IfOk result (λ end.
@@ -260,7 +262,7 @@ impl<'r, 'a, H: ServerRuntime> ServerRun<'r, 'a, H> {
         ensures handed { IfOk result (λ end. AllGivenFirst end.1.items end.0.items) }
         ensures listening { OnOk result
             (IsListening W.contents self.now.options.now.address.now output.old output.new) }
-        ensures fault { IfErr result (λ failure. IsOfHub IsOfLongRuns benches.items failure.fault) }
+        ensures fault { IfErr result (λ failure. IsOfHub IsOfLongRuns benches.items failure.error) }
     {
         let made = Hub::<N, Perfect, Open, LongEnd>::new_long(self.alloc, benches, TAIL_SIZE);
         let (hub, scrolls) = match made {
@@ -278,21 +280,21 @@ impl<'r, 'a, H: ServerRuntime> ServerRun<'r, 'a, H> {
         }
     }
 
-    fn hub_failure(&self, found: BusFault) -> Failure<'a>
-        ensures { result.fault ≡ fault.Buses found }
+    fn hub_failure(&self, found: BusFault) -> Report<'a>
+        ensures { result.error ≡ fault.Buses found }
     {
         let notes = match found {
             BusFault::BadConfig => { buses_note(self.alloc, self.options) }
             BusFault::NoMemory => fixed_note(self.alloc, memory_note(self.options.recording)),
         };
-        Failure::with(self.alloc, Fault::Buses(found), notes)
+        Report::with(self.alloc, ProgramError::Buses(found), notes)
     }
 
-    fn wrong_station(&self, bus: usize) -> Failure<'a>
-        ensures { IsOfServing result.fault }
+    fn wrong_station(&self, bus: usize) -> Report<'a>
+        ensures { IsOfServing result.error }
     {
         let name = first_name_at(&self.options.buses, bus);
-        Failure::new(self.alloc, Fault::WrongStation(name))
+        Report::new(self.alloc, ProgramError::WrongStation(name))
     }
 
     // Listens, and serves the buses of a hub.
@@ -307,7 +309,7 @@ impl<'r, 'a, H: ServerRuntime> ServerRun<'r, 'a, H> {
         input: R,
         output: &mut W,
         errors: &mut E,
-    ) -> Result<Run<N>, Failure<'a>>
+    ) -> Result<Run<N>, Report<'a>>
         requires each { length (buses_in hub) ≡ length self.now.options.now.buses.items }
         requires scrolls { HasNewScrolls hub }
         ensures passes { IfOk result (λ run. length run.passes.items ≡ length (buses_in hub.entry)) }
@@ -315,7 +317,7 @@ impl<'r, 'a, H: ServerRuntime> ServerRun<'r, 'a, H> {
             HasGiven hub.entry run.files.items run.scrolls.items) }
         ensures listening { OnOk result
             (IsListening W.contents self.now.options.now.address.now output.old output.new) }
-        ensures fault { IfErr result (λ failure. IsOfServing failure.fault) }
+        ensures fault { IfErr result (λ failure. IsOfServing failure.error) }
     {
         let address = self.options.address;
         let sessions = self.options.sessions;
@@ -340,7 +342,7 @@ impl<'r, 'a, H: ServerRuntime> ServerRun<'r, 'a, H> {
         input: R,
         output: &mut W,
         errors: &mut E,
-    ) -> Result<Run<N>, Failure<'a>>
+    ) -> Result<Run<N>, Report<'a>>
         requires each { length (buses_in hub) ≡ length self.now.options.now.buses.items }
         requires scrolls { HasNewScrolls hub }
         requires heard { IsHeardAt self.now.options.now.address.now heard.now }
@@ -349,7 +351,7 @@ impl<'r, 'a, H: ServerRuntime> ServerRun<'r, 'a, H> {
             HasGiven hub.entry run.files.items run.scrolls.items) }
         ensures listening { OnOk result
             (IsListening W.contents self.now.options.now.address.now output.old output.new) }
-        ensures fault { IfErr result (λ failure. IsOfServing failure.fault) }
+        ensures fault { IfErr result (λ failure. IsOfServing failure.error) }
     {
         let until = if self.options.is_until_eof {
             Some(self.end_of(input)?)
@@ -366,10 +368,10 @@ impl<'r, 'a, H: ServerRuntime> ServerRun<'r, 'a, H> {
         &self,
         hub: &Served<'_, N>,
         errors: &mut E,
-    ) -> Result<Vec<LiveFiles<File>>, Failure<'a>>
+    ) -> Result<Vec<LiveFiles<File>>, Report<'a>>
         requires { length (buses_in hub.now) ≡ length self.now.options.now.buses.items }
         ensures files { IfOk result (λ files. HasFiles hub.now (length files.items)) }
-        ensures fault { IfErr result (λ failure. IsOfServing failure.fault) }
+        ensures fault { IfErr result (λ failure. IsOfServing failure.error) }
     {
         match hub {
             Served::Whole(_) => {
@@ -389,13 +391,13 @@ impl<'r, 'a, H: ServerRuntime> ServerRun<'r, 'a, H> {
         doors: &[Door],
         until: Option<UnixStream>,
         errors: &mut E,
-    ) -> Result<Run<N>, Failure<'a>>
+    ) -> Result<Run<N>, Report<'a>>
         requires files { HasFiles hub (length files.items) }
         requires scrolls { HasNewScrolls hub }
         ensures passes { IfOk result (λ run. length run.passes.items ≡ length (buses_in hub.entry)) }
         ensures given { IfOk result (λ run.
             HasGiven hub.entry run.files.items run.scrolls.items) }
-        ensures fault { IfErr result (λ failure. IsOfServing failure.fault) }
+        ensures fault { IfErr result (λ failure. IsOfServing failure.error) }
     {
         let host = Host {
             rt: self.rt,
@@ -410,7 +412,7 @@ impl<'r, 'a, H: ServerRuntime> ServerRun<'r, 'a, H> {
         };
         match served {
             Ok(run) => Ok(run),
-            Err(_) => Err(Failure::new(self.alloc, Fault::NoMemory)),
+            Err(_) => Err(Report::new(self.alloc, ProgramError::NoMemory)),
         }
     }
 
@@ -472,8 +474,8 @@ impl<'r, 'a, H: ServerRuntime> ServerRun<'r, 'a, H> {
 
     // A stream that ends where the input does. Its reader is a thread that nobody joins, since a read of the input
     // may wait for longer than the run.
-    fn end_of<R: Read + Drop + Send + 'static>(&self, input: R) -> Result<UnixStream, Failure<'a>>
-        ensures { IfErr result (λ failure. IsOfServing failure.fault) }
+    fn end_of<R: Read + Drop + Send + 'static>(&self, input: R) -> Result<UnixStream, Report<'a>>
+        ensures { IfErr result (λ failure. IsOfServing failure.error) }
     {
         let (ours, theirs) = match UnixStream::pair(self.rt) {
             Ok(pair) => pair,
@@ -481,7 +483,7 @@ impl<'r, 'a, H: ServerRuntime> ServerRun<'r, 'a, H> {
         };
         match thread::spawn(self.rt, move || end_with(input, &theirs)) {
             Ok(_) => Ok(ours),
-            Err(_) => Err(Failure::new(self.alloc, Fault::NoMemory)),
+            Err(_) => Err(Report::new(self.alloc, ProgramError::NoMemory)),
         }
     }
 }
@@ -542,13 +544,9 @@ fn memory_note(recording: Recording) -> &'static str {
 }
 
 // Puts out where the server listens, for others to read at once.
-fn put_listening<'a, W: Write>(
-    alloc: Global,
-    heard: &str,
-    output: &mut W,
-) -> Result<(), Failure<'a>>
+fn put_listening<'a, W: Write>(alloc: Global, heard: &str, output: &mut W) -> Result<(), Report<'a>>
     ensures put { OnOk result (Took W.contents output.old output.new (listening_line heard.now)) }
-    ensures fault { IfErr result (λ failure. failure.fault ≡ fault.Write) }
+    ensures fault { IfErr result (λ failure. failure.error ≡ fault.Write) }
 {
     if let Err(error) = writeln!(output, "listening {heard}") {
         return Err(write_failure(alloc, OUTPUT, &error));

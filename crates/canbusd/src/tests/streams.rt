@@ -2,8 +2,7 @@
 use super::support::{Sockets, run_over, runs, same};
 use can_test_support::{Closed, Pieces};
 use canbusd_audit::audit_lines;
-use canbusd_faults::Fault;
-use canbusd_files::{FewReads, read_text};
+use canbusd_io::{FewReads, ProgramError, read_text};
 use std::fs;
 use std::io::BufReader;
 use std::test::Fail;
@@ -69,7 +68,7 @@ fn reads_files_in_so_many_reads(rt: HostRuntime) -> Result<(), Fail> {
                 assert!(rt; told.is_empty());
             }
             Err(failure) => {
-                same(&rt, failure.fault, Fault::Read);
+                same(&rt, failure.error, ProgramError::Read);
                 same(&rt, failure.notes.as_str(), told);
             }
         }
@@ -93,7 +92,7 @@ fn reads_records_in_so_many_reads(rt: HostRuntime) -> Result<(), Fail> {
         match audit_lines(alloc, "f.rec", &mut input, &mut output) {
             Ok(()) => same(&rt, output.as_slice(), b"ok 0 entries\n"),
             Err(failure) => {
-                same(&rt, failure.fault, Fault::Read);
+                same(&rt, failure.error, ProgramError::Read);
                 same(&rt, failure.notes.as_str(), told);
             }
         }

@@ -1,6 +1,6 @@
 use Rattle.std.proofs.Common.{List, ℕ, subst}
 use Rattle.canbusd_audit.specs.Audited.{FaultsInput, FaultsLast, TakesLast}
-use Rattle.canbusd_faults.specs.declared.fault.Failure.{Failure}
+use Rattle.canbusd_io.specs.declared.report.Report.{Report}
 use Rattle.canbusd_audit.proofs.Telling.{all_told, all_written, last_told, noted, passed_on}
 use Rattle.canbusd_audit.proofs.audit_job.audit_lines.Goals as goal
 
@@ -13,9 +13,9 @@ pub returns-in_err-lines-2-clause-fault : goal.returns-in_err-lines-2-clause-fau
 returns-in_err-lines-2-clause-fault g c =
     let first = g.R.Read.remaining c.args.input.now in
     let failure = c.in_err-lines-2.field-0.0 in
-    passed_on (λ (x : Failure). FaultsInput first x.fault) failure c.from_residual-in_err-lines-2.result c.from_residual-in_err-lines-2.ensures.1
-    (last_told first c.take_lines.new.torn.items c.take_lines.new.audit failure.fault c.in_ok-lines.ensures.taken
-    (subst (λ (l : List ℕ). FaultsLast c.take_lines.new.audit l failure.fault) c.deref.ensures.value c.in_err-lines-2.ensures.fault))
+    passed_on (λ (x : Report). FaultsInput first x.error) failure c.from_residual-in_err-lines-2.result c.from_residual-in_err-lines-2.ensures.1
+    (last_told first c.take_lines.new.torn.items c.take_lines.new.audit failure.error c.in_ok-lines.ensures.taken
+    (subst (λ (l : List ℕ). FaultsLast c.take_lines.new.audit l failure.error) c.deref.ensures.value c.in_err-lines-2.ensures.fault))
 
 pub returns-clause-legal : goal.returns-clause-legal
 returns-clause-legal g c =

@@ -15,8 +15,8 @@ returns-in-Ok-clause-ends g c =
 pub returns-clause-fault : goal.returns-clause-fault
 returns-clause-fault g c =
     let e = c.in-Err.ensures in
-    subst (λ x. StopsBy g.W.Write.contents c.args.options.now c.args.names c.args.plan (g.R.Read.remaining x) c.args.output.now c.with.result.fault c.bench_noting.new.out) c.new-input.ensures
-    (stopped g.W.Write.contents c.bus_config.result c.args.options.now c.args.names _ _ c.args.output.now c.bench_noting.new.out c.in-Err.fault c.with.result.fault c.bus_config.ensures c.with.ensures (record { bad = e.bad; untouched = e.untouched; runs = e.runs }))
+    subst (λ x. StopsBy g.W.Write.contents c.args.options.now c.args.names c.args.plan (g.R.Read.remaining x) c.args.output.now c.with.result.error c.bench_noting.new.out) c.new-input.ensures
+    (stopped g.W.Write.contents c.bus_config.result c.args.options.now c.args.names _ _ c.args.output.now c.bench_noting.new.out c.in-Err.fault c.with.result.error c.bus_config.ensures c.with.ensures (record { bad = e.bad; untouched = e.untouched; runs = e.runs }))
 
 pub returns-in-Ok-clause-config : goal.returns-in-Ok-clause-config
 returns-in-Ok-clause-config g c = c.in-Ok.ensures.config ∙ c.bus_config.ensures

@@ -17,7 +17,7 @@ returns-in_err-record-clause-fault g c =
     let back = c.finish-output.ensures.writer in
     let names = ap (λ r. r.ghost_name) made.writer in
     let same = ap (λ r. r.ghost_name) back in
-    let why = c.in_err-record.field-0.0.fault in
+    let why = c.in_err-record.field-0.0.error in
     let fails = subst (λ n. FailsBy outer c.args.options.now n (g.R.Read.remaining c.args.input) before why after) c.in_ok-names.ensures.names c.in_err-record.ensures.fault in
     passed_on _ c.in_err-record.field-0.0 _ c.from_residual-in_err-record.ensures.1
     (failed outer contents c.args.options.now (g.R.Read.remaining c.args.input) before after c.args.output.now after.writer.now c.flush.new.self _ why c.in_ok-names.ensures.good (record {

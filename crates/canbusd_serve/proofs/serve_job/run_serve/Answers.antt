@@ -3,7 +3,7 @@ use Rattle.can_hub.proofs.Naming.{named}
 use Rattle.canbusd_serve.specs.Served.{IsServed}
 use Rattle.canbusd_serve.proofs.Serving.{benches-length, serves-all}
 use Rattle.canbusd_serve.proofs.serve_job.run_serve.Goals as goal
-use Rattle.canbusd_serve.proofs.serve_job.run_serve.Goals.{in-AtEnd+in_ok-has_told-in-AtEnd, in-Live+in_ok-has_told-in-Live, then-not-has_told, else-not-has_told}
+use Rattle.canbusd_serve.proofs.serve_job.run_serve.Goals.{in-AtEnd+in_ok-has_reported-in-AtEnd, in-Live+in_ok-has_reported-in-Live, then-not-has_reported, else-not-has_reported}
 
 pub run_whole-requires-clause-named : goal.run_whole-requires-clause-named
 run_whole-requires-clause-named g c κs within = named c.in_ok-benches.benches.items
@@ -28,10 +28,10 @@ returns-clause-served g c = λ whole.
     let o = c.args.options.now in
     let benches = c.in_ok-benches.benches.items in
     let made = c.in_ok-benches.ensures.made in
-    let quiet : c.match-options.has_told ≡ false = elim c.if-not-has_told.branch [ then-not-has_told w ↦ search (rules, untold) | else-not-has_told w ↦ cc ] in
+    let quiet : c.match-options.has_reported ≡ false = elim c.if-not-has_reported.branch [ then-not-has_reported w ↦ search (rules, untold) | else-not-has_reported w ↦ cc ] in
     elim c.match-options.branch [
-      | in-AtEnd+in_ok-has_told-in-AtEnd w ↦ subst (λ out. IsServed contents o c.args.output.now out) (sym w.output-is)
-          (serves-all contents o benches c.args.output.now w.run_whole.new.output made (w.in_ok-has_told-in-AtEnd.ensures.served (sym w.has_told-is ∙ quiet)))
-      | in-Live+in_ok-has_told-in-Live w ↦ subst (λ out. IsServed contents o c.args.output.now out) (sym w.output-is)
-          (serves-all contents o benches c.args.output.now w.run_live.new.output made (w.in_ok-has_told-in-Live.ensures.served (sym w.has_told-is ∙ quiet)))
+      | in-AtEnd+in_ok-has_reported-in-AtEnd w ↦ subst (λ out. IsServed contents o c.args.output.now out) (sym w.output-is)
+          (serves-all contents o benches c.args.output.now w.run_whole.new.output made (w.in_ok-has_reported-in-AtEnd.ensures.served (sym w.has_reported-is ∙ quiet)))
+      | in-Live+in_ok-has_reported-in-Live w ↦ subst (λ out. IsServed contents o c.args.output.now out) (sym w.output-is)
+          (serves-all contents o benches c.args.output.now w.run_live.new.output made (w.in_ok-has_reported-in-Live.ensures.served (sym w.has_reported-is ∙ quiet)))
     ]

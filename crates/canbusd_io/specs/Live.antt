@@ -3,7 +3,7 @@ use Rattle.std.specs.Io.Buffered.{writer_buffer, writer_contents, writer_inner}
 use Rattle.std.specs.Io.KnownBytes.{Appends, Keeps}
 use Rattle.std.specs.declared.io.buffered.BufWriter.{BufWriter}
 use Rattle.std.specs.declared.alloc.Global.{Global}
-use Rattle.canbusd_files.specs.declared.whole_lines.WholeLines.{WholeLines}
+use Rattle.canbusd_io.specs.declared.whole_lines.WholeLines.{WholeLines}
 
 -- Files that are written while a server runs. Contracts see where their lines go, which is nowhere once a file is over.
 

@@ -1,14 +1,17 @@
 //! Scripts of faults: a file, and what is reported of a wrong line of it.
 ghost use Rattle.std.specs.Prelude.{List, ℕ, IfErr, IfOk, Ok};
 ghost use Rattle.can_rules.specs.Plans.{ReadsPlan};
-ghost use Rattle.canbusd_files.specs.Files.{IsOfScript, IsOfScriptFile};
+ghost use Rattle.canbusd_io.specs.Files.{IsOfScript, IsOfScriptFile};
 
 use crate::files::read_file;
+use crate::notes::{WITH_CR, fixed_note, line_of};
+use crate::program_error::ProgramError;
+use crate::report::Report;
 use crate::rule_notes::{rule_note, unknown_name_note};
+use crate::shown::SourceLine;
 use can_fault::ScriptError;
 use can_frame::Names;
 use can_rules::{Plan, PlanError, begins_as_rule};
-use canbusd_faults::{Failure, Fault, Line, WITH_CR, fixed_note, line_of};
 use std::alloc::{AllocError, Global};
 use std::rt::Files;
 
@@ -19,9 +22,9 @@ pub fn read_script<'a, H: Files>(
     path: &'a str,
     bus: &str,
     names: &Names,
-) -> Result<Plan, Failure<'a>>
+) -> Result<Plan, Report<'a>>
     ensures plan { IfOk result (λ plan. (text : List ℕ) × ReadsPlan names.now text (Ok plan)) }
-    ensures fault { IfErr result (λ failure. IsOfScriptFile path.now names.now failure.fault) }
+    ensures fault { IfErr result (λ failure. IsOfScriptFile path.now names.now failure.error) }
 {
     let text = read_file(rt, alloc, path).map_err(|failure| failure.and(path_note(path)))?;
     script_in(alloc, path, &text, bus, names)
@@ -45,16 +48,19 @@ fn script_in<'a>(
     text: &str,
     bus: &str,
     names: &Names,
-) -> Result<Plan, Failure<'a>>
+) -> Result<Plan, Report<'a>>
     ensures plan { IfOk result (λ plan. ReadsPlan names.now text.now (Ok plan)) }
-    ensures fault { IfErr result (λ failure. IsOfScript names.now text.now failure.fault) }
+    ensures fault { IfErr result (λ failure. IsOfScript names.now text.now failure.error) }
 {
     match Plan::read(alloc, text, names) {
         Ok(plan) => Ok(plan),
-        Err(PlanError::Script(ScriptError::NoMemory)) => Err(Failure::new(alloc, Fault::NoMemory)),
+        Err(PlanError::Script(ScriptError::NoMemory)) => Err(Report::new(
+            alloc,
+            ProgramError::NoMemory,
+        )),
         Err(fault) => {
             let notes = script_note(alloc, path, text, bus, fault);
-            Err(Failure::with(alloc, Fault::Script(fault), notes))
+            Err(Report::with(alloc, ProgramError::Script(fault), notes))
         }
     }
 }
@@ -82,7 +88,7 @@ fn script_note(
     } else {
         numbered_note(alloc, text, names, fault)?
     };
-    let line = Line::new(path, number as u64, line.as_bytes());
+    let line = SourceLine::new(path, number as u64, line.as_bytes());
     format!(in alloc; "  {line}\n{note}")
 }
 

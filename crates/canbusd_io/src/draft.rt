@@ -1,6 +1,9 @@
 //! Files that are written under another name, and get their own once they are whole. So what an earlier run left stays
 //! as it was until then.
-use canbusd_faults::{Failure, Fault, Shown, reason_note};
+use crate::notes::reason_note;
+use crate::program_error::ProgramError;
+use crate::report::Report;
+use crate::shown::Shown;
 use std::alloc::{AllocError, Global};
 use std::fs::File;
 use std::io::Error;
@@ -105,8 +108,8 @@ impl Draft {
         &'a self,
         rt: &H,
         alloc: Global,
-        saved: Result<(), Failure<'a>>,
-    ) -> Result<(), Failure<'a>> {
+        saved: Result<(), Report<'a>>,
+    ) -> Result<(), Report<'a>> {
         match saved {
             Ok(()) => self.rename(rt, alloc),
             Err(failure) => {
@@ -122,8 +125,8 @@ impl Draft {
         &'a self,
         rt: &H,
         alloc: Global,
-        saved: Result<(), Failure<'a>>,
-    ) -> Result<(), Failure<'a>> {
+        saved: Result<(), Report<'a>>,
+    ) -> Result<(), Report<'a>> {
         let Err(failure) = saved else {
             return self.rename(rt, alloc);
         };
@@ -146,7 +149,7 @@ impl Draft {
         self.draft != self.path
     }
 
-    fn rename<H: Files>(&self, rt: &H, alloc: Global) -> Result<(), Failure<'_>> {
+    fn rename<H: Files>(&self, rt: &H, alloc: Global) -> Result<(), Report<'_>> {
         self.take_name(rt)
             .map_err(|error| self.failure(alloc, &error))
     }
@@ -159,10 +162,10 @@ impl Draft {
         fs::rename(rt, &self.draft, &self.path)
     }
 
-    fn failure(&self, alloc: Global, error: &Error) -> Failure<'_> {
-        Failure::with(
+    fn failure(&self, alloc: Global, error: &Error) -> Report<'_> {
+        Report::with(
             alloc,
-            Fault::CannotOpen(&self.path),
+            ProgramError::CannotOpen(&self.path),
             reason_note(alloc, &self.path, error),
         )
     }

@@ -1,6 +1,6 @@
 //! Files that get lines while a server runs.
 ghost use Rattle.std.specs.Prelude.{◌≡◌, None, IfOk, IsOk, OnErr, OnOk};
-ghost use Rattle.canbusd_files.specs.Live.{Begins, Stays, whole_contents};
+ghost use Rattle.canbusd_io.specs.Live.{Begins, Stays, whole_contents};
 
 use crate::whole_lines::WholeLines;
 use std::alloc::Global;

@@ -1,17 +1,19 @@
 //! The files that a run leaves: the record of a bus, and its log. Where it leaves none, a note says so.
 ghost use Rattle.std.specs.Prelude.{◌≡◌, ◌-◌, ◌==◌, count_by, IfErr, OnOk};
 ghost use Rattle.can_record_text.specs.Texts.{text_of};
-ghost use Rattle.canbusd_faults.specs.declared.fault.Fault.TheVariants as fault;
-ghost use Rattle.canbusd_files.specs.Files.{IsOfLogFile, IsOfRecordFile, IsOfWriting, Took, log_text};
+ghost use Rattle.canbusd_io.specs.declared.program_error.ProgramError.TheVariants as fault;
+ghost use Rattle.canbusd_io.specs.Files.{IsOfLogFile, IsOfRecordFile, IsOfWriting, Took, log_text};
 
 use crate::draft::Draft;
 use crate::files::{open_failure, write_failure};
 use crate::names::read_names;
+use crate::program_error::ProgramError;
+use crate::report::Report;
+use crate::shown::Shown;
 use can_bus::Record;
 use can_frame::{Names, count_of};
 use can_logfile::write_tape;
 use can_record_text::write_record;
-use canbusd_faults::{Failure, Fault, Shown};
 use canbusd_options::BusWord;
 use std::alloc::{AllocError, Global};
 use std::fs;
@@ -28,10 +30,10 @@ pub fn save_record<'a, H: Files>(
     alloc: Global,
     path: &'a str,
     record: &Record,
-) -> Result<(), Failure<'a>>
-    ensures { IfErr result (λ failure. IsOfRecordFile path.now failure.fault) }
+) -> Result<(), Report<'a>>
+    ensures { IfErr result (λ failure. IsOfRecordFile path.now failure.error) }
 {
-    let no_memory = |_| Failure::new(alloc, Fault::NoMemory);
+    let no_memory = |_| Report::new(alloc, ProgramError::NoMemory);
     let draft = String::from_str(alloc, path)
         .and_then(|path| Draft::at(rt, alloc, path))
         .map_err(no_memory)?;
@@ -54,11 +56,14 @@ pub fn save_record_at<'a, H: Files>(
     path: &'a str,
     at: &str,
     record: &Record,
-) -> Result<(), Failure<'a>>
-    ensures { IfErr result (λ failure. IsOfRecordFile path.now failure.fault) }
+) -> Result<(), Report<'a>>
+    ensures { IfErr result (λ failure. IsOfRecordFile path.now failure.error) }
 {
     let file = create(rt, alloc, path, at)?;
-    let mut file = BufWriter::new(alloc, file).map_err(|_| Failure::new(alloc, Fault::NoMemory))?;
+    let mut file = BufWriter::new(alloc, file).map_err(|_| Report::new(
+        alloc,
+        ProgramError::NoMemory,
+    ))?;
     put_record(alloc, path, record, &mut file)
 }
 
@@ -70,8 +75,8 @@ pub fn save_log<'a, H: Files>(
     path: &'a str,
     bus: BusWord<'a>,
     record: &Record,
-) -> Result<(), Failure<'a>>
-    ensures { IfErr result (λ failure. IsOfLogFile bus.entry path.now failure.fault) }
+) -> Result<(), Report<'a>>
+    ensures { IfErr result (λ failure. IsOfLogFile bus.entry path.now failure.error) }
 {
     save_log_at(rt, alloc, path, path, bus, record)
 }
@@ -84,13 +89,13 @@ pub fn save_log_at<'a, H: Files>(
     at: &str,
     bus: BusWord<'a>,
     record: &Record,
-) -> Result<(), Failure<'a>>
-    ensures { IfErr result (λ failure. IsOfLogFile bus.entry path.now failure.fault) }
+) -> Result<(), Report<'a>>
+    ensures { IfErr result (λ failure. IsOfLogFile bus.entry path.now failure.error) }
 {
     let names = read_names(alloc, bus.names)?;
     let file = create(rt, alloc, path, at)?;
     let Ok(mut file) = BufWriter::with_capacity(alloc, LOG_BLOCK, file) else {
-        return Err(Failure::new(alloc, Fault::NoMemory));
+        return Err(Report::new(alloc, ProgramError::NoMemory));
     };
     let put = put_log(&names, record, &mut file);
     let (_, unwritten) = file.into_parts();
@@ -105,11 +110,11 @@ pub fn save_log_at<'a, H: Files>(
 pub fn without<'a, H: Files>(
     rt: &H,
     alloc: Global,
-    failure: Failure<'a>,
+    failure: Report<'a>,
     kind: &str,
     path: Option<&str>,
-) -> Failure<'a>
-    ensures { result.fault ≡ failure.entry.fault }
+) -> Report<'a>
+    ensures { result.error ≡ failure.entry.error }
 {
     let Some(path) = path else {
         return failure;
@@ -139,8 +144,8 @@ fn create<'a, H: Files>(
     alloc: Global,
     path: &'a str,
     at: &str,
-) -> Result<H::File, Failure<'a>>
-    ensures { IfErr result (λ failure. failure.fault ≡ fault.CannotOpen path.entry) }
+) -> Result<H::File, Report<'a>>
+    ensures { IfErr result (λ failure. failure.error ≡ fault.CannotOpen path.entry) }
 {
     fs::create(rt, at).map_err(|error| open_failure(alloc, path, &error))
 }
@@ -151,9 +156,9 @@ fn put_record<'a, W: Write>(
     path: &str,
     record: &Record,
     file: &mut W,
-) -> Result<(), Failure<'a>>
+) -> Result<(), Report<'a>>
     ensures written { OnOk result (Took W.contents file.old file.new (text_of «record».now)) }
-    ensures fault { IfErr result (λ failure. IsOfWriting failure.fault) }
+    ensures fault { IfErr result (λ failure. IsOfWriting failure.error) }
 {
     write_record(alloc, record, file).map_err(|error| record_failure(alloc, path, &error))?;
     file.flush()
@@ -172,19 +177,19 @@ fn put_log<W: Write>(names: &Names, record: &Record, file: &mut W) -> Result<(),
 }
 
 // How a fault of writing a log is reported: a buffer took this many whole lines, and has these bytes left.
-fn log_failure<'a>(alloc: Global, name: &'a str, lines: u64, unwritten: &[u8]) -> Failure<'a>
-    ensures { result.fault ≡ fault.Log name.entry (lines - count_by (λ b. b == 10) unwritten.now) }
+fn log_failure<'a>(alloc: Global, name: &'a str, lines: u64, unwritten: &[u8]) -> Report<'a>
+    ensures { result.error ≡ fault.Log name.entry (lines - count_by (λ b. b == 10) unwritten.now) }
 {
     let whole_lines = lines.saturating_sub(count_of(unwritten, b'\n') as u64);
-    Failure::new(alloc, Fault::Log { name, whole_lines })
+    Report::new(alloc, ProgramError::Log { name, whole_lines })
 }
 
 // How a fault of writing a record is reported.
-fn record_failure<'a>(alloc: Global, path: &str, error: &Error) -> Failure<'a>
-    ensures { IsOfWriting result.fault }
+fn record_failure<'a>(alloc: Global, path: &str, error: &Error) -> Report<'a>
+    ensures { IsOfWriting result.error }
 {
     if error.kind() == ErrorKind::OutOfMemory {
-        Failure::new(alloc, Fault::NoMemory)
+        Report::new(alloc, ProgramError::NoMemory)
     } else {
         write_failure(alloc, path, error)
     }

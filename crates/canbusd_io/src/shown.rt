@@ -56,20 +56,20 @@ fn printable(byte: u8) -> char
 
 /// A line and where it is, as `FILE:NUMBER: TEXT`.
 #[derive(Clone, Copy)]
-pub struct Line<'a> {
+pub struct SourceLine<'a> {
     file: &'a str,
     number: u64,
     text: &'a [u8],
 }
 
-impl<'a> Line<'a> {
+impl<'a> SourceLine<'a> {
     /// The line of this number, from 1.
-    pub fn new(file: &'a str, number: u64, text: &'a [u8]) -> Line<'a> {
-        Line { file, number, text }
+    pub fn new(file: &'a str, number: u64, text: &'a [u8]) -> SourceLine<'a> {
+        SourceLine { file, number, text }
     }
 }
 
-impl fmt::Display for Line<'_> {
+impl fmt::Display for SourceLine<'_> {
     fn fmt<W: fmt::Write>(&self, f: &mut fmt::Formatter<W>) -> fmt::Result {
         let file = Shown::whole(self.file);
         let number = self.number;

@@ -1,21 +1,28 @@
 //! The names of a bus's interfaces, joined by commas as they are given.
 ghost use Rattle.std.specs.Prelude.{◌≡◌, IfErr, IfOk, OnOk};
 ghost use Rattle.can_frame.specs.Names.{AreNames, names_in};
-ghost use Rattle.canbusd_files.specs.Files.{IsOfNames};
+ghost use Rattle.canbusd_io.specs.Files.{IsOfNames};
 
+use crate::notes::fixed_note;
+use crate::program_error::ProgramError;
+use crate::report::Report;
+use crate::shown::Shown;
 use can_frame::{Names, NamesError, is_name};
-use canbusd_faults::{Failure, Fault, Shown, fixed_note};
 use std::alloc::{AllocError, Global};
 
 /// The names of a bus.
-pub fn read_names<'a>(alloc: Global, names: &str) -> Result<Names, Failure<'a>>
+pub fn read_names<'a>(alloc: Global, names: &str) -> Result<Names, Report<'a>>
     ensures names { IfOk result (λ n. n ≡ names_in names.now) }
     ensures good { OnOk result (AreNames (names_in names.now)) }
-    ensures fault { IfErr result (λ failure. IsOfNames names.now failure.fault) }
+    ensures fault { IfErr result (λ failure. IsOfNames names.now failure.error) }
 {
     Names::read(alloc, names).map_err(|error| match error {
-        NamesError::BadNames => Failure::with(alloc, Fault::BadNames, names_note(alloc, names)),
-        NamesError::NoMemory => Failure::new(alloc, Fault::NoMemory),
+        NamesError::BadNames => Report::with(
+            alloc,
+            ProgramError::BadNames,
+            names_note(alloc, names),
+        ),
+        NamesError::NoMemory => Report::new(alloc, ProgramError::NoMemory),
     })
 }
 

@@ -1,15 +1,15 @@
 //! A bus as the words of a command line describe it: its faults and its configuration.
 ghost use Rattle.std.specs.Prelude.{◌≡◌, ◌≤◌, length, IfErr, IfOk};
-ghost use Rattle.canbusd_files.specs.Buses.{IsPlan, config_of};
-ghost use Rattle.canbusd_files.specs.Files.{IsOfPlan};
-ghost use Rattle.canbusd_files.specs.Buses.{first_ifaces as first_ifaces_of};
+ghost use Rattle.canbusd_io.specs.Buses.{IsPlan, config_of};
+ghost use Rattle.canbusd_io.specs.Files.{IsOfPlan};
+ghost use Rattle.canbusd_io.specs.Buses.{first_ifaces as first_ifaces_of};
 
+use crate::report::Report;
 use crate::scripts::read_script;
 use can_bus::BusConfig;
 use can_event::{MAX_AUTO_RESTART, MAX_RX_CAPACITY, MAX_TX_CAPACITY};
 use can_frame::{IfaceSet, Names};
 use can_rules::Plan;
-use canbusd_faults::Failure;
 use canbusd_options::{BusSettings, BusWord};
 use std::alloc::{AllocError, Global};
 use std::rt::Files;
@@ -20,9 +20,9 @@ pub fn read_plan<'a, H: Files>(
     alloc: Global,
     bus: BusWord<'a>,
     names: &Names,
-) -> Result<Plan, Failure<'a>>
+) -> Result<Plan, Report<'a>>
     ensures plan { IfOk result (λ p. IsPlan bus.entry.script names.now p) }
-    ensures fault { IfErr result (λ failure. IsOfPlan bus.entry.script names.now failure.fault) }
+    ensures fault { IfErr result (λ failure. IsOfPlan bus.entry.script names.now failure.error) }
 {
     match bus.script {
         Some(path) => read_script(rt, alloc, path, bus.names, names),

@@ -1,11 +1,14 @@
 //! The files that the program reads, whose bytes no contract knows.
 ghost use Rattle.std.specs.Prelude.{◌≡◌, IfErr};
-ghost use Rattle.canbusd_faults.specs.declared.fault.Fault.TheVariants as fault;
-ghost use Rattle.canbusd_files.specs.Files.{IsOfFile, IsOfReading};
+ghost use Rattle.canbusd_io.specs.declared.program_error.ProgramError.TheVariants as fault;
+ghost use Rattle.canbusd_io.specs.Files.{IsOfFile, IsOfReading};
 
 use crate::few_reads::{FewReads, MOST_READS};
+use crate::notes::reason_note;
+use crate::program_error::ProgramError;
+use crate::report::Report;
+use crate::shown::SourceLine;
 use can_frame::count_of;
-use canbusd_faults::{Failure, Fault, Line, reason_note};
 use std::alloc::{AllocError, Global};
 use std::fs;
 use std::io::{Error, ErrorKind, Read};
@@ -22,8 +25,8 @@ pub fn open_file<'a, H: Files>(
     rt: &H,
     alloc: Global,
     path: &'a str,
-) -> Result<FewReads<H::File>, Failure<'a>>
-    ensures { IfErr result (λ failure. failure.fault ≡ fault.CannotOpen path.entry) }
+) -> Result<FewReads<H::File>, Report<'a>>
+    ensures { IfErr result (λ failure. failure.error ≡ fault.CannotOpen path.entry) }
 {
     match fs::open(rt, path) {
         Ok(file) => Ok(FewReads::new(alloc, file, MOST_READS)),
@@ -32,8 +35,8 @@ pub fn open_file<'a, H: Files>(
 }
 
 /// The text of the file with this path.
-pub fn read_file<'a, H: Files>(rt: &H, alloc: Global, path: &'a str) -> Result<String, Failure<'a>>
-    ensures { IfErr result (λ failure. IsOfFile path.now failure.fault) }
+pub fn read_file<'a, H: Files>(rt: &H, alloc: Global, path: &'a str) -> Result<String, Report<'a>>
+    ensures { IfErr result (λ failure. IsOfFile path.now failure.error) }
 {
     let mut file = open_file(rt, alloc, path)?;
     read_text(alloc, path, &mut file)
@@ -44,8 +47,8 @@ pub fn read_text<'a, R: Read>(
     alloc: Global,
     path: &'a str,
     file: &mut R,
-) -> Result<String, Failure<'a>>
-    ensures { IfErr result (λ failure. IsOfReading failure.fault) }
+) -> Result<String, Report<'a>>
+    ensures { IfErr result (λ failure. IsOfReading failure.error) }
 {
     let mut bytes = Vec::new(alloc);
     match file.read_to_end(&mut bytes) {
@@ -54,8 +57,8 @@ pub fn read_text<'a, R: Read>(
     }
 }
 
-fn text_of<'a>(alloc: Global, path: &str, bytes: Vec<u8>) -> Result<String, Failure<'a>>
-    ensures { IfErr result (λ failure. failure.fault ≡ fault.Read) }
+fn text_of<'a>(alloc: Global, path: &str, bytes: Vec<u8>) -> Result<String, Report<'a>>
+    ensures { IfErr result (λ failure. failure.error ≡ fault.Read) }
 {
     String::from_utf8(bytes).map_err(|error| {
         let valid = error.utf8_error().valid_up_to();
@@ -66,7 +69,7 @@ fn text_of<'a>(alloc: Global, path: &str, bytes: Vec<u8>) -> Result<String, Fail
         let line = error.as_bytes().split(|byte| *byte == b'\n').nth(ends);
         let number = (ends as u64).saturating_add(1);
         let note = utf8_note(alloc, path, number, line.unwrap_or(b""));
-        Failure::with(alloc, Fault::Read, note)
+        Report::with(alloc, ProgramError::Read, note)
     })
 }
 
@@ -77,35 +80,35 @@ pub fn utf8_note(
     number: u64,
     line: &[u8],
 ) -> Result<String, AllocError> {
-    let line = Line::new(path, number, line.strip_suffix(b"\n").unwrap_or(line));
+    let line = SourceLine::new(path, number, line.strip_suffix(b"\n").unwrap_or(line));
     format!(in alloc; "  {line}\n  this line is no UTF-8 text\n")
 }
 
 /// How a file or a stream that was not opened is reported.
-pub(crate) fn open_failure<'a>(alloc: Global, path: &'a str, error: &Error) -> Failure<'a>
-    ensures { result.fault ≡ fault.CannotOpen path.entry }
+pub(crate) fn open_failure<'a>(alloc: Global, path: &'a str, error: &Error) -> Report<'a>
+    ensures { result.error ≡ fault.CannotOpen path.entry }
 {
-    Failure::with(
+    Report::with(
         alloc,
-        Fault::CannotOpen(path),
+        ProgramError::CannotOpen(path),
         reason_note(alloc, path, error),
     )
 }
 
 /// How a fault of reading a file or a stream is reported.
-pub fn read_failure<'a>(alloc: Global, place: &str, error: &Error) -> Failure<'a>
-    ensures { IsOfReading result.fault }
+pub fn read_failure<'a>(alloc: Global, place: &str, error: &Error) -> Report<'a>
+    ensures { IsOfReading result.error }
 {
     if error.kind() == ErrorKind::OutOfMemory {
-        Failure::new(alloc, Fault::NoMemory)
+        Report::new(alloc, ProgramError::NoMemory)
     } else {
-        Failure::with(alloc, Fault::Read, reason_note(alloc, place, error))
+        Report::with(alloc, ProgramError::Read, reason_note(alloc, place, error))
     }
 }
 
 /// How a fault of writing to a file or a stream is reported.
-pub fn write_failure<'a>(alloc: Global, place: &str, error: &Error) -> Failure<'a>
-    ensures { result.fault ≡ fault.Write }
+pub fn write_failure<'a>(alloc: Global, place: &str, error: &Error) -> Report<'a>
+    ensures { result.error ≡ fault.Write }
 {
-    Failure::with(alloc, Fault::Write, reason_note(alloc, place, error))
+    Report::with(alloc, ProgramError::Write, reason_note(alloc, place, error))
 }

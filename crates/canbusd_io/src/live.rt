@@ -4,16 +4,19 @@ ghost use Rattle.can_logfile.specs.Log.{joined, log_lines};
 ghost use Rattle.can_record_text.specs.Spelling.{end_words, entry_lines, front_lines, spell};
 ghost use Rattle.can_record_text.specs.declared.version.Version.TheVariants as version;
 ghost use Rattle.can_record_text.specs.inner.Stored.{HasFittingReply};
-ghost use Rattle.canbusd_files.specs.Live.{Stays, Takes, whole_contents};
+ghost use Rattle.canbusd_io.specs.Live.{Stays, Takes, whole_contents};
 
 use crate::draft::Draft;
 use crate::live_file::{FileOver, LiveFile, look_at_lock, make};
+use crate::notes::reason_note;
+use crate::program_error::ProgramError;
+use crate::report::Report;
+use crate::shown::Shown;
 use can_bus::BusConfig;
 use can_frame::Names;
 use can_logfile::write_entries;
 use can_record::PackedRecord;
 use can_record_text::{write_block, write_end, write_front};
-use canbusd_faults::{Failure, Fault, Shown, reason_note};
 use std::alloc::{AllocError, Global};
 use std::fs::{File, OpenFile};
 use std::io;
@@ -68,7 +71,7 @@ impl<F: Write + OpenFile + Drop> LiveRecord<F> {
     }
 
     /// Writes the lines of the entries that come next. A fault ends the file, and is reported once.
-    pub fn keep(&mut self, alloc: Global, entries: &PackedRecord) -> Result<(), Failure<'static>>
+    pub fn keep(&mut self, alloc: Global, entries: &PackedRecord) -> Result<(), Report<'static>>
         requires { All HasFittingReply entries.now.entries }
         ensures { Takes (whole_contents F.contents) self.old.file.out self.new.file.out
             (entry_lines entries.now.entries []) result }
@@ -88,7 +91,7 @@ impl<F: Write + OpenFile + Drop> LiveRecord<F> {
         alloc: Global,
         entries: &PackedRecord,
         count: u64,
-    ) -> Result<(), Failure<'static>>
+    ) -> Result<(), Report<'static>>
         requires { All HasFittingReply entries.now.entries }
     {
         self.end(alloc, entries, count)?;
@@ -104,7 +107,7 @@ impl<F: Write + OpenFile + Drop> LiveRecord<F> {
         alloc: Global,
         entries: &PackedRecord,
         count: u64,
-    ) -> Result<(), Failure<'static>>
+    ) -> Result<(), Report<'static>>
         requires { All HasFittingReply entries.now.entries }
         ensures { Takes (whole_contents F.contents) self.old.file.out self.new.file.out
             (entry_lines entries.now.entries [] ++ spell (end_words count) []) result }
@@ -118,19 +121,19 @@ impl<F: Write + OpenFile + Drop> LiveRecord<F> {
     }
 
     // Gives the file its name, which no file has that is over.
-    fn take_name<H: Files>(&self, rt: &H, alloc: Global) -> Result<(), Failure<'static>>
+    fn take_name<H: Files>(&self, rt: &H, alloc: Global) -> Result<(), Report<'static>>
         requires { IsSome self.now.file.out }
     {
         self.draft.take_name(rt).map_err(|error| {
-            Failure::with(
+            Report::with(
                 alloc,
-                Fault::Write,
+                ProgramError::Write,
                 reason_note(alloc, self.draft.path(), &error),
             )
         })
     }
 
-    fn settle(&mut self, alloc: Global, put: io::Result<()>) -> Result<(), Failure<'static>>
+    fn settle(&mut self, alloc: Global, put: io::Result<()>) -> Result<(), Report<'static>>
         ensures put { OnOk result (IsOk put) }
         ensures stays { OnOk result
             (Stays (whole_contents F.contents) self.old.file.out self.new.file.out) }
@@ -143,8 +146,12 @@ impl<F: Write + OpenFile + Drop> LiveRecord<F> {
     }
 }
 
-fn record_failure(alloc: Global, path: &str, over: &FileOver) -> Failure<'static> {
-    let failure = Failure::with(alloc, Fault::Write, reason_note(alloc, path, &over.why));
+fn record_failure(alloc: Global, path: &str, over: &FileOver) -> Report<'static> {
+    let failure = Report::with(
+        alloc,
+        ProgramError::Write,
+        reason_note(alloc, path, &over.why),
+    );
     match entries_note(alloc, over.whole_lines.saturating_sub(2)) {
         Ok(note) => failure.and(&note),
         Err(_) => failure,
@@ -193,7 +200,7 @@ impl<F: Write + OpenFile + Drop> LiveLog<F> {
         alloc: Global,
         name: &'a str,
         entries: &PackedRecord,
-    ) -> Result<(), Failure<'a>>
+    ) -> Result<(), Report<'a>>
         ensures lines { Takes (whole_contents F.contents) self.old.file.out self.new.file.out
             (joined (log_lines self.old.names (reverse entries.now.entries))) result }
         ensures names { self.new.names ≡ self.old.names }
@@ -212,10 +219,10 @@ impl<F: Write + OpenFile + Drop> LiveLog<F> {
     }
 }
 
-fn log_failure<'a>(alloc: Global, name: &'a str, path: &str, over: &FileOver) -> Failure<'a> {
+fn log_failure<'a>(alloc: Global, name: &'a str, path: &str, over: &FileOver) -> Report<'a> {
     let whole_lines = over.whole_lines;
     let notes = reason_note(alloc, path, &over.why);
-    Failure::with(alloc, Fault::Log { name, whole_lines }, notes)
+    Report::with(alloc, ProgramError::Log { name, whole_lines }, notes)
 }
 
 /// What a run that was cut off left as the draft of a record gets another name: a note of that, if there was something. A

@@ -10,8 +10,8 @@ use Rattle.can_rules.specs.Plans.{ReadsPlan}
 use Rattle.can_frame.specs.Names.{AreNames, names_in}
 use Rattle.canbusd_options.specs.declared.bus_word.BusWord.{BusWord}
 use Rattle.canbusd_options.specs.BusWords.{first_name_of}
-use Rattle.canbusd_faults.specs.declared.fault.Fault.{Fault}
-use Rattle.canbusd_faults.specs.declared.fault.Fault.TheVariants as fault
+use Rattle.canbusd_io.specs.declared.program_error.ProgramError.{ProgramError}
+use Rattle.canbusd_io.specs.declared.program_error.ProgramError.TheVariants as fault
 
 -- What is written to files, and what is reported of names, files and scripts that cannot be read or written (own choice).
 
@@ -24,53 +24,53 @@ abbrev pub log_text : List (List ℕ) → Kept → List ℕ
 log_text names r = joined (log_lines names r.history)
 
 -- a fault of reading or of memory
-abbrev pub IsOfReading : Fault → Type 0
+abbrev pub IsOfReading : ProgramError → Type 0
 IsOfReading fault.Read = Unit {0}
 IsOfReading fault.NoMemory = Unit {0}
 IsOfReading why = ⊥
 
 -- a fault of the file with this path: it cannot be opened or read, or memory was refused
-abbrev pub IsOfFile : List ℕ → Fault → Type 0
+abbrev pub IsOfFile : List ℕ → ProgramError → Type 0
 IsOfFile path (fault.CannotOpen named) = named.now ≡ path
 IsOfFile path why = IsOfReading why
 
 -- a fault of writing or of memory
-abbrev pub IsOfWriting : Fault → Type 0
+abbrev pub IsOfWriting : ProgramError → Type 0
 IsOfWriting fault.Write = Unit {0}
 IsOfWriting fault.NoMemory = Unit {0}
 IsOfWriting why = ⊥
 
 -- a fault of a record's file with this path: it cannot be opened or written, or memory was refused
-abbrev pub IsOfRecordFile : List ℕ → Fault → Type 0
+abbrev pub IsOfRecordFile : List ℕ → ProgramError → Type 0
 IsOfRecordFile path (fault.CannotOpen named) = named.now ≡ path
 IsOfRecordFile path why = IsOfWriting why
 
 -- a fault of names: they are none that a bus may have, or they are, and memory was refused
-abbrev pub IsOfNames : List ℕ → Fault → Type 0
+abbrev pub IsOfNames : List ℕ → ProgramError → Type 0
 IsOfNames text fault.BadNames = AreNames (names_in text) → ⊥
 IsOfNames text fault.NoMemory = AreNames (names_in text)
 IsOfNames text why = ⊥
 
 -- a fault of the log of a bus, whose file has this path: it cannot be opened or written, or it is one of the names
-abbrev pub IsOfLogFile : BusWord → List ℕ → Fault → Type 0
+abbrev pub IsOfLogFile : BusWord → List ℕ → ProgramError → Type 0
 IsOfLogFile bus path (fault.CannotOpen named) = named.now ≡ path
 IsOfLogFile bus path (fault.Log name lines) = name.now ≡ first_name_of bus.names.now
 IsOfLogFile bus path why = IsOfNames bus.names.now why
 
 -- how a fault of a script is reported
-abbrev pub fault_of : PlanError → Fault
+abbrev pub fault_of : PlanError → ProgramError
 fault_of (plan.Script script.NoMemory) = fault.NoMemory
 fault_of why = fault.Script why
 
 -- the fault of a text that spells no faults for a bus with these names
-abbrev pub IsOfScript : List (List ℕ) → List ℕ → Fault → Type 0
+abbrev pub IsOfScript : List (List ℕ) → List ℕ → ProgramError → Type 0
 IsOfScript names text why = (error : PlanError) × (why ≡ fault_of error) × ReadsPlan names text (Err error)
 
 -- a fault of a script: of the file with this path, or of a text that it may hold
-abbrev pub IsOfScriptFile : List ℕ → List (List ℕ) → Fault → Type 0
+abbrev pub IsOfScriptFile : List ℕ → List (List ℕ) → ProgramError → Type 0
 IsOfScriptFile path names why = IsOfFile path why ⊎ ((text : List ℕ) × IsOfScript names text why)
 
 -- a fault of the script of a bus: there is none where no script is named
-abbrev pub IsOfPlan : Option (Bor (List ℕ)) → List (List ℕ) → Fault → Type 0
+abbrev pub IsOfPlan : Option (Bor (List ℕ)) → List (List ℕ) → ProgramError → Type 0
 IsOfPlan None names why = ⊥
 IsOfPlan (Some path) names why = IsOfScriptFile path.now names why

@@ -1,4 +1,4 @@
-//! The lines that follow a fault's text: what was wrong, where, and the way out. Each begins with two spaces.
+//! The notes that follow an error's text: what was wrong, where, and the way out. Each begins with two spaces.
 //! They are found anew from the texts that the program has, and one that there is no memory for is left out.
 use crate::shown::Shown;
 use std::alloc::{AllocError, Global};

@@ -1,0 +1,41 @@
+//! What the program reads and writes besides its streams, as names and scripts of a bus, records and logs; and the texts
+//! of its errors.
+//!
+//! `read_names`, `read_plan` and `bus_config` make a bus of the words that describe it; `save_record` and `save_log` write
+//! what a run leaves. A command line that was not carried out gives a `Report`: a `ProgramError`, and notes after its text.
+//!
+//! What is proved here: the configuration is that of the settings, a script is what some text spells, and what is written
+//! is the record's text and the lines of its log; a report has the error that it was made of; only printable ASCII is
+//! shown of what a file or a client holds. What a file holds is not known to any contract.
+#![tactic(auto)]
+
+mod buses;
+mod draft;
+mod few_reads;
+mod files;
+mod live;
+mod live_file;
+mod names;
+mod notes;
+mod program_error;
+mod report;
+mod rule_notes;
+mod saved;
+mod scripts;
+mod shown;
+mod whole_lines;
+
+pub use buses::{bus_config, limits_note, read_plan};
+pub use draft::Draft;
+pub use few_reads::FewReads;
+pub use files::{
+    INPUT, OUTPUT, open_file, read_failure, read_file, read_text, utf8_note, write_failure,
+};
+pub use live::{LiveLog, LiveRecord, set_aside};
+pub use names::{has_name, read_names};
+pub use notes::{WITH_CR, fixed_note, line_of, reason_note};
+pub use program_error::ProgramError;
+pub use report::{Report, Reporter};
+pub use rule_notes::rule_note;
+pub use saved::{save_log, save_log_at, save_record, save_record_at, without};
+pub use shown::{Shown, SourceLine};
