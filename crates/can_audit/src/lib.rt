@@ -7,5 +7,4 @@ pub use can_record_text::{
     ReadFault, line_text, read_record, read_record_bytes, record_text, write_record,
 };
 pub use can_reference::{ReplayFault, candidates, projected, queued, replies_of};
-pub use can_replay::{AuditFault, audit};
-pub use can_text_audit::{Cut, TextAudit, TextFault, WrongLine};
+pub use can_replay::{AuditFault, Cut, TextAudit, TextFault, WrongLine, audit};

@@ -1,7 +1,7 @@
 //! The text of a record, both ways: `record_text` writes a record as text and `read_record` reads it back. A record has
 //! one text, in one version, and a text is of one record at most.
 //!
-//! The readers and writers of single lines are public for can_text_audit, which reads a text line by line.
+//! The readers and writers of single lines are public for can_replay, which reads a text line by line.
 #![tactic(auto)]
 
 pub mod event_reading;

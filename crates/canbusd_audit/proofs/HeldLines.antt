@@ -11,8 +11,8 @@ use Rattle.std.specs.Prelude.{IfSome}
 use Rattle.memchr.specs.Find.{IsFirstByte, is_byte}
 use Rattle.can_record_text.specs.declared.fault.ReadFault.{ReadFault}
 use Rattle.can_record_text.specs.RecordFaults.{Reads}
-use Rattle.can_text_audit.specs.declared.text_audit.TextAudit.{TextAudit}
-use Rattle.can_text_audit.specs.TextAudits.{AreTaken, IsLine, MayFollow}
+use Rattle.can_replay.specs.declared.text_audit.TextAudit.{TextAudit}
+use Rattle.can_replay.specs.TextAudits.{AreTaken, IsLine, MayFollow}
 use Rattle.canbusd_audit.specs.Audited.{GoesOn, IsAtFault}
 use Rattle.canbusd_audit.proofs.Underway.{more_read}
 

@@ -17,14 +17,14 @@ use Rattle.can_record_text.specs.declared.version.Version.{Version}
 use Rattle.can_record_text.specs.Spelling.{version_of}
 use Rattle.can_record_text.specs.Values.{HasLine, HasLines}
 use Rattle.can_replay.specs.Histories.{before}
-use Rattle.can_text_audit.specs.declared.fault.Cut.{Cut}
-use Rattle.can_text_audit.specs.declared.fault.Cut.TheVariants as cut
-use Rattle.can_text_audit.specs.declared.fault.TextFault.{TextFault}
-use Rattle.can_text_audit.specs.declared.fault.TextFault.TheVariants as found
-use Rattle.can_text_audit.specs.declared.fault.WrongLine.{WrongLine}
-use Rattle.can_text_audit.specs.TextAudits.{AreTaken, EndsNoLine, Tells, TellsCut}
-use Rattle.can_text_audit.specs.inner.Bodies.{IsWrongIn}
-use Rattle.can_text_audit.specs.declared.text_audit.TextAudit.{TextAudit}
+use Rattle.can_replay.specs.declared.text_fault.Cut.{Cut}
+use Rattle.can_replay.specs.declared.text_fault.Cut.TheVariants as cut
+use Rattle.can_replay.specs.declared.text_fault.TextFault.{TextFault}
+use Rattle.can_replay.specs.declared.text_fault.TextFault.TheVariants as found
+use Rattle.can_replay.specs.declared.text_fault.WrongLine.{WrongLine}
+use Rattle.can_replay.specs.TextAudits.{AreTaken, EndsNoLine, Tells, TellsCut}
+use Rattle.can_replay.specs.inner.EntryAudits.{IsWrongIn}
+use Rattle.can_replay.specs.declared.text_audit.TextAudit.{TextAudit}
 use Rattle.canbusd_io.specs.declared.report.Report.{Report}
 use Rattle.canbusd_io.specs.declared.program_error.ProgramError.{ProgramError}
 use Rattle.canbusd_io.specs.declared.program_error.ProgramError.TheVariants as fault

@@ -8,9 +8,9 @@ use Rattle.std.proofs.lemmas.List.{append-nil}
 use Rattle.std.proofs.lemmas.List.Elements.{All-cons, All-head, All-nil, All-tail, All-take}
 use Rattle.can_record_text.specs.declared.fault.ReadFault.{ReadFault}
 use Rattle.can_record_text.specs.RecordFaults.{Reads}
-use Rattle.can_text_audit.specs.declared.text_audit.TextAudit.{TextAudit}
-use Rattle.can_text_audit.specs.TextAudits.{AreTaken, EndsNoLine, IsLine, MayFollow}
-use Rattle.can_text_audit.proofs.LineEnds.{nothing_more}
+use Rattle.can_replay.specs.declared.text_audit.TextAudit.{TextAudit}
+use Rattle.can_replay.specs.TextAudits.{AreTaken, EndsNoLine, IsLine, MayFollow}
+use Rattle.can_replay.proofs.LineEnds.{nothing_more}
 use Rattle.canbusd_io.specs.declared.program_error.ProgramError.{ProgramError}
 use Rattle.canbusd_io.specs.declared.program_error.ProgramError.TheVariants as fault
 use Rattle.canbusd_io.specs.Files.{IsOfReading}

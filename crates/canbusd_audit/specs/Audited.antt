@@ -9,13 +9,13 @@ use Rattle.can_bus.specs.Legal.{IsLegal}
 use Rattle.can_record_text.specs.declared.fault.ReadFault.{ReadFault}
 use Rattle.can_record_text.specs.RecordFaults.{IsTextOf, Reads}
 use Rattle.can_replay.specs.Audits.{IsFirstWrong}
-use Rattle.can_text_audit.specs.declared.fault.Cut.{Cut}
-use Rattle.can_text_audit.specs.declared.fault.Cut.TheVariants as cut
-use Rattle.can_text_audit.specs.declared.fault.TextFault.{TextFault}
-use Rattle.can_text_audit.specs.declared.fault.TextFault.TheVariants as found
-use Rattle.can_text_audit.specs.declared.fault.WrongLine.{WrongLine}
-use Rattle.can_text_audit.specs.declared.text_audit.TextAudit.{TextAudit}
-use Rattle.can_text_audit.specs.TextAudits.{AreTaken, EndsNoLine, IsFrontOf, IsLine, MayFollow}
+use Rattle.can_replay.specs.declared.text_fault.Cut.{Cut}
+use Rattle.can_replay.specs.declared.text_fault.Cut.TheVariants as cut
+use Rattle.can_replay.specs.declared.text_fault.TextFault.{TextFault}
+use Rattle.can_replay.specs.declared.text_fault.TextFault.TheVariants as found
+use Rattle.can_replay.specs.declared.text_fault.WrongLine.{WrongLine}
+use Rattle.can_replay.specs.declared.text_audit.TextAudit.{TextAudit}
+use Rattle.can_replay.specs.TextAudits.{AreTaken, EndsNoLine, IsFrontOf, IsLine, MayFollow}
 use Rattle.canbusd_io.specs.declared.program_error.ProgramError.{ProgramError}
 use Rattle.canbusd_io.specs.declared.program_error.ProgramError.TheVariants as fault
 use Rattle.canbusd_io.specs.Files.{IsOfFile, IsOfReading}

@@ -1,11 +1,11 @@
 ghost use Rattle.std.specs.Prelude.{[], IfErr, IfOk, OnOk, map};
-ghost use Rattle.can_text_audit.specs.TextAudits.{EndsNoLine};
+ghost use Rattle.can_replay.specs.TextAudits.{EndsNoLine};
 ghost use Rattle.canbusd_audit.specs.Audited.{Audits, AuditsCut, AuditsFiles, FaultsCut, FaultsFiles, FaultsInput, IsInputTaken, IsOfFiles};
 
 use crate::ends::{tell_cut, tell_end};
 use crate::joined::Joined;
 use crate::line_taking::{take_last, take_lines};
-use can_text_audit::TextAudit;
+use can_replay::TextAudit;
 use canbusd_io::{FewReads, ProgramError, Report, open_file};
 use canbusd_options::AuditOptions;
 use std::alloc::{AllocError, Global};

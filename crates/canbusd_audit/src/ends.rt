@@ -6,7 +6,7 @@ ghost use Rattle.canbusd_audit.specs.Audited.{FitsLines, HasNote, IsCutWritten, 
 use crate::notes::{record_note, with_cut_note};
 use crate::wrong_entries::wrong_note;
 use can_record_text::ReadFault;
-use can_text_audit::{Cut, TextFault, WrongLine};
+use can_replay::{Cut, TextFault, WrongLine};
 use canbusd_io::{OUTPUT, ProgramError, Report, write_failure};
 use std::alloc::Global;
 use std::io::Write;

@@ -2,7 +2,7 @@ ghost use Rattle.std.specs.Prelude.{◌≡◌, ◌≤◌, IfOk, IfSome, IsNone, 
 ghost use Rattle.canbusd_audit.specs.Audited.{BecomesOf, IsWrongNext, TakesMore};
 
 use can_record_text::ReadFault;
-use can_text_audit::TextAudit;
+use can_replay::TextAudit;
 use memchr::memchr;
 use std::alloc::Global;
 use std::io;

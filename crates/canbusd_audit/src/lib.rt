@@ -1,6 +1,6 @@
 //! `canbusd audit`: whether the text of a record is that of a legal history.
 //!
-//! The audit itself is `can_text_audit`, which is given the lines as they are read. What is proved here: `ok N entries`
+//! The audit itself is `can_replay::TextAudit`, which takes the lines as they are read. What is proved here: `ok N entries`
 //! is written only of the text of a legal record with N entries, and a fault says what the audit says: the first wrong
 //! line, or the first wrong entry; `ok N entries, then cut off` only of a text that is the front of such a record's, up to
 //! the lines of N entries. A fault of the reader, of the writer or of memory says nothing of the record. What a

@@ -1,12 +1,12 @@
 ghost use Rattle.std.specs.Prelude.{◌≡◌, ◌≢◌, ◌-◌, [], IfErr, IfOk, IsTrue, OnOk, Some, false, length, slice_get};
-ghost use Rattle.can_text_audit.specs.TextAudits.{AreTaken, EndsNoLine};
+ghost use Rattle.can_replay.specs.TextAudits.{AreTaken, EndsNoLine};
 ghost use Rattle.canbusd_audit.specs.Audited.{FaultsInput, FaultsLast, IsInputTaken, IsNextLine, IsOfLine, TakesLast};
 ghost use Rattle.canbusd_io.specs.Files.{IsOfReading};
 
 use crate::held::{Held, take_held};
 use crate::notes::{record_note, with_cut_note};
 use can_record_text::ReadFault;
-use can_text_audit::TextAudit;
+use can_replay::TextAudit;
 use canbusd_io::{ProgramError, Report, read_failure, utf8_note};
 use std::alloc::Global;
 use std::io::BufRead;

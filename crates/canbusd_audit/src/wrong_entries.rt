@@ -4,7 +4,7 @@ ghost use Rattle.canbusd_audit.specs.Audited.{FitsLines};
 use crate::notes::HEAD;
 use can_bus::{Event, Reply};
 use can_record_text::line_text;
-use can_text_audit::WrongLine;
+use can_replay::WrongLine;
 use canbusd_io::{Shown, SourceLine};
 use std::alloc::{AllocError, Global};
 

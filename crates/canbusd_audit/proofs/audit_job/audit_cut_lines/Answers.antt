@@ -1,5 +1,5 @@
 use Rattle.std.proofs.Common.{◌++◌, List, ℕ, subst}
-use Rattle.can_text_audit.specs.TextAudits.{AreTaken, EndsNoLine, TellsCut}
+use Rattle.can_replay.specs.TextAudits.{AreTaken, EndsNoLine, TellsCut}
 use Rattle.canbusd_audit.proofs.Telling.{all_told_cut, cut_written, noted_cut}
 use Rattle.canbusd_audit.proofs.audit_job.audit_cut_lines.Goals as goal
 

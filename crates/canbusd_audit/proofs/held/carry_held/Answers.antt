@@ -1,7 +1,7 @@
 use Rattle.std.proofs.Common.{◌≡◌, ◌+◌, ◌-◌, ◌++◌, ℕ, List, Some, Err, arith, drop, length, length-drop, subst, take, take_all}
 use Rattle.memchr.specs.Find.{IsFirstByte, is_byte}
 use Rattle.can_record_text.specs.RecordFaults.{Reads}
-use Rattle.can_text_audit.specs.TextAudits.{AreTaken, IsLine, MayFollow}
+use Rattle.can_replay.specs.TextAudits.{AreTaken, IsLine, MayFollow}
 use Rattle.canbusd_audit.proofs.HeldLines.{fails_in, takes_more}
 use Rattle.canbusd_audit.proofs.held.carry_held.Goals as goal
 

@@ -1,5 +1,5 @@
 use Rattle.std.proofs.Common.{◌-◌, ◌≤◌, ◌++◌, List, ℕ, length, take}
-use Rattle.can_text_audit.specs.TextAudits.{AreTaken}
+use Rattle.can_replay.specs.TextAudits.{AreTaken}
 use Rattle.canbusd_audit.proofs.held.carry_held.Given as goal
 
 abbrev pub invariant-loop-place : goal.invariant-loop-place

@@ -1,7 +1,7 @@
 use Rattle.std.proofs.Common.{◌++◌, Bool, Err, List, [], ℕ, subst, sym}
 use Rattle.can_record_text.specs.RecordFaults.{Reads}
-use Rattle.can_text_audit.specs.declared.text_audit.TextAudit.{TextAudit}
-use Rattle.can_text_audit.specs.TextAudits.{AreTaken, IsLine, MayFollow}
+use Rattle.can_replay.specs.declared.text_audit.TextAudit.{TextAudit}
+use Rattle.can_replay.specs.TextAudits.{AreTaken, IsLine, MayFollow}
 use Rattle.canbusd_io.specs.Files.{IsOfReading}
 use Rattle.canbusd_audit.specs.Audited.{BecomesOf, IsInputTaken, IsNextLine}
 use Rattle.canbusd_audit.specs.declared.held.Held.{Held}

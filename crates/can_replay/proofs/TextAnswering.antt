@@ -1,0 +1,71 @@
+-- A line against what a bus answers.
+use Rattle.std.proofs.Common.{◌≡◌, ◌≤◌, nat_le, ℕ, Bool, List, [], drop, length, Option, Some, None, Err, inl, inr, refl, sym, subst, ap, ◌∙◌}
+use Rattle.std.proofs.lemmas.Bool.{cond-false, le-leb, lt-leb}
+use Rattle.std.proofs.lemmas.Option.{none-some, same_Some}
+use Rattle.can_event.specs.declared.bus_config.BusConfig.{BusConfig}
+use Rattle.can_event.specs.declared.entry.Entry.{Entry}
+use Rattle.can_event.specs.declared.event.Event.{Event}
+use Rattle.can_event.specs.declared.reply.Reply.{Reply}
+use Rattle.can_event.specs.declared.reply.Reply.TheVariants as reply
+use Rattle.can_event.specs.declared.refusal.Refusal.TheVariants as refusal
+use Rattle.can_event.specs.Replies.{Enters}
+use Rattle.can_event.specs.Spelled.{IsSpelled}
+use Rattle.can_bus.specs.Lean.{Lean, Stands}
+use Rattle.can_bus.specs.Legal.{legal_reply}
+use Rattle.can_bus.specs.Run.{IsAnswer, history_after}
+use Rattle.can_bus.proofs.Answering.{entered_is_legal, history-entered}
+use Rattle.can_record_text.specs.declared.fault.Unread.{Unread}
+use Rattle.can_record_text.specs.declared.fault.Unread.TheVariants as unread
+use Rattle.can_record_text.specs.declared.version.Version.{Version}
+use Rattle.can_record_text.specs.inner.Words.{after}
+use Rattle.can_record_text.specs.inner.Reading.{Gives, entry_at, event_at, moment_of, reply_at, ◌>>=◌}
+use Rattle.can_record_text.specs.Spelling.{answered_line, entry_line, has_fd}
+use Rattle.can_record_text.specs.Values.{HasLine, HoldsEvent, HoldsReply}
+use Rattle.can_record_text.proofs.Again.{entry_again}
+use Rattle.can_replay.specs.inner.Carried.{IsNext, IsOther, IsWrongNext}
+
+-- what spells no event spells no entry
+pub not_an_entry : (u : Unread) (text : List ℕ) → Gives {X = Event × List ℕ} (Err u) (event_at text) → u ≡ unread.Bad → entry_at text ≡ None
+unfolding entry_at
+not_an_entry unread.Bad text h is = rw h refl
+not_an_entry unread.NoMemory text h is = absurd cc
+
+-- the entry of a line has the event that the line seems to spell
+event_is : (text : List ℕ) (e : Entry) (ev : Event) (rest : List ℕ) → entry_at text ≡ Some e → event_at text ≡ Some (ev, rest) → e.event ≡ ev
+unfolding entry_at
+event_is text e ev rest whole is = when (reply_at (moment_of ev) (after rest)) (sym (ap (λ (o : Option (Event × List ℕ)). o >>= λ x. reply_at (moment_of x.0) (after x.1) >>= λ r. Some (record { event = x.0; reply = r.0 })) is) ∙ whole)
+  where
+    when : (o : Option (Reply × List ℕ)) → (o >>= λ r. Some (record { event = ev; reply = r.0 })) ≡ Some e → e.event ≡ ev
+    when None h = absurd (none-some e h)
+    when (Some r) h = sym (ap (λ (d : Entry). d.event) (same_Some (record { event = ev; reply = r.0 }) e h))
+
+-- an entry whose line is not that of its event with the legal reply is wrong
+pub other_reply : (v : Version) (c : BusConfig) (past : List Entry) (line rest more : List ℕ) (e : Entry) (ev : Event) (r : Reply) → HasLine v c e → line ≡ entry_line e rest → event_at line ≡ Some (ev, more)
+    → Enters r → IsAnswer c past ev r → (line ≡ answered_line ev r rest → ⊥) → IsWrongNext c past e (Some r)
+other_reply v c past line rest more e ev r good is guessed enters answer other =
+    let same : e.event ≡ ev = event_is line e ev more (ap entry_at is ∙ entry_again v c e rest good) guessed in
+    let lawful = entered_is_legal c past ev r answer enters in
+    let law : r ≡ legal_reply c past e.event = lawful.1 ∙ ap (legal_reply c past) (sym same) in
+    record {
+      wrong = inr (λ right.
+          other (is ∙ ap (λ (x : Event). answered_line x e.reply rest) same ∙ ap (λ (x : Reply). answered_line ev x rest) (right ∙ sym law)));
+      is_allowed = ap Some law ∙ sym (cond-false (nat_le c.limit (length past)) None (Some (legal_reply c past e.event)) (lt-leb c.limit (length past) lawful.0));
+    }
+
+-- past the limit any entry is wrong
+pub other_past : (c : BusConfig) (past : List Entry) (line : List ℕ) (ev : Event) (r : Reply) → r ≡ reply.Refused refusal.RecordFull → IsAnswer c past ev r → IsOther c past line None
+other_past c past line ev r is answer v e rest good stands =
+    let full : c.limit ≤ length past = subst (IsAnswer c past ev) is answer in
+    record { wrong = inl full; is_allowed = rw (le-leb c.limit (length past) full) refl }
+
+-- the line of an event with the reply of a bus is that of the next entry
+pub next_is : (c : BusConfig) (past : List Entry) (line : List ℕ) (ev : Event) (r : Reply) (fd : Bool) (bus : Lean) → Enters r → IsSpelled c (record { event = ev; reply = r }) → HoldsEvent ev → HoldsReply r
+    → fd ≡ has_fd (record { event = ev; reply = r }) → line ≡ answered_line ev r (drop (length (answered_line ev r [])) line) → Stands bus (history_after ev r past) → IsNext c past line fd bus
+next_is c past line ev r fd bus enters spelled event reply is_fd stands after = record {
+  entry = record { event = ev; reply = r };
+  rest = drop (length (answered_line ev r [])) line;
+  good = record { spelled = spelled; version = λ has. refl; event = event; reply = reply };
+  is_fd = is_fd;
+  stands = stands;
+  after = subst (Stands bus) (history-entered ev r past enters) after;
+}

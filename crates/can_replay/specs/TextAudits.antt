@@ -1,0 +1,118 @@
+use Rattle.std.specs.Prelude.{◌≡◌, ◌≢◌, ◌⊎◌, ℕ, Bool, false, All, List, [], ◌++◌, length, reverse, Result, Ok, Err}
+use Rattle.std.specs.Io.{StopsAt}
+use Rattle.std.specs.Io.BufRead.{take_through}
+use Rattle.can_event.specs.declared.bus_config.BusConfig.{BusConfig}
+use Rattle.can_event.specs.declared.entry.Entry.{Entry}
+use Rattle.can_bus.specs.Legal.{IsLegal}
+use Rattle.can_record_text.specs.declared.fault.ReadFault.{ReadFault}
+use Rattle.can_record_text.specs.declared.version.Version.{Version}
+use Rattle.can_record_text.specs.RecordFaults.{IsTextOf, Reads}
+use Rattle.can_record_text.specs.Spelling.{entry_lines, first_line, front_lines}
+use Rattle.can_record_text.specs.Values.{HasLines}
+use Rattle.can_replay.specs.declared.text_fault.Cut.{Cut}
+use Rattle.can_replay.specs.declared.text_fault.Cut.TheVariants as cut
+use Rattle.can_replay.specs.declared.text_fault.TextFault.{TextFault}
+use Rattle.can_replay.specs.declared.text_fault.TextFault.TheVariants as fault
+use Rattle.can_replay.specs.declared.text_fault.WrongLine.{WrongLine}
+use Rattle.can_replay.specs.declared.text_audit.Phase.{Phase}
+use Rattle.can_replay.specs.declared.text_audit.Phase.TheVariants as phase
+use Rattle.can_replay.specs.declared.text_audit.TextAudit.{TextAudit}
+use Rattle.can_replay.specs.inner.EntryAudits.{IsGoing, IsWrongIn}
+
+-- What an audit of a text answers (own choice).
+
+-- the text is that of a legal record with so many entries
+pub record IsLegalText (text : List ℕ) (count : ℕ) : Type 0 where
+  pub config : BusConfig
+  pub entries : List Entry
+  pub whole : IsTextOf text config entries
+  pub legal : IsLegal config (reverse entries)
+  pub counted : count ≡ length entries
+
+-- the text is that of a record whose first wrong entry is this one
+pub record IsWrongText (text : List ℕ) (w : WrongLine) : Type 0 where
+  pub config : BusConfig
+  pub entries : List Entry
+  pub whole : IsTextOf text config entries
+  pub wrong : IsWrongIn config entries w
+
+-- what is told of a text that has ended
+abbrev pub Tells : List ℕ → Result ℕ TextFault → Type 0
+Tells text (Ok count) = IsLegalText text count
+Tells text (Err (fault.Read why)) = Reads text (Err why)
+Tells text (Err (fault.Wrong w)) = IsWrongText text w
+
+-- these bytes end no line
+abbrev pub EndsNoLine : List ℕ → Type 0
+EndsNoLine bytes = All (λ b. b ≢ 10) bytes
+
+-- the text is the front of that of a record: the lines of the bus and of these entries, and bytes that end no line
+pub record IsFrontOf (text : List ℕ) (config : BusConfig) (entries : List Entry) : Type 0 where
+  pub version : Version
+  pub torn : List ℕ
+  pub good : HasLines version config entries
+  pub begins : text ≡ front_lines version config (entry_lines entries torn)
+  pub unended : EndsNoLine torn
+
+-- the text is cut off: it is the front of that of a legal record, up to the lines of so many entries
+pub record IsCutText (text : List ℕ) (count : ℕ) : Type 0 where
+  pub config : BusConfig
+  pub entries : List Entry
+  pub front : IsFrontOf text config entries
+  pub legal : IsLegal config (reverse entries)
+  pub counted : count ≡ length entries
+
+-- the text is cut off, and the first wrong entry before its end is this one
+pub record IsWrongCut (text : List ℕ) (w : WrongLine) : Type 0 where
+  pub config : BusConfig
+  pub entries : List Entry
+  pub front : IsFrontOf text config entries
+  pub wrong : IsWrongIn config entries w
+
+-- what is told of a text that has ended, maybe cut off
+abbrev pub TellsCut : List ℕ → Result Cut TextFault → Type 0
+TellsCut text (Ok (cut.Whole count)) = IsLegalText text count
+TellsCut text (Ok (cut.Off count)) = IsCutText text count
+TellsCut text (Err (fault.Read why)) = Reads text (Err why)
+TellsCut text (Err (fault.Wrong w)) = IsWrongText text w ⊎ IsWrongCut text w
+
+-- a line: LF stands at its end alone, or nowhere
+pub record IsLine (line : List ℕ) : Type 0 where
+  pub some : line ≢ []
+  pub stops : StopsAt line 10
+
+-- what may follow a line in a text: where it has no LF, nothing
+abbrev pub MayFollow : List ℕ → List ℕ → Type 0
+MayFollow line after = take_through 10 (line ++ after) ≡ line
+
+-- a line was taken, as the next one of a text that was taken so far
+abbrev pub TakesOn : {A : Type 0} → (List ℕ → A → Type 0) → A → A → List ℕ → Type 0
+TakesOn {A} are old new line = (text : List ℕ) → are text old → IsLine line → are (text ++ line) new
+
+-- a line is at fault, as the next one of a text that was taken so far, whatever follows it
+abbrev pub FailsNext : {A : Type 0} → (List ℕ → A → Type 0) → A → List ℕ → ReadFault → Type 0
+FailsNext {A} are old line why = (text after : List ℕ) → are text old → IsLine line → MayFollow line after → Reads (text ++ (line ++ after)) (Err why)
+
+-- a line is at fault that comes after these bytes of a text, whatever follows it
+abbrev pub FailsAfter : List ℕ → List ℕ → ReadFault → Type 0
+FailsAfter front line why = (after : List ℕ) → MayFollow line after → Reads (front ++ (line ++ after)) (Err why)
+
+-- the lines that were taken make this text
+abbrev pub HasCome : List ℕ → Phase → Type 0
+HasCome text phase.Start = text ≡ []
+HasCome text (phase.Front v) = text ≡ first_line v
+HasCome text (phase.Entries b) = IsGoing text b
+HasCome text (phase.Failed why) = ⊥
+
+-- the same of an audit
+abbrev pub AreTaken : List ℕ → TextAudit → Type 0
+AreTaken text audit = HasCome text audit.phase
+
+-- this fault was told
+abbrev pub HasFailed : ReadFault → TextAudit → Type 0
+HasFailed why audit = audit.phase ≡ phase.Failed why
+
+-- the line of the end was taken
+abbrev pub has_ended : Phase → Bool
+has_ended (phase.Entries b) = b.is_ended
+has_ended _ = false

@@ -1,0 +1,45 @@
+use Rattle.std.specs.Prelude.{◌≡◌, ℕ, Bool, true, false, List, [], length, reverse, Option, Some, None}
+use Rattle.std.specs.List.{list_any}
+use Rattle.can_event.specs.declared.bus_config.BusConfig.{BusConfig}
+use Rattle.can_event.specs.declared.entry.Entry.{Entry}
+use Rattle.can_bus.specs.Lean.{Stands}
+use Rattle.can_bus.specs.Legal.{IsLegal}
+use Rattle.can_record_text.specs.declared.version.Version.{Version}
+use Rattle.can_record_text.specs.Spelling.{entry_lines, front_lines, has_fd, text_in}
+use Rattle.can_record_text.specs.Values.{HasLines}
+use Rattle.can_replay.specs.Audits.{IsToldWrong}
+use Rattle.can_replay.specs.declared.entry_audit.EntryAudit.{EntryAudit}
+use Rattle.can_replay.specs.declared.text_fault.WrongLine.{WrongLine}
+
+-- What is known of the lines after the first.
+
+-- the first wrong entry is this one, and the bus may have so many
+pub record IsWrongIn (c : BusConfig) (entries : List Entry) (w : WrongLine) : Type 0 where
+  pub told : IsToldWrong c entries w.place w.legal
+  pub entry : w.entry ≡ told.first.entry
+  pub limit : w.limit ≡ c.limit
+
+-- the entries are legal, or the first wrong one is known
+abbrev pub IsSettled : BusConfig → List Entry → Option WrongLine → Type 0
+IsSettled c entries None = IsLegal c (reverse entries)
+IsSettled c entries (Some w) = IsWrongIn c entries w
+
+-- a text with the lines of these entries, and with that of the end or without
+abbrev pub so_far : Bool → Version → BusConfig → List Entry → List ℕ
+so_far false v c entries = front_lines v c (entry_lines entries [])
+so_far true v c entries = text_in v c entries
+
+-- these are the lines that were read
+pub record IsRead (text : List ℕ) (b : EntryAudit) : Type 0 where
+  pub entries : List Entry
+  pub good : HasLines b.version b.config entries
+  pub begins : text ≡ so_far b.is_ended b.version b.config entries
+  pub counted : b.count ≡ length entries
+  pub is_fd : b.fd ≡ list_any has_fd entries
+  pub settled : IsSettled b.config entries b.wrong
+
+-- and while all were legal, the bus carried them out
+pub record IsGoing (text : List ℕ) (b : EntryAudit) : Type 0 where
+  pub read : IsRead text b
+  pub config : b.is_ended ≡ false → b.bus.config ≡ b.config
+  pub stands : b.is_ended ≡ false → b.wrong ≡ None → Stands b.bus (reverse read.entries)

@@ -1,0 +1,391 @@
+ghost use Rattle.std.specs.Prelude.{◌≡◌, ◌↔◌, ◌+◌, ◌-◌, ◌^◌, ◌<◌, ◌||◌, ◌++◌, Err, IfErr, IfOk, IsSome, IsTrue, List, None, OnOk, Some, false, true, ℕ};
+ghost use Rattle.can_record_text.specs.Spelling.{first_line, takes_fd};
+ghost use Rattle.can_record_text.specs.inner.Reading.{SeemsToBe};
+ghost use Rattle.can_replay.specs.TextAudits.{EndsNoLine, FailsAfter, FailsNext, IsLine, TakesOn, Tells, TellsCut};
+ghost use Rattle.can_replay.specs.inner.EntryAudits.{IsGoing};
+ghost use Rattle.can_replay.specs.inner.Steps.{ReportsWrong, IsUnended, StandsEnd, Takes};
+
+use crate::text_fault::{Cut, TextFault, WrongLine};
+use can_bus::{BusConfig, Event, LeanRingBus, Refusal, Reply};
+use can_record_text::ReadFault;
+use can_record_text::event_reading::{attempt_front, guess_event, receive_front, send_front};
+use can_record_text::fault::Unread;
+use can_record_text::lines::{begins, is_line_of, put_end, read_bus, read_line};
+use can_record_text::values::{hold_event, hold_reply};
+use can_record_text::version::{Version, has_fd};
+use std::alloc::Global;
+
+/// The lines after the first: what is known of those that were taken.
+#[derive(Drop)]
+pub struct EntryAudit {
+    version: Version,
+    config: BusConfig,
+    /// It was given the entries as long as they were legal.
+    bus: LeanRingBus,
+    count: u32,
+    /// Whether an entry has an FD frame or the option for such.
+    fd: bool,
+    wrong: Option<WrongLine>,
+    is_ended: bool,
+}
+
+impl EntryAudit {
+    /// The second line, which is the bus's.
+    pub fn read(
+        alloc: Global,
+        buffer: &mut Vec<u8>,
+        version: Version,
+        line: &[u8],
+    ) -> Result<EntryAudit, ReadFault>
+        ensures taken { IfOk result (λ audit.
+            IsLine line.now → IsGoing (first_line version ++ line.now) audit) }
+        ensures fault { IfErr result (FailsAfter (first_line version) line.now) }
+    {
+        let config = match read_bus(buffer, version, line) {
+            Ok(config) => config,
+            Err(Unread::Bad) => return Err(ReadFault::BadLine(2)),
+            Err(Unread::NoMemory) => return Err(ReadFault::NoMemory),
+        };
+        let Ok(bus) = LeanRingBus::new(alloc, config) else {
+            return Err(ReadFault::NoMemory);
+        };
+        Ok(EntryAudit {
+            version,
+            config,
+            bus,
+            count: 0,
+            fd: false,
+            wrong: None,
+            is_ended: false,
+        })
+    }
+
+    /// The next line: an entry's, or the end. Nothing may follow the end.
+    pub fn carry(
+        &mut self,
+        alloc: Global,
+        buffer: &mut Vec<u8>,
+        line: &[u8],
+    ) -> Result<(), ReadFault>
+        ensures taken { OnOk result (TakesOn IsGoing self.old self.new line.now) }
+        ensures fault { IfErr result (FailsNext IsGoing self.old line.now) }
+    {
+        if self.is_ended {
+            return Err(ReadFault::BadLine(u64::from(self.count) + 4));
+        }
+        if self.count == u32::MAX {
+            return Err(ReadFault::NoMemory);
+        }
+        match self.carry_entry(alloc, buffer, line) {
+            Ok(()) => Ok(()),
+            Err(Unread::Bad) => self.end(buffer, line),
+            Err(Unread::NoMemory) => Err(ReadFault::NoMemory),
+        }
+    }
+
+    // An entry's line.
+    fn carry_entry(
+        &mut self,
+        alloc: Global,
+        buffer: &mut Vec<u8>,
+        line: &[u8],
+    ) -> Result<(), Unread>
+        requires { self.old.count < 2 ^ 32 - 1 }
+        ensures { Takes self.old self.new line.now result }
+    {
+        if self.wrong.is_some() {
+            self.read_on(alloc, buffer, line)
+        } else {
+            self.carry_out(alloc, buffer, line)
+        }
+    }
+
+    // An entry's line while all were legal.
+    fn carry_out(&mut self, alloc: Global, buffer: &mut Vec<u8>, line: &[u8]) -> Result<(), Unread>
+        requires legal { self.old.wrong ≡ None }
+        requires few { self.old.count < 2 ^ 32 - 1 }
+        ensures { Takes self.old self.new line.now result }
+    {
+        match receive_front(line) {
+            Some(id) => self.carry_event(alloc, buffer, &Event::Receive(id), line),
+            None => self.carry_attempt(alloc, buffer, line),
+        }
+    }
+
+    // The same of a line that is no receive's.
+    #[inline(never)]
+    fn carry_attempt(
+        &mut self,
+        alloc: Global,
+        buffer: &mut Vec<u8>,
+        line: &[u8],
+    ) -> Result<(), Unread>
+        requires legal { self.old.wrong ≡ None }
+        requires few { self.old.count < 2 ^ 32 - 1 }
+        ensures { Takes self.old self.new line.now result }
+    {
+        match attempt_front(line) {
+            Some((moment, verdict)) => {
+                self.carry_event(alloc, buffer, &Event::Attempt(moment, verdict), line)
+            }
+            None => self.carry_send(alloc, buffer, line),
+        }
+    }
+
+    // The same of a line that is no attempt's either.
+    #[inline(never)]
+    fn carry_send(&mut self, alloc: Global, buffer: &mut Vec<u8>, line: &[u8]) -> Result<(), Unread>
+        requires legal { self.old.wrong ≡ None }
+        requires few { self.old.count < 2 ^ 32 - 1 }
+        ensures { Takes self.old self.new line.now result }
+    {
+        match send_front(line) {
+            Some((id, frame)) => self.carry_event(alloc, buffer, &Event::Send(id, frame), line),
+            None => self.carry_other(alloc, buffer, line),
+        }
+    }
+
+    // The same of a line of any kind.
+    #[inline(never)]
+    fn carry_other(
+        &mut self,
+        alloc: Global,
+        buffer: &mut Vec<u8>,
+        line: &[u8],
+    ) -> Result<(), Unread>
+        requires legal { self.old.wrong ≡ None }
+        requires few { self.old.count < 2 ^ 32 - 1 }
+        ensures { Takes self.old self.new line.now result }
+    {
+        match guess_event(alloc, line) {
+            Ok((event, _)) => self.carry_event(alloc, buffer, &event, line),
+            Err(why) => Err(why),
+        }
+    }
+
+    // The line of this event, which it seems to be of, while all were legal: it is compared with the line of the event with
+    // the reply of the bus.
+    fn carry_event(
+        &mut self,
+        alloc: Global,
+        buffer: &mut Vec<u8>,
+        event: &Event,
+        line: &[u8],
+    ) -> Result<(), Unread>
+        requires legal { self.old.wrong ≡ None }
+        requires few { self.old.count < 2 ^ 32 - 1 }
+        requires seems { SeemsToBe line.now event.now }
+        ensures { Takes self.old self.new line.now result }
+    {
+        let reply = self.bus.answer(alloc, event);
+        if is_past_limit(&reply) {
+            return self.report_wrong_past(alloc, buffer, line);
+        }
+        if !reply.enters() {
+            return Err(Unread::NoMemory);
+        }
+        match is_line_of(buffer, event, &reply, line) {
+            Ok(true) => {}
+            Ok(false) => return self.report_wrong_reply(alloc, buffer, line, reply),
+            Err(_) => return Err(Unread::NoMemory),
+        }
+        hold_event(event);
+        hold_reply(&reply);
+        let fd = has_fd(event, &reply);
+        if !may_stand(self.version, fd) {
+            return Err(Unread::Bad);
+        }
+        self.add(fd);
+        Ok(())
+    }
+
+    // The first line past the limit.
+    #[inline(never)]
+    fn report_wrong_past(
+        &mut self,
+        alloc: Global,
+        buffer: &mut Vec<u8>,
+        line: &[u8],
+    ) -> Result<(), Unread>
+        requires legal { self.old.wrong ≡ None }
+        requires few { self.old.count < 2 ^ 32 - 1 }
+        ensures { ReportsWrong self.old self.new line.now None result }
+    {
+        self.report_wrong(alloc, buffer, line, None)
+    }
+
+    // The first line whose reply is not this one, which would be legal.
+    #[inline(never)]
+    fn report_wrong_reply(
+        &mut self,
+        alloc: Global,
+        buffer: &mut Vec<u8>,
+        line: &[u8],
+        legal: Reply,
+    ) -> Result<(), Unread>
+        requires legal { self.old.wrong ≡ None }
+        requires few { self.old.count < 2 ^ 32 - 1 }
+        ensures { ReportsWrong self.old self.new line.now (Some legal) result }
+    {
+        self.report_wrong(alloc, buffer, line, Some(legal))
+    }
+
+    // The first entry's line that is not legal.
+    fn report_wrong(
+        &mut self,
+        alloc: Global,
+        buffer: &mut Vec<u8>,
+        line: &[u8],
+        legal: Option<Reply>,
+    ) -> Result<(), Unread>
+        requires legal { self.old.wrong ≡ None }
+        requires few { self.old.count < 2 ^ 32 - 1 }
+        ensures { ReportsWrong self.old self.new line.now legal result }
+    {
+        let entry = read_line(buffer, alloc, self.version, self.config, line)?;
+        let fd = has_fd(&entry.event, &entry.reply);
+        let place = self.count as usize;
+        self.add(fd);
+        self.wrong = Some(WrongLine {
+            place,
+            entry,
+            legal,
+            limit: self.config.limit,
+        });
+        Ok(())
+    }
+
+    // An entry's line after a wrong one.
+    #[inline(never)]
+    fn read_on(&mut self, alloc: Global, buffer: &mut Vec<u8>, line: &[u8]) -> Result<(), Unread>
+        requires wrong { IsSome self.old.wrong }
+        requires few { self.old.count < 2 ^ 32 - 1 }
+        ensures { Takes self.old self.new line.now result }
+    {
+        let entry = read_line(buffer, alloc, self.version, self.config, line)?;
+        self.add(has_fd(&entry.event, &entry.reply));
+        Ok(())
+    }
+
+    // One entry more.
+    fn add(&mut self, fd: bool)
+        requires { self.old.count < 2 ^ 32 - 1 }
+        ensures { self.new
+            ≡ record self.old { count = self.old.count + 1; fd = self.old.fd || fd } }
+    {
+        self.count += 1;
+        self.fd |= fd;
+    }
+
+    // The line of the end.
+    fn end(&mut self, buffer: &mut Vec<u8>, line: &[u8]) -> Result<(), ReadFault>
+        ensures ended { OnOk result (self.new ≡ record self.old { is_ended = true }) }
+        ensures line { OnOk result (StandsEnd self.old.count line.now) }
+        ensures fault { IfErr result (λ why. IsUnended self.old.count line.now why) }
+        ensures few { self.old.count < 2 ^ 64 }
+    {
+        buffer.clear();
+        match put_end(buffer, u64::from(self.count)) {
+            Ok(()) => {}
+            Err(_) => return Err(ReadFault::NoMemory),
+        }
+        if !begins(line, buffer) {
+            return Err(ReadFault::BadLine(u64::from(self.count) + 3));
+        }
+        self.is_ended = true;
+        Ok(())
+    }
+
+    /// Whether the line of the end was taken.
+    pub fn has_ended(&self) -> bool
+        ensures { result ≡ self.now.is_ended }
+    {
+        self.is_ended
+    }
+
+    /// The text has ended.
+    pub fn finish(self) -> Result<usize, TextFault>
+        ensures { (text : List ℕ) → IsGoing text self → Tells text result }
+    {
+        let EntryAudit {
+            version,
+            count,
+            fd,
+            wrong,
+            is_ended,
+            ..
+        } = self;
+        if !is_ended {
+            return Err(TextFault::Read(ReadFault::BadLine(u64::from(count) + 3)));
+        }
+        if is_needless(version, fd) {
+            return Err(TextFault::Read(ReadFault::BadVersion));
+        }
+        match wrong {
+            None => Ok(count as usize),
+            Some(wrong) => Err(TextFault::Wrong(wrong)),
+        }
+    }
+
+    /// The text has ended, maybe before its end: these bytes follow the lines that were taken, and end no line.
+    pub fn finish_cut(self, torn: &[u8]) -> Result<Cut, TextFault>
+        ensures { (text : List ℕ) →
+            IsGoing text self → EndsNoLine torn.now → TellsCut (text ++ torn.now) result }
+    {
+        if self.is_ended {
+            self.finish_whole(torn)
+        } else {
+            self.finish_off(torn)
+        }
+    }
+
+    // The same of a text that has its end, which nothing may follow.
+    fn finish_whole(self, torn: &[u8]) -> Result<Cut, TextFault>
+        requires { self.is_ended ≡ true }
+        ensures { (text : List ℕ) → IsGoing text self → TellsCut (text ++ torn.now) result }
+    {
+        if !torn.is_empty() {
+            return Err(TextFault::Read(ReadFault::BadLine(u64::from(self.count) + 4)));
+        }
+        match self.finish() {
+            Ok(count) => Ok(Cut::Whole(count)),
+            Err(why) => Err(why),
+        }
+    }
+
+    // The same of a text without its end.
+    fn finish_off(self, torn: &[u8]) -> Result<Cut, TextFault>
+        requires { self.is_ended ≡ false }
+        ensures { (text : List ℕ) →
+            IsGoing text self → EndsNoLine torn.now → TellsCut (text ++ torn.now) result }
+    {
+        let EntryAudit { count, wrong, .. } = self;
+        match wrong {
+            None => Ok(Cut::Off(count as usize)),
+            Some(first) => Err(TextFault::Wrong(first)),
+        }
+    }
+}
+
+/// Whether a line with an FD frame or the option for such, or one without, is allowed in this version.
+fn may_stand(version: Version, fd: bool) -> bool
+    ensures yes { IsTrue result → fd ≡ true → takes_fd version ≡ true }
+    ensures no { result ≡ false → (fd ≡ true) × (takes_fd version ≡ false) }
+{
+    !fd || version.takes_fd()
+}
+
+/// Whether a text of this version, with an FD frame or the option for such, or without, has nothing that takes it.
+fn is_needless(version: Version, fd: bool) -> bool
+    ensures yes { IsTrue result → (version ≡ Version.Three) × (fd ≡ false) }
+    ensures no { result ≡ false → version ≡ Version.Three → fd ≡ true }
+{
+    version == Version::Three && !fd
+}
+
+/// Whether the record was full.
+fn is_past_limit(reply: &Reply) -> bool
+    ensures { IsTrue result ↔ (reply.now ≡ Reply.Refused Refusal.RecordFull) }
+{
+    matches!(reply, Reply::Refused(Refusal::RecordFull))
+}

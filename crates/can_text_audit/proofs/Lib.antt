@@ -1,5 +1,0 @@
-pub mod PlainWords
-pub mod LineEnds
-pub mod Answering
-pub mod Taking
-pub mod Ending

@@ -1,9 +1,0 @@
-use Rattle.std.proofs.Common.{inr}
-use Rattle.can_text_audit.proofs.Ending.{cut_legal, cut_wrong}
-use Rattle.can_text_audit.proofs.body.Body.finish_off.Goals as goal
-
-pub returns-in-None : goal.returns-in-None
-returns-in-None c = λ text g torn. cut_legal text c.args.torn.now c.args.self g c.requires torn c.in-None.is
-
-pub returns : goal.returns
-returns c = λ text g torn. inr (cut_wrong text c.args.torn.now c.args.self c.in-Some.first g c.requires torn c.in-Some.is)

@@ -1,2 +1,0 @@
-pub mod TextAudits
-pub mod inner

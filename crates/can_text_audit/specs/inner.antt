@@ -1,3 +1,0 @@
-pub mod Carried
-pub mod Bodies
-pub mod Steps
