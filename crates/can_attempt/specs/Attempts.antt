@@ -176,11 +176,11 @@ abbrev pub judged : Transmission → Judgement
 judged t = record { class = class_of t; accepted = set_of (accepted_in (class_of t) t); hit = set_of (hit t); counters = map (counts_after t) (range_with_len 0 16); off = set_of (off_after t) }
 
 -- nothing can go wrong between these nodes: no fault, somebody who acknowledges, and all counts 0 (own choice)
-pub record IsCalm (nodes : Nodes) (v : Verdict) (a : AckMode) : Type 0 where
+pub record IsFaultFree (nodes : Nodes) (v : Verdict) (a : AckMode) : Type 0 where
   pub good : v ≡ verdict.Good
   pub acknowledged : IsTrue (is_always a || nat_lt 1 nodes.count)
   pub zeros : All (λ c. c ≡ at_start) nodes.counters
 
 -- this follows from an attempt of w between these nodes, where nothing can go wrong (own choice)
 abbrev pub IsCalmJudgement : Nodes → ℕ → Judgement → Type 0
-IsCalmJudgement nodes w j = (v : Verdict) (a : AckMode) → IsCalm nodes v a → j ≡ judged (attempt_between nodes w v a)
+IsCalmJudgement nodes w j = (v : Verdict) (a : AckMode) → IsFaultFree nodes v a → j ≡ judged (attempt_between nodes w v a)

@@ -2,7 +2,7 @@ ghost use Rattle.std.specs.Prelude.{◌≡◌, ◌==◌, ◌<◌, ◌≤◌, ◌
 ghost use Rattle.std.specs.List.{range_with_len};
 ghost use Rattle.can_frame.specs.Sets.{set_where};
 ghost use Rattle.can_confine.specs.Confinement.{all_stepped, is_off, state_of};
-ghost use Rattle.can_attempt.specs.Attempts.{IsCalm, IsCalmJudgement, Transmission, accepted_in, attempt_between, class_when, counts_in, counts_at, is_always, is_global, is_last_bit, judged, set_of, unhurt, winner_step, receiver_step};
+ghost use Rattle.can_attempt.specs.Attempts.{IsFaultFree, IsCalmJudgement, Transmission, accepted_in, attempt_between, class_when, counts_in, counts_at, is_always, is_global, is_last_bit, judged, set_of, unhurt, winner_step, receiver_step};
 ghost use Rattle.can_attempt.specs.declared.ack_mode.AckMode.{AckMode};
 
 use crate::ack_mode::AckMode;
@@ -124,8 +124,8 @@ fn off_of(winner: Iface, counters: Counters) -> IfaceSet
 
 /// Whether nothing can go wrong in an attempt: no fault, somebody who acknowledges, and all counts 0.
 /// It looks at all 16 places.
-pub fn is_calm(nodes: &Nodes, verdict: Verdict, ack: AckMode) -> bool
-    ensures { IsTrue result → IsCalm nodes.now verdict ack }
+pub fn is_fault_free(nodes: &Nodes, verdict: Verdict, ack: AckMode) -> bool
+    ensures { IsTrue result → IsFaultFree nodes.now verdict ack }
 {
     matches!(verdict, Verdict::Good)
         && (ack == AckMode::Always || nodes.count > 1)
@@ -143,7 +143,7 @@ fn others(count: u8, one: Iface) -> IfaceSet
 }
 
 /// What follows where nothing can go wrong: the others accept the frame, and all counts stay.
-fn judge_calm(nodes: &Nodes, winner: Iface) -> Judgement
+fn judge_fault_free(nodes: &Nodes, winner: Iface) -> Judgement
     requires count { nodes.now.count ≤ 16 }
     requires there { winner < nodes.now.count }
     ensures { IsCalmJudgement nodes.now winner result }
@@ -186,26 +186,26 @@ pub fn judge(nodes: &Nodes, winner: Iface, verdict: Verdict, ack: AckMode) -> Ju
     requires live { is_off (state_of (counts_at nodes.now winner)) ≡ false }
     ensures { result ≡ judged (attempt_between nodes.now winner verdict ack) }
 {
-    let is_calm = is_calm(nodes, verdict, ack);
-    judge_asked(nodes, winner, verdict, ack, is_calm)
+    let is_fault_free = is_fault_free(nodes, verdict, ack);
+    judge_known(nodes, winner, verdict, ack, is_fault_free)
 }
 
-/// Judges an attempt as `judge` does, where it was asked before whether nothing can go wrong (`is_calm`).
-pub fn judge_asked(
+/// Judges an attempt as `judge` does, where it was asked before whether nothing can go wrong (`is_fault_free`).
+pub fn judge_known(
     nodes: &Nodes,
     winner: Iface,
     verdict: Verdict,
     ack: AckMode,
-    is_calm: bool,
+    is_fault_free: bool,
 ) -> Judgement
     requires count { nodes.now.count ≤ 16 }
     requires there { winner < nodes.now.count }
     requires live { is_off (state_of (counts_at nodes.now winner)) ≡ false }
-    requires calm { IsTrue is_calm → IsCalm nodes.now verdict ack }
+    requires calm { IsTrue is_fault_free → IsFaultFree nodes.now verdict ack }
     ensures { result ≡ judged (attempt_between nodes.now winner verdict ack) }
 {
-    if is_calm {
-        judge_calm(nodes, winner)
+    if is_fault_free {
+        judge_fault_free(nodes, winner)
     } else {
         judge_each(nodes, winner, verdict, ack)
     }

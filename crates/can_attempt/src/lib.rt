@@ -16,5 +16,5 @@ mod survey;
 pub use ack_mode::AckMode;
 pub use class::Class;
 pub use judgement::Judgement;
-pub use judging::{is_calm, judge, judge_asked};
+pub use judging::{is_fault_free, judge, judge_known};
 pub use nodes::Nodes;

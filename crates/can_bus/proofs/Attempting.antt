@@ -32,13 +32,13 @@ use Rattle.can_bus.specs.Attempts.{winner, tried_with, attempt_reply, tried_head
 use Rattle.can_bus.specs.Posts.{Post, attempt_posts, auto_restart_posts, posts_of}
 use Rattle.can_bus.specs.Queues.{passing, candidates_of, queued_to, dropped_at, taken_from}
 use Rattle.can_bus.specs.Legal.{legal_reply, IsLegal}
-use Rattle.can_bus.specs.State.{LineState, SocketState, Parts, filled, reached, key_in, kept_line, kept_lines, kept_socket, kept_sockets, kept_keys, kept_nodes, kept_left, kept_parts, IsKept}
+use Rattle.can_bus.specs.State.{InterfaceState, SocketState, Parts, filled, reached, key_in, kept_interface, kept_interfaces, kept_socket, kept_sockets, kept_keys, kept_nodes, kept_left, kept_parts, IsKept}
 use Rattle.can_bus.specs.Changes.{Carries, Tries, Attempts, came_to, settled, tried_in, after_try, after_auto_restart, begun_anew, counting_down, due_in, ticked, AreReady}
 use Rattle.can_bus.proofs.CountingFacts.{live-restarted-not}
 use Rattle.can_bus.proofs.Filling.{filled-both}
 use Rattle.can_bus.proofs.Keeping.{Follows, parts-are}
 use Rattle.can_bus.proofs.KeyFacts.{kept_keys-one}
-use Rattle.can_bus.proofs.LineFacts.{IsLine, IsLine-at, kept_lines-one, length-kept_lines}
+use Rattle.can_bus.proofs.InterfaceFacts.{IsInterface, IsInterface-at, kept_interfaces-one, length-kept_interfaces}
 use Rattle.can_bus.proofs.Lists.{slice_get-drop, list_any_there}
 use Rattle.can_bus.proofs.Lawful.{taken_from-le-queued}
 use Rattle.can_bus.proofs.LeftFacts.{CountsOn, due-kept, left-counted, left-never, left-off}
@@ -83,35 +83,35 @@ between-is c past w v legal few =
 abbrev counted : BusConfig → List Entry → Parts
 counted c past = record (kept_parts c past) { left = ticked (kept_left c past) }
 
--- the winner's line and frame, by the history
-record IsCarried (c : BusConfig) (past : List Entry) (m : ℕ) (v : Verdict) (t : Tried) (w : ℕ) (l : LineState) (p : Pending) : Type 0 where
-  is_line : IsLine c past w l
+-- the winner's interface and frame, by the history
+record IsCarried (c : BusConfig) (past : List Entry) (m : ℕ) (v : Verdict) (t : Tried) (w : ℕ) (l : InterfaceState) (p : Pending) : Type 0 where
+  is_interface : IsInterface c past w l
   won : winner c past ≡ Some w
   head_is : head_of past w ≡ Some p
   tried_is : t ≡ tried_with c past m v w p.frame
 
-the_winner : (c : BusConfig) (past : List Entry) (m : ℕ) (v : Verdict) (t : Tried) (new : Parts) → IsLegal c past → c.ifaces ≤ 16 → (k : Carries (counted c past) c m v (due_in (kept_left c past)) t new) → IsCarried c past m v t k.place k.line k.pending
+the_winner : (c : BusConfig) (past : List Entry) (m : ℕ) (v : Verdict) (t : Tried) (new : Parts) → IsLegal c past → c.ifaces ≤ 16 → (k : Carries (counted c past) c m v (due_in (kept_left c past)) t new) → IsCarried c past m v t k.place k.interface k.pending
 the_winner c past m v t new legal few k =
     let w = k.place in
-    let line = IsLine-at c past (kept_lines c past) w k.line refl k.there in
-    let number : k.line.gone ≡ gone_count past w = ap (λ (l : LineState). l.gone) line.left in
+    let interface = IsInterface-at c past (kept_interfaces c past) w k.interface refl k.there in
+    let number : k.interface.gone ≡ gone_count past w = ap (λ (l : InterfaceState). l.gone) interface.left in
     record {
-      is_line = line;
+      is_interface = interface;
       won = winner-is c past legal few w k.wins;
-      head_is = sym (slice_get-drop (gone_count past w) (sent_by past w)) ∙ ap (λ (l : LineState). slice_get l.waiting 0) (sym line.left) ∙ k.oldest;
+      head_is = sym (slice_get-drop (gone_count past w) (sent_by past w)) ∙ ap (λ (l : InterfaceState). slice_get l.waiting 0) (sym interface.left) ∙ k.oldest;
       tried_is = k.tried
           ∙ ap (λ (n : ℕ). tried_in (attempt_between (kept_nodes c past) w v c.ack) m n (due_in (kept_left c past)) k.pending) number
           ∙ ap (λ (tr : Transmission). tried_in tr m (gone_count past w) (due_in (kept_left c past)) k.pending) (between-is c past w v legal few)
           ∙ ap (λ (rs : IfaceSet). tried_in (transmission c past w v) m (gone_count past w) rs k.pending) (due-kept c past legal);
     }
 
-reply-tried : (c : BusConfig) (past : List Entry) (m : ℕ) (v : Verdict) (t : Tried) (w : ℕ) (l : LineState) (p : Pending) → IsCarried c past m v t w l p → reply.Tried t ≡ legal_reply c past (event.Attempt m v)
+reply-tried : (c : BusConfig) (past : List Entry) (m : ℕ) (v : Verdict) (t : Tried) (w : ℕ) (l : InterfaceState) (p : Pending) → IsCarried c past m v t w l p → reply.Tried t ≡ legal_reply c past (event.Attempt m v)
 reply-tried c past m v t w l p is =
     ap (λ (u : Tried). reply.Tried u) is.tried_is
     ∙ ap (tried_head c past m v w) (sym is.head_is)
     ∙ ap (attempt_reply c past m v) (sym is.won)
 
--- ---- the lines
+-- ---- the interfaces
 
 off-alone : (tr : Transmission) (j : ℕ) → j ≢ tr.winner → is_in j (set_of (off_after tr)) ≡ false
 off-alone tr j ne = is_in-of (off_after tr) j ∙ and_right (nat_lt j 16) (is_among j (off_after tr)) (alone (is_off (state_of (counts_after tr tr.winner))))
@@ -134,8 +134,8 @@ gone-other c past m v t w j f is ne =
 done-other : (c : BusConfig) (past : List Entry) (m : ℕ) (v : Verdict) (t : Tried) (w j : ℕ) (f : CanFrame) → t ≡ tried_with c past m v w f → j ≢ w → done_count (entry m v (attempt.Tried t) ∷ past) j ≡ done_count past j
 done-other c past m v t w j f is ne = cond-false ((t.winner == j) && is_done t.class) (done_count past j + 1) (done_count past j) (other-winner c past m v t w j f is ne)
 
-line-other : (c : BusConfig) (past : List Entry) (m : ℕ) (v : Verdict) (t : Tried) (w j : ℕ) (f : CanFrame) → t ≡ tried_with c past m v w f → j ≢ w → kept_line c (entry m v (attempt.Tried t) ∷ past) j ≡ kept_line c past j
-line-other c past m v t w j f is ne =
+interface-other : (c : BusConfig) (past : List Entry) (m : ℕ) (v : Verdict) (t : Tried) (w j : ℕ) (f : CanFrame) → t ≡ tried_with c past m v w f → j ≢ w → kept_interface c (entry m v (attempt.Tried t) ∷ past) j ≡ kept_interface c past j
+interface-other c past m v t w j f is ne =
     let g = gone-other c past m v t w j f is ne in
     let d = done-other c past m v t w j f is ne in
     cc
@@ -144,46 +144,46 @@ drop-all : {X : Type 0} (xs : List X) → drop (length xs) xs ≡ []
 drop-all [] = refl
 drop-all (x ∷ xs) = drop-all xs
 
--- the winner's line, by whether it is done and whether it went off
-settle-kept : (room refused gone done : ℕ) (sent : List Pending) (off is_done' : Bool) → ◌≡◌ {A = LineState}
+-- the winner's interface, by whether it is done and whether it went off
+finish_attempt-kept : (room refused gone done : ℕ) (sent : List Pending) (off is_done' : Bool) → ◌≡◌ {A = InterfaceState}
     (record { waiting = if off then [] else if is_done' then drop 1 (drop gone sent) else drop gone sent; room = room; sent = length sent; gone = if off then length sent else if is_done' then gone + 1 else gone; done = if is_done' then done + 1 else done; refused = refused })
     (record { waiting = drop (if off then length sent else if is_done' then gone + 1 else gone) sent; room = room; sent = length sent; gone = if off then length sent else if is_done' then gone + 1 else gone; done = if is_done' then done + 1 else done; refused = refused })
-settle-kept room refused gone done sent true is_done' = ap (λ (ps : List Pending). record { waiting = ps; room = room; sent = length sent; gone = length sent; done = if is_done' then done + 1 else done; refused = refused }) (sym (drop-all sent))
-settle-kept room refused gone done sent false true = ap (λ (ps : List Pending). record { waiting = ps; room = room; sent = length sent; gone = gone + 1; done = done + 1; refused = refused }) (drop-drop 1 gone sent)
-settle-kept room refused gone done sent false false = refl
+finish_attempt-kept room refused gone done sent true is_done' = ap (λ (ps : List Pending). record { waiting = ps; room = room; sent = length sent; gone = length sent; done = if is_done' then done + 1 else done; refused = refused }) (sym (drop-all sent))
+finish_attempt-kept room refused gone done sent false true = ap (λ (ps : List Pending). record { waiting = ps; room = room; sent = length sent; gone = gone + 1; done = done + 1; refused = refused }) (drop-drop 1 gone sent)
+finish_attempt-kept room refused gone done sent false false = refl
 
-abbrev line-by : BusConfig → List Entry → ℕ → Bool → Bool → LineState
-line-by c past w off here = record {
+abbrev interface-by : BusConfig → List Entry → ℕ → Bool → Bool → InterfaceState
+interface-by c past w off here = record {
   waiting = drop (if off then length (sent_by past w) else if here then gone_count past w + 1 else gone_count past w) (sent_by past w);
   room = c.tx_capacity;
   sent = length (sent_by past w);
   gone = if off then length (sent_by past w) else if here then gone_count past w + 1 else gone_count past w;
   done = if here then done_count past w + 1 else done_count past w;
-  refused = (kept_line c past w).refused;
+  refused = (kept_interface c past w).refused;
 }
 
-line-tried : (c : BusConfig) (past : List Entry) (m : ℕ) (v : Verdict) (t : Tried) (w : ℕ) (l : LineState) (p : Pending) → IsCarried c past m v t w l p → settled t.class (is_in w t.off) l ≡ kept_line c (entry m v (attempt.Tried t) ∷ past) w
-line-tried c past m v t w l p is =
+interface-tried : (c : BusConfig) (past : List Entry) (m : ℕ) (v : Verdict) (t : Tried) (w : ℕ) (l : InterfaceState) (p : Pending) → IsCarried c past m v t w l p → settled t.class (is_in w t.off) l ≡ kept_interface c (entry m v (attempt.Tried t) ∷ past) w
+interface-tried c past m v t w l p is =
     let who : (t.winner == w) ≡ true = eq-eqb t.winner w (ap (λ (u : Tried). u.winner) is.tried_is) in
     let won : ((t.winner == w) && is_done t.class) ≡ is_done t.class = ap (λ (b : Bool). b && is_done t.class) who in
-    ap (settled t.class (is_in w t.off)) is.is_line.left
-    ∙ settle-kept c.tx_capacity (kept_line c past w).refused (gone_count past w) (done_count past w) (sent_by past w) (is_in w t.off) (is_done t.class)
-    ∙ ap (line-by c past w (is_in w t.off)) (sym won)
+    ap (settled t.class (is_in w t.off)) is.is_interface.left
+    ∙ finish_attempt-kept c.tx_capacity (kept_interface c past w).refused (gone_count past w) (done_count past w) (sent_by past w) (is_in w t.off) (is_done t.class)
+    ∙ ap (interface-by c past w (is_in w t.off)) (sym won)
 
-lines-tried : (c : BusConfig) (past : List Entry) (m : ℕ) (v : Verdict) (t : Tried) (w : ℕ) (l : LineState) (p : Pending) → IsCarried c past m v t w l p → slice_set (kept_lines c past) w (settled t.class (is_in w t.off) l) ≡ kept_lines c (entry m v (attempt.Tried t) ∷ past)
-lines-tried c past m v t w l p is =
-    ap (slice_set (kept_lines c past) w) (line-tried c past m v t w l p is)
-    ∙ sym (kept_lines-one c past (entry m v (attempt.Tried t)) w is.is_line.below (λ j ne. line-other c past m v t w j p.frame is.tried_is ne))
+interfaces-tried : (c : BusConfig) (past : List Entry) (m : ℕ) (v : Verdict) (t : Tried) (w : ℕ) (l : InterfaceState) (p : Pending) → IsCarried c past m v t w l p → slice_set (kept_interfaces c past) w (settled t.class (is_in w t.off) l) ≡ kept_interfaces c (entry m v (attempt.Tried t) ∷ past)
+interfaces-tried c past m v t w l p is =
+    ap (slice_set (kept_interfaces c past) w) (interface-tried c past m v t w l p is)
+    ∙ sym (kept_interfaces-one c past (entry m v (attempt.Tried t)) w is.is_interface.below (λ j ne. interface-other c past m v t w j p.frame is.tried_is ne))
 
 -- ---- the keys
 
-keys-tried : (c : BusConfig) (past : List Entry) (m : ℕ) (v : Verdict) (t : Tried) (w : ℕ) (l : LineState) (p : Pending) → c.ifaces ≤ 16
+keys-tried : (c : BusConfig) (past : List Entry) (m : ℕ) (v : Verdict) (t : Tried) (w : ℕ) (l : InterfaceState) (p : Pending) → c.ifaces ≤ 16
     → IsCarried c past m v t w l p
     → slice_set (kept_keys past) w (key_in (slice_get (settled t.class (is_in w t.off) l).waiting 0)) ≡ kept_keys (entry m v (attempt.Tried t) ∷ past)
 keys-tried c past m v t w l p few is =
     let e = entry m v (attempt.Tried t) in
-    let below : w < 16 = omega (arith, is.is_line.below) in
-    let front : slice_get (settled t.class (is_in w t.off) l).waiting 0 ≡ head_of (e ∷ past) w = ap (λ (k : LineState). slice_get k.waiting 0) (line-tried c past m v t w l p is) ∙ slice_get-drop (gone_count (e ∷ past) w) (sent_by past w) in
+    let below : w < 16 = omega (arith, is.is_interface.below) in
+    let front : slice_get (settled t.class (is_in w t.off) l).waiting 0 ≡ head_of (e ∷ past) w = ap (λ (k : InterfaceState). slice_get k.waiting 0) (interface-tried c past m v t w l p is) ∙ slice_get-drop (gone_count (e ∷ past) w) (sent_by past w) in
     ap (λ (q : Option Pending). slice_set (kept_keys past) w (key_in q)) front
     ∙ sym (kept_keys-one past e w below (λ j ne. ap (λ (n : ℕ). slice_get (sent_by past j) n) (gone-other c past m v t w j p.frame is.tried_is ne)))
 
@@ -206,7 +206,7 @@ counts-kept : (restarted : Bool) (before : List Step) → all_stepped at_start (
 counts-kept true before = refl
 counts-kept false before = refl
 
-nodes-tried : (c : BusConfig) (past : List Entry) (m : ℕ) (v : Verdict) (t : Tried) (w : ℕ) (l : LineState) (p : Pending) → IsLegal c past
+nodes-tried : (c : BusConfig) (past : List Entry) (m : ℕ) (v : Verdict) (t : Tried) (w : ℕ) (l : InterfaceState) (p : Pending) → IsLegal c past
     → c.ifaces ≤ 16 → IsCarried c past m v t w l p
     → begun_anew t.restarted (record (kept_nodes c past) { counters = (judged (attempt_between (kept_nodes c past) w v c.ack)).counters }) ≡ kept_nodes c (entry m v (attempt.Tried t) ∷ past)
 unfolding kept_nodes
@@ -237,7 +237,7 @@ on-tried c past m v t i named live =
     ap (λ (rs : IfaceSet). if is_in i rs then None else if is_in i t.off then Some 0 else option_map suc (attempts_off past i)) named
     ∙ ap (λ (b : Bool). if is_in i (restarted_next c past) then None else if b then Some 0 else option_map suc (attempts_off past i)) live
 
-left-tried : (c : BusConfig) (past : List Entry) (m : ℕ) (v : Verdict) (t : Tried) (w : ℕ) (l : LineState) (p : Pending) → IsLegal c past → c.ifaces ≤ 16 → IsCarried c past m v t w l p
+left-tried : (c : BusConfig) (past : List Entry) (m : ℕ) (v : Verdict) (t : Tried) (w : ℕ) (l : InterfaceState) (p : Pending) → IsLegal c past → c.ifaces ≤ 16 → IsCarried c past m v t w l p
     → counting_down c.auto_restart w (is_in w t.off) (ticked (kept_left c past)) ≡ kept_left c (entry m v (attempt.Tried t) ∷ past)
 left-tried c past m v t w l p legal few is = when (is_in w t.off) refl
   where
@@ -259,7 +259,7 @@ left-tried c past m v t w l p legal few is = when (is_in w t.off) refl
     when : (b : Bool) → is_in w t.off ≡ b → counting_down c.auto_restart w b (ticked (kept_left c past)) ≡ kept_left c (entry m v (attempt.Tried t) ∷ past)
     when false live = left-counted c past (entry m v (attempt.Tried t)) (all live)
     when true off =
-        left-off c past (entry m v (attempt.Tried t)) w (omega (arith, is.is_line.below, few))
+        left-off c past (entry m v (attempt.Tried t)) w (omega (arith, is.is_interface.below, few))
         (ap (λ (b : Bool). if b then None else if is_in w t.off then Some 0 else option_map suc (attempts_off past w)) stays ∙ ap (λ (b : Bool). if b then Some 0 else option_map suc (attempts_off past w)) off)
         others
 
@@ -306,7 +306,7 @@ sockets-told c past e posts old after legal are posts_are same_places same_open 
     ∙ filled_at c past e o (taken_from-le-queued c past legal o) same_places (same_filters o) (same_options o) (same_taken o))
     ∙ ap (map (kept_socket c (e ∷ past))) (sym same_open)
 
-posts-tried : (c : BusConfig) (past : List Entry) (m : ℕ) (v : Verdict) (t : Tried) (w : ℕ) (l : LineState) (p : Pending) → IsLegal c past
+posts-tried : (c : BusConfig) (past : List Entry) (m : ℕ) (v : Verdict) (t : Tried) (w : ℕ) (l : InterfaceState) (p : Pending) → IsLegal c past
     → c.ifaces ≤ 16 → IsCarried c past m v t w l p → (i : ℕ)
     → attempt_posts c.reporting (attempt_between (kept_nodes c past) w v c.ack) t (Some p) i ++ auto_restart_posts t.restarted m i ≡ posts_of c past i (event.Attempt m v) (reply.Tried t)
 posts-tried c past m v t w l p legal few is i =
@@ -327,8 +327,8 @@ reached-both p q (v ∷ vs) =
 
 -- ---- the call
 
-idle-same : (c : BusConfig) (past : List Entry) (m : ℕ) (v : Verdict) (rs : IfaceSet) → (kept_lines c (entry m v (attempt.Idle rs) ∷ past) ≡ kept_lines c past) × (kept_keys (entry m v (attempt.Idle rs) ∷ past) ≡ kept_keys past)
-unfolding kept_lines kept_keys
+idle-same : (c : BusConfig) (past : List Entry) (m : ℕ) (v : Verdict) (rs : IfaceSet) → (kept_interfaces c (entry m v (attempt.Idle rs) ∷ past) ≡ kept_interfaces c past) × (kept_keys (entry m v (attempt.Idle rs) ∷ past) ≡ kept_keys past)
+unfolding kept_interfaces kept_keys
 idle-same c past m v rs = (refl, refl)
 
 -- an attempt, in which a frame was tried or none, leaves what its entry leaves
@@ -353,7 +353,7 @@ came_follows c past m v None between new legal few tries after =
 came_follows c past m v (Some t) between new legal few k after =
     let e = entry m v (attempt.Tried t) in
     let w = k.place in
-    let l = k.line in
+    let l = k.interface in
     let p = k.pending in
     let rs = due_in (kept_left c past) in
     let named : rs ≡ t.restarted = sym (ap (λ (u : Tried). u.restarted) k.tried) in
@@ -365,7 +365,7 @@ came_follows c past m v (Some t) between new legal few k after =
           ∙ ap (λ (q : Parts). after_auto_restart q rs m) k.after
           ∙ ap (λ (s : IfaceSet). after_auto_restart (after_try (counted c past) c tr l p t) s m) named
           ∙ parts-are (after_auto_restart (after_try (counted c past) c tr l p t) t.restarted m) (kept_parts c (e ∷ past))
-          (lines-tried c past m v t w l p is)
+          (interfaces-tried c past m v t w l p is)
           (keys-tried c past m v t w l p few is)
           (nodes-tried c past m v t w l p legal few is)
           (left-tried c past m v t w l p legal few is)
@@ -388,12 +388,12 @@ kept-ready c past legal few w k at =
     let has = holds_key past w k at in
     let below : w < c.ifaces = head-below c past legal w has.pending has.head in
     record {
-      there = omega (arith, below, length-kept_lines c past);
+      there = omega (arith, below, length-kept_interfaces c past);
       counted = omega (arith, below, count-kept c past);
       live = is_off_at-kept c past w has.few ∙ not_true (is_off (state_at c past w)) (λ off. let none = off-no-head c past legal few w off in clash has.pending (head_of past w) has.head none);
       has_head = λ l at_w.
-          let line = IsLine-at c past (kept_lines c past) w l refl at_w in
-          ap (λ (x : LineState). is_some (slice_get x.waiting 0)) line.left ∙ ap (λ (q : Option Pending). is_some q) (slice_get-drop (gone_count past w) (sent_by past w) ∙ has.head);
+          let interface = IsInterface-at c past (kept_interfaces c past) w l refl at_w in
+          ap (λ (x : InterfaceState). is_some (slice_get x.waiting 0)) interface.left ∙ ap (λ (q : Option Pending). is_some q) (slice_get-drop (gone_count past w) (sent_by past w) ∙ has.head);
     }
   where
     not_true : (b : Bool) → (b ≡ true → ⊥) → b ≡ false

@@ -16,8 +16,8 @@ use Rattle.can_bus.specs.Sockets.{Place, places, places_after, open_sockets, ifa
 use Rattle.can_record.specs.Tapes.{tape, tape_after}
 use Rattle.can_bus.specs.Queues.{queued_to, taken_from}
 use Rattle.can_bus.specs.Legal.{IsLegal}
-use Rattle.can_bus.specs.State.{LineState, SocketState, Parts, kept_line, kept_lines, kept_socket, kept_sockets, IsKept}
-use Rattle.can_bus.proofs.LineFacts.{length-kept_lines}
+use Rattle.can_bus.specs.State.{InterfaceState, SocketState, Parts, kept_interface, kept_interfaces, kept_socket, kept_sockets, IsKept}
+use Rattle.can_bus.proofs.InterfaceFacts.{length-kept_interfaces}
 use Rattle.can_bus.proofs.Lawful.{sent_by-le, gone-le-sent, done-le-gone, refused-le, dropped-le, queued-le, taken_from-le-queued, open-iface}
 
 -- The counts of a bus are small: it has no more entries than its limit.
@@ -29,11 +29,11 @@ legal-short c (e ∷ past) legal = omega (arith, legal.0)
 pub short : (j : Kept) (parts : Parts) → IsKept j parts → length j.history ≤ max_long_limit
 short j parts kept = omega (arith, legal-short j.config j.history kept.legal, kept.proper.few_entries)
 
-all_lines : (P : LineState → Type 0) (j : Kept) (parts : Parts) → IsKept j parts → ((i : ℕ) → P (kept_line j.config j.history i)) → All P parts.lines
-unfolding kept_lines
-all_lines P j parts kept each =
-    subst (All P) (sym (ap (λ (q : Parts). q.lines) kept.of_parts))
-    (All-map P (kept_line j.config j.history) (range_with_len 0 j.config.ifaces) (λ k d lt. each (get_or (range_with_len 0 j.config.ifaces) k d)))
+all_interfaces : (P : InterfaceState → Type 0) (j : Kept) (parts : Parts) → IsKept j parts → ((i : ℕ) → P (kept_interface j.config j.history i)) → All P parts.interfaces
+unfolding kept_interfaces
+all_interfaces P j parts kept each =
+    subst (All P) (sym (ap (λ (q : Parts). q.interfaces) kept.of_parts))
+    (All-map P (kept_interface j.config j.history) (range_with_len 0 j.config.ifaces) (λ k d lt. each (get_or (range_with_len 0 j.config.ifaces) k d)))
 
 all_sockets : (P : SocketState → Type 0) (j : Kept) (parts : Parts) → IsKept j parts → ((k s : ℕ) → slice_get (open_sockets j.history) k ≡ Some s → P (kept_socket j.config j.history s)) → All P parts.sockets
 unfolding kept_sockets
@@ -43,23 +43,23 @@ all_sockets P j parts kept each =
 
 -- ---- interfaces
 
-pub small_sent : (j : Kept) (parts : Parts) → IsKept j parts → All (λ (l : LineState). l.sent + 1 < 2 ^ 64) parts.lines
-small_sent j parts kept = all_lines (λ (l : LineState). l.sent + 1 < 2 ^ 64) j parts kept (λ i. omega (arith, sent_by-le j.history i, short j parts kept))
+pub small_sent : (j : Kept) (parts : Parts) → IsKept j parts → All (λ (l : InterfaceState). l.sent + 1 < 2 ^ 64) parts.interfaces
+small_sent j parts kept = all_interfaces (λ (l : InterfaceState). l.sent + 1 < 2 ^ 64) j parts kept (λ i. omega (arith, sent_by-le j.history i, short j parts kept))
 
-pub small_refused : (j : Kept) (parts : Parts) → IsKept j parts → All (λ (l : LineState). l.refused + 1 < 2 ^ 64) parts.lines
-small_refused j parts kept = all_lines (λ (l : LineState). l.refused + 1 < 2 ^ 64) j parts kept (λ i. omega (arith, refused-le j.history i, short j parts kept))
+pub small_refused : (j : Kept) (parts : Parts) → IsKept j parts → All (λ (l : InterfaceState). l.refused + 1 < 2 ^ 64) parts.interfaces
+small_refused j parts kept = all_interfaces (λ (l : InterfaceState). l.refused + 1 < 2 ^ 64) j parts kept (λ i. omega (arith, refused-le j.history i, short j parts kept))
 
-pub small_gone : (j : Kept) (parts : Parts) → IsKept j parts → All (λ (l : LineState). l.gone + 1 < 2 ^ 64) parts.lines
-small_gone j parts kept = all_lines (λ (l : LineState). l.gone + 1 < 2 ^ 64) j parts kept (λ i. omega (arith, sent_by-le j.history i, gone-le-sent j.config j.history kept.legal i, short j parts kept))
+pub small_gone : (j : Kept) (parts : Parts) → IsKept j parts → All (λ (l : InterfaceState). l.gone + 1 < 2 ^ 64) parts.interfaces
+small_gone j parts kept = all_interfaces (λ (l : InterfaceState). l.gone + 1 < 2 ^ 64) j parts kept (λ i. omega (arith, sent_by-le j.history i, gone-le-sent j.config j.history kept.legal i, short j parts kept))
 
-pub small_done : (j : Kept) (parts : Parts) → IsKept j parts → All (λ (l : LineState). l.done + 1 < 2 ^ 64) parts.lines
-small_done j parts kept = all_lines (λ (l : LineState). l.done + 1 < 2 ^ 64) j parts kept (λ i. omega (arith, sent_by-le j.history i, gone-le-sent j.config j.history kept.legal i, done-le-gone j.config j.history kept.legal i, short j parts kept))
+pub small_done : (j : Kept) (parts : Parts) → IsKept j parts → All (λ (l : InterfaceState). l.done + 1 < 2 ^ 64) parts.interfaces
+small_done j parts kept = all_interfaces (λ (l : InterfaceState). l.done + 1 < 2 ^ 64) j parts kept (λ i. omega (arith, sent_by-le j.history i, gone-le-sent j.config j.history kept.legal i, done-le-gone j.config j.history kept.legal i, short j parts kept))
 
-pub done_and_lost : (j : Kept) (parts : Parts) → IsKept j parts → All (λ (l : LineState). l.done ≤ l.gone) parts.lines
-done_and_lost j parts kept = all_lines (λ (l : LineState). l.done ≤ l.gone) j parts kept (λ i. done-le-gone j.config j.history kept.legal i)
+pub done_and_lost : (j : Kept) (parts : Parts) → IsKept j parts → All (λ (l : InterfaceState). l.done ≤ l.gone) parts.interfaces
+done_and_lost j parts kept = all_interfaces (λ (l : InterfaceState). l.done ≤ l.gone) j parts kept (λ i. done-le-gone j.config j.history kept.legal i)
 
-pub count_of_lines : (j : Kept) (parts : Parts) → IsKept j parts → length parts.lines ≡ j.config.ifaces
-count_of_lines j parts kept = ap (λ (q : Parts). length q.lines) kept.of_parts ∙ length-kept_lines j.config j.history
+pub count_of_interfaces : (j : Kept) (parts : Parts) → IsKept j parts → length parts.interfaces ≡ j.config.ifaces
+count_of_interfaces j parts kept = ap (λ (q : Parts). length q.interfaces) kept.of_parts ∙ length-kept_interfaces j.config j.history
 
 -- ---- sockets
 
@@ -76,8 +76,8 @@ small_dropped j parts kept = all_sockets (λ (v : SocketState). v.dropped + 4 < 
 pub small_dropped_one : (j : Kept) (parts : Parts) → IsKept j parts → All (λ (v : SocketState). v.dropped + 1 < 2 ^ 64) parts.sockets
 small_dropped_one j parts kept = all_sockets (λ (v : SocketState). v.dropped + 1 < 2 ^ 64) j parts kept (λ k s at. omega (arith, dropped-le j.config j.history s, short j parts kept))
 
-pub known_ifaces : (j : Kept) (parts : Parts) → IsKept j parts → All (λ (v : SocketState). v.iface < length parts.lines) parts.sockets
-known_ifaces j parts kept = all_sockets (λ (v : SocketState). v.iface < length parts.lines) j parts kept (λ k s at. subst (λ n. iface_of j.history s < n) (sym (count_of_lines j parts kept)) (open-iface j.config j.history kept.legal k s at))
+pub known_ifaces : (j : Kept) (parts : Parts) → IsKept j parts → All (λ (v : SocketState). v.iface < length parts.interfaces) parts.sockets
+known_ifaces j parts kept = all_sockets (λ (v : SocketState). v.iface < length parts.interfaces) j parts kept (λ k s at. subst (λ n. iface_of j.history s < n) (sym (count_of_interfaces j parts kept)) (open-iface j.config j.history kept.legal k s at))
 
 -- ---- attempts and sockets ever opened
 

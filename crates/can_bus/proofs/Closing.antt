@@ -11,7 +11,7 @@ use Rattle.can_event.specs.declared.reply.Reply.TheVariants as reply
 use Rattle.can_bus.specs.Sockets.{places, open_sockets, is_open}
 use Rattle.can_bus.specs.Queues.{queued_to, taken_from, dropped_at}
 use Rattle.can_bus.specs.Legal.{legal_reply}
-use Rattle.can_bus.specs.State.{SocketState, Parts, kept_socket, kept_sockets, kept_lines, kept_keys, kept_nodes, kept_left, kept_parts}
+use Rattle.can_bus.specs.State.{SocketState, Parts, kept_socket, kept_sockets, kept_interfaces, kept_keys, kept_nodes, kept_left, kept_parts}
 use Rattle.can_bus.specs.Changes.{StandsAt, Removes, Closes}
 use Rattle.can_bus.proofs.Keeping.{Follows, IsStill, map_same}
 use Rattle.can_bus.proofs.Lists.{filter_one, map-remove}
@@ -45,8 +45,8 @@ reply-closed c past s n new removes =
     ∙ sym (cond-true (is_open past s.0) _ _ at.is_there)
 
 still : (c : BusConfig) (past : List Entry) (s : SocketId) (n : Closed) → IsStill c past (entry s (reply.Closed n))
-unfolding kept_lines kept_keys kept_nodes kept_left
-still c past s n = record { of_lines = refl; of_keys = refl; of_nodes = refl; of_left = refl }
+unfolding kept_interfaces kept_keys kept_nodes kept_left
+still c past s n = record { of_interfaces = refl; of_keys = refl; of_nodes = refl; of_left = refl }
 
 -- a socket that was closed, or a refusal, leaves what its entry leaves
 pub closed_follows : (c : BusConfig) (past : List Entry) (s : SocketId) (r : Reply) (new : Parts) → Closes (kept_parts c past) s.0 r new → Follows c past (entry s r) new

@@ -11,10 +11,10 @@ use Rattle.can_bus.specs.Attempts.{winner, tried_head, attempt_reply}
 use Rattle.can_bus.specs.AutoRestart.{restarted_next}
 use Rattle.can_bus.specs.Heads.{with_frame, head_at, next_head, IsNext, TellsNext}
 use Rattle.can_bus.specs.Legal.{legal_reply, IsLegal}
-use Rattle.can_bus.specs.State.{LineState, kept_lines, kept_parts}
+use Rattle.can_bus.specs.State.{InterfaceState, kept_interfaces, kept_parts}
 use Rattle.can_bus.specs.Transmit.{sent_by, gone_count, head_of}
 use Rattle.can_bus.proofs.Lawful.{WasTried, was_tried}
-use Rattle.can_bus.proofs.LineFacts.{IsLine-at}
+use Rattle.can_bus.proofs.InterfaceFacts.{IsInterface-at}
 use Rattle.can_bus.proofs.Lists.{slice_get-drop}
 use Rattle.can_bus.proofs.Winning.{winner-is, idle-is}
 
@@ -22,8 +22,8 @@ use Rattle.can_bus.proofs.Winning.{winner-is, idle-is}
 
 head-kept : (c : BusConfig) (past : List Entry) (head : ℕ × CanFrame) → IsNext (kept_parts c past) head → with_frame head.0 (head_of past head.0) ≡ Some head
 head-kept c past head next =
-    let line = IsLine-at c past (kept_lines c past) head.0 next.line refl next.there in
-    let oldest : head_of past head.0 ≡ Some next.pending = sym (slice_get-drop (gone_count past head.0) (sent_by past head.0)) ∙ ap (λ (l : LineState). slice_get l.waiting 0) (sym line.left) ∙ next.oldest in
+    let interface = IsInterface-at c past (kept_interfaces c past) head.0 next.interface refl next.there in
+    let oldest : head_of past head.0 ≡ Some next.pending = sym (slice_get-drop (gone_count past head.0) (sent_by past head.0)) ∙ ap (λ (l : InterfaceState). slice_get l.waiting 0) (sym interface.left) ∙ next.oldest in
     ap (with_frame head.0) oldest ∙ ap (λ (f : CanFrame). Some (head.0, f)) (sym next.frame)
 
 -- what the state tells of the next attempt is what the history says

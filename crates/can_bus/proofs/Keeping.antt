@@ -15,7 +15,7 @@ use Rattle.can_bus.specs.Sockets.{places, open_sockets, iface_of, filters_of, op
 use Rattle.can_bus.specs.Posts.{posts_of}
 use Rattle.can_bus.specs.Queues.{taken_from}
 use Rattle.can_bus.specs.Legal.{legal_reply}
-use Rattle.can_bus.specs.State.{LineState, SocketState, Parts, kept_socket, kept_sockets, kept_lines, kept_keys, kept_nodes, kept_left, kept_parts, IsKept}
+use Rattle.can_bus.specs.State.{InterfaceState, SocketState, Parts, kept_socket, kept_sockets, kept_interfaces, kept_keys, kept_nodes, kept_left, kept_parts, IsKept}
 use Rattle.can_record.specs.Journal.{IsLonger}
 use Rattle.can_bus.proofs.Quiet.{queued_to-quiet, dropped_at-quiet}
 use Rattle.can_bus.proofs.Refusing.{never_full, never_no_memory}
@@ -88,11 +88,11 @@ done {A} {j} {new} {before} {event} {r} {w} {full} {parts} {parts'} f Changed vi
       answers = answered f before event r _ (noted j new before e view noted_is room next.lawful);
     }
 
-pub parts-are : (p q : Parts) → p.lines ≡ q.lines → p.keys ≡ q.keys → p.nodes ≡ q.nodes → p.left ≡ q.left → p.sockets ≡ q.sockets → p.opened ≡ q.opened → p.tried ≡ q.tried → p ≡ q
+pub parts-are : (p q : Parts) → p.interfaces ≡ q.interfaces → p.keys ≡ q.keys → p.nodes ≡ q.nodes → p.left ≡ q.left → p.sockets ≡ q.sockets → p.opened ≡ q.opened → p.tried ≡ q.tried → p ≡ q
 parts-are p q a b c n d e f =
-    ap (λ (x : List LineState). record p { lines = x }) a
-    ∙ ap (λ (x : List (Option ℕ)). record p { lines = q.lines; keys = x }) b
-    ∙ ap (λ (x : Nodes). record p { lines = q.lines; keys = q.keys; nodes = x }) c
+    ap (λ (x : List InterfaceState). record p { interfaces = x }) a
+    ∙ ap (λ (x : List (Option ℕ)). record p { interfaces = q.interfaces; keys = x }) b
+    ∙ ap (λ (x : Nodes). record p { interfaces = q.interfaces; keys = q.keys; nodes = x }) c
     ∙ ap (λ (x : List ℕ). record q { left = x; sockets = p.sockets; opened = p.opened; tried = p.tried }) n
     ∙ ap (λ (x : List SocketState). record q { sockets = x; opened = p.opened; tried = p.tried }) d
     ∙ ap (λ (x : ℕ). record q { opened = x; tried = p.tried }) e
@@ -140,7 +140,7 @@ refused-quiet c past (Restart i m) why = record { of_places = refl; of_open = re
 
 -- an entry that concerns no interface
 pub record IsStill (c : BusConfig) (past : List Entry) (e : Entry) : Type 0 where
-  pub of_lines : kept_lines c (e ∷ past) ≡ kept_lines c past
+  pub of_interfaces : kept_interfaces c (e ∷ past) ≡ kept_interfaces c past
   pub of_keys : kept_keys (e ∷ past) ≡ kept_keys past
   pub of_nodes : kept_nodes c (e ∷ past) ≡ kept_nodes c past
   pub of_left : kept_left c (e ∷ past) ≡ kept_left c past
@@ -151,16 +151,16 @@ IsUncounted (Send s f) refusal.NoBuffers = ⊥
 IsUncounted event why = Unit {0}
 
 refused-still : (c : BusConfig) (past : List Entry) (event : Event) (why : Refusal) → IsUncounted event why → IsStill c past (refused event why)
-unfolding kept_lines kept_keys kept_nodes kept_left
-refused-still c past (Open i k) why u = record { of_lines = refl; of_keys = refl; of_nodes = refl; of_left = refl }
-refused-still c past (Close s) why u = record { of_lines = refl; of_keys = refl; of_nodes = refl; of_left = refl }
-refused-still c past (SetFilters s f) why u = record { of_lines = refl; of_keys = refl; of_nodes = refl; of_left = refl }
-refused-still c past (SetOption s f) why u = record { of_lines = refl; of_keys = refl; of_nodes = refl; of_left = refl }
+unfolding kept_interfaces kept_keys kept_nodes kept_left
+refused-still c past (Open i k) why u = record { of_interfaces = refl; of_keys = refl; of_nodes = refl; of_left = refl }
+refused-still c past (Close s) why u = record { of_interfaces = refl; of_keys = refl; of_nodes = refl; of_left = refl }
+refused-still c past (SetFilters s f) why u = record { of_interfaces = refl; of_keys = refl; of_nodes = refl; of_left = refl }
+refused-still c past (SetOption s f) why u = record { of_interfaces = refl; of_keys = refl; of_nodes = refl; of_left = refl }
 refused-still c past (Send s f) refusal.NoBuffers u = absurd u
-refused-still c past (Send s f) _ u = record { of_lines = refl; of_keys = refl; of_nodes = refl; of_left = refl }
-refused-still c past (Receive s) why u = record { of_lines = refl; of_keys = refl; of_nodes = refl; of_left = refl }
-refused-still c past (Attempt m v) why u = record { of_lines = refl; of_keys = refl; of_nodes = refl; of_left = refl }
-refused-still c past (Restart i m) why u = record { of_lines = refl; of_keys = refl; of_nodes = refl; of_left = refl }
+refused-still c past (Send s f) _ u = record { of_interfaces = refl; of_keys = refl; of_nodes = refl; of_left = refl }
+refused-still c past (Receive s) why u = record { of_interfaces = refl; of_keys = refl; of_nodes = refl; of_left = refl }
+refused-still c past (Attempt m v) why u = record { of_interfaces = refl; of_keys = refl; of_nodes = refl; of_left = refl }
+refused-still c past (Restart i m) why u = record { of_interfaces = refl; of_keys = refl; of_nodes = refl; of_left = refl }
 
 -- a refusal that counts nothing changes nothing
 pub follows_refused : (c : BusConfig) (past : List Entry) (event : Event) (why : Refusal) (new : Parts) → IsUncounted event why → new ≡ kept_parts c past → reply.Refused why ≡ legal_reply c past event → Follows c past (refused event why) new
@@ -169,5 +169,5 @@ follows_refused c past event why new u same lawful =
     let still = refused-still c past event why u in
     record {
       lawful = lawful;
-      after = same ∙ parts-are (kept_parts c past) (kept_parts c (refused event why ∷ past)) (sym still.of_lines) (sym still.of_keys) (sym still.of_nodes) (sym still.of_left) (sym (kept_sockets-quiet c past (refused event why) quiet)) (ap length (sym quiet.of_places)) refl;
+      after = same ∙ parts-are (kept_parts c past) (kept_parts c (refused event why ∷ past)) (sym still.of_interfaces) (sym still.of_keys) (sym still.of_nodes) (sym still.of_left) (sym (kept_sockets-quiet c past (refused event why) quiet)) (ap length (sym quiet.of_places)) refl;
     }

@@ -6,7 +6,7 @@ pub mod Reading
 pub mod Refusing
 pub mod Fitting
 pub mod Keeping
-pub mod LineFacts
+pub mod InterfaceFacts
 pub mod KeyFacts
 pub mod NodeFacts
 pub mod SocketFacts

@@ -24,7 +24,7 @@ use Rattle.can_event.specs.declared.reply.Reply.{Reply}
 use Rattle.can_event.specs.declared.reply.Reply.TheVariants as reply
 use Rattle.can_event.specs.declared.attempt.Tried.{Tried}
 use Rattle.can_event.specs.Events.{max_long_limit}
-use Rattle.can_record.specs.Wide.{is_wide, is_large, is_off_alone}
+use Rattle.can_record.specs.Boxed.{needs_box, is_large, is_off_alone}
 use Rattle.can_record.specs.Journal.{Kept}
 use Rattle.can_bus.specs.State.{Parts, IsKept}
 use Rattle.can_bus.specs.Sockets.{open_sockets, is_open, iface_of, capacity_of, filters_of, options_of}
@@ -145,15 +145,15 @@ off-alone t h = alone-if t.winner (is_off (state_of (counts_after t t.winner))) 
 
 -- ---- the replies
 
-narrow-if : (e : Event) (b : Bool) (x y : Reply) → is_wide e x ≡ false → is_wide e y ≡ false → is_wide e (if b then x else y) ≡ false
-narrow-if e b x y hx hy = if-holds (λ r. is_wide e r ≡ false) b x y hx hy
+narrow-if : (e : Event) (b : Bool) (x y : Reply) → needs_box e x ≡ false → needs_box e y ≡ false → needs_box e (if b then x else y) ≡ false
+narrow-if e b x y hx hy = if-holds (λ r. needs_box e r ≡ false) b x y hx hy
 
-given-narrow : (s : SocketId) (rs : List Received) (k : ℕ) → All IsShort rs → is_wide (Receive s) (reply.Received (slice_get rs k)) ≡ false
+given-narrow : (s : SocketId) (rs : List Received) (k : ℕ) → All IsShort rs → needs_box (Receive s) (reply.Received (slice_get rs k)) ≡ false
 given-narrow s [] k h = refl
 given-narrow s (r ∷ rs) zero h = not_large r.number (All-head IsShort r rs h)
 given-narrow s (r ∷ rs) (suc k) h = given-narrow s rs k (All-tail IsShort r rs h)
 
-head-narrow : (c : BusConfig) (past : List Entry) (m : ℕ) (v : Verdict) (w : ℕ) (p : Option Pending) → gone_count past w < 2 ^ 32 → w < 16 → is_wide (Attempt m v) (tried_head c past m v w p) ≡ false
+head-narrow : (c : BusConfig) (past : List Entry) (m : ℕ) (v : Verdict) (w : ℕ) (p : Option Pending) → gone_count past w < 2 ^ 32 → w < 16 → needs_box (Attempt m v) (tried_head c past m v w p) ≡ false
 head-narrow c past m v w None small below = refl
 head-narrow c past m v w (Some p) small below =
     let number : is_large (gone_count past w) ≡ false = not_large (gone_count past w) small in
@@ -161,7 +161,7 @@ head-narrow c past m v w (Some p) small below =
     let alone : is_off_alone w (set_of (off_after (transmission c past w v))) ≡ true = off-alone (transmission c past w v) below in
     rw (number, moment, alone) refl
 
-attempt-narrow : (c : BusConfig) (past : List Entry) (m : ℕ) (v : Verdict) (w : Option ℕ) → winner c past ≡ w → IsLegal c past → length past ≤ max_long_limit → c.ifaces ≤ 16 → is_wide (Attempt m v) (attempt_reply c past m v w) ≡ false
+attempt-narrow : (c : BusConfig) (past : List Entry) (m : ℕ) (v : Verdict) (w : Option ℕ) → winner c past ≡ w → IsLegal c past → length past ≤ max_long_limit → c.ifaces ≤ 16 → needs_box (Attempt m v) (attempt_reply c past m v w) ≡ false
 attempt-narrow c past m v None who legal few most = refl
 attempt-narrow c past m v (Some w) who legal few most =
     let b = (winner-contends c past w who).below in
@@ -172,7 +172,7 @@ abbrev pub SetsFilters : Event → Type 0
 SetsFilters (SetFilters s f) = Unit {0}
 SetsFilters _ = ⊥
 
-legal-narrow : (c : BusConfig) (past : List Entry) (e : Event) → IsLegal c past → length past ≤ max_long_limit → c.ifaces ≤ 16 → ¬ SetsFilters e → is_wide e (legal_reply c past e) ≡ false
+legal-narrow : (c : BusConfig) (past : List Entry) (e : Event) → IsLegal c past → length past ≤ max_long_limit → c.ifaces ≤ 16 → ¬ SetsFilters e → needs_box e (legal_reply c past e) ≡ false
 legal-narrow c past (Open i n) legal few most other = narrow-if (Open i n) (nat_le c.ifaces i) _ _ refl (narrow-if (Open i n) (not (nat_le 1 n && nat_le n 65536)) _ _ refl (narrow-if (Open i n) (nat_le 64 (length (open_sockets past))) _ _ refl refl))
 legal-narrow c past (Close s) legal few most other = narrow-if (Close s) (is_open past s.0) _ _ refl refl
 legal-narrow c past (SetFilters s f) legal few most other = absurd (other tt)
@@ -187,5 +187,5 @@ legal-narrow c past (Attempt m v) legal few most other = attempt-narrow c past m
 legal-narrow c past (Restart i m) legal few most other = narrow-if (Restart i m) (nat_le c.ifaces i) _ _ refl (narrow-if (Restart i m) (is_off (state_at c past i)) _ _ refl refl)
 
 -- a bus answers nothing wide but to a set of filters
-pub legal_fits : (j : Kept) (parts : Parts) (e : Event) (r : Reply) → IsKept j parts → ¬ SetsFilters e → r ≡ legal_reply j.config j.history e → is_wide e r ≡ false
-legal_fits j parts e r kept other law = ap (is_wide e) law ∙ legal-narrow j.config j.history e kept.legal (short j parts kept) kept.proper.few_ifaces other
+pub legal_fits : (j : Kept) (parts : Parts) (e : Event) (r : Reply) → IsKept j parts → ¬ SetsFilters e → r ≡ legal_reply j.config j.history e → needs_box e r ≡ false
+legal_fits j parts e r kept other law = ap (needs_box e) law ∙ legal-narrow j.config j.history e kept.legal (short j parts kept) kept.proper.few_ifaces other

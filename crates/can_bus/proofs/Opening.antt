@@ -16,7 +16,7 @@ use Rattle.can_bus.specs.Answer.{TakesMemory}
 use Rattle.can_bus.specs.Sockets.{Place, places, places_after, open_sockets, is_open, filters_of, filters_after, options_of, options_after}
 use Rattle.can_bus.specs.Queues.{queued_to, dropped_at, taken_from, taken_after, candidates_of}
 use Rattle.can_bus.specs.Legal.{legal_reply, IsLegal}
-use Rattle.can_bus.specs.State.{SocketState, Parts, kept_lines, kept_keys, kept_nodes, kept_left, kept_socket, kept_sockets, kept_parts}
+use Rattle.can_bus.specs.State.{SocketState, Parts, kept_interfaces, kept_keys, kept_nodes, kept_left, kept_socket, kept_sockets, kept_parts}
 use Rattle.can_bus.specs.Changes.{Opens, IsCapacity, fresh}
 use Rattle.can_bus.proofs.Attempting.{count-kept}
 use Rattle.can_bus.proofs.Lists.{Rises}
@@ -142,8 +142,8 @@ sockets-opened c past i k s legal =
     ∙ sym (map_push (kept_socket c (entry i k (reply.Opened s) ∷ past)) (open_sockets past) (length (places past)))
 
 still : (c : BusConfig) (past : List Entry) (i k : ℕ) (s : SocketId) → IsStill c past (entry i k (reply.Opened s))
-unfolding kept_lines kept_keys kept_nodes kept_left
-still c past i k s = record { of_lines = refl; of_keys = refl; of_nodes = refl; of_left = refl }
+unfolding kept_interfaces kept_keys kept_nodes kept_left
+still c past i k s = record { of_interfaces = refl; of_keys = refl; of_nodes = refl; of_left = refl }
 
 capacity_test : (k : ℕ) → IsCapacity k → not (nat_le 1 k && nat_le k 65536) ≡ false
 capacity_test k is = ap not (and_from (nat_le 1 k) (nat_le k 65536) (le-leb 1 k is.0) (le-leb k 65536 is.1))

@@ -16,7 +16,7 @@ use Rattle.can_record.specs.Journal.{Journal}
 use Rattle.can_bus.specs.Sockets.{is_open}
 use Rattle.can_bus.specs.Queues.{taken_from, queued_to, dropped_at}
 use Rattle.can_bus.specs.Legal.{legal_reply}
-use Rattle.can_bus.specs.State.{SocketState, Parts, kept_socket, kept_sockets, kept_lines, kept_keys, kept_nodes, kept_left, kept_parts}
+use Rattle.can_bus.specs.State.{SocketState, Parts, kept_socket, kept_sockets, kept_interfaces, kept_keys, kept_nodes, kept_left, kept_parts}
 use Rattle.can_bus.specs.Changes.{Gives, Receives, relieved}
 use Rattle.can_bus.proofs.Keeping.{Follows, IsStill}
 use Rattle.can_bus.proofs.Lists.{slice_get-drop}
@@ -53,8 +53,8 @@ same c past s (Some r) =
     cc
 
 still : (c : BusConfig) (past : List Entry) (s : SocketId) (item : Option Received) → IsStill c past (given s item)
-unfolding kept_lines kept_keys kept_nodes kept_left
-still c past s item = record { of_lines = refl; of_keys = refl; of_nodes = refl; of_left = refl }
+unfolding kept_interfaces kept_keys kept_nodes kept_left
+still c past s item = record { of_interfaces = refl; of_keys = refl; of_nodes = refl; of_left = refl }
 
 reply-given : (c : BusConfig) (past : List Entry) (s : SocketId) (item : Option Received) (new : Parts) → Gives (kept_parts c past) s.0 item new → reply.Received item ≡ legal_reply c past (Receive s)
 reply-given c past s item new gives =

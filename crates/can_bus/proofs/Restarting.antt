@@ -13,7 +13,7 @@ use Rattle.can_bus.specs.Counters.{counts_of, steps_of, state_at}
 use Rattle.can_bus.specs.AutoRestart.{attempts_off, attempts_left, left_after}
 use Rattle.can_bus.specs.Posts.{restart_posts}
 use Rattle.can_bus.specs.Legal.{IsLegal}
-use Rattle.can_bus.specs.State.{Parts, kept_lines, kept_keys, kept_nodes, kept_left, kept_sockets, kept_parts}
+use Rattle.can_bus.specs.State.{Parts, kept_interfaces, kept_keys, kept_nodes, kept_left, kept_sockets, kept_parts}
 use Rattle.can_bus.specs.Changes.{Restarts, after_restart}
 use Rattle.can_bus.proofs.Attempting.{sockets-told, count-kept}
 use Rattle.can_bus.proofs.Keeping.{Follows, follows_refused, parts-are}
@@ -23,8 +23,8 @@ use Rattle.can_bus.proofs.NodeFacts.{is_off_at-kept}
 abbrev pub entry : ℕ → ℕ → Reply → Entry
 entry i m r = record { event = Restart i m; reply = r }
 
-still : (c : BusConfig) (past : List Entry) (i m : ℕ) → (kept_lines c (entry i m reply.Done ∷ past) ≡ kept_lines c past) × (kept_keys (entry i m reply.Done ∷ past) ≡ kept_keys past)
-unfolding kept_lines kept_keys
+still : (c : BusConfig) (past : List Entry) (i m : ℕ) → (kept_interfaces c (entry i m reply.Done ∷ past) ≡ kept_interfaces c past) × (kept_keys (entry i m reply.Done ∷ past) ≡ kept_keys past)
+unfolding kept_interfaces kept_keys
 still c past i m = (refl, refl)
 
 counts-restarted : (c : BusConfig) (past : List Entry) (i m : ℕ) → counts_of c (entry i m reply.Done ∷ past) i ≡ at_start

@@ -17,12 +17,12 @@ use Rattle.can_event.specs.Events.{IsLongConfig}
 use Rattle.can_bus.specs.Legal.{lacks_fd, legal_reply, IsLegal}
 use Rattle.can_bus.specs.Sockets.{iface_of, is_open, options_of}
 use Rattle.can_bus.specs.Transmit.{sent_by, gone_count, head_of}
-use Rattle.can_bus.specs.State.{LineState, SocketState, Parts, key_in, kept_line, kept_lines, kept_keys, kept_nodes, kept_left, kept_socket, kept_sockets, kept_parts}
-use Rattle.can_bus.specs.Changes.{IsLineOf, Takes, FindsFull, IsFdOffFor, IsOffFor, Sends, pending_of, with_line, is_off_at}
+use Rattle.can_bus.specs.State.{InterfaceState, SocketState, Parts, key_in, kept_interface, kept_interfaces, kept_keys, kept_nodes, kept_left, kept_socket, kept_sockets, kept_parts}
+use Rattle.can_bus.specs.Changes.{IsInterfaceOf, Takes, FindsFull, IsFdOffFor, IsOffFor, Sends, pending_of, with_interface, is_off_at}
 use Rattle.can_bus.proofs.Keeping.{Follows, IsQuiet, kept_sockets-quiet, refused-quiet, follows_refused, parts-are}
 use Rattle.can_bus.proofs.KeyFacts.{kept_keys-one}
 use Rattle.can_bus.proofs.Lawful.{gone-le-sent, open-iface}
-use Rattle.can_bus.proofs.LineFacts.{IsLine-at, kept_lines-one}
+use Rattle.can_bus.proofs.InterfaceFacts.{IsInterface-at, kept_interfaces-one}
 use Rattle.can_bus.proofs.Lists.{slice_get-drop}
 use Rattle.can_bus.proofs.NodeFacts.{is_off_at-kept}
 use Rattle.can_bus.proofs.Opened.{IsThere-stands, closed-nowhere}
@@ -33,21 +33,21 @@ entry s f r = record { event = Send s f; reply = told reply.Sent r }
 abbrev full_entry : SocketId → CanFrame → Entry
 full_entry s f = record { event = Send s f; reply = reply.Refused refusal.NoBuffers }
 
--- ---- the socket and the line of a send, by the history
+-- ---- the socket and the interface of a send, by the history
 
-record IsSender (c : BusConfig) (past : List Entry) (s : ℕ) (v : SocketState) (l : LineState) : Type 0 where
+record IsSender (c : BusConfig) (past : List Entry) (s : ℕ) (v : SocketState) (l : InterfaceState) : Type 0 where
   there : is_open past s ≡ true
   socket : v ≡ kept_socket c past s
   iface : v.iface ≡ iface_of past s
   below : iface_of past s < c.ifaces
-  line : l ≡ kept_line c past (iface_of past s)
+  interface : l ≡ kept_interface c past (iface_of past s)
 
-sender : (c : BusConfig) (past : List Entry) (s : ℕ) (v : SocketState) (l : LineState) → IsLineOf (kept_parts c past) s v l → IsSender c past s v l
-sender c past s v l is_line =
-    let at = IsThere-stands c past (kept_sockets c past) s is_line.place v refl is_line.stands in
+sender : (c : BusConfig) (past : List Entry) (s : ℕ) (v : SocketState) (l : InterfaceState) → IsInterfaceOf (kept_parts c past) s v l → IsSender c past s v l
+sender c past s v l is_interface =
+    let at = IsThere-stands c past (kept_sockets c past) s is_interface.place v refl is_interface.stands in
     let iface : v.iface ≡ iface_of past s = ap (λ (w : SocketState). w.iface) at.left in
-    let line = IsLine-at c past (kept_lines c past) (iface_of past s) l refl (ap (slice_get (kept_lines c past)) (sym iface) ∙ is_line.line) in
-    record { there = at.is_there; socket = at.left; iface = iface; below = line.below; line = line.left }
+    let interface = IsInterface-at c past (kept_interfaces c past) (iface_of past s) l refl (ap (slice_get (kept_interfaces c past)) (sym iface) ∙ is_interface.interface) in
+    record { there = at.is_there; socket = at.left; iface = iface; below = interface.below; interface = interface.left }
 
 off-is : (c : BusConfig) (past : List Entry) (k i : ℕ) → k ≡ i → i < 16 → is_off_at (kept_nodes c past) k ≡ is_off (state_at c past i)
 off-is c past k i same below = ap (is_off_at (kept_nodes c past)) same ∙ is_off_at-kept c past i below
@@ -57,28 +57,28 @@ may-send c past s f v b is h = ap (λ (w : SocketState). lacks_fd f w.options) (
 
 -- ---- the reply
 
-waits-is : (c : BusConfig) (past : List Entry) (s : ℕ) (v : SocketState) (l : LineState) → IsSender c past s v l → length l.waiting ≡ length (sent_by past (iface_of past s)) - gone_count past (iface_of past s)
-waits-is c past s v l is = ap (λ (k : LineState). length k.waiting) is.line ∙ length-drop (gone_count past (iface_of past s)) (sent_by past (iface_of past s))
+waits-is : (c : BusConfig) (past : List Entry) (s : ℕ) (v : SocketState) (l : InterfaceState) → IsSender c past s v l → length l.waiting ≡ length (sent_by past (iface_of past s)) - gone_count past (iface_of past s)
+waits-is c past s v l is = ap (λ (k : InterfaceState). length k.waiting) is.interface ∙ length-drop (gone_count past (iface_of past s)) (sent_by past (iface_of past s))
 
-reply-sent : (c : BusConfig) (past : List Entry) (s : SocketId) (f : CanFrame) (v : SocketState) (l : LineState) → IsSender c past s.0 v l
+reply-sent : (c : BusConfig) (past : List Entry) (s : SocketId) (f : CanFrame) (v : SocketState) (l : InterfaceState) → IsSender c past s.0 v l
     → lacks_fd f (options_of past s.0) ≡ false → is_off (state_at c past (iface_of past s.0)) ≡ false → length l.waiting < l.room → reply.Sent l.sent ≡ legal_reply c past (Send s f)
 reply-sent c past s f v l is may live room =
     let i = iface_of past s.0 in
-    let number : l.sent ≡ length (sent_by past i) = ap (λ (k : LineState). k.sent) is.line in
+    let number : l.sent ≡ length (sent_by past i) = ap (λ (k : InterfaceState). k.sent) is.interface in
     let waits = waits-is c past s.0 v l is in
-    let capacity : l.room ≡ c.tx_capacity = ap (λ (k : LineState). k.room) is.line in
+    let capacity : l.room ≡ c.tx_capacity = ap (λ (k : InterfaceState). k.room) is.interface in
     ap (λ (n : ℕ). reply.Sent n) number
     ∙ sym (cond-false (length (sent_by past i) - gone_count past i == c.tx_capacity) (reply.Refused refusal.NoBuffers) (reply.Sent (length (sent_by past i))) (ne_eqb _ _ (omega arith)))
     ∙ sym (cond-false (is_off (state_at c past i)) _ _ live)
     ∙ sym (cond-false (lacks_fd f (options_of past s.0)) _ _ may)
     ∙ sym (cond-true (is_open past s.0) _ _ is.there)
 
-reply-full : (c : BusConfig) (past : List Entry) (s : SocketId) (f : CanFrame) (v : SocketState) (l : LineState) → IsSender c past s.0 v l
+reply-full : (c : BusConfig) (past : List Entry) (s : SocketId) (f : CanFrame) (v : SocketState) (l : InterfaceState) → IsSender c past s.0 v l
     → lacks_fd f (options_of past s.0) ≡ false → is_off (state_at c past (iface_of past s.0)) ≡ false → length l.waiting ≡ l.room → reply.Refused refusal.NoBuffers ≡ legal_reply c past (Send s f)
 reply-full c past s f v l is may live full =
     let i = iface_of past s.0 in
     let waits = waits-is c past s.0 v l is in
-    let capacity : l.room ≡ c.tx_capacity = ap (λ (k : LineState). k.room) is.line in
+    let capacity : l.room ≡ c.tx_capacity = ap (λ (k : InterfaceState). k.room) is.interface in
     sym (cond-true (length (sent_by past i) - gone_count past i == c.tx_capacity) (reply.Refused refusal.NoBuffers) (reply.Sent (length (sent_by past i))) (eq-eqb _ _ (omega arith)))
     ∙ sym (cond-false (is_off (state_at c past i)) _ _ live)
     ∙ sym (cond-false (lacks_fd f (options_of past s.0)) _ _ may)
@@ -89,8 +89,8 @@ reply-full c past s f v l is may live full =
 sent_by-other : (past : List Entry) (s : SocketId) (f : CanFrame) (n o : ℕ) → o ≢ iface_of past s.0 → sent_by (entry s f (Ok n) ∷ past) o ≡ sent_by past o
 sent_by-other past s f n o differ = cond-false (iface_of past s.0 == o) _ _ (ne_eqb _ _ (λ e. differ (sym e)))
 
-line-other : (c : BusConfig) (past : List Entry) (s : SocketId) (f : CanFrame) (n o : ℕ) → o ≢ iface_of past s.0 → kept_line c (entry s f (Ok n) ∷ past) o ≡ kept_line c past o
-line-other c past s f n o differ = ap (λ (ps : List Pending). record (kept_line c past o) { waiting = drop (gone_count past o) ps; sent = length ps }) (sent_by-other past s f n o differ)
+interface-other : (c : BusConfig) (past : List Entry) (s : SocketId) (f : CanFrame) (n o : ℕ) → o ≢ iface_of past s.0 → kept_interface c (entry s f (Ok n) ∷ past) o ≡ kept_interface c past o
+interface-other c past s f n o differ = ap (λ (ps : List Pending). record (kept_interface c past o) { waiting = drop (gone_count past o) ps; sent = length ps }) (sent_by-other past s f n o differ)
 
 head-other : (past : List Entry) (s : SocketId) (f : CanFrame) (n o : ℕ) → o ≢ iface_of past s.0 → head_of (entry s f (Ok n) ∷ past) o ≡ head_of past o
 head-other past s f n o differ = ap (λ (ps : List Pending). slice_get ps (gone_count past o)) (sent_by-other past s f n o differ)
@@ -108,30 +108,30 @@ waiting-here c past s f n v legal is =
     let i = iface_of past s.0 in
     ap (drop (gone_count past i)) (sent_by-here c past s f n v is) ∙ drop-append-le (gone_count past i) (sent_by past i) _ (gone-le-sent c past legal i)
 
-line-sent : (c : BusConfig) (past : List Entry) (s : SocketId) (f : CanFrame) (n : ℕ) (v : SocketState) (l : LineState) → IsLegal c past → IsSender c past s.0 v l → record l { waiting = l.waiting ++ pending_of f s v ∷ []; sent = l.sent + 1 } ≡ kept_line c (entry s f (Ok n) ∷ past) (iface_of past s.0)
-line-sent c past s f n v l legal is =
+interface-sent : (c : BusConfig) (past : List Entry) (s : SocketId) (f : CanFrame) (n : ℕ) (v : SocketState) (l : InterfaceState) → IsLegal c past → IsSender c past s.0 v l → record l { waiting = l.waiting ++ pending_of f s v ∷ []; sent = l.sent + 1 } ≡ kept_interface c (entry s f (Ok n) ∷ past) (iface_of past s.0)
+interface-sent c past s f n v l legal is =
     let i = iface_of past s.0 in
     let counts : length (sent_by (entry s f (Ok n) ∷ past) i) ≡ length (sent_by past i) + 1 = ap (λ (ps : List Pending). length ps) (sent_by-here c past s f n v is.socket) ∙ length_push (sent_by past i) (pending_of f s v) in
-    ap (λ (k : LineState). record k { waiting = k.waiting ++ pending_of f s v ∷ []; sent = k.sent + 1 }) is.line
-    ∙ ap (λ (m : ℕ). record (kept_line c past i) { waiting = drop (gone_count past i) (sent_by past i) ++ pending_of f s v ∷ []; sent = m }) (sym counts)
-    ∙ ap (λ (ps : List Pending). record (kept_line c past i) { waiting = ps; sent = length (sent_by (entry s f (Ok n) ∷ past) i) }) (sym (waiting-here c past s f n v legal is.socket))
+    ap (λ (k : InterfaceState). record k { waiting = k.waiting ++ pending_of f s v ∷ []; sent = k.sent + 1 }) is.interface
+    ∙ ap (λ (m : ℕ). record (kept_interface c past i) { waiting = drop (gone_count past i) (sent_by past i) ++ pending_of f s v ∷ []; sent = m }) (sym counts)
+    ∙ ap (λ (ps : List Pending). record (kept_interface c past i) { waiting = ps; sent = length (sent_by (entry s f (Ok n) ∷ past) i) }) (sym (waiting-here c past s f n v legal is.socket))
 
-head-here : (c : BusConfig) (past : List Entry) (s : SocketId) (f : CanFrame) (n : ℕ) (v : SocketState) (l : LineState) → IsLegal c past → IsSender c past s.0 v l → slice_get (l.waiting ++ pending_of f s v ∷ []) 0 ≡ head_of (entry s f (Ok n) ∷ past) (iface_of past s.0)
+head-here : (c : BusConfig) (past : List Entry) (s : SocketId) (f : CanFrame) (n : ℕ) (v : SocketState) (l : InterfaceState) → IsLegal c past → IsSender c past s.0 v l → slice_get (l.waiting ++ pending_of f s v ∷ []) 0 ≡ head_of (entry s f (Ok n) ∷ past) (iface_of past s.0)
 head-here c past s f n v l legal is =
     let i = iface_of past s.0 in
-    ap (λ (k : LineState). slice_get (k.waiting ++ pending_of f s v ∷ []) 0) is.line
+    ap (λ (k : InterfaceState). slice_get (k.waiting ++ pending_of f s v ∷ []) 0) is.interface
     ∙ ap (λ (ps : List Pending). slice_get ps 0) (sym (waiting-here c past s f n v legal is.socket))
     ∙ slice_get-drop (gone_count past i) (sent_by (entry s f (Ok n) ∷ past) i)
 
-lines-sent : (c : BusConfig) (past : List Entry) (s : SocketId) (f : CanFrame) (n : ℕ) (v : SocketState) (l : LineState) → IsLegal c past
+interfaces-sent : (c : BusConfig) (past : List Entry) (s : SocketId) (f : CanFrame) (n : ℕ) (v : SocketState) (l : InterfaceState) → IsLegal c past
     → IsSender c past s.0 v l
-    → slice_set (kept_lines c past) v.iface (record l { waiting = l.waiting ++ pending_of f s v ∷ []; sent = l.sent + 1 }) ≡ kept_lines c (entry s f (Ok n) ∷ past)
-lines-sent c past s f n v l legal is =
-    ap (λ (k : ℕ). slice_set (kept_lines c past) k (record l { waiting = l.waiting ++ pending_of f s v ∷ []; sent = l.sent + 1 })) is.iface
-    ∙ ap (slice_set (kept_lines c past) (iface_of past s.0)) (line-sent c past s f n v l legal is)
-    ∙ sym (kept_lines-one c past (entry s f (Ok n)) (iface_of past s.0) is.below (line-other c past s f n))
+    → slice_set (kept_interfaces c past) v.iface (record l { waiting = l.waiting ++ pending_of f s v ∷ []; sent = l.sent + 1 }) ≡ kept_interfaces c (entry s f (Ok n) ∷ past)
+interfaces-sent c past s f n v l legal is =
+    ap (λ (k : ℕ). slice_set (kept_interfaces c past) k (record l { waiting = l.waiting ++ pending_of f s v ∷ []; sent = l.sent + 1 })) is.iface
+    ∙ ap (slice_set (kept_interfaces c past) (iface_of past s.0)) (interface-sent c past s f n v l legal is)
+    ∙ sym (kept_interfaces-one c past (entry s f (Ok n)) (iface_of past s.0) is.below (interface-other c past s f n))
 
-keys-sent : (c : BusConfig) (past : List Entry) (s : SocketId) (f : CanFrame) (n : ℕ) (v : SocketState) (l : LineState) → IsLegal c past
+keys-sent : (c : BusConfig) (past : List Entry) (s : SocketId) (f : CanFrame) (n : ℕ) (v : SocketState) (l : InterfaceState) → IsLegal c past
     → iface_of past s.0 < 16 → IsSender c past s.0 v l
     → slice_set (kept_keys past) v.iface (key_in (slice_get (l.waiting ++ pending_of f s v ∷ []) 0)) ≡ kept_keys (entry s f (Ok n) ∷ past)
 keys-sent c past s f n v l legal few is =
@@ -154,14 +154,14 @@ taken_follows : (c : BusConfig) (past : List Entry) (s : SocketId) (f : CanFrame
 taken_follows c past s f n new proper legal takes =
     let e = entry s f (Ok n) in
     let v = takes.socket in
-    let l = takes.line in
-    let is = sender c past s.0 v l takes.is_line in
+    let l = takes.interface in
+    let is = sender c past s.0 v l takes.is_interface in
     let few : iface_of past s.0 < 16 = omega (arith, is.below, proper.few_ifaces) in
     let live : is_off (state_at c past (iface_of past s.0)) ≡ false = sym (off-is c past v.iface (iface_of past s.0) is.iface few) ∙ takes.live in
     record {
       lawful = ap (λ (m : ℕ). reply.Sent m) takes.number ∙ reply-sent c past s f v l is (may-send c past s.0 f v false is.socket takes.may) live takes.room;
-      after = takes.after ∙ parts-are (with_line (kept_parts c past) v.iface (record l { waiting = l.waiting ++ pending_of f s v ∷ []; sent = l.sent + 1 })) (kept_parts c (e ∷ past))
-          (lines-sent c past s f n v l legal is)
+      after = takes.after ∙ parts-are (with_interface (kept_parts c past) v.iface (record l { waiting = l.waiting ++ pending_of f s v ∷ []; sent = l.sent + 1 })) (kept_parts c (e ∷ past))
+          (interfaces-sent c past s f n v l legal is)
           (keys-sent c past s f n v l legal few is)
           (sym (nodes-sent c past s f n))
           (sym (left-sent c past s f n))
@@ -171,20 +171,20 @@ taken_follows c past s f n new proper legal takes =
 
 -- ---- a frame that found the queue full
 
-full-other : (c : BusConfig) (past : List Entry) (s : SocketId) (f : CanFrame) (o : ℕ) → o ≢ iface_of past s.0 → kept_line c (full_entry s f ∷ past) o ≡ kept_line c past o
-full-other c past s f o differ = ap (λ (m : ℕ). record (kept_line c past o) { refused = m }) (cond-false (iface_of past s.0 == o) _ _ (ne_eqb _ _ (λ e. differ (sym e))))
+full-other : (c : BusConfig) (past : List Entry) (s : SocketId) (f : CanFrame) (o : ℕ) → o ≢ iface_of past s.0 → kept_interface c (full_entry s f ∷ past) o ≡ kept_interface c past o
+full-other c past s f o differ = ap (λ (m : ℕ). record (kept_interface c past o) { refused = m }) (cond-false (iface_of past s.0 == o) _ _ (ne_eqb _ _ (λ e. differ (sym e))))
 
-full-here : (c : BusConfig) (past : List Entry) (s : SocketId) (f : CanFrame) (v : SocketState) (l : LineState) → IsSender c past s.0 v l → record l { refused = l.refused + 1 } ≡ kept_line c (full_entry s f ∷ past) (iface_of past s.0)
+full-here : (c : BusConfig) (past : List Entry) (s : SocketId) (f : CanFrame) (v : SocketState) (l : InterfaceState) → IsSender c past s.0 v l → record l { refused = l.refused + 1 } ≡ kept_interface c (full_entry s f ∷ past) (iface_of past s.0)
 full-here c past s f v l is =
     let i = iface_of past s.0 in
-    ap (λ (k : LineState). record k { refused = k.refused + 1 }) is.line
-    ∙ ap (λ (m : ℕ). record (kept_line c past i) { refused = m }) (sym (cond-true (iface_of past s.0 == iface_of past s.0) _ _ (eq-eqb (iface_of past s.0) (iface_of past s.0) refl)))
+    ap (λ (k : InterfaceState). record k { refused = k.refused + 1 }) is.interface
+    ∙ ap (λ (m : ℕ). record (kept_interface c past i) { refused = m }) (sym (cond-true (iface_of past s.0 == iface_of past s.0) _ _ (eq-eqb (iface_of past s.0) (iface_of past s.0) refl)))
 
-lines-full : (c : BusConfig) (past : List Entry) (s : SocketId) (f : CanFrame) (v : SocketState) (l : LineState) → IsSender c past s.0 v l → slice_set (kept_lines c past) v.iface (record l { refused = l.refused + 1 }) ≡ kept_lines c (full_entry s f ∷ past)
-lines-full c past s f v l is =
-    ap (λ (k : ℕ). slice_set (kept_lines c past) k (record l { refused = l.refused + 1 })) is.iface
-    ∙ ap (slice_set (kept_lines c past) (iface_of past s.0)) (full-here c past s f v l is)
-    ∙ sym (kept_lines-one c past (full_entry s f) (iface_of past s.0) is.below (full-other c past s f))
+interfaces-full : (c : BusConfig) (past : List Entry) (s : SocketId) (f : CanFrame) (v : SocketState) (l : InterfaceState) → IsSender c past s.0 v l → slice_set (kept_interfaces c past) v.iface (record l { refused = l.refused + 1 }) ≡ kept_interfaces c (full_entry s f ∷ past)
+interfaces-full c past s f v l is =
+    ap (λ (k : ℕ). slice_set (kept_interfaces c past) k (record l { refused = l.refused + 1 })) is.iface
+    ∙ ap (slice_set (kept_interfaces c past) (iface_of past s.0)) (full-here c past s f v l is)
+    ∙ sym (kept_interfaces-one c past (full_entry s f) (iface_of past s.0) is.below (full-other c past s f))
 
 nodes-full : (c : BusConfig) (past : List Entry) (s : SocketId) (f : CanFrame) → kept_nodes c (full_entry s f ∷ past) ≡ kept_nodes c past
 unfolding kept_nodes
@@ -202,14 +202,14 @@ full_follows : (c : BusConfig) (past : List Entry) (s : SocketId) (f : CanFrame)
 full_follows c past s f new proper full =
     let e = full_entry s f in
     let v = full.socket in
-    let l = full.line in
-    let is = sender c past s.0 v l full.is_line in
+    let l = full.interface in
+    let is = sender c past s.0 v l full.is_interface in
     let few : iface_of past s.0 < 16 = omega (arith, is.below, proper.few_ifaces) in
     let live : is_off (state_at c past (iface_of past s.0)) ≡ false = sym (off-is c past v.iface (iface_of past s.0) is.iface few) ∙ full.live in
     record {
       lawful = reply-full c past s f v l is (may-send c past s.0 f v false is.socket full.may) live full.full;
-      after = full.after ∙ parts-are (record (kept_parts c past) { lines = slice_set (kept_lines c past) v.iface (record l { refused = l.refused + 1 }) }) (kept_parts c (e ∷ past))
-          (lines-full c past s f v l is)
+      after = full.after ∙ parts-are (record (kept_parts c past) { interfaces = slice_set (kept_interfaces c past) v.iface (record l { refused = l.refused + 1 }) }) (kept_parts c (e ∷ past))
+          (interfaces-full c past s f v l is)
           (sym (keys-full past s f))
           (sym (nodes-full c past s f))
           (sym (left-full c past s f))

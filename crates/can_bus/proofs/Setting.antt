@@ -14,7 +14,7 @@ use Rattle.can_event.specs.declared.socket_id.SocketId.{SocketId}
 use Rattle.can_bus.specs.Sockets.{places, open_sockets, is_open, filters_of, options_of}
 use Rattle.can_event.specs.Events.{with_option}
 use Rattle.can_bus.specs.Legal.{legal_reply}
-use Rattle.can_bus.specs.State.{SocketState, Parts, kept_socket, kept_sockets, kept_lines, kept_keys, kept_nodes, kept_left, kept_parts}
+use Rattle.can_bus.specs.State.{SocketState, Parts, kept_socket, kept_sockets, kept_interfaces, kept_keys, kept_nodes, kept_left, kept_parts}
 use Rattle.can_bus.specs.Changes.{Sets}
 use Rattle.can_bus.proofs.Keeping.{Follows, IsStill, IsUncounted}
 use Rattle.can_bus.proofs.Opened.{IsThere-stands}
@@ -49,8 +49,8 @@ set_follows c past e s change _ new is sets = absurd sets
 -- ---- filters
 
 still-filters : (c : BusConfig) (past : List Entry) (s : SocketId) (fs : List CanFilter) → IsStill c past (done_entry (SetFilters s fs))
-unfolding kept_lines kept_keys kept_nodes kept_left
-still-filters c past s fs = record { of_lines = refl; of_keys = refl; of_nodes = refl; of_left = refl }
+unfolding kept_interfaces kept_keys kept_nodes kept_left
+still-filters c past s fs = record { of_interfaces = refl; of_keys = refl; of_nodes = refl; of_left = refl }
 
 others-filters : (c : BusConfig) (past : List Entry) (s : SocketId) (fs : List CanFilter) (o : ℕ) → o ≢ s.0 → kept_socket c (done_entry (SetFilters s fs) ∷ past) o ≡ kept_socket c past o
 others-filters c past s fs o differ =
@@ -76,8 +76,8 @@ filters_follow c past s fs r new sets = set_follows c past (SetFilters s fs) s.0
 -- ---- options
 
 still-option : (c : BusConfig) (past : List Entry) (s : SocketId) (option : Opt) → IsStill c past (done_entry (SetOption s option))
-unfolding kept_lines kept_keys kept_nodes kept_left
-still-option c past s option = record { of_lines = refl; of_keys = refl; of_nodes = refl; of_left = refl }
+unfolding kept_interfaces kept_keys kept_nodes kept_left
+still-option c past s option = record { of_interfaces = refl; of_keys = refl; of_nodes = refl; of_left = refl }
 
 others-option : (c : BusConfig) (past : List Entry) (s : SocketId) (option : Opt) (o : ℕ) → o ≢ s.0 → kept_socket c (done_entry (SetOption s option) ∷ past) o ≡ kept_socket c past o
 others-option c past s option o differ =

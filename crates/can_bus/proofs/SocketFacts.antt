@@ -44,7 +44,7 @@ pub follows_at_sockets : (c : BusConfig) (past : List Entry) (e : Entry) (new : 
     → sockets ≡ kept_sockets c (e ∷ past) → new ≡ record (kept_parts c past) { sockets = sockets; opened = opened } → Follows c past e new
 follows_at_sockets c past e new sockets opened lawful still same_tape opened_is sockets_are after = record {
   lawful = lawful;
-  after = after ∙ parts-are (record (kept_parts c past) { sockets = sockets; opened = opened }) (kept_parts c (e ∷ past)) (sym still.of_lines) (sym still.of_keys) (sym still.of_nodes) (sym still.of_left) sockets_are opened_is (ap length (sym same_tape));
+  after = after ∙ parts-are (record (kept_parts c past) { sockets = sockets; opened = opened }) (kept_parts c (e ∷ past)) (sym still.of_interfaces) (sym still.of_keys) (sym still.of_nodes) (sym still.of_left) sockets_are opened_is (ap length (sym same_tape));
 }
 
 -- a call on a socket that is not open

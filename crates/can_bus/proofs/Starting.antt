@@ -7,20 +7,20 @@ use Rattle.can_event.specs.declared.entry.Entry.{Entry}
 use Rattle.can_event.specs.declared.bus_config.BusConfig.{BusConfig}
 use Rattle.can_record.specs.Journal.{Kept}
 use Rattle.can_event.specs.Events.{IsLongConfig}
-use Rattle.can_bus.specs.State.{LineState, SocketState, Parts, fresh_line, kept_line, kept_lines, kept_sockets, kept_keys, kept_nodes, kept_left, kept_parts, IsKept}
+use Rattle.can_bus.specs.State.{InterfaceState, SocketState, Parts, fresh_interface, kept_interface, kept_interfaces, kept_sockets, kept_keys, kept_nodes, kept_left, kept_parts, IsKept}
 use Rattle.can_bus.proofs.Keeping.{parts-are}
 
-all_fresh : (c : BusConfig) (a n : ℕ) → replicate n (fresh_line c.tx_capacity) ≡ map (kept_line c []) (range_with_len a n)
+all_fresh : (c : BusConfig) (a n : ℕ) → replicate n (fresh_interface c.tx_capacity) ≡ map (kept_interface c []) (range_with_len a n)
 all_fresh c a zero = refl
-all_fresh c a (suc n) = ap (λ (ls : List LineState). fresh_line c.tx_capacity ∷ ls) (all_fresh c (a + 1) n)
+all_fresh c a (suc n) = ap (λ (ls : List InterfaceState). fresh_interface c.tx_capacity ∷ ls) (all_fresh c (a + 1) n)
 
 none_open : (c : BusConfig) → ◌≡◌ {A = List SocketState} [] (kept_sockets c [])
 unfolding kept_sockets
 none_open c = refl
 
-first_lines : (c : BusConfig) → replicate c.ifaces (fresh_line c.tx_capacity) ≡ kept_lines c []
-unfolding kept_lines
-first_lines c = all_fresh c 0 c.ifaces
+first_interfaces : (c : BusConfig) → replicate c.ifaces (fresh_interface c.tx_capacity) ≡ kept_interfaces c []
+unfolding kept_interfaces
+first_interfaces c = all_fresh c 0 c.ifaces
 
 first_keys : no_keys ≡ kept_keys []
 unfolding kept_keys
@@ -38,11 +38,11 @@ unfolding kept_left
 first_left c = refl
 
 -- the state of a bus on which nothing was done
-pub started : (c : BusConfig) (lines : List LineState) (keys : List (Option ℕ)) (z : ErrorCounts) (left : List ℕ) (sockets : List SocketState)
-    → lines ≡ replicate c.ifaces (fresh_line c.tx_capacity) → keys ≡ no_keys → z ≡ at_start → left ≡ replicate 16 0 → sockets ≡ []
-    → record { lines = lines; keys = keys; nodes = all_at c z; left = left; sockets = sockets; opened = 0; tried = 0 } ≡ kept_parts c []
-started c lines keys z left sockets lines_are keys_are zero_is left_is sockets_are =
-    parts-are (record { lines = lines; keys = keys; nodes = all_at c z; left = left; sockets = sockets; opened = 0; tried = 0 }) (kept_parts c []) (lines_are ∙ first_lines c) (keys_are ∙ first_keys) (ap (all_at c) zero_is ∙ first_nodes c) (left_is ∙ first_left c) (sockets_are ∙ none_open c) refl refl
+pub started : (c : BusConfig) (interfaces : List InterfaceState) (keys : List (Option ℕ)) (z : ErrorCounts) (left : List ℕ) (sockets : List SocketState)
+    → interfaces ≡ replicate c.ifaces (fresh_interface c.tx_capacity) → keys ≡ no_keys → z ≡ at_start → left ≡ replicate 16 0 → sockets ≡ []
+    → record { interfaces = interfaces; keys = keys; nodes = all_at c z; left = left; sockets = sockets; opened = 0; tried = 0 } ≡ kept_parts c []
+started c interfaces keys z left sockets interfaces_are keys_are zero_is left_is sockets_are =
+    parts-are (record { interfaces = interfaces; keys = keys; nodes = all_at c z; left = left; sockets = sockets; opened = 0; tried = 0 }) (kept_parts c []) (interfaces_are ∙ first_interfaces c) (keys_are ∙ first_keys) (ap (all_at c) zero_is ∙ first_nodes c) (left_is ∙ first_left c) (sockets_are ∙ none_open c) refl refl
 
 -- an empty record, and what it leaves
 pub made : (j : Kept) (parts : Parts) (c : BusConfig) → j.config ≡ c → j.history ≡ [] → c.limit ≤ j.room → IsLongConfig c → parts ≡ kept_parts c [] → IsKept j parts

@@ -16,10 +16,10 @@ use Rattle.can_bus.specs.Legal.{IsLegal}
 use Rattle.can_bus.specs.Queues.{queued_to, taken_from, dropped_at}
 use Rattle.can_bus.specs.Sockets.{is_open}
 use Rattle.can_bus.specs.Transmit.{sent_by, gone_count}
-use Rattle.can_bus.specs.State.{SocketState, kept_line, kept_lines, kept_nodes, kept_sockets}
-use Rattle.can_bus.specs.Stats.{TellsSocket, socket_stats_of, told_line, iface_stats_of}
+use Rattle.can_bus.specs.State.{SocketState, kept_interface, kept_interfaces, kept_nodes, kept_sockets}
+use Rattle.can_bus.specs.Stats.{TellsSocket, socket_stats_of, told_interface, iface_stats_of}
 use Rattle.can_bus.proofs.Lawful.{taken_from-le-queued}
-use Rattle.can_bus.proofs.LineFacts.{length-kept_lines}
+use Rattle.can_bus.proofs.InterfaceFacts.{length-kept_interfaces}
 use Rattle.can_bus.proofs.Lists.{slice_get-range}
 use Rattle.can_bus.proofs.NodeFacts.{counts_at-kept}
 use Rattle.can_bus.proofs.Opened.{IsThere-stands, closed-nowhere}
@@ -42,30 +42,30 @@ told_socket c past s (Some stats) legal tells =
 
 -- ---- interfaces
 
-line-there : (c : BusConfig) (past : List Entry) (i : ℕ) → i < c.ifaces → slice_get (kept_lines c past) i ≡ Some (kept_line c past i)
-unfolding kept_lines
-line-there c past i below =
-    slice_get-map (kept_line c past) (range_with_len 0 c.ifaces) i
-    ∙ ap (option_map (kept_line c past)) (slice_get-range 0 c.ifaces i below)
-    ∙ ap (λ (n : ℕ). Some (kept_line c past n)) (omega arith)
+interface-there : (c : BusConfig) (past : List Entry) (i : ℕ) → i < c.ifaces → slice_get (kept_interfaces c past) i ≡ Some (kept_interface c past i)
+unfolding kept_interfaces
+interface-there c past i below =
+    slice_get-map (kept_interface c past) (range_with_len 0 c.ifaces) i
+    ∙ ap (option_map (kept_interface c past)) (slice_get-range 0 c.ifaces i below)
+    ∙ ap (λ (n : ℕ). Some (kept_interface c past n)) (omega arith)
 
-counted-line : (c : BusConfig) (past : List Entry) (i : ℕ) → i < 16 → told_line (counts_at (kept_nodes c past) i) (kept_line c past i) ≡ record (told_line (counts_of c past i) (kept_line c past i)) { waiting = length (sent_by past i) - gone_count past i }
-counted-line c past i few =
-    ap (λ (k : ErrorCounts). told_line k (kept_line c past i)) (counts_at-kept c past i few)
-    ∙ ap (λ (n : ℕ). record (told_line (counts_of c past i) (kept_line c past i)) { waiting = n }) (length-drop (gone_count past i) (sent_by past i))
+counted-interface : (c : BusConfig) (past : List Entry) (i : ℕ) → i < 16 → told_interface (counts_at (kept_nodes c past) i) (kept_interface c past i) ≡ record (told_interface (counts_of c past i) (kept_interface c past i)) { waiting = length (sent_by past i) - gone_count past i }
+counted-interface c past i few =
+    ap (λ (k : ErrorCounts). told_interface k (kept_interface c past i)) (counts_at-kept c past i few)
+    ∙ ap (λ (n : ℕ). record (told_interface (counts_of c past i) (kept_interface c past i)) { waiting = n }) (length-drop (gone_count past i) (sent_by past i))
 
-kept_iface : (c : BusConfig) (past : List Entry) (i : ℕ) (there : Bool) → IsLongConfig c → nat_lt i c.ifaces ≡ there → option_map (told_line (counts_at (kept_nodes c past) i)) (slice_get (kept_lines c past) i) ≡ iface_stats_of c past i
+kept_iface : (c : BusConfig) (past : List Entry) (i : ℕ) (there : Bool) → IsLongConfig c → nat_lt i c.ifaces ≡ there → option_map (told_interface (counts_at (kept_nodes c past) i)) (slice_get (kept_interfaces c past) i) ≡ iface_stats_of c past i
 kept_iface c past i true proper is =
     let below : i < c.ifaces = ltb-true i c.ifaces is in
     let few : i < 16 = omega (arith, below, proper.few_ifaces) in
-    ap (option_map (told_line (counts_at (kept_nodes c past) i))) (line-there c past i below)
-    ∙ ap (λ (t : IfaceStats). Some t) (counted-line c past i few)
+    ap (option_map (told_interface (counts_at (kept_nodes c past) i))) (interface-there c past i below)
+    ∙ ap (λ (t : IfaceStats). Some t) (counted-interface c past i few)
     ∙ sym (cond-true (nat_lt i c.ifaces) _ _ is)
 kept_iface c past i false proper is =
     let beyond : c.ifaces ≤ i = grind (arith, is) in
-    let past_end : length (kept_lines c past) ≤ i = omega (arith, length-kept_lines c past, beyond) in
-    ap (option_map (told_line (counts_at (kept_nodes c past) i))) (slice_get_past (kept_lines c past) i past_end)
+    let past_end : length (kept_interfaces c past) ≤ i = omega (arith, length-kept_interfaces c past, beyond) in
+    ap (option_map (told_interface (counts_at (kept_nodes c past) i))) (slice_get_past (kept_interfaces c past) i past_end)
     ∙ sym (cond-false (nat_lt i c.ifaces) _ _ is)
 
-pub told_iface : (c : BusConfig) (past : List Entry) (i : ℕ) → IsLongConfig c → option_map (told_line (counts_at (kept_nodes c past) i)) (slice_get (kept_lines c past) i) ≡ iface_stats_of c past i
+pub told_iface : (c : BusConfig) (past : List Entry) (i : ℕ) → IsLongConfig c → option_map (told_interface (counts_at (kept_nodes c past) i)) (slice_get (kept_interfaces c past) i) ≡ iface_stats_of c past i
 told_iface c past i proper = kept_iface c past i (nat_lt i c.ifaces) proper refl

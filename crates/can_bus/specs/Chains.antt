@@ -1,7 +1,7 @@
 use Rattle.std.specs.Prelude.{List, [], ◌∷◌}
 use Rattle.can_event.specs.Replies.{entry_of}
 use Rattle.can_event.specs.declared.entry.Entry.{Entry}
-use Rattle.can_record.specs.Kept.{receive_entry}
+use Rattle.can_record.specs.PackedEntry.{receive_entry}
 use Rattle.can_bus.specs.declared.history.Chain.{Chain, Empty, Answered', Received'}
 
 -- A history that only contracts see.

@@ -25,7 +25,7 @@ use Rattle.can_event.specs.declared.refusal.Refusal.{Refusal}
 use Rattle.can_event.specs.declared.socket_id.SocketId.{SocketId}
 use Rattle.can_event.specs.declared.refusal.Refusal.TheVariants as refusal
 use Rattle.can_bus.specs.Posts.{attempt_posts, restart_posts, auto_restart_posts}
-use Rattle.can_bus.specs.State.{LineState, SocketState, Parts, reached, key_in}
+use Rattle.can_bus.specs.State.{InterfaceState, SocketState, Parts, reached, key_in}
 use Rattle.can_bus.specs.Legal.{lacks_fd}
 
 -- What each call does to what is kept: the parts before it, and the parts after it.
@@ -119,11 +119,11 @@ Opens old i capacity _ new = ⊥
 
 -- ---- sending
 
--- the line of a socket
-pub record IsLineOf (old : Parts) (s : ℕ) (v : SocketState) (l : LineState) : Type 0 where
+-- the interface of a socket
+pub record IsInterfaceOf (old : Parts) (s : ℕ) (v : SocketState) (l : InterfaceState) : Type 0 where
   pub place : ℕ
   pub stands : StandsAt old.sockets s place v
-  pub line : slice_get old.lines v.iface ≡ Some l
+  pub interface : slice_get old.interfaces v.iface ≡ Some l
 
 -- interface i is bus off (own choice)
 abbrev pub is_off_at : Nodes → ℕ → Bool
@@ -133,28 +133,28 @@ is_off_at nodes i = is_off (state_of (counts_at nodes i))
 abbrev pub pending_of : CanFrame → SocketId → SocketState → Pending
 pending_of frame s v = record { frame = frame; socket = s; loopback = v.options.loopback }
 
--- a line that took this frame (own choice)
-abbrev pub with_pending : Pending → LineState → LineState
+-- an interface that took this frame (own choice)
+abbrev pub with_pending : Pending → InterfaceState → InterfaceState
 with_pending p l = record l { waiting = l.waiting ++ p ∷ []; sent = l.sent + 1 }
 
--- a line that refused a frame, for want of room (own choice)
-abbrev pub with_refused : LineState → LineState
+-- an interface that refused a frame, for want of room (own choice)
+abbrev pub with_refused : InterfaceState → InterfaceState
 with_refused l = record l { refused = l.refused + 1 }
 
--- a line is put in place i, whose head competes from then on
-abbrev pub with_line : Parts → ℕ → LineState → Parts
-with_line old i l = record old { lines = slice_set old.lines i l; keys = slice_set old.keys i (key_in (slice_get l.waiting 0)) }
+-- an interface is put in place i, whose head competes from then on
+abbrev pub with_interface : Parts → ℕ → InterfaceState → Parts
+with_interface old i l = record old { interfaces = slice_set old.interfaces i l; keys = slice_set old.keys i (key_in (slice_get l.waiting 0)) }
 
 -- a frame that is sent finds room, and is the n-th of its interface (own choice)
 pub record Takes (old : Parts) (s n : ℕ) (pending : SocketState → Pending) (new : Parts) : Type 0 where
   pub socket : SocketState
-  pub line : LineState
-  pub is_line : IsLineOf old s socket line
+  pub interface : InterfaceState
+  pub is_interface : IsInterfaceOf old s socket interface
   pub may : lacks_fd (pending socket).frame socket.options ≡ false
   pub live : is_off_at old.nodes socket.iface ≡ false
-  pub room : length line.waiting < line.room
-  pub number : n ≡ line.sent
-  pub after : new ≡ with_line old socket.iface (with_pending (pending socket) line)
+  pub room : length interface.waiting < interface.room
+  pub number : n ≡ interface.sent
+  pub after : new ≡ with_interface old socket.iface (with_pending (pending socket) interface)
 
 -- the socket is open, and the frame is an FD frame that it did not ask for
 pub record IsFdOffFor (old : Parts) (s : ℕ) (pending : SocketState → Pending) : Type 0 where
@@ -174,12 +174,12 @@ pub record IsOffFor (old : Parts) (s : ℕ) (pending : SocketState → Pending) 
 -- a frame that is sent finds no room (own choice)
 pub record FindsFull (old : Parts) (s : ℕ) (pending : SocketState → Pending) (new : Parts) : Type 0 where
   pub socket : SocketState
-  pub line : LineState
-  pub is_line : IsLineOf old s socket line
+  pub interface : InterfaceState
+  pub is_interface : IsInterfaceOf old s socket interface
   pub may : lacks_fd (pending socket).frame socket.options ≡ false
   pub live : is_off_at old.nodes socket.iface ≡ false
-  pub full : length line.waiting ≡ line.room
-  pub after : new ≡ record old { lines = slice_set old.lines socket.iface (with_refused line) }
+  pub full : length interface.waiting ≡ interface.room
+  pub after : new ≡ record old { interfaces = slice_set old.interfaces socket.iface (with_refused interface) }
 
 -- a frame is sent on a socket
 abbrev pub Sends : Parts → ℕ → (SocketState → Pending) → Result ℕ Refusal → Parts → Type 0
@@ -192,8 +192,8 @@ Sends old s pending (Err _) new = ⊥
 
 -- ---- attempts
 
--- what an attempt of this class leaves of the winner's line, which went off or not
-abbrev pub settled : Class → Bool → LineState → LineState
+-- what an attempt of this class leaves of the winner's interface, which went off or not
+abbrev pub settled : Class → Bool → InterfaceState → InterfaceState
 settled k off l = record l { waiting = if off then [] else if is_done k then drop 1 l.waiting else l.waiting; gone = if off then l.sent else if is_done k then l.gone + 1 else l.gone; done = if is_done k then l.done + 1 else l.done }
 
 -- what an attempt answers of the frame that it tried, the n-th of the winner
@@ -204,20 +204,20 @@ tried_in tr m n restarted pending = record { moment = m; winner = tr.winner; num
 abbrev pub counting_down : ℕ → ℕ → Bool → List ℕ → List ℕ
 counting_down n w off left = if off then slice_set left w n else left
 
--- what an attempt leaves, of which the winner's line was this
-abbrev pub after_try : Parts → BusConfig → Transmission → LineState → Pending → Tried → Parts
-after_try old c tr line pending t = record (with_line old tr.winner (settled t.class (is_in tr.winner t.off) line)) { nodes = record old.nodes { counters = (judged tr).counters }; left = counting_down c.auto_restart tr.winner (is_in tr.winner t.off) old.left; sockets = map (reached (attempt_posts c.reporting tr t (Some pending))) old.sockets; tried = old.tried + 1 }
+-- what an attempt leaves, of which the winner's interface was this
+abbrev pub after_try : Parts → BusConfig → Transmission → InterfaceState → Pending → Tried → Parts
+after_try old c tr interface pending t = record (with_interface old tr.winner (settled t.class (is_in tr.winner t.off) interface)) { nodes = record old.nodes { counters = (judged tr).counters }; left = counting_down c.auto_restart tr.winner (is_in tr.winner t.off) old.left; sockets = map (reached (attempt_posts c.reporting tr t (Some pending))) old.sockets; tried = old.tried + 1 }
 
 -- the head of the winner is tried, in an attempt that then restarts these interfaces (own choice)
 pub record Carries (old : Parts) (c : BusConfig) (m : ℕ) (v : Verdict) (restarted : IfaceSet) (t : Tried) (new : Parts) : Type 0 where
   pub place : ℕ
-  pub line : LineState
+  pub interface : InterfaceState
   pub pending : Pending
   pub wins : IsWinner old.keys place
-  pub there : slice_get old.lines place ≡ Some line
-  pub oldest : slice_get line.waiting 0 ≡ Some pending
-  pub tried : t ≡ tried_in (attempt_between old.nodes place v c.ack) m line.gone restarted pending
-  pub after : new ≡ after_try old c (attempt_between old.nodes place v c.ack) line pending t
+  pub there : slice_get old.interfaces place ≡ Some interface
+  pub oldest : slice_get interface.waiting 0 ≡ Some pending
+  pub tried : t ≡ tried_in (attempt_between old.nodes place v c.ack) m interface.gone restarted pending
+  pub after : new ≡ after_try old c (attempt_between old.nodes place v c.ack) interface pending t
 
 -- a frame is tried, if a live interface has one, in an attempt that then restarts these interfaces
 abbrev pub Tries : Parts → BusConfig → ℕ → Verdict → IfaceSet → Option Tried → Parts → Type 0
@@ -255,10 +255,10 @@ pub record Attempts (old : Parts) (c : BusConfig) (m : ℕ) (v : Verdict) (a : A
 
 -- an interface with a key is there, is live, and has a frame to send
 pub record IsReady (parts : Parts) (w : ℕ) : Type 0 where
-  pub there : w < length parts.lines
+  pub there : w < length parts.interfaces
   pub counted : w < parts.nodes.count
   pub live : is_off_at parts.nodes w ≡ false
-  pub has_head : (l : LineState) → slice_get parts.lines w ≡ Some l → is_some (slice_get l.waiting 0) ≡ true
+  pub has_head : (l : InterfaceState) → slice_get parts.interfaces w ≡ Some l → is_some (slice_get l.waiting 0) ≡ true
 
 -- so is each interface with a key (own choice)
 abbrev pub AreReady : Parts → Type 0

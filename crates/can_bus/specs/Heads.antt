@@ -5,7 +5,7 @@ use Rattle.can_event.specs.declared.bus_config.BusConfig.{BusConfig}
 use Rattle.can_event.specs.declared.entry.Entry.{Entry}
 use Rattle.can_event.specs.declared.pending.Pending.{Pending}
 use Rattle.can_bus.specs.Attempts.{winner}
-use Rattle.can_bus.specs.State.{LineState, Parts}
+use Rattle.can_bus.specs.State.{InterfaceState, Parts}
 use Rattle.can_bus.specs.Transmit.{head_of}
 
 -- What the next attempt tries.
@@ -24,13 +24,13 @@ head_at past (Some w) = with_frame w (head_of past w)
 abbrev pub next_head : BusConfig → List Entry → Option (ℕ × CanFrame)
 next_head c past = head_at past (winner c past)
 
--- the same, from what is kept: the winner's line, and its oldest frame
+-- the same, from what is kept: the winner's interface, and its oldest frame
 pub record IsNext (parts : Parts) (head : ℕ × CanFrame) : Type 0 where
-  pub line : LineState
+  pub interface : InterfaceState
   pub pending : Pending
   pub wins : IsWinner parts.keys head.0
-  pub there : slice_get parts.lines head.0 ≡ Some line
-  pub oldest : slice_get line.waiting 0 ≡ Some pending
+  pub there : slice_get parts.interfaces head.0 ≡ Some interface
+  pub oldest : slice_get interface.waiting 0 ≡ Some pending
   pub frame : head.1 ≡ pending.frame
 
 -- what the next attempt tries, from what is kept: nothing where no interface competes

@@ -23,7 +23,7 @@ use Rattle.can_bus.specs.Legal.{IsLegal}
 -- What a bus keeps so that each call is fast, and that it is what the history leaves.
 
 -- what is kept of an interface
-pub record LineState : Type 0 where
+pub record InterfaceState : Type 0 where
   pub waiting : List Pending
   pub room : ℕ
   pub sent : ℕ
@@ -31,9 +31,9 @@ pub record LineState : Type 0 where
   pub done : ℕ
   pub refused : ℕ
 
--- an interface's line as a bus begins (own choice)
-abbrev pub fresh_line : ℕ → LineState
-fresh_line capacity = record { waiting = []; room = capacity; sent = 0; gone = 0; done = 0; refused = 0 }
+-- an interface as a bus begins (own choice)
+abbrev pub fresh_interface : ℕ → InterfaceState
+fresh_interface capacity = record { waiting = []; room = capacity; sent = 0; gone = 0; done = 0; refused = 0 }
 
 -- what is kept of an open socket
 pub record SocketState : Type 0 where
@@ -63,16 +63,16 @@ abbrev pub key_in : Option Pending → Option ℕ
 key_in p = option_map (λ (q : Pending). key_of q.frame) p
 
 -- what a history leaves of an interface
-abbrev pub kept_line : BusConfig → List Entry → ℕ → LineState
-kept_line c past i = record { waiting = drop (gone_count past i) (sent_by past i); room = c.tx_capacity; sent = length (sent_by past i); gone = gone_count past i; done = done_count past i; refused = refused_count past i }
+abbrev pub kept_interface : BusConfig → List Entry → ℕ → InterfaceState
+kept_interface c past i = record { waiting = drop (gone_count past i) (sent_by past i); room = c.tx_capacity; sent = length (sent_by past i); gone = gone_count past i; done = done_count past i; refused = refused_count past i }
 
 -- what a history leaves of an open socket
 abbrev pub kept_socket : BusConfig → List Entry → ℕ → SocketState
 kept_socket c past s = record { number = s; iface = iface_of past s; capacity = capacity_of past s; filters = filters_of past s; options = options_of past s; waiting = drop (length (taken_from past s)) (queued_to c past s); taken = length (taken_from past s); dropped = length (dropped_at c past s) }
 
 -- what a history leaves of the interfaces, by number (own choice)
-unfoldable pub kept_lines : BusConfig → List Entry → List LineState
-kept_lines c past = map (kept_line c past) (range_with_len 0 c.ifaces)
+unfoldable pub kept_interfaces : BusConfig → List Entry → List InterfaceState
+kept_interfaces c past = map (kept_interface c past) (range_with_len 0 c.ifaces)
 
 -- what a history leaves of the open sockets, by rising number (own choice)
 unfoldable pub kept_sockets : BusConfig → List Entry → List SocketState
@@ -92,7 +92,7 @@ kept_left c past = map (attempts_left c past) (range_with_len 0 16)
 
 -- the parts of a bus beside its record
 pub record Parts : Type 0 where
-  pub lines : List LineState
+  pub interfaces : List InterfaceState
   pub keys : List (Option ℕ)
   pub nodes : Nodes
   pub left : List ℕ
@@ -102,7 +102,7 @@ pub record Parts : Type 0 where
 
 -- what a history leaves
 abbrev pub kept_parts : BusConfig → List Entry → Parts
-kept_parts c past = record { lines = kept_lines c past; keys = kept_keys past; nodes = kept_nodes c past; left = kept_left c past; sockets = kept_sockets c past; opened = length (places past); tried = length (tape past) }
+kept_parts c past = record { interfaces = kept_interfaces c past; keys = kept_keys past; nodes = kept_nodes c past; left = kept_left c past; sockets = kept_sockets c past; opened = length (places past); tried = length (tape past) }
 
 -- what is kept is what the history leaves, and there is memory for all the entries that may come
 pub record IsKept (j : Kept) (parts : Parts) : Type 0 where

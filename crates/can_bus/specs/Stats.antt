@@ -10,7 +10,7 @@ use Rattle.can_bus.specs.Transmit.{sent_by, gone_count, done_count, lost_count, 
 use Rattle.can_bus.specs.Counters.{counts_of}
 use Rattle.can_bus.specs.Queues.{queued_to, dropped_at, taken_from}
 use Rattle.can_bus.specs.Changes.{StandsAt, IsNowhere}
-use Rattle.can_bus.specs.State.{LineState, SocketState}
+use Rattle.can_bus.specs.State.{InterfaceState, SocketState}
 
 -- The counts that a bus reports without an event.
 
@@ -27,8 +27,8 @@ unfoldable pub all_counts : BusConfig → List Entry → List ErrorCounts
 all_counts c past = map (counts_of c past) (range_with_len 0 16)
 
 -- the same, from what is kept
-abbrev pub told_line : ErrorCounts → LineState → IfaceStats
-told_line counts l = record { sent = l.sent; done = l.done; waiting = length l.waiting; lost = l.gone - l.done; refused = l.refused; counters = counts }
+abbrev pub told_interface : ErrorCounts → InterfaceState → IfaceStats
+told_interface counts l = record { sent = l.sent; done = l.done; waiting = length l.waiting; lost = l.gone - l.done; refused = l.refused; counters = counts }
 
 -- these are the counts of an open socket, from what is kept of it (own choice)
 pub record TellsOf (sockets : List SocketState) (s : ℕ) (stats : SocketStats) : Type 0 where

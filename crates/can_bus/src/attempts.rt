@@ -6,9 +6,9 @@ ghost use Rattle.can_bus.specs.Changes.{AreReady, Attempts, Restarts, Tries, aft
 
 use crate::outcomes::Attempted;
 use crate::state::State;
-use crate::{lines, posting};
+use crate::{interfaces, posting};
 use can_arbiter::Arbiter;
-use can_attempt::{Judgement, Nodes, is_calm, judge_asked};
+use can_attempt::{Judgement, Nodes, is_fault_free, judge_known};
 use can_confine::Counters;
 use can_event::{Attempt, BusConfig, Pending, Received, Refusal, Reply, Tried};
 use can_fault::Verdict;
@@ -82,21 +82,28 @@ impl<T: BoundedQueue<Pending>, R: BoundedQueue<Received>, A: Arbiter> State<T, R
     ) -> Option<Tried>
         requires few { self.old.nodes.count ≤ 16 }
         requires ready { AreReady self.old }
-        requires gone { All (λ l. l.gone + 1 < 2 ^ 64) self.old.lines }
-        requires done { All (λ l. l.done + 1 < 2 ^ 64) self.old.lines }
+        requires gone { All (λ l. l.gone + 1 < 2 ^ 64) self.old.interfaces }
+        requires done { All (λ l. l.done + 1 < 2 ^ 64) self.old.interfaces }
         requires dropped { All (λ v. v.dropped + 3 < 2 ^ 64) self.old.sockets }
         requires tried { self.old.tried + 1 < 2 ^ 64 }
         ensures { Tries self.old config moment verdict restarted result self.new }
     {
         let winner = self.arbiter.winner()?;
-        let line = &self.lines[winner.number() as usize];
-        let pending = line.head()?;
-        let is_calm = is_calm(&self.nodes, verdict, config.ack);
-        let judgement = judge_asked(&self.nodes, winner, verdict, config.ack, is_calm);
-        let tried = tried_as(moment, winner, line.gone(), &pending, &judgement, restarted);
+        let interface = &self.interfaces[winner.number() as usize];
+        let pending = interface.head()?;
+        let is_fault_free = is_fault_free(&self.nodes, verdict, config.ack);
+        let judgement = judge_known(&self.nodes, winner, verdict, config.ack, is_fault_free);
+        let tried = tried_as(
+            moment,
+            winner,
+            interface.gone(),
+            &pending,
+            &judgement,
+            restarted,
+        );
         let is_off = tried.off.contains(winner);
-        lines::settle(
-            &mut self.lines,
+        interfaces::finish_attempt(
+            &mut self.interfaces,
             &mut self.arbiter,
             winner,
             tried.class,
@@ -109,7 +116,7 @@ impl<T: BoundedQueue<Pending>, R: BoundedQueue<Received>, A: Arbiter> State<T, R
             &attempted,
             &pending,
             config.reporting,
-            is_calm,
+            is_fault_free,
         );
         self.nodes.counters = judgement.counters;
         self.tried += 1;
@@ -135,8 +142,8 @@ impl<T: BoundedQueue<Pending>, R: BoundedQueue<Received>, A: Arbiter> State<T, R
         requires few { self.old.nodes.count ≤ 16 }
         requires sixteen { length self.old.nodes.counters ≡ 16 }
         requires ready { AreReady self.old }
-        requires gone { All (λ l. l.gone + 1 < 2 ^ 64) self.old.lines }
-        requires done { All (λ l. l.done + 1 < 2 ^ 64) self.old.lines }
+        requires gone { All (λ l. l.gone + 1 < 2 ^ 64) self.old.interfaces }
+        requires done { All (λ l. l.done + 1 < 2 ^ 64) self.old.interfaces }
         requires dropped { All (λ v. v.dropped + 4 < 2 ^ 64) self.old.sockets }
         requires tried { self.old.tried + 1 < 2 ^ 64 }
         requires never { config.auto_restart ≡ 0 → self.old.left ≡ replicate 16 0 }

@@ -1,6 +1,6 @@
 ghost use Rattle.std.specs.Prelude.{◌≡◌, [], ◌∷◌};
 ghost use Rattle.can_event.specs.Replies.{entry_of};
-ghost use Rattle.can_record.specs.Kept.{receive_entry};
+ghost use Rattle.can_record.specs.PackedEntry.{receive_entry};
 
 use can_event::{Event, Received, Refusal, Reply, SocketId};
 use std::marker::Model;

@@ -10,11 +10,11 @@ mod attempts;
 pub mod bus;
 mod countdown;
 mod history;
+mod interface;
+mod interfaces;
 pub mod journaled;
 pub mod laws;
 pub mod lean_bus;
-mod line;
-mod lines;
 pub mod long_bus;
 pub mod outcomes;
 mod posting;
@@ -29,7 +29,7 @@ pub use can_event::{
     Attempt, BusConfig, Closed, Entry, Event, IfaceStats, Opt, Pending, Received, Refusal, Reply,
     SocketId, SocketStats, Tried, is_spelled,
 };
-pub use can_record::{Entries, EntriesIter, Looked, PackedRecord, Record, Stored};
+pub use can_record::{Entries, EntriesIter, EntryRef, PackedRecord, Record, StoredEntry};
 pub use journaled::Journaled;
 pub use lean_bus::{LeanBus, LeanRingBus};
 pub use long_bus::{LongBus, LongEnd, LongRingBus, TAIL_SIZE};

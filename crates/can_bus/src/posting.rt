@@ -1,5 +1,5 @@
 ghost use Rattle.std.specs.Prelude.{◌≡◌, ◌<◌, ◌+◌, ◌^◌, All, IsTrue, map};
-ghost use Rattle.can_attempt.specs.Attempts.{IsCalm, class_of};
+ghost use Rattle.can_attempt.specs.Attempts.{IsFaultFree, class_of};
 ghost use Rattle.can_bus.specs.Attempted.{transmission_of};
 ghost use Rattle.can_bus.specs.News.{fault_posts, frame_posts, outcome_posts};
 ghost use Rattle.can_bus.specs.Posts.{restart_posts, auto_restart_posts, error_posts};
@@ -98,23 +98,23 @@ fn post_faults<R: BoundedQueue<Received>>(
 }
 
 /// Posts all items of an attempt to every socket; `pending` is the frame as it waited. Where nothing could go wrong
-/// (`is_calm`), nobody looks for faults.
+/// (`is_fault_free`), nobody looks for faults.
 pub fn post_attempt<R: BoundedQueue<Received>>(
     sockets: &mut [Socket<R>],
     attempted: &Attempted,
     pending: &Pending,
     reporting: IfaceSet,
-    is_calm: bool,
+    is_fault_free: bool,
 )
     requires class { attempted.now.tried.class ≡ class_of (transmission_of attempted.now) }
-    requires calm { IsTrue is_calm →
-        IsCalm attempted.now.nodes attempted.now.verdict attempted.now.ack }
+    requires calm { IsTrue is_fault_free →
+        IsFaultFree attempted.now.nodes attempted.now.verdict attempted.now.ack }
     requires dropped { All (λ v. v.dropped + 3 < 2 ^ 64) sockets.old }
     ensures { sockets.new
         ≡ map (reached (outcome_posts reporting attempted.now pending.now)) sockets.old }
 {
     post_frame(sockets, attempted.tried(), pending);
-    if !is_calm {
+    if !is_fault_free {
         post_faults(sockets, attempted, reporting);
     }
 }

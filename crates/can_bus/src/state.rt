@@ -8,8 +8,8 @@ ghost use Rattle.can_bus.specs.State.{IsKept, kept_parts};
 ghost use Rattle.can_event.specs.declared.entry.Entry.{Entry as AnEntry};
 
 use crate::countdown::Countdown;
-use crate::line::Line;
-use crate::lines;
+use crate::interface::Interface;
+use crate::interfaces;
 use crate::socket::Socket;
 use can_arbiter::Arbiter;
 use can_attempt::Nodes;
@@ -27,8 +27,8 @@ use std::marker::Model;
 #[derive(Drop)]
 pub struct State<T: BoundedQueue<Pending>, R: BoundedQueue<Received>, A: Arbiter> {
     /// The interfaces, by number.
-    pub(crate) lines: Vec<Line<T>>,
-    /// By which keys they compete.
+    pub(crate) interfaces: Vec<Interface<T>>,
+    /// By which keys they set_key.
     pub(crate) arbiter: A,
     /// Their error counters.
     pub(crate) nodes: Nodes,
@@ -49,7 +49,7 @@ impl<T: BoundedQueue<Pending>, R: BoundedQueue<Received>, A: Arbiter> Model for 
     ghost Value = { Parts };
 
     ghost view = { λ s. record {
-      lines = s.lines.items;
+      interfaces = s.interfaces.items;
       keys = A.keys_of s.arbiter;
       nodes = s.nodes;
       left = s.countdown;
@@ -66,10 +66,10 @@ impl<T: BoundedQueue<Pending>, R: BoundedQueue<Received>, A: Arbiter> State<T, R
     pub fn new(alloc: Global, config: BusConfig) -> Result<State<T, R, A>, QueueError>
         ensures { IfOk result (λ s. s ≡ kept_parts config []) }
     {
-        let lines = lines::make(alloc, config.ifaces, config.tx_capacity as usize)?;
+        let interfaces = interfaces::make(alloc, config.ifaces, config.tx_capacity as usize)?;
         let sockets = Vec::with_capacity(alloc, 64)?;
         Ok(State {
-            lines,
+            interfaces,
             arbiter: A::new(),
             nodes: Nodes {
                 count: config.ifaces,
@@ -126,8 +126,8 @@ impl<T: BoundedQueue<Pending>, R: BoundedQueue<Received>, A: Arbiter> State<T, R
         ensures { TellsNext self.now result }
     {
         let winner = self.arbiter.winner()?;
-        let line = &self.lines[winner.number() as usize];
-        let pending = line.head()?;
+        let interface = &self.interfaces[winner.number() as usize];
+        let pending = interface.head()?;
         Some((winner, pending.frame))
     }
 

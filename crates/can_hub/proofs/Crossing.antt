@@ -37,16 +37,16 @@ use Rattle.can_hub.specs.contracts.hub_bus.HubBus as hub
 use Rattle.can_hub.specs.contracts.hub_bus.HubBus.TheInside as hub_inside
 use Rattle.can_hub.specs.contracts.hub_bus.HubBusJournaled.TheImpl as journaled
 use Rattle.can_hub.specs.contracts.hub_bus.HubEnd as hub_end
-use Rattle.can_hub.proofs.returned.Returned.TheSendSync as returned
+use Rattle.can_hub.proofs.returned.ReturnedPasses.TheSendSync as returned
 use Rattle.can_hub.proofs.tally.Tally.TheSendSync as tally
-use Rattle.can_hub.specs.contracts.buses.Wire as wire
-use Rattle.can_hub.specs.contracts.buses.Wire.TheInside as wire_inside
+use Rattle.can_hub.specs.contracts.buses.Network as network
+use Rattle.can_hub.specs.contracts.buses.Network.TheInside as network_inside
 use Rattle.can_hub.specs.contracts.buses.Buses as buses
 use Rattle.can_hub.specs.contracts.buses.Buses.TheInside as buses_inside
 use Rattle.can_hub.specs.contracts.pass_port.PassPort as port
 use Rattle.can_hub.specs.contracts.pass_port.PassPort.TheInside as port_inside
-use Rattle.can_hub.specs.contracts.pass_port.Entered as entered
-use Rattle.can_hub.specs.contracts.pass_port.Entered.TheInside as entered_inside
+use Rattle.can_hub.specs.contracts.pass_port.EnteredStation as entered
+use Rattle.can_hub.specs.contracts.pass_port.EnteredStation.TheInside as entered_inside
 
 -- a field that is a reference
 pub shared : (κ : NamedLft) (R : RattleType) (one : One R.mir) → IsSync R → IsSync (as_row (shr_ref_field κ R one))
@@ -77,15 +77,15 @@ bus_send = let inside : IsSend hub_inside.the_row = search (sendable, any_send, 
 
 module _ (N F G : RattleType) (g : roll.Ghosts N.Denot) (g' : meter.Ghosts N.Denot) (g'' : source.Ghosts F.Denot) (f : IsSend F) (s : IsSync G) where
   -- a bus with its names
-  pub wire_sync : IsSync (wire.the_row N F G g g' g'')
-  wire_sync =
-      let inside : IsSync (wire_inside.the_row N F G g g' g'') = declared_sync (wire_inside.the_type N F G g g' g'') (names.the_sync, (station.the_sync N F G hub.the_row hub_end.the_row g g' g'' journaled.ghosts f bus_send s, (search (sendable, as_row_sync) depth 20, (search (sendable, as_row_sync) depth 20, tt)))) in
+  pub network_sync : IsSync (network.the_row N F G g g' g'')
+  network_sync =
+      let inside : IsSync (network_inside.the_row N F G g g' g'') = declared_sync (network_inside.the_type N F G g g' g'') (names.the_sync, (station.the_sync N F G hub.the_row hub_end.the_row g g' g'' journaled.ghosts f bus_send s, (search (sendable, as_row_sync) depth 20, (search (sendable, as_row_sync) depth 20, tt)))) in
       view_sync _ _ _ _ _ inside
 
   -- the buses of a hub
   pub buses_sync : IsSync (buses.the_row N F G g g' g'')
   buses_sync =
-      let inside : IsSync (buses_inside.the_row N F G g g' g'') = declared_sync (buses_inside.the_type N F G g g' g'') (Vec-sync _ wire_sync, tt) in
+      let inside : IsSync (buses_inside.the_row N F G g g' g'') = declared_sync (buses_inside.the_type N F G g g' g'') (Vec-sync _ network_sync, tt) in
       view_sync _ _ _ _ _ inside
 
   module _ (κ : NamedLft) where

@@ -53,7 +53,7 @@ pub(crate) fn make_hub<L: Leaves, F: FaultSource + Drop, G: Gate + Drop>(
     benches.len() >= 1
         && benches.len() <= 16
         && are_proper::<L, F, G>(benches)
-        && are_all_apart(benches)
+        && have_distinct_names(benches)
 }
 
 /// Whether a bus may be made of each.
@@ -64,12 +64,12 @@ fn are_proper<L: Leaves, F: FaultSource + Drop, G: Gate + Drop>(benches: &[Bench
 }
 
 /// Whether no name is on two of these.
-fn are_all_apart<F: FaultSource + Drop, G: Gate + Drop>(benches: &[Bench<F, G>]) -> bool
+fn have_distinct_names<F: FaultSource + Drop, G: Gate + Drop>(benches: &[Bench<F, G>]) -> bool
     ensures { IsTrue result ↔ AllApart (bench_names benches.now) }
 {
     match benches {
         [] => true,
-        [first, rest @ ..] => is_apart(&first.names, rest) && are_all_apart(rest),
+        [first, rest @ ..] => is_apart(&first.names, rest) && have_distinct_names(rest),
     }
 }
 

@@ -22,14 +22,14 @@ use std::sync::Wait;
 
 /// A bus of a hub: its station, and the names of its interfaces.
 #[derive(Drop)]
-pub struct Wire<N: RollName + MeterName, F: FaultSource + Drop, G: Gate + Drop> {
+pub struct Network<N: RollName + MeterName, F: FaultSource + Drop, G: Gate + Drop> {
     names: Names,
     pub(crate) station: Station<N, F, G, HubBus>,
     pace_ms: u32,
     rx_capacity: u32,
 }
 
-impl<N: RollName + MeterName, F: FaultSource + Drop, G: Gate + Drop> Model for Wire<N, F, G> {
+impl<N: RollName + MeterName, F: FaultSource + Drop, G: Gate + Drop> Model for Network<N, F, G> {
     ghost use Rattle.can_hub.specs.Buses.{BusSeen};
 
     ghost Value = { BusSeen };
@@ -43,7 +43,7 @@ impl<N: RollName + MeterName, F: FaultSource + Drop, G: Gate + Drop> Model for W
     } };
 }
 
-impl<N: RollName + MeterName, F: FaultSource + Drop, G: Gate + Drop> Wire<N, F, G> {
+impl<N: RollName + MeterName, F: FaultSource + Drop, G: Gate + Drop> Network<N, F, G> {
     /// The bus that a bench makes under a number, one that leaves an `L`, and its scroll: in a long run it has memory for this
     /// many entries at once. `NoMemory` where memory was refused.
     fn new<L: Leaves>(
@@ -51,7 +51,7 @@ impl<N: RollName + MeterName, F: FaultSource + Drop, G: Gate + Drop> Wire<N, F, 
         number: u8,
         bench: Bench<F, G>,
         size: u32,
-    ) -> Result<(Wire<N, F, G>, Scroll<N>), BusFault>
+    ) -> Result<(Network<N, F, G>, Scroll<N>), BusFault>
         requires roll { bench.blanks.roll ≡ N.roll number }
         requires meter { bench.blanks.meter ≡ N.meter number }
         requires proper { IsWithin L.limits bench }
@@ -73,20 +73,20 @@ impl<N: RollName + MeterName, F: FaultSource + Drop, G: Gate + Drop> Wire<N, F, 
         let (station, scroll) = Station::over(
             alloc, blanks, number, bus, config, source, plan, gate,
         )?;
-        let wire = Wire {
+        let network = Network {
             names,
             station,
             pace_ms,
             rx_capacity,
         };
-        Ok((wire, scroll))
+        Ok((network, scroll))
     }
 }
 
 /// Buses, each with a station of its own. A bus's number is its place.
 #[derive(Drop)]
 pub struct Buses<N: RollName + MeterName, F: FaultSource + Drop, G: Gate + Drop> {
-    pub(crate) wires: Vec<Wire<N, F, G>>,
+    pub(crate) networks: Vec<Network<N, F, G>>,
 }
 
 impl<N: RollName + MeterName, F: FaultSource + Drop, G: Gate + Drop> Model for Buses<N, F, G> {
@@ -95,11 +95,11 @@ impl<N: RollName + MeterName, F: FaultSource + Drop, G: Gate + Drop> Model for B
 
     ghost Value = { List BusSeen };
 
-    ghost view = { λ b. b.wires.items };
+    ghost view = { λ b. b.networks.items };
 
     ghost invariant = { λ b.
-        NumberedFrom 0 b.wires.items × AllApart (names_of b.wires.items)
-        × (length b.wires.items ≤ 16) };
+        NumberedFrom 0 b.networks.items × AllApart (names_of b.networks.items)
+        × (length b.networks.items ≤ 16) };
 }
 
 impl<N: RollName + MeterName, F: FaultSource + Drop, G: Gate + Drop> Buses<N, F, G> {
@@ -115,7 +115,7 @@ impl<N: RollName + MeterName, F: FaultSource + Drop, G: Gate + Drop> Buses<N, F,
     pub fn find_bytes(&self, name: &[u8]) -> Option<(usize, Iface)>
         ensures { IsFirstNamed self.now name.now result }
     {
-        for bus in 0..self.wires.len() {
+        for bus in 0..self.networks.len() {
             if let Some(iface) = self.interface(bus, name) {
                 return Some((bus, iface));
             }
@@ -129,7 +129,7 @@ impl<N: RollName + MeterName, F: FaultSource + Drop, G: Gate + Drop> Buses<N, F,
         requires { bus < length self.now }
         ensures { (d : BusSeen) → result ≡ place_of (slice_index_or self.now bus d).names name.now }
     {
-        self.wires[bus].names.find_bytes(name)
+        self.networks[bus].names.find_bytes(name)
     }
 
     /// How many buses there are, 1 to 16.
@@ -137,7 +137,7 @@ impl<N: RollName + MeterName, F: FaultSource + Drop, G: Gate + Drop> Buses<N, F,
         ensures count { result ≡ length self.now }
         ensures few { result ≤ 16 }
     {
-        self.wires.len()
+        self.networks.len()
     }
 
     /// The station of a bus.
@@ -147,7 +147,7 @@ impl<N: RollName + MeterName, F: FaultSource + Drop, G: Gate + Drop> Buses<N, F,
         ensures number { result.now.number ≡ bus }
         ensures config { config_on (slice_get self.now bus) ≡ Some result.now.config }
     {
-        &self.wires[bus].station
+        &self.networks[bus].station
     }
 
     /// How many milliseconds the driver of a bus sleeps after each step.
@@ -156,7 +156,7 @@ impl<N: RollName + MeterName, F: FaultSource + Drop, G: Gate + Drop> Buses<N, F,
         requires { bus < length self.now }
         ensures { (d : BusSeen) → result ≡ (slice_index_or self.now bus d).pace_ms }
     {
-        self.wires[bus].pace_ms
+        self.networks[bus].pace_ms
     }
 
     /// How many items a socket of a bus holds.
@@ -164,8 +164,8 @@ impl<N: RollName + MeterName, F: FaultSource + Drop, G: Gate + Drop> Buses<N, F,
     pub fn rx_capacity(&self, bus: usize) -> u32
         ensures { result ≡ items_on (slice_get self.now bus) }
     {
-        if bus < self.wires.len() {
-            self.wires[bus].rx_capacity
+        if bus < self.networks.len() {
+            self.networks[bus].rx_capacity
         } else {
             0
         }
@@ -176,8 +176,8 @@ impl<N: RollName + MeterName, F: FaultSource + Drop, G: Gate + Drop> Buses<N, F,
     pub fn names(&self, bus: usize) -> Option<&Names>
         ensures { option_map (λ n. n.now) result ≡ names_on (slice_get self.now bus) }
     {
-        if bus < self.wires.len() {
-            Some(&self.wires[bus].names)
+        if bus < self.networks.len() {
+            Some(&self.networks[bus].names)
         } else {
             None
         }
@@ -187,23 +187,23 @@ impl<N: RollName + MeterName, F: FaultSource + Drop, G: Gate + Drop> Buses<N, F,
     pub fn put_names(&self, text: &mut Vec<u8>) -> Result<(), AllocError>
         ensures { OnOk result (text.new.items ≡ text.old.items ++ spaced (all_names self.now)) }
     {
-        for wire in &self.wires {
-            put_names(text, &wire.names)?;
+        for network in &self.networks {
+            put_names(text, &network.names)?;
         }
         Ok(())
     }
 
     /// Stops the stations of all buses.
     pub fn stop_all<R: Wait>(&self, rt: &R) {
-        for wire in &self.wires {
-            wire.station.stop(rt);
+        for network in &self.networks {
+            network.station.stop(rt);
         }
     }
 
     /// Ends the waits for entries of all buses, once no calls are made any more.
     pub fn end_entries<R: Wait>(&self, rt: &R) {
-        for wire in &self.wires {
-            wire.station.end_entries(rt);
+        for network in &self.networks {
+            network.station.end_entries(rt);
         }
     }
 
@@ -218,11 +218,16 @@ impl<N: RollName + MeterName, F: FaultSource + Drop, G: Gate + Drop> Buses<N, F,
 }
 
 /// The buses that these benches make, numbered from 0, and the scroll of each.
-pub(crate) fn wires_of<N: RollName + MeterName, F: FaultSource + Drop, G: Gate + Drop, L: Leaves>(
+pub(crate) fn networks_of<
+    N: RollName + MeterName,
+    F: FaultSource + Drop,
+    G: Gate + Drop,
+    L: Leaves,
+>(
     alloc: Global,
     benches: Vec<Bench<F, G>>,
     size: u32,
-) -> Result<(Vec<Wire<N, F, G>>, Vec<Scroll<N>>), BusFault>
+) -> Result<(Vec<Network<N, F, G>>, Vec<Scroll<N>>), BusFault>
     requires few { length benches.items ≤ 16 }
     requires named { NamedFrom N.roll N.meter 0 benches.items }
     requires proper { All (λ b. IsWithin L.limits b) benches.items }
@@ -231,13 +236,13 @@ pub(crate) fn wires_of<N: RollName + MeterName, F: FaultSource + Drop, G: Gate +
         AreNewScrolls 0 v.1.items × (length v.1.items ≡ length v.0.items)) }
     ensures fault { IfErr result (λ e. e ≡ BusFault.NoMemory) }
 {
-    let mut wires = Vec::with_capacity(alloc, benches.len())?;
+    let mut networks = Vec::with_capacity(alloc, benches.len())?;
     let mut scrolls = Vec::with_capacity(alloc, benches.len())?;
     for bench in benches {
-        let number = wires.len() as u8;
-        let (wire, scroll) = Wire::new::<L>(alloc, number, bench, size)?;
-        wires.push_reserved(wire);
+        let number = networks.len() as u8;
+        let (network, scroll) = Network::new::<L>(alloc, number, bench, size)?;
+        networks.push_reserved(network);
         scrolls.push_reserved(scroll);
     }
-    Ok((wires, scrolls))
+    Ok((networks, scrolls))
 }

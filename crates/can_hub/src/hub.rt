@@ -5,7 +5,7 @@ ghost use Rattle.can_hub.specs.HubBuses.{handed_by, left_in};
 ghost use Rattle.can_hub.specs.Settling.{AllConfigured, AllHanded, AllOwn, AllOwnScrolls, AllSettleIn, AreNewScrolls, FirstForeign, FirstForeignScroll};
 
 use crate::bench::{Bench, make_hub};
-use crate::buses::{Buses, Wire, wires_of};
+use crate::buses::{Buses, Network, networks_of};
 use crate::hub_bus::{HubEnd, Leaves};
 use can_bus::{BusFault, LongEnd, Record};
 use can_fault::FaultSource;
@@ -103,8 +103,8 @@ impl<N: RollName + MeterName, F: FaultSource + Drop, G: Gate + Drop, L: Leaves> 
             return Err(BusFault::BadConfig);
         }
         let settled = Vec::with_capacity(alloc, benches.len())?;
-        let (wires, scrolls) = wires_of::<N, F, G, L>(alloc, benches, size)?;
-        let buses = Buses { wires };
+        let (networks, scrolls) = networks_of::<N, F, G, L>(alloc, benches, size)?;
+        let buses = Buses { networks };
         Ok((Hub { buses, settled }, scrolls))
     }
 
@@ -157,10 +157,10 @@ impl<N: RollName + MeterName, F: FaultSource + Drop, G: Gate + Drop, L: Leaves> 
             (λ f. FirstForeign passes.items f.bus) }
     {
         let Hub { buses, mut settled } = self;
-        let Buses { wires } = buses;
+        let Buses { networks } = buses;
         let mut lists = passes.into_iter();
-        for wire in wires {
-            let Wire { station, .. } = wire;
+        for network in networks {
+            let Network { station, .. } = network;
             let Some(own) = lists.next() else {
                 unreachable!()
             };
@@ -194,11 +194,11 @@ impl<N: RollName + MeterName, F: FaultSource + Drop, G: Gate + Drop, L: Leaves> 
             (λ f. FirstForeignScroll passes.items scrolls.items f.bus) }
     {
         let Hub { buses, mut settled } = self;
-        let Buses { wires } = buses;
+        let Buses { networks } = buses;
         let mut lists = passes.into_iter();
         let mut scrolls = scrolls.into_iter();
-        for wire in wires {
-            let Wire { station, .. } = wire;
+        for network in networks {
+            let Network { station, .. } = network;
             let Some(own) = lists.next() else {
                 unreachable!()
             };

@@ -5,7 +5,7 @@ ghost use Rattle.can_station.specs.Passes.{HadNoPassLeft};
 
 use crate::buses::Buses;
 use crate::hub_bus::HubBus;
-use crate::returned::Returned;
+use crate::returned::ReturnedPasses;
 use crate::tally::{Counted, Tally};
 use can_bus::{Event, IfaceStats, Refusal, Reply, SocketId, SocketStats};
 use can_confine::Counters;
@@ -21,14 +21,14 @@ use std::sync::{Mutex, Wait};
 
 /// A station that was entered, with a gauge of its meter and the pass.
 #[derive(Drop)]
-pub struct Entered<'a, N: RollName + MeterName, F: FaultSource + Drop, G: Gate + Drop> {
+pub struct EnteredStation<'a, N: RollName + MeterName, F: FaultSource + Drop, G: Gate + Drop> {
     pub(crate) station: &'a Station<N, F, G, HubBus>,
     gauge: Gauge<N>,
     pub(crate) pass: Pass<N>,
 }
 
 impl<'a, N: RollName + MeterName, F: FaultSource + Drop, G: Gate + Drop> Model
-    for Entered<'a, N, F, G> {
+    for EnteredStation<'a, N, F, G> {
     ghost use Rattle.can_hub.specs.PassSteps.{EnteredSeen};
 
     ghost Value = { EnteredSeen };
@@ -52,8 +52,8 @@ pub struct PassPort<'a, N: RollName + MeterName, F: FaultSource + Drop, G: Gate 
     pub(crate) alloc: Global,
     buses: &'a Buses<N, F, G>,
     /// Passes that were handed back, where it may use one of them.
-    spares: Option<&'a Mutex<Returned<N>>>,
-    pub(crate) entered: Option<Entered<'a, N, F, G>>,
+    spares: Option<&'a Mutex<ReturnedPasses<N>>>,
+    pub(crate) entered: Option<EnteredStation<'a, N, F, G>>,
     pub(crate) tally: Tally,
 }
 
@@ -87,7 +87,7 @@ impl<'a, N: RollName + MeterName, F: FaultSource + Drop, G: Gate + Drop, R: Wait
         rt: &'a R,
         alloc: Global,
         buses: &'a Buses<N, F, G>,
-        spares: Option<&'a Mutex<Returned<N>>>,
+        spares: Option<&'a Mutex<ReturnedPasses<N>>>,
     ) -> PassPort<'a, N, F, G, R>
         ensures { result ≡ record { buses = buses.now; entered = None } }
     {
@@ -147,7 +147,7 @@ impl<'a, N: RollName + MeterName, F: FaultSource + Drop, G: Gate + Drop, R: Wait
     {
         let PassPort { entered, .. } = self;
         match entered {
-            Some(Entered { pass, .. }) => Some(pass),
+            Some(EnteredStation { pass, .. }) => Some(pass),
             None => None,
         }
     }
@@ -221,7 +221,7 @@ impl<'a, N: RollName + MeterName, F: FaultSource + Drop, G: Gate + Drop, R: Wait
         let Ok(pass) = self.enter(station) else {
             return Err(PortRefusal::TooManyPasses);
         };
-        self.entered = Some(Entered {
+        self.entered = Some(EnteredStation {
             station,
             gauge,
             pass,

@@ -12,11 +12,11 @@ const MOST_BUSES: usize = 16;
 
 /// The passes that sessions and drivers hand back, those of each bus in a list of its own. Contracts see the lists.
 #[derive(Drop)]
-pub struct Returned<N: RollName + MeterName> {
+pub struct ReturnedPasses<N: RollName + MeterName> {
     lists: Vec<Vec<Pass<N>>>,
 }
 
-impl<N: RollName + MeterName> Model for Returned<N> {
+impl<N: RollName + MeterName> Model for ReturnedPasses<N> {
     ghost use Rattle.std.specs.Prelude.{◌≡◌, List, Vec, length};
     ghost use Rattle.std.specs.declared.alloc.Global.{Global};
     ghost use Rattle.can_station.specs.Passes.{PassSeen};
@@ -28,9 +28,9 @@ impl<N: RollName + MeterName> Model for Returned<N> {
     ghost invariant = { λ r. length r.lists.items ≡ 16 };
 }
 
-impl<N: RollName + MeterName> Returned<N> {
+impl<N: RollName + MeterName> ReturnedPasses<N> {
     /// No pass, with room for this many of each of the first buses.
-    pub fn new(alloc: Global, buses: usize, room: usize) -> Result<Returned<N>, AllocError>
+    pub fn new(alloc: Global, buses: usize, room: usize) -> Result<ReturnedPasses<N>, AllocError>
         ensures { IfOk result (λ returned. AllEmpty returned) }
     {
         let mut lists = Vec::with_capacity(alloc, MOST_BUSES)?;
@@ -38,7 +38,7 @@ impl<N: RollName + MeterName> Returned<N> {
             let room = if bus < buses { room } else { 0 };
             lists.push(Vec::with_capacity(alloc, room)?)?;
         }
-        Ok(Returned { lists })
+        Ok(ReturnedPasses { lists })
     }
 
     /// Takes a pass back, into the list of its bus. It is lost where that has no room. All other lists stay.

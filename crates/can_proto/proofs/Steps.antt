@@ -3,8 +3,8 @@ use Rattle.std.proofs.Common.{◌≡◌, ℕ, ◌+◌, ◌-◌, ◌<◌, ◌≤�
 use Rattle.std.proofs.lemmas.List.{append-nil, length-append, length-take, length-drop, take_more, drop-append-le, drop_all, drop-take, take-take, take-append-drop, take_all}
 use Rattle.can_proto.specs.declared.message.Incoming.{Incoming}
 use Rattle.can_proto.specs.declared.message.Incoming.TheVariants.{Message, TooLong}
-use Rattle.can_proto.specs.declared.scanning.Place.{Place}
-use Rattle.can_proto.specs.declared.scanning.Place.TheVariants.{Outside, Carried, At}
+use Rattle.can_proto.specs.declared.scanning.RunStart.{RunStart}
+use Rattle.can_proto.specs.declared.scanning.RunStart.TheVariants.{Outside, Carried, At}
 use Rattle.can_proto.specs.Messages.{messages_of, kept_of, has_mark, is_mark, limit, IsKept}
 use Rattle.can_proto.specs.Scanning.{text_at, IsWithin, ReadsUpTo}
 use Rattle.can_proto.proofs.Pieces.{opens, closes, goes_on, too_long, passes_by, no_mark, no_marks, mark_more, kept-is, kept-kept, messages-append, kept-append}
@@ -47,7 +47,7 @@ one piece i lt =
     let none : drop i (take i piece) ≡ [] = drop_all i (take i piece) (omega (arith, length-take i piece)) in
     ap (λ (t : List ℕ). t ++ get_or piece i 0 ∷ []) (sym none) ∙ sym (one_more piece i i (omega arith) lt)
 
-pub reads-mark : (held piece : List ℕ) (i : ℕ) (place next : Place) (before after : List Incoming) → i < length piece
+pub reads-mark : (held piece : List ℕ) (i : ℕ) (place next : RunStart) (before after : List Incoming) → i < length piece
     → after ≡ before ++ messages_of (text_at held piece i place ++ get_or piece i 0 ∷ []) → text_at held piece (i + 1) next ≡ kept_of (text_at held piece i place ++ get_or piece i 0 ∷ []) → IsWithin next (i + 1)
     → ReadsUpTo held piece i place (i + 1) before after next
 reads-mark held piece i place next before after lt given keeps within =
@@ -99,13 +99,13 @@ passes_by-at t more e clear =
     let p = passes_by more clear in
     (ap (λ (x : List ℕ). messages_of (x ++ more)) e ∙ p.0, sym (ap (λ (x : List ℕ). kept_of (x ++ more)) e ∙ p.1))
 
-pub text-carried : (held piece : List ℕ) (i : ℕ) (place : Place) → place ≡ Carried → text_at held piece i place ≡ 60 ∷ (held ++ take i piece)
+pub text-carried : (held piece : List ℕ) (i : ℕ) (place : RunStart) → place ≡ Carried → text_at held piece i place ≡ 60 ∷ (held ++ take i piece)
 text-carried held piece i place e = ap (text_at held piece i) e
 
-pub text-at : (held piece : List ℕ) (i start : ℕ) (place : Place) → place ≡ At start → text_at held piece i place ≡ 60 ∷ drop start (take i piece)
+pub text-at : (held piece : List ℕ) (i start : ℕ) (place : RunStart) → place ≡ At start → text_at held piece i place ≡ 60 ∷ drop start (take i piece)
 text-at held piece i start place e = ap (text_at held piece i) e
 
-pub text-outside : (held piece : List ℕ) (i : ℕ) (place : Place) → place ≡ Outside → text_at held piece i place ≡ []
+pub text-outside : (held piece : List ℕ) (i : ℕ) (place : RunStart) → place ≡ Outside → text_at held piece i place ≡ []
 text-outside held piece i place e = ap (text_at held piece i) e
 
 pub slice_is : (piece : List ℕ) (start i : ℕ) → start ≤ i → drop start (take i piece) ≡ take (i - start) (drop start piece)
@@ -114,10 +114,10 @@ slice_is piece start i le =
     ap (λ (n : ℕ). drop start (take n piece)) e ∙ drop-take start (i - start) piece
 
 -- the loop over a piece
-pub starts-carried : (held piece : List ℕ) (place : Place) → place ≡ Carried → text_at held piece 0 place ≡ 60 ∷ held
+pub starts-carried : (held piece : List ℕ) (place : RunStart) → place ≡ Carried → text_at held piece 0 place ≡ 60 ∷ held
 starts-carried held piece place e = ap (text_at held piece 0) e ∙ ap (λ (r : List ℕ). 60 ∷ r) (append-nil held)
 
-pub starts-outside : (held piece : List ℕ) (place : Place) → place ≡ Outside → text_at held piece 0 place ≡ []
+pub starts-outside : (held piece : List ℕ) (place : RunStart) → place ≡ Outside → text_at held piece 0 place ≡ []
 starts-outside held piece place e = ap (text_at held piece 0) e
 
 pub nothing-yet : (t : List ℕ) → IsKept t → ([] ≡ messages_of (t ++ [])) × (t ≡ kept_of (t ++ []))
@@ -145,16 +145,16 @@ pub kept_by : (t text : List ℕ) → t ≡ kept_of text → IsKept t
 kept_by t text e = subst IsKept (sym e) (kept-kept text)
 
 -- what the reader holds after the call
-pub after-carried : (inside held piece text : List ℕ) (place : Place) → held ≡ inside → place ≡ Carried → text_at held piece (length piece) place ≡ kept_of text → 60 ∷ (inside ++ piece) ≡ kept_of text
+pub after-carried : (inside held piece text : List ℕ) (place : RunStart) → held ≡ inside → place ≡ Carried → text_at held piece (length piece) place ≡ kept_of text → 60 ∷ (inside ++ piece) ≡ kept_of text
 after-carried inside held piece text place e p h =
     let all : take (length piece) piece ≡ piece = take_all (length piece) piece (omega arith) in
     ap (λ (r : List ℕ). 60 ∷ (inside ++ r)) (sym all) ∙ ap (λ (r : List ℕ). 60 ∷ (r ++ take (length piece) piece)) (sym e) ∙ sym (text-carried held piece (length piece) place p) ∙ h
 
-pub after-at : (held piece text : List ℕ) (start : ℕ) (place : Place) → place ≡ At start → start ≤ length piece → text_at held piece (length piece) place ≡ kept_of text → 60 ∷ take (length piece - start) (drop start piece) ≡ kept_of text
+pub after-at : (held piece text : List ℕ) (start : ℕ) (place : RunStart) → place ≡ At start → start ≤ length piece → text_at held piece (length piece) place ≡ kept_of text → 60 ∷ take (length piece - start) (drop start piece) ≡ kept_of text
 after-at held piece text start place p le h =
     ap (λ (r : List ℕ). 60 ∷ r) (sym (slice_is piece start (length piece) le)) ∙ sym (text-at held piece (length piece) start place p) ∙ h
 
-pub after-outside : (held piece text : List ℕ) (place : Place) → place ≡ Outside → text_at held piece (length piece) place ≡ kept_of text → [] ≡ kept_of text
+pub after-outside : (held piece text : List ℕ) (place : RunStart) → place ≡ Outside → text_at held piece (length piece) place ≡ kept_of text → [] ≡ kept_of text
 after-outside held piece text place p h = sym (ap (text_at held piece (length piece)) p) ∙ h
 
 pub short_run : (run : List ℕ) → IsKept (60 ∷ run) → length run ≤ limit

@@ -3,7 +3,7 @@ ghost use Rattle.can_proto.specs.Messages.{messages_of, kept_of};
 ghost use Rattle.can_proto.specs.Commands.{IsLoneSend};
 
 use crate::message::Incoming;
-use crate::scanning::{LIMIT, Place, scan};
+use crate::scanning::{LIMIT, RunStart, scan};
 use crate::usual_sends::lone_send;
 use can_frame::Frame;
 use std::alloc::{AllocError, Global};
@@ -51,12 +51,12 @@ impl Reader {
     {
         let (out, place) = scan(alloc, self.is_open, &self.inside, piece)?;
         match place {
-            Place::Outside => self.is_open = false,
-            Place::Carried => {
+            RunStart::Outside => self.is_open = false,
+            RunStart::Carried => {
                 self.is_open = true;
                 put(&mut self.inside, piece);
             }
-            Place::At(start) => {
+            RunStart::At(start) => {
                 self.is_open = true;
                 self.inside.clear();
                 put(&mut self.inside, &piece[start..]);

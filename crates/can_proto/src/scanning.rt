@@ -11,7 +11,7 @@ pub const LIMIT: usize = 1024;
 
 /// Where the run that is being read began.
 #[derive(Clone, Copy)]
-pub enum Place {
+pub enum RunStart {
     /// No run is being read.
     Outside,
     /// In an earlier piece: the run goes on from what is held of it.
@@ -77,8 +77,8 @@ fn pass(
     piece: &[u8],
     i: usize,
     end: usize,
-    place: Place,
-) -> Result<Place, AllocError>
+    place: RunStart,
+) -> Result<RunStart, AllocError>
     requires order { i ≤ end }
     requires there { end ≤ length piece.now }
     requires clear { has_mark (drop i (take end piece.now)) ≡ false }
@@ -87,21 +87,21 @@ fn pass(
     ensures { IfOk result (ReadsUpTo held.now piece.now i place end out.old.items out.new.items) }
 {
     match place {
-        Place::Outside => Ok(Place::Outside),
-        Place::Carried => {
+        RunStart::Outside => Ok(RunStart::Outside),
+        RunStart::Carried => {
             if LIMIT - held.len() < end {
                 out.push(Incoming::TooLong)?;
-                Ok(Place::Outside)
+                Ok(RunStart::Outside)
             } else {
-                Ok(Place::Carried)
+                Ok(RunStart::Carried)
             }
         }
-        Place::At(start) => {
+        RunStart::At(start) => {
             if LIMIT < end - start {
                 out.push(Incoming::TooLong)?;
-                Ok(Place::Outside)
+                Ok(RunStart::Outside)
             } else {
-                Ok(Place::At(start))
+                Ok(RunStart::At(start))
             }
         }
     }
@@ -114,8 +114,8 @@ fn at_mark(
     held: &[u8],
     piece: &[u8],
     i: usize,
-    place: Place,
-) -> Result<Place, AllocError>
+    place: RunStart,
+) -> Result<RunStart, AllocError>
     requires there { i < length piece.now }
     requires mark { is_mark (slice_index piece.now i) ≡ true }
     requires within { IsWithin place i }
@@ -123,14 +123,14 @@ fn at_mark(
     ensures { IfOk result (ReadsUpTo held.now piece.now i place (i + 1) out.old.items out.new.items) }
 {
     if piece[i] == b'<' {
-        return Ok(Place::At(i + 1));
+        return Ok(RunStart::At(i + 1));
     }
     match place {
-        Place::Outside => {}
-        Place::Carried => push_message(alloc, out, held, &piece[..i])?,
-        Place::At(start) => push_message(alloc, out, &[], &piece[start..i])?,
+        RunStart::Outside => {}
+        RunStart::Carried => push_message(alloc, out, held, &piece[..i])?,
+        RunStart::At(start) => push_message(alloc, out, &[], &piece[start..i])?,
     }
-    Ok(Place::Outside)
+    Ok(RunStart::Outside)
 }
 
 /// The message of the bytes held and those that followed them.
@@ -155,15 +155,15 @@ pub fn scan(
     is_open: bool,
     held: &[u8],
     piece: &[u8],
-) -> Result<(Vec<Incoming>, Place), AllocError>
+) -> Result<(Vec<Incoming>, RunStart), AllocError>
     requires { IsKept (text_of is_open held.now) }
     ensures { IfOk result (λ r. Scans (text_of is_open held.now) held.now piece.now r.0.items r.1) }
 {
     let mut out = Vec::new(alloc);
     let mut place = if is_open {
-        Place::Carried
+        RunStart::Carried
     } else {
-        Place::Outside
+        RunStart::Outside
     };
     let mut i = 0;
     while i < piece.len() {

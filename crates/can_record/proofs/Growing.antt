@@ -9,17 +9,17 @@ use Rattle.can_event.specs.declared.event.Event.{Event}
 use Rattle.can_event.specs.declared.event.Event.TheVariants.{Send, Receive, Attempt}
 use Rattle.can_event.specs.declared.reply.Reply.{Reply}
 use Rattle.can_event.specs.declared.reply.Reply.TheVariants as reply
-use Rattle.can_record.specs.declared.kept.Kept.{Kept}
-use Rattle.can_record.specs.declared.kept.Kept.TheVariants as kept
+use Rattle.can_record.specs.declared.packed_entry.PackedEntry.{PackedEntry}
+use Rattle.can_record.specs.declared.packed_entry.PackedEntry.TheVariants as kept
 use Rattle.can_record.specs.FrameWords.{no_frame}
-use Rattle.can_record.specs.Kept.{entry_in, frames_needed, AreWithin, fd_frame_at, fd_frames, fd_frames_of, fd_frames_of_item}
+use Rattle.can_record.specs.PackedEntry.{entry_in, frames_needed, AreWithin, fd_frame_at, fd_frames, fd_frames_of, fd_frames_of_item}
 
 -- What is kept gives the same entry where the list of FD frames has grown behind its place.
 
 same_place : (fs more : List CanFrame) (place : ℕ) → place + 1 ≤ length fs → fd_frame_at (fs ++ more) place ≡ fd_frame_at fs place
 same_place fs more place h = get_or-append fs more no_frame place (omega arith)
 
-same_entry : (fs more : List CanFrame) (k : Kept) → frames_needed k ≤ length fs → entry_in (fs ++ more) k ≡ entry_in fs k
+same_entry : (fs more : List CanFrame) (k : PackedEntry) → frames_needed k ≤ length fs → entry_in (fs ++ more) k ≡ entry_in fs k
 same_entry fs more (kept.FdSent s number place) h = rw (same_place fs more place h)
 same_entry fs more (kept.FdSendRefused why s place) h = rw (same_place fs more place h)
 same_entry fs more (kept.FdReceived from s number place m) h = rw (same_place fs more place h)
@@ -41,18 +41,18 @@ same_entry fs more (kept.Tried end named word number accepted restarted bytes st
 same_entry fs more (kept.AttemptRefused v m why) h = refl
 same_entry fs more (kept.Restarted i m) h = refl
 same_entry fs more (kept.RestartRefused i m why) h = refl
-same_entry fs more (kept.Wide entry) h = refl
+same_entry fs more (kept.Boxed entry) h = refl
 
-same_entries : (fs more : List CanFrame) (ks : List Kept) → AreWithin (length fs) ks → map (entry_in (fs ++ more)) ks ≡ map (entry_in fs) ks
+same_entries : (fs more : List CanFrame) (ks : List PackedEntry) → AreWithin (length fs) ks → map (entry_in (fs ++ more)) ks ≡ map (entry_in fs) ks
 same_entries fs more [] h = refl
 same_entries fs more (k ∷ ks) h = rw (same_entry fs more k (All-head (λ j. frames_needed j ≤ length fs) k ks h), same_entries fs more ks (All-tail (λ j. frames_needed j ≤ length fs) k ks h))
 
 -- so where one more is kept, its entry comes behind the others
-pub entries_pushed : (fs more : List CanFrame) (ks : List Kept) (k : Kept) → AreWithin (length fs) ks → map (entry_in (fs ++ more)) (ks ++ k ∷ []) ≡ map (entry_in fs) ks ++ entry_in (fs ++ more) k ∷ []
+pub entries_pushed : (fs more : List CanFrame) (ks : List PackedEntry) (k : PackedEntry) → AreWithin (length fs) ks → map (entry_in (fs ++ more)) (ks ++ k ∷ []) ≡ map (entry_in fs) ks ++ entry_in (fs ++ more) k ∷ []
 entries_pushed fs more ks k h = rw (map-append (entry_in (fs ++ more)) ks (k ∷ []), same_entries fs more ks h)
 
 -- and all places are within the list
-pub within_pushed : (fs more : List CanFrame) (ks : List Kept) (k : Kept) → AreWithin (length fs) ks → frames_needed k ≤ length (fs ++ more) → AreWithin (length (fs ++ more)) (ks ++ k ∷ [])
+pub within_pushed : (fs more : List CanFrame) (ks : List PackedEntry) (k : PackedEntry) → AreWithin (length fs) ks → frames_needed k ≤ length (fs ++ more) → AreWithin (length (fs ++ more)) (ks ++ k ∷ [])
 within_pushed fs more ks k h n = All-push (λ j. frames_needed j ≤ length (fs ++ more)) ks k (All-weaker (λ j. frames_needed j ≤ length fs) (λ j. frames_needed j ≤ length (fs ++ more)) (λ j m. omega (arith, m, length-append fs more)) ks h) n
 
 -- ---- an entry has at most one FD frame

@@ -1,5 +1,5 @@
 use Rattle.std.specs.Prelude.{◌+◌, ◌-◌, min, map, length, vec_len, vec_capacity}
-use Rattle.can_record.specs.Kept.{entry_in, AreWithin}
+use Rattle.can_record.specs.PackedEntry.{entry_in, AreWithin}
 use Rattle.can_record.specs.Records.{PackedEntries}
 use Rattle.can_record.specs.declared.packed_record.PackedRecord.TheInside.{Inside}
 

@@ -1,20 +1,20 @@
 ghost use Rattle.std.specs.Prelude.{◌≡◌, ◌==◌, length, slice_get};
 ghost use Rattle.std.specs.Iterator.{YieldsFirst, item_count};
-ghost use Rattle.can_record.specs.Held.{entries_in};
+ghost use Rattle.can_record.specs.EntryStore.{entries_in};
 
-use crate::held::Held;
-use crate::looked::Looked;
+use crate::entry_ref::EntryRef;
+use crate::entry_store::EntryStore;
 use std::marker::Model;
 
 /// The entries of a record, the oldest first, as `Record::entries` lends them. Contracts see the list.
 #[derive(Drop)]
 pub struct Entries<'a> {
-    held: &'a Held,
+    held: &'a EntryStore,
 }
 
 impl<'a> Model for Entries<'a> {
     ghost use Rattle.std.specs.Prelude.{List};
-    ghost use Rattle.can_record.specs.Held.{entries_in};
+    ghost use Rattle.can_record.specs.EntryStore.{entries_in};
     ghost use Rattle.can_event.specs.declared.entry.Entry.{Entry};
 
     ghost Value = { List Entry };
@@ -24,7 +24,7 @@ impl<'a> Model for Entries<'a> {
 
 impl<'a> Entries<'a> {
     /// The entries that are held here.
-    pub(crate) fn of(held: &'a Held) -> Entries<'a>
+    pub(crate) fn of(held: &'a EntryStore) -> Entries<'a>
         ensures { result ≡ entries_in held.now }
     {
         Entries { held }
@@ -46,7 +46,7 @@ impl<'a> Entries<'a> {
     }
 
     /// The entry at a place, from 0 for the oldest, if there is one. No memory is taken.
-    pub fn get(&self, place: usize) -> Option<Looked<'a>>
+    pub fn get(&self, place: usize) -> Option<EntryRef<'a>>
         ensures { result ≡ slice_get self.now place }
     {
         let held = self.held;
@@ -67,13 +67,13 @@ impl<'a> Entries<'a> {
 /// Goes over the entries of a record, the oldest first. Contracts see the list of those that are left.
 #[derive(Drop)]
 pub struct EntriesIter<'a> {
-    held: &'a Held,
+    held: &'a EntryStore,
     place: usize,
 }
 
 impl<'a> Model for EntriesIter<'a> {
     ghost use Rattle.std.specs.Prelude.{List, drop};
-    ghost use Rattle.can_record.specs.Held.{entries_in};
+    ghost use Rattle.can_record.specs.EntryStore.{entries_in};
     ghost use Rattle.can_event.specs.declared.entry.Entry.{Entry};
 
     ghost Value = { List Entry };
@@ -82,14 +82,14 @@ impl<'a> Model for EntriesIter<'a> {
 }
 
 impl<'a> Iterator for EntriesIter<'a> {
-    type Item = Looked<'a>;
+    type Item = EntryRef<'a>;
 
     ghost next_gives = { YieldsFirst (λ left. left) };
 
     ghost remaining = { item_count (λ left. left) };
 
     #[tactic(auto, using(crate::proofs::Places::from_some, crate::proofs::Places::from_none, crate::proofs::Places::from_past))]
-    fn next(&mut self) -> Option<Looked<'a>> {
+    fn next(&mut self) -> Option<EntryRef<'a>> {
         let held = self.held;
         if self.place >= held.len() {
             return None;

@@ -5,33 +5,33 @@
 //! second list. The memory for all is taken at once, so that none is taken when an entry comes: `PackedRecord` is such a
 //! list, and `PackedList` one that grows, whose memory is taken before an entry comes.
 //!
-//! `Record` is what a bus keeps and what is read back from a text. `Looked` is an entry that is read there: made for the look,
-//! or borrowed. `Stored` shows how it is kept, for those who read many.
+//! `Record` is what a bus keeps and what is read back from a text. `EntryRef` is an entry that is read there: made for the look,
+//! or borrowed. `StoredEntry` shows how it is kept, for those who read many.
 #![tactic(auto)]
 
+mod boxed;
 pub mod entries;
+pub mod entry_ref;
+mod entry_store;
 pub mod frame_words;
-mod held;
-pub mod kept;
-pub mod looked;
+pub mod packed_entry;
 pub mod packed_list;
 pub mod packed_record;
 mod packing;
 pub mod records;
 pub mod replies;
-pub mod stored;
+pub mod stored_entry;
 pub mod unpacking;
 pub mod verdicts;
-mod wide;
 
 pub use entries::{Entries, EntriesIter};
+pub use entry_ref::EntryRef;
 pub use frame_words::frame_in;
-pub use kept::Kept;
-pub use looked::Looked;
+pub use packed_entry::PackedEntry;
 pub use packed_list::PackedList;
 pub use packed_record::PackedRecord;
 pub use records::Record;
 pub use replies::{attempt_reply, receive_reply, sent_reply};
-pub use stored::Stored;
+pub use stored_entry::StoredEntry;
 pub use unpacking::{event_in, reply_in, stamp_moment, tried_in};
 pub use verdicts::verdict_in;

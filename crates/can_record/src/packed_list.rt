@@ -1,13 +1,13 @@
 ghost use Rattle.std.specs.Prelude.{◌≡◌, ◌<◌, ◌≤◌, ◌+◌, ◌==◌, true, [], length, slice_get, IsOk, OnOk};
 ghost use Rattle.can_event.specs.Replies.{entry_of};
-ghost use Rattle.can_record.specs.Kept.{receive_entry};
+ghost use Rattle.can_record.specs.PackedEntry.{receive_entry};
 ghost use Rattle.can_record.specs.Records.{Adds};
-ghost use Rattle.can_record.specs.Wide.{is_wide};
+ghost use Rattle.can_record.specs.Boxed.{needs_box};
 
-use crate::looked::Looked;
+use crate::boxed::{needs_box, receive_needs_box};
+use crate::entry_ref::EntryRef;
 use crate::packed_record::PackedRecord;
 use crate::replies::receive_reply;
-use crate::wide::{is_wide, is_wide_receive};
 use can_event::{Entry, Event, Received, Refusal, Reply, SocketId};
 use std::alloc::{AllocError, Global};
 use std::marker::Model;
@@ -81,10 +81,10 @@ impl PackedList {
     /// Adds an event with its reply. No memory is taken.
     pub fn push(&mut self, event: Event, reply: Reply)
         requires room { length self.old.entries < self.old.room }
-        requires spare { is_wide event reply ≡ true → self.old.spare ≡ true }
+        requires spare { needs_box event reply ≡ true → self.old.spare ≡ true }
         ensures { Adds self.old.entries (entry_of event reply) self.new.entries }
     {
-        if is_wide(&event, &reply) {
+        if needs_box(&event, &reply) {
             self.push_spare(event, reply);
         } else {
             self.entries.push(&event, &reply);
@@ -97,7 +97,7 @@ impl PackedList {
         requires spare { self.old.spare ≡ true }
         ensures { Adds self.old.entries (receive_entry id room.now outcome) self.new.entries }
     {
-        if is_wide_receive(outcome, room) {
+        if receive_needs_box(outcome, room) {
             self.push_wide_receive(id, outcome, room);
         } else {
             self.entries.push_receive(id, outcome, room);
@@ -126,7 +126,7 @@ impl PackedList {
     }
 
     /// The entry at a place, if there is one. No memory is taken.
-    pub fn look(&self, place: usize) -> Option<Looked<'_>>
+    pub fn look(&self, place: usize) -> Option<EntryRef<'_>>
         ensures { result ≡ slice_get self.now.entries place }
     {
         self.entries.look(place)

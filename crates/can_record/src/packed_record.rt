@@ -4,16 +4,16 @@ ghost use Rattle.can_event.specs.Replies.{entry_of, receive_reply, told};
 ghost use Rattle.can_event.specs.declared.attempt.Attempt.TheVariants.{Idle};
 ghost use Rattle.can_event.specs.declared.event.Event.TheVariants as asked;
 ghost use Rattle.can_event.specs.declared.reply.Reply.TheVariants as answer;
-ghost use Rattle.can_record.specs.Kept.{entry_in, frames_needed, receive_entry, send_entry, tried_entry};
+ghost use Rattle.can_record.specs.PackedEntry.{entry_in, frames_needed, receive_entry, send_entry, tried_entry};
 ghost use Rattle.can_record.specs.Outcomes.{attempt_entry, told_attempt};
 ghost use Rattle.can_record.specs.Records.{Adds};
-ghost use Rattle.can_record.specs.Stored.{entry_stored, IsStored};
-ghost use Rattle.can_record.specs.Wide.{is_wide};
+ghost use Rattle.can_record.specs.StoredEntry.{entry_stored, IsStored};
+ghost use Rattle.can_record.specs.Boxed.{needs_box};
 
-use crate::kept::Kept;
-use crate::looked::Looked;
+use crate::entry_ref::EntryRef;
+use crate::packed_entry::PackedEntry;
 use crate::packing::{packed, packed_receive, packed_send, tried_at};
-use crate::stored::Stored;
+use crate::stored_entry::StoredEntry;
 use can_event::{Attempt, Entry, Event, Received, Refusal, Reply, SocketId, Tried};
 use can_fault::Verdict;
 use can_frame::{Frame, IfaceSet, Moment};
@@ -26,7 +26,7 @@ use std::marker::Model;
 /// memory is never touched, and costs nothing but addresses.
 #[derive(Drop)]
 pub struct PackedRecord {
-    entries: Vec<Kept>,
+    entries: Vec<PackedEntry>,
     frames: Vec<Frame>,
 }
 
@@ -101,7 +101,7 @@ impl PackedRecord {
     #[inline(always)]
     pub fn push(&mut self, event: &Event, reply: &Reply)
         requires room { length self.old.entries < self.old.room }
-        requires fits { is_wide event.now reply.now ≡ false }
+        requires fits { needs_box event.now reply.now ≡ false }
         ensures more { Adds self.old.entries (entry_of event.now reply.now) self.new.entries }
         ensures room { self.old.room ≤ self.new.room }
     {
@@ -113,7 +113,7 @@ impl PackedRecord {
     #[inline(always)]
     pub fn push_receive(&mut self, id: SocketId, outcome: Result<bool, Refusal>, room: &Received)
         requires room { length self.old.entries < self.old.room }
-        requires fits { is_wide (asked.Receive id) (receive_reply room.now outcome) ≡ false }
+        requires fits { needs_box (asked.Receive id) (receive_reply room.now outcome) ≡ false }
         ensures more { Adds self.old.entries (receive_entry id room.now outcome) self.new.entries }
         ensures room { self.old.room ≤ self.new.room }
     {
@@ -125,7 +125,7 @@ impl PackedRecord {
     #[inline(always)]
     pub fn push_send(&mut self, id: SocketId, frame: &Frame, outcome: Result<u64, Refusal>)
         requires room { length self.old.entries < self.old.room }
-        requires fits { is_wide (asked.Send id frame.now) (told answer.Sent outcome) ≡ false }
+        requires fits { needs_box (asked.Send id frame.now) (told answer.Sent outcome) ≡ false }
         ensures more { Adds self.old.entries (send_entry id frame.now outcome) self.new.entries }
         ensures room { self.old.room ≤ self.new.room }
     {
@@ -137,7 +137,7 @@ impl PackedRecord {
     #[inline(always)]
     pub fn push_attempt(&mut self, moment: Moment, verdict: Verdict, attempt: &Attempt)
         requires room { length self.old.entries < self.old.room }
-        requires fits { is_wide (asked.Attempt moment verdict) (told_attempt attempt.now) ≡ false }
+        requires fits { needs_box (asked.Attempt moment verdict) (told_attempt attempt.now) ≡ false }
         ensures more { Adds self.old.entries (attempt_entry moment verdict attempt.now)
             self.new.entries }
         ensures room { self.old.room ≤ self.new.room }
@@ -163,7 +163,7 @@ impl PackedRecord {
     #[inline(always)]
     fn push_tried(&mut self, moment: Moment, verdict: Verdict, tried: &Tried)
         requires room { length self.old.entries < self.old.room }
-        requires fits { is_wide (asked.Attempt moment verdict) (answer.Tried tried.now) ≡ false }
+        requires fits { needs_box (asked.Attempt moment verdict) (answer.Tried tried.now) ≡ false }
         ensures more { Adds self.old.entries (tried_entry moment verdict tried.now)
             self.new.entries }
         ensures room { self.old.room ≤ self.new.room }
@@ -178,11 +178,11 @@ impl PackedRecord {
         ensures more { Adds self.old.entries entry.value self.new.entries }
         ensures room { self.old.room ≤ self.new.room }
     {
-        let _ = self.entries.push(Kept::Wide(entry));
+        let _ = self.entries.push(PackedEntry::Boxed(entry));
     }
 
     /// The entry at a place as it is stored, if there is one. No memory is taken.
-    pub fn stored(&self, place: usize) -> Option<Stored<'_>>
+    pub fn stored(&self, place: usize) -> Option<StoredEntry<'_>>
         ensures entry { option_map entry_stored result ≡ slice_get self.now.entries place }
         ensures stored { IfSome result IsStored }
     {
@@ -193,24 +193,24 @@ impl PackedRecord {
     }
 
     /// The entry at a place, if there is one: made anew, or borrowed where it has memory of its own. No memory is taken.
-    pub fn look(&self, place: usize) -> Option<Looked<'_>>
+    pub fn look(&self, place: usize) -> Option<EntryRef<'_>>
         ensures { result ≡ slice_get self.now.entries place }
     {
         match self.stored(place) {
-            Some(stored) => Some(Looked::of(&stored)),
+            Some(stored) => Some(EntryRef::of(&stored)),
             None => None,
         }
     }
 }
 
 /// How an entry is kept beside these FD frames.
-fn stored<'a>(frames: &'a [Frame], kept: &'a Kept) -> Stored<'a>
+fn stored<'a>(frames: &'a [Frame], kept: &'a PackedEntry) -> StoredEntry<'a>
     requires { frames_needed kept.now ≤ length frames.now }
     ensures entry { entry_stored result ≡ entry_in frames.now kept.now }
     ensures stored { IsStored result }
 {
     match kept {
-        Kept::Wide(entry) => Stored::Whole(entry),
-        kept => Stored::Packed(frames, kept),
+        PackedEntry::Boxed(entry) => StoredEntry::Whole(entry),
+        kept => StoredEntry::Packed(frames, kept),
     }
 }

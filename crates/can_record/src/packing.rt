@@ -3,12 +3,12 @@ ghost use Rattle.can_event.specs.declared.event.Event.TheVariants as asked;
 ghost use Rattle.can_event.specs.declared.reply.Reply.TheVariants as answer;
 ghost use Rattle.can_event.specs.Replies.{entry_of, receive_reply, told};
 ghost use Rattle.can_frame.specs.Frames.{CanFrame};
-ghost use Rattle.can_record.specs.Kept.{entry_in, frames_needed, frame_kept, frames_needed_for, fd_frames, fd_frames_of, fd_frames_of_item, receive_entry, receive_frames, send_entry, tried_entry, IsShort, stamp_moment, stamp_winner, stamp_len, stamp_off};
+ghost use Rattle.can_record.specs.PackedEntry.{entry_in, frames_needed, frame_kept, frames_needed_for, fd_frames, fd_frames_of, fd_frames_of_item, receive_entry, receive_frames, send_entry, tried_entry, IsShort, stamp_moment, stamp_winner, stamp_len, stamp_off};
 ghost use Rattle.can_record.specs.Verdicts.{class_in, verdict_in, verdict_set};
-ghost use Rattle.can_record.specs.Wide.{is_wide, is_large, is_off_alone};
+ghost use Rattle.can_record.specs.Boxed.{needs_box, is_large, is_off_alone};
 
 use crate::frame_words::frame_words;
-use crate::kept::{Kept, KeptFrame};
+use crate::packed_entry::{PackedEntry, PackedFrame};
 use crate::verdicts::{class_number, verdict_number, verdict_set};
 use can_attempt::Class;
 use can_event::{Event, Opt, Received, Refusal, Reply, SocketId, Tried};
@@ -17,8 +17,8 @@ use can_frame::{Frame, Iface, IfaceSet, Item, Moment};
 
 /// An entry that is not wide, in 32 bytes. Its FD frame, if it has one, goes to the end of the list, where there is room.
 #[inline(always)]
-pub fn packed(frames: &mut Vec<Frame>, event: &Event, reply: &Reply) -> Kept
-    requires fits { is_wide event.now reply.now ≡ false }
+pub fn packed(frames: &mut Vec<Frame>, event: &Event, reply: &Reply) -> PackedEntry
+    requires fits { needs_box event.now reply.now ≡ false }
     requires room { length frames.old.items < vec_capacity frames.old }
     ensures entry { entry_in frames.new.items result ≡ entry_of event.now reply.now }
     ensures within { frames_needed result ≤ length frames.new.items }
@@ -39,19 +39,19 @@ pub fn packed(frames: &mut Vec<Frame>, event: &Event, reply: &Reply) -> Kept
 }
 
 #[inline(always)]
-fn opened(iface: Iface, capacity: u32, reply: &Reply) -> Kept
-    requires fits { is_wide (asked.Open iface capacity) reply.now ≡ false }
+fn opened(iface: Iface, capacity: u32, reply: &Reply) -> PackedEntry
+    requires fits { needs_box (asked.Open iface capacity) reply.now ≡ false }
     ensures entry { (fs : List CanFrame) →
         entry_in fs result ≡ entry_of (asked.Open iface capacity) reply.now }
     ensures within { frames_needed result ≡ 0 }
 {
     match reply {
-        Reply::Opened(id) => Kept::Opened {
+        Reply::Opened(id) => PackedEntry::Opened {
             iface,
             capacity,
             socket: *id,
         },
-        Reply::Refused(why) => Kept::OpenRefused {
+        Reply::Refused(why) => PackedEntry::OpenRefused {
             iface,
             capacity,
             why: *why,
@@ -61,18 +61,18 @@ fn opened(iface: Iface, capacity: u32, reply: &Reply) -> Kept
 }
 
 #[inline(always)]
-fn closed(id: SocketId, reply: &Reply) -> Kept
-    requires fits { is_wide (asked.Close id) reply.now ≡ false }
+fn closed(id: SocketId, reply: &Reply) -> PackedEntry
+    requires fits { needs_box (asked.Close id) reply.now ≡ false }
     ensures entry { (fs : List CanFrame) →
         entry_in fs result ≡ entry_of (asked.Close id) reply.now }
     ensures within { frames_needed result ≡ 0 }
 {
     match reply {
-        Reply::Closed(counts) => Kept::Closed {
+        Reply::Closed(counts) => PackedEntry::Closed {
             socket: id,
             counts: *counts,
         },
-        Reply::Refused(why) => Kept::CloseRefused {
+        Reply::Refused(why) => PackedEntry::CloseRefused {
             socket: id,
             why: *why,
         },
@@ -81,15 +81,15 @@ fn closed(id: SocketId, reply: &Reply) -> Kept
 }
 
 #[inline(always)]
-fn option_set(id: SocketId, option: Opt, reply: &Reply) -> Kept
-    requires fits { is_wide (asked.SetOption id option) reply.now ≡ false }
+fn option_set(id: SocketId, option: Opt, reply: &Reply) -> PackedEntry
+    requires fits { needs_box (asked.SetOption id option) reply.now ≡ false }
     ensures entry { (fs : List CanFrame) →
         entry_in fs result ≡ entry_of (asked.SetOption id option) reply.now }
     ensures within { frames_needed result ≡ 0 }
 {
     match reply {
-        Reply::Done => Kept::OptionSet { socket: id, option },
-        Reply::Refused(why) => Kept::OptionRefused {
+        Reply::Done => PackedEntry::OptionSet { socket: id, option },
+        Reply::Refused(why) => PackedEntry::OptionRefused {
             socket: id,
             option,
             why: *why,
@@ -99,15 +99,15 @@ fn option_set(id: SocketId, option: Opt, reply: &Reply) -> Kept
 }
 
 #[inline(always)]
-fn restarted(iface: Iface, moment: Moment, reply: &Reply) -> Kept
-    requires fits { is_wide (asked.Restart iface moment) reply.now ≡ false }
+fn restarted(iface: Iface, moment: Moment, reply: &Reply) -> PackedEntry
+    requires fits { needs_box (asked.Restart iface moment) reply.now ≡ false }
     ensures entry { (fs : List CanFrame) →
         entry_in fs result ≡ entry_of (asked.Restart iface moment) reply.now }
     ensures within { frames_needed result ≡ 0 }
 {
     match reply {
-        Reply::Done => Kept::Restarted { iface, moment },
-        Reply::Refused(why) => Kept::RestartRefused {
+        Reply::Done => PackedEntry::Restarted { iface, moment },
+        Reply::Refused(why) => PackedEntry::RestartRefused {
             iface,
             moment,
             why: *why,
@@ -117,8 +117,8 @@ fn restarted(iface: Iface, moment: Moment, reply: &Reply) -> Kept
 }
 
 #[inline(always)]
-fn sent(frames: &mut Vec<Frame>, id: SocketId, frame: &Frame, reply: &Reply) -> Kept
-    requires fits { is_wide (asked.Send id frame.now) reply.now ≡ false }
+fn sent(frames: &mut Vec<Frame>, id: SocketId, frame: &Frame, reply: &Reply) -> PackedEntry
+    requires fits { needs_box (asked.Send id frame.now) reply.now ≡ false }
     requires room { length frames.old.items < vec_capacity frames.old }
     ensures entry { entry_in frames.new.items result
         ≡ entry_of (asked.Send id frame.now) reply.now }
@@ -140,17 +140,17 @@ pub fn packed_send(
     id: SocketId,
     frame: &Frame,
     outcome: Result<u64, Refusal>,
-) -> Kept
-    requires fits { is_wide (asked.Send id frame.now) (told answer.Sent outcome) ≡ false }
+) -> PackedEntry
+    requires fits { needs_box (asked.Send id frame.now) (told answer.Sent outcome) ≡ false }
     requires room { length frames.old.items < vec_capacity frames.old }
     ensures entry { entry_in frames.new.items result ≡ send_entry id frame.now outcome }
     ensures within { frames_needed result ≤ length frames.new.items }
     ensures frames { frames.new.items ≡ frames.old.items ++ fd_frames_of frame.now }
     ensures memory { vec_capacity frames.old ≤ vec_capacity frames.new }
 {
-    match (outcome, kept_frame(frames, frame)) {
-        (Ok(number), KeptFrame::Words { word, len, bytes }) => {
-            Kept::Sent {
+    match (outcome, packed_frame(frames, frame)) {
+        (Ok(number), PackedFrame::Words { word, len, bytes }) => {
+            PackedEntry::Sent {
                 len,
                 socket: id,
                 word,
@@ -158,13 +158,13 @@ pub fn packed_send(
                 bytes,
             }
         }
-        (Ok(number), KeptFrame::Place(place)) => Kept::FdSent {
+        (Ok(number), PackedFrame::Place(place)) => PackedEntry::FdSent {
             socket: id,
             number: number as u32,
             place,
         },
-        (Err(why), KeptFrame::Words { word, len, bytes }) => {
-            Kept::SendRefused {
+        (Err(why), PackedFrame::Words { word, len, bytes }) => {
+            PackedEntry::SendRefused {
                 why,
                 len,
                 socket: id,
@@ -172,7 +172,7 @@ pub fn packed_send(
                 bytes,
             }
         }
-        (Err(why), KeptFrame::Place(place)) => Kept::FdSendRefused {
+        (Err(why), PackedFrame::Place(place)) => PackedEntry::FdSendRefused {
             why,
             socket: id,
             place,
@@ -181,8 +181,8 @@ pub fn packed_send(
 }
 
 #[inline(always)]
-fn received(frames: &mut Vec<Frame>, id: SocketId, reply: &Reply) -> Kept
-    requires fits { is_wide (asked.Receive id) reply.now ≡ false }
+fn received(frames: &mut Vec<Frame>, id: SocketId, reply: &Reply) -> PackedEntry
+    requires fits { needs_box (asked.Receive id) reply.now ≡ false }
     requires room { length frames.old.items < vec_capacity frames.old }
     ensures entry { entry_in frames.new.items result ≡ entry_of (asked.Receive id) reply.now }
     ensures within { frames_needed result ≤ length frames.new.items }
@@ -191,8 +191,8 @@ fn received(frames: &mut Vec<Frame>, id: SocketId, reply: &Reply) -> Kept
 {
     match reply {
         Reply::Received(Some(received)) => item_received(frames, id, received),
-        Reply::Received(None) => Kept::NothingReceived { socket: id },
-        Reply::Refused(why) => Kept::ReceiveRefused {
+        Reply::Received(None) => PackedEntry::NothingReceived { socket: id },
+        Reply::Refused(why) => PackedEntry::ReceiveRefused {
             socket: id,
             why: *why,
         },
@@ -207,8 +207,8 @@ pub fn packed_receive(
     id: SocketId,
     outcome: Result<bool, Refusal>,
     room: &Received,
-) -> Kept
-    requires fits { is_wide (asked.Receive id) (receive_reply room.now outcome) ≡ false }
+) -> PackedEntry
+    requires fits { needs_box (asked.Receive id) (receive_reply room.now outcome) ≡ false }
     requires room { length frames.old.items < vec_capacity frames.old }
     ensures entry { entry_in frames.new.items result ≡ receive_entry id room.now outcome }
     ensures within { frames_needed result ≤ length frames.new.items }
@@ -217,13 +217,13 @@ pub fn packed_receive(
 {
     match outcome {
         Ok(true) => item_received(frames, id, room),
-        Ok(false) => Kept::NothingReceived { socket: id },
-        Err(why) => Kept::ReceiveRefused { socket: id, why },
+        Ok(false) => PackedEntry::NothingReceived { socket: id },
+        Err(why) => PackedEntry::ReceiveRefused { socket: id, why },
     }
 }
 
 #[inline(always)]
-fn item_received(frames: &mut Vec<Frame>, id: SocketId, received: &Received) -> Kept
+fn item_received(frames: &mut Vec<Frame>, id: SocketId, received: &Received) -> PackedEntry
     requires fits { is_large received.now.number ≡ false }
     requires room { length frames.old.items < vec_capacity frames.old }
     ensures entry { entry_in frames.new.items result
@@ -240,9 +240,9 @@ fn item_received(frames: &mut Vec<Frame>, id: SocketId, received: &Received) -> 
     } = *received;
     let number = number as u32;
     match &received.item {
-        Item::Data(frame) => match kept_frame(frames, frame) {
-            KeptFrame::Words { word, len, bytes } => {
-                Kept::FrameReceived {
+        Item::Data(frame) => match packed_frame(frames, frame) {
+            PackedFrame::Words { word, len, bytes } => {
+                PackedEntry::FrameReceived {
                     from,
                     len,
                     socket: id,
@@ -252,7 +252,7 @@ fn item_received(frames: &mut Vec<Frame>, id: SocketId, received: &Received) -> 
                     moment,
                 }
             }
-            KeptFrame::Place(place) => Kept::FdReceived {
+            PackedFrame::Place(place) => PackedEntry::FdReceived {
                 from,
                 socket: id,
                 number,
@@ -260,7 +260,7 @@ fn item_received(frames: &mut Vec<Frame>, id: SocketId, received: &Received) -> 
                 moment,
             },
         },
-        Item::Error(error) => Kept::ErrorReceived {
+        Item::Error(error) => PackedEntry::ErrorReceived {
             from,
             socket: id,
             number,
@@ -271,8 +271,13 @@ fn item_received(frames: &mut Vec<Frame>, id: SocketId, received: &Received) -> 
 }
 
 #[inline(always)]
-fn attempted(frames: &mut Vec<Frame>, moment: Moment, verdict: Verdict, reply: &Reply) -> Kept
-    requires fits { is_wide (asked.Attempt moment verdict) reply.now ≡ false }
+fn attempted(
+    frames: &mut Vec<Frame>,
+    moment: Moment,
+    verdict: Verdict,
+    reply: &Reply,
+) -> PackedEntry
+    requires fits { needs_box (asked.Attempt moment verdict) reply.now ≡ false }
     requires room { length frames.old.items < vec_capacity frames.old }
     ensures entry { entry_in frames.new.items result
         ≡ entry_of (asked.Attempt moment verdict) reply.now }
@@ -282,13 +287,13 @@ fn attempted(frames: &mut Vec<Frame>, moment: Moment, verdict: Verdict, reply: &
     ensures memory { vec_capacity frames.old ≤ vec_capacity frames.new }
 {
     match reply {
-        Reply::Idle { restarted } => Kept::Idle {
+        Reply::Idle { restarted } => PackedEntry::Idle {
             restarted: *restarted,
             verdict,
             moment,
         },
         Reply::Tried(tried) => tried_at(frames, moment, verdict, tried),
-        Reply::Refused(why) => Kept::AttemptRefused {
+        Reply::Refused(why) => PackedEntry::AttemptRefused {
             verdict,
             moment,
             why: *why,
@@ -299,8 +304,13 @@ fn attempted(frames: &mut Vec<Frame>, moment: Moment, verdict: Verdict, reply: &
 
 /// The entry of an attempt that tried this frame.
 #[inline(always)]
-pub fn tried_at(frames: &mut Vec<Frame>, moment: Moment, verdict: Verdict, tried: &Tried) -> Kept
-    requires fits { is_wide (asked.Attempt moment verdict) (answer.Tried tried.now) ≡ false }
+pub fn tried_at(
+    frames: &mut Vec<Frame>,
+    moment: Moment,
+    verdict: Verdict,
+    tried: &Tried,
+) -> PackedEntry
+    requires fits { needs_box (asked.Attempt moment verdict) (answer.Tried tried.now) ≡ false }
     requires room { length frames.old.items < vec_capacity frames.old }
     ensures entry { entry_in frames.new.items result ≡ tried_entry moment verdict tried.now }
     ensures within { frames_needed result ≤ length frames.new.items }
@@ -317,10 +327,10 @@ pub fn tried_at(frames: &mut Vec<Frame>, moment: Moment, verdict: Verdict, tried
         restarted,
         ..
     } = *tried;
-    match kept_frame(frames, &tried.frame) {
-        KeptFrame::Words { word, len, bytes } => {
+    match packed_frame(frames, &tried.frame) {
+        PackedFrame::Words { word, len, bytes } => {
             let stamp = stamp_of(moment, winner, len, off);
-            Kept::Tried {
+            PackedEntry::Tried {
                 end,
                 named,
                 word,
@@ -331,7 +341,7 @@ pub fn tried_at(frames: &mut Vec<Frame>, moment: Moment, verdict: Verdict, tried
                 stamp,
             }
         }
-        KeptFrame::Place(place) => Kept::FdTried {
+        PackedFrame::Place(place) => PackedEntry::FdTried {
             end,
             winner,
             number,
@@ -347,7 +357,7 @@ pub fn tried_at(frames: &mut Vec<Frame>, moment: Moment, verdict: Verdict, tried
 
 /// How a frame is kept. An FD frame goes to the end of the list.
 #[inline(always)]
-fn kept_frame(frames: &mut Vec<Frame>, frame: &Frame) -> KeptFrame
+fn packed_frame(frames: &mut Vec<Frame>, frame: &Frame) -> PackedFrame
     requires room { length frames.old.items < vec_capacity frames.old }
     ensures frame { frame_kept frames.new.items result ≡ frame.now }
     ensures short { IsShort result }
@@ -358,10 +368,10 @@ fn kept_frame(frames: &mut Vec<Frame>, frame: &Frame) -> KeptFrame
     if frame.is_fd() {
         let place = frames.len();
         let _ = frames.push(*frame);
-        KeptFrame::Place(place)
+        PackedFrame::Place(place)
     } else {
         let (word, len, bytes) = frame_words(frame);
-        KeptFrame::Words { word, len, bytes }
+        PackedFrame::Words { word, len, bytes }
     }
 }
 

@@ -6,14 +6,14 @@ ghost use Rattle.can_event.specs.Replies.{entry_of, receive_reply, told};
 ghost use Rattle.can_event.specs.declared.event.Event.TheVariants as asked;
 ghost use Rattle.can_event.specs.declared.reply.Reply.TheVariants as answer;
 ghost use Rattle.can_record.specs.Outcomes.{attempt_entry, told_attempt};
-ghost use Rattle.can_record.specs.Kept.{receive_entry, send_entry};
-ghost use Rattle.can_record.specs.Stored.{entry_stored, IsStored};
-ghost use Rattle.can_record.specs.Wide.{is_wide};
+ghost use Rattle.can_record.specs.PackedEntry.{receive_entry, send_entry};
+ghost use Rattle.can_record.specs.StoredEntry.{entry_stored, IsStored};
+ghost use Rattle.can_record.specs.Boxed.{needs_box};
 
 use crate::entries::Entries;
-use crate::held::Held;
-use crate::looked::Looked;
-use crate::stored::Stored;
+use crate::entry_ref::EntryRef;
+use crate::entry_store::EntryStore;
+use crate::stored_entry::StoredEntry;
 use can_event::{Attempt, BusConfig, Entry, Event, Received, Refusal, Reply, SocketId, is_spelled};
 use can_fault::Verdict;
 use can_frame::{Frame, Moment};
@@ -28,12 +28,12 @@ use std::marker::Model;
 #[derive(Drop)]
 pub struct Record {
     config: BusConfig,
-    held: Held,
+    held: EntryStore,
 }
 
 impl Model for Record {
     ghost use Rattle.std.specs.Prelude.{reverse};
-    ghost use Rattle.can_record.specs.Held.{entries_in, room_in};
+    ghost use Rattle.can_record.specs.EntryStore.{entries_in, room_in};
     ghost use Rattle.can_record.specs.Journal.{Kept};
     ghost use Rattle.can_event.specs.Spelled.{IsRecord};
 
@@ -59,7 +59,7 @@ impl Record {
         ensures empty { IfOk result (λ r. r.history ≡ []) }
         ensures room { IfOk result (λ r. config.limit ≤ r.room) }
     {
-        let held = Held::packed(alloc, config.limit)?;
+        let held = EntryStore::packed(alloc, config.limit)?;
         Ok(Record { config, held })
     }
 
@@ -90,7 +90,7 @@ impl Record {
     {
         Record {
             config,
-            held: Held::Given(entries),
+            held: EntryStore::Given(entries),
         }
     }
 
@@ -111,7 +111,7 @@ impl Record {
     }
 
     /// The entry at a place, from 0 for the oldest, if there is one. No memory is taken.
-    pub fn entry(&self, place: usize) -> Option<Looked<'_>>
+    pub fn entry(&self, place: usize) -> Option<EntryRef<'_>>
         ensures entry { result ≡ slice_get (reverse self.now.history) place }
         ensures spelled { IfSome result (IsSpelled self.now.config) }
     {
@@ -119,7 +119,7 @@ impl Record {
     }
 
     /// The entry at a place as it is stored, if there is one, for those who read many. No memory is taken.
-    pub fn stored(&self, place: usize) -> Option<Stored<'_>>
+    pub fn stored(&self, place: usize) -> Option<StoredEntry<'_>>
         ensures entry { option_map entry_stored result
             ≡ slice_get (reverse self.now.history) place }
         ensures stored { IfSome result IsStored }
@@ -162,11 +162,11 @@ impl Record {
     pub fn push(&mut self, event: &Event, reply: &Reply)
         requires room { length self.old.history < self.old.room }
         requires spelled { IsSpelled self.old.config (entry_of event.now reply.now) }
-        requires fits { is_wide event.now reply.now ≡ false }
+        requires fits { needs_box event.now reply.now ≡ false }
         ensures { IsLonger self.old (entry_of event.now reply.now) self.new }
     {
         // There is no room in a list that was handed in.
-        let Held::Packed(entries) = &mut self.held else {
+        let EntryStore::Packed(entries) = &mut self.held else {
             unreachable!()
         };
         entries.push(event, reply);
@@ -177,11 +177,11 @@ impl Record {
     pub fn push_receive(&mut self, id: SocketId, outcome: Result<bool, Refusal>, room: &Received)
         requires room { length self.old.history < self.old.room }
         requires spelled { IsSpelled self.old.config (receive_entry id room.now outcome) }
-        requires fits { is_wide (asked.Receive id) (receive_reply room.now outcome) ≡ false }
+        requires fits { needs_box (asked.Receive id) (receive_reply room.now outcome) ≡ false }
         ensures { IsLonger self.old (receive_entry id room.now outcome) self.new }
     {
         // There is no room in a list that was handed in.
-        let Held::Packed(entries) = &mut self.held else {
+        let EntryStore::Packed(entries) = &mut self.held else {
             unreachable!()
         };
         entries.push_receive(id, outcome, room);
@@ -192,11 +192,11 @@ impl Record {
     pub fn push_send(&mut self, id: SocketId, frame: &Frame, outcome: Result<u64, Refusal>)
         requires room { length self.old.history < self.old.room }
         requires spelled { IsSpelled self.old.config (send_entry id frame.now outcome) }
-        requires fits { is_wide (asked.Send id frame.now) (told answer.Sent outcome) ≡ false }
+        requires fits { needs_box (asked.Send id frame.now) (told answer.Sent outcome) ≡ false }
         ensures { IsLonger self.old (send_entry id frame.now outcome) self.new }
     {
         // There is no room in a list that was handed in.
-        let Held::Packed(entries) = &mut self.held else {
+        let EntryStore::Packed(entries) = &mut self.held else {
             unreachable!()
         };
         entries.push_send(id, frame, outcome);
@@ -207,11 +207,11 @@ impl Record {
     pub fn push_attempt(&mut self, moment: Moment, verdict: Verdict, attempt: &Attempt)
         requires room { length self.old.history < self.old.room }
         requires spelled { IsSpelled self.old.config (attempt_entry moment verdict attempt.now) }
-        requires fits { is_wide (asked.Attempt moment verdict) (told_attempt attempt.now) ≡ false }
+        requires fits { needs_box (asked.Attempt moment verdict) (told_attempt attempt.now) ≡ false }
         ensures { IsLonger self.old (attempt_entry moment verdict attempt.now) self.new }
     {
         // There is no room in a list that was handed in.
-        let Held::Packed(entries) = &mut self.held else {
+        let EntryStore::Packed(entries) = &mut self.held else {
             unreachable!()
         };
         entries.push_attempt(moment, verdict, attempt);
@@ -224,7 +224,7 @@ impl Record {
         ensures { IsLonger self.old entry.value self.new }
     {
         // There is no room in a list that was handed in.
-        let Held::Packed(entries) = &mut self.held else {
+        let EntryStore::Packed(entries) = &mut self.held else {
             unreachable!()
         };
         entries.push_boxed(entry);

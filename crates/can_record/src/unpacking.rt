@@ -1,100 +1,100 @@
 ghost use Rattle.std.specs.Prelude.{◌≡◌, ◌≤◌, ◌/◌, ◌%◌, length};
-ghost use Rattle.can_record.specs.Kept.{entry_in, frames_needed, IsSmall, tried_in, stamp_moment, stamp_winner, stamp_len, stamp_off};
+ghost use Rattle.can_record.specs.PackedEntry.{entry_in, frames_needed, IsSmall, tried_in, stamp_moment, stamp_winner, stamp_len, stamp_off};
 
 use crate::frame_words::{frame_in, moment_in};
-use crate::kept::Kept;
+use crate::packed_entry::PackedEntry;
 use crate::verdicts::{class_in, verdict_in};
 use can_event::{Event, Received, Reply, Tried};
 use can_frame::{Frame, Iface, IfaceSet, Item, Moment};
 
 /// The event that is kept beside these FD frames.
-pub fn event_in(frames: &[Frame], kept: &Kept) -> Event
+pub fn event_in(frames: &[Frame], kept: &PackedEntry) -> Event
     requires small { IsSmall kept.now }
     requires within { frames_needed kept.now ≤ length frames.now }
     ensures { result ≡ (entry_in frames.now kept.now).event }
 {
     match kept {
-        Kept::Opened {
+        PackedEntry::Opened {
             iface,
             capacity,
             ..
         } => Event::Open(*iface, *capacity),
-        Kept::OpenRefused {
+        PackedEntry::OpenRefused {
             iface,
             capacity,
             ..
         } => Event::Open(*iface, *capacity),
-        Kept::Closed { socket, .. } => Event::Close(*socket),
-        Kept::CloseRefused { socket, .. } => Event::Close(*socket),
-        Kept::OptionSet { socket, option } => Event::SetOption(*socket, *option),
-        Kept::OptionRefused { socket, option, .. } => Event::SetOption(*socket, *option),
-        Kept::Sent {
+        PackedEntry::Closed { socket, .. } => Event::Close(*socket),
+        PackedEntry::CloseRefused { socket, .. } => Event::Close(*socket),
+        PackedEntry::OptionSet { socket, option } => Event::SetOption(*socket, *option),
+        PackedEntry::OptionRefused { socket, option, .. } => Event::SetOption(*socket, *option),
+        PackedEntry::Sent {
             len,
             socket,
             word,
             bytes,
             ..
         } => Event::Send(*socket, frame_in(*word, *len, bytes)),
-        Kept::FdSent { socket, place, .. } => Event::Send(*socket, frames[*place]),
-        Kept::SendRefused {
+        PackedEntry::FdSent { socket, place, .. } => Event::Send(*socket, frames[*place]),
+        PackedEntry::SendRefused {
             len,
             socket,
             word,
             bytes,
             ..
         } => { Event::Send(*socket, frame_in(*word, *len, bytes)) }
-        Kept::FdSendRefused { socket, place, .. } => Event::Send(*socket, frames[*place]),
-        Kept::NothingReceived { socket } => Event::Receive(*socket),
-        Kept::FrameReceived { socket, .. } => Event::Receive(*socket),
-        Kept::FdReceived { socket, .. } => Event::Receive(*socket),
-        Kept::ErrorReceived { socket, .. } => Event::Receive(*socket),
-        Kept::ReceiveRefused { socket, .. } => Event::Receive(*socket),
-        Kept::Idle {
+        PackedEntry::FdSendRefused { socket, place, .. } => Event::Send(*socket, frames[*place]),
+        PackedEntry::NothingReceived { socket } => Event::Receive(*socket),
+        PackedEntry::FrameReceived { socket, .. } => Event::Receive(*socket),
+        PackedEntry::FdReceived { socket, .. } => Event::Receive(*socket),
+        PackedEntry::ErrorReceived { socket, .. } => Event::Receive(*socket),
+        PackedEntry::ReceiveRefused { socket, .. } => Event::Receive(*socket),
+        PackedEntry::Idle {
             verdict,
             moment,
             ..
         } => Event::Attempt(*moment, *verdict),
-        Kept::Tried {
+        PackedEntry::Tried {
             end,
             named,
             stamp,
             ..
         } => { Event::Attempt(stamp_moment(*stamp), verdict_in(*end / 4, *named)) }
-        Kept::FdTried {
+        PackedEntry::FdTried {
             end,
             named,
             moment,
             ..
         } => { Event::Attempt(*moment, verdict_in(*end / 4, *named)) }
-        Kept::AttemptRefused {
+        PackedEntry::AttemptRefused {
             verdict,
             moment,
             ..
         } => Event::Attempt(*moment, *verdict),
-        Kept::Restarted { iface, moment } => Event::Restart(*iface, *moment),
-        Kept::RestartRefused { iface, moment, .. } => Event::Restart(*iface, *moment),
-        Kept::Wide(_) => unreachable!(),
+        PackedEntry::Restarted { iface, moment } => Event::Restart(*iface, *moment),
+        PackedEntry::RestartRefused { iface, moment, .. } => Event::Restart(*iface, *moment),
+        PackedEntry::Boxed(_) => unreachable!(),
     }
 }
 
 /// The reply that is kept beside these FD frames.
-pub fn reply_in(frames: &[Frame], kept: &Kept) -> Reply
+pub fn reply_in(frames: &[Frame], kept: &PackedEntry) -> Reply
     requires within { frames_needed kept.now ≤ length frames.now }
     ensures { result ≡ (entry_in frames.now kept.now).reply }
 {
     match kept {
-        Kept::Opened { socket, .. } => Reply::Opened(*socket),
-        Kept::OpenRefused { why, .. } => Reply::Refused(*why),
-        Kept::Closed { counts, .. } => Reply::Closed(*counts),
-        Kept::CloseRefused { why, .. } => Reply::Refused(*why),
-        Kept::OptionSet { .. } => Reply::Done,
-        Kept::OptionRefused { why, .. } => Reply::Refused(*why),
-        Kept::Sent { number, .. } => Reply::Sent(u64::from(*number)),
-        Kept::FdSent { number, .. } => Reply::Sent(u64::from(*number)),
-        Kept::SendRefused { why, .. } => Reply::Refused(*why),
-        Kept::FdSendRefused { why, .. } => Reply::Refused(*why),
-        Kept::NothingReceived { .. } => Reply::Received(None),
-        Kept::FrameReceived {
+        PackedEntry::Opened { socket, .. } => Reply::Opened(*socket),
+        PackedEntry::OpenRefused { why, .. } => Reply::Refused(*why),
+        PackedEntry::Closed { counts, .. } => Reply::Closed(*counts),
+        PackedEntry::CloseRefused { why, .. } => Reply::Refused(*why),
+        PackedEntry::OptionSet { .. } => Reply::Done,
+        PackedEntry::OptionRefused { why, .. } => Reply::Refused(*why),
+        PackedEntry::Sent { number, .. } => Reply::Sent(u64::from(*number)),
+        PackedEntry::FdSent { number, .. } => Reply::Sent(u64::from(*number)),
+        PackedEntry::SendRefused { why, .. } => Reply::Refused(*why),
+        PackedEntry::FdSendRefused { why, .. } => Reply::Refused(*why),
+        PackedEntry::NothingReceived { .. } => Reply::Received(None),
+        PackedEntry::FrameReceived {
             from,
             len,
             word,
@@ -110,7 +110,7 @@ pub fn reply_in(frames: &[Frame], kept: &Kept) -> Reply
                 moment: *moment,
             }))
         }
-        Kept::FdReceived {
+        PackedEntry::FdReceived {
             from,
             number,
             place,
@@ -122,7 +122,7 @@ pub fn reply_in(frames: &[Frame], kept: &Kept) -> Reply
             number: u64::from(*number),
             moment: *moment,
         })),
-        Kept::ErrorReceived {
+        PackedEntry::ErrorReceived {
             from,
             number,
             error,
@@ -134,11 +134,11 @@ pub fn reply_in(frames: &[Frame], kept: &Kept) -> Reply
             number: u64::from(*number),
             moment: *moment,
         })),
-        Kept::ReceiveRefused { why, .. } => Reply::Refused(*why),
-        Kept::Idle { restarted, .. } => Reply::Idle {
+        PackedEntry::ReceiveRefused { why, .. } => Reply::Refused(*why),
+        PackedEntry::Idle { restarted, .. } => Reply::Idle {
             restarted: *restarted,
         },
-        Kept::Tried {
+        PackedEntry::Tried {
             end,
             word,
             number,
@@ -151,7 +151,7 @@ pub fn reply_in(frames: &[Frame], kept: &Kept) -> Reply
             let words = (*end, *word, *number);
             Reply::Tried(tried_in(words, *accepted, *restarted, bytes, *stamp))
         }
-        Kept::FdTried {
+        PackedEntry::FdTried {
             end,
             winner,
             number,
@@ -173,10 +173,10 @@ pub fn reply_in(frames: &[Frame], kept: &Kept) -> Reply
                 restarted: *restarted,
             })
         }
-        Kept::AttemptRefused { why, .. } => Reply::Refused(*why),
-        Kept::Restarted { .. } => Reply::Done,
-        Kept::RestartRefused { why, .. } => Reply::Refused(*why),
-        Kept::Wide(entry) => entry.reply,
+        PackedEntry::AttemptRefused { why, .. } => Reply::Refused(*why),
+        PackedEntry::Restarted { .. } => Reply::Done,
+        PackedEntry::RestartRefused { why, .. } => Reply::Refused(*why),
+        PackedEntry::Boxed(entry) => entry.reply,
     }
 }
 

@@ -2,4 +2,4 @@ pub mod Numerals
 pub mod Reading
 pub mod Words
 pub mod Fronts
-pub mod Stored
+pub mod StoredLines

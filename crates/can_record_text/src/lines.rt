@@ -5,7 +5,7 @@ ghost use Rattle.can_record_text.specs.Spelling.{spell, ack_word, answered_line,
 ghost use Rattle.can_record_text.specs.Texts.{DecidesLine, StartsWith, StartsWithBus, StartsWithEntry};
 ghost use Rattle.can_record_text.specs.Values.{HasLine, HasBusLine};
 ghost use Rattle.can_record_text.specs.RecordFaults.{LacksBus, LacksEntry, LacksFirst};
-ghost use Rattle.can_record_text.specs.inner.Stored.{HasFittingReply};
+ghost use Rattle.can_record_text.specs.inner.StoredLines.{HasFittingReply};
 ghost use Rattle.can_record_text.specs.inner.Reading.{Gives, with_rest, ack_at, auto_restart_at, config_at, entry_at, moment_of};
 
 use crate::event_reading::guess_event;

@@ -6,8 +6,8 @@ ghost use Rattle.can_lines.specs.Lines.{LineGoesOut};
 ghost use Rattle.can_record_text.specs.declared.version.Version.TheVariants as version;
 ghost use Rattle.can_record_text.specs.LongRuns.{BlockGoesOut, entries_in, lines_of_blocks};
 ghost use Rattle.can_record_text.specs.Spelling.{end_words, front_lines, record_spelling, spell};
-ghost use Rattle.can_record.specs.Stored.{entry_stored, IsStored};
-ghost use Rattle.can_record_text.specs.inner.Stored.{HasFittingReply, stored_line};
+ghost use Rattle.can_record.specs.StoredEntry.{entry_stored, IsStored};
+ghost use Rattle.can_record_text.specs.inner.StoredLines.{HasFittingReply, stored_line};
 
 use crate::lines::put_end;
 use crate::record_writing::{put_front, spell_stored};
@@ -15,7 +15,7 @@ use crate::version::Version;
 use can_event::BusConfig;
 use can_frame::Text;
 use can_lines::write_line;
-use can_record::{PackedRecord, Stored};
+use can_record::{PackedRecord, StoredEntry};
 use std::alloc::Global;
 use std::io;
 use std::io::Write;
@@ -74,7 +74,11 @@ pub fn write_block<W: Write>(
 }
 
 /// Writes the line of an entry as it is stored. After a fault only a proper front of it is out.
-fn write_stored<W: Write>(line: &mut Vec<u8>, stored: &Stored<'_>, writer: &mut W) -> io::Result<()>
+fn write_stored<W: Write>(
+    line: &mut Vec<u8>,
+    stored: &StoredEntry<'_>,
+    writer: &mut W,
+) -> io::Result<()>
     requires stored { IsStored stored.now }
     requires fits { HasFittingReply (entry_stored stored.now) }
     ensures { LineGoesOut (W.contents writer.old) (W.contents writer.new)

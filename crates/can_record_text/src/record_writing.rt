@@ -1,19 +1,19 @@
 ghost use Rattle.std.specs.Prelude.{◌≡◌, ◌≤◌, ◌++◌, [], length, IfOk, IsTrue, OnOk};
 ghost use Rattle.std.specs.Io.KnownBytes.{Appends};
 ghost use Rattle.can_event.specs.Spelled.{FitsReply};
-ghost use Rattle.can_record.specs.Kept.{entry_in, frames_needed, IsSmall};
-ghost use Rattle.can_record.specs.Stored.{entry_stored, IsStored};
+ghost use Rattle.can_record.specs.PackedEntry.{entry_in, frames_needed, IsSmall};
+ghost use Rattle.can_record.specs.StoredEntry.{entry_stored, IsStored};
 ghost use Rattle.can_record_text.specs.Spelling.{answered_line, entry_line, front_lines};
 ghost use Rattle.can_record_text.specs.Texts.{lines_of, text_of};
-ghost use Rattle.can_record_text.specs.inner.Stored.{HasFittingReply, stored_line};
+ghost use Rattle.can_record_text.specs.inner.StoredLines.{HasFittingReply, stored_line};
 
-use crate::kept_lines::push_kept;
 use crate::lines::{put_answered, put_bus, put_end, put_line};
+use crate::packed_lines::push_entry;
 use crate::short_words::ShortLine;
 use crate::version::{Version, record_has_fd};
 use can_event::{BusConfig, Event, Reply};
 use can_frame::{Frame, Text};
-use can_record::{Kept, Record, Stored, event_in, reply_in};
+use can_record::{PackedEntry, Record, StoredEntry, event_in, reply_in};
 use std::alloc::{AllocError, Global};
 use std::io;
 use std::io::Write;
@@ -94,7 +94,7 @@ fn write_lines<W: Write>(line: &mut Vec<u8>, record: &Record, writer: &mut W) ->
 pub(crate) fn spell_stored<'a>(
     short: &'a mut ShortLine,
     long: &'a mut Vec<u8>,
-    stored: &Stored<'_>,
+    stored: &StoredEntry<'_>,
 ) -> Result<&'a [u8], AllocError>
     requires empty { short.old ≡ [] }
     requires stored { IsStored stored.now }
@@ -110,31 +110,31 @@ pub(crate) fn spell_stored<'a>(
 }
 
 /// The line of an entry as it is stored, if it is packed and of a usual kind; else what is in the room means nothing.
-fn push_stored(line: &mut ShortLine, stored: &Stored<'_>) -> bool
+fn push_stored(line: &mut ShortLine, stored: &StoredEntry<'_>) -> bool
     requires { line.old ≡ [] }
     ensures { IsTrue result → line.new ≡ stored_line stored.now }
 {
     match stored {
-        Stored::Packed(_, kept) => push_kept(line, kept),
-        Stored::Whole(_) => false,
+        StoredEntry::Packed(_, kept) => push_entry(line, kept),
+        StoredEntry::Whole(_) => false,
     }
 }
 
 /// The line of an entry as it is stored.
 #[inline(never)]
-fn put_stored(out: &mut Vec<u8>, stored: &Stored<'_>) -> Result<(), AllocError>
+fn put_stored(out: &mut Vec<u8>, stored: &StoredEntry<'_>) -> Result<(), AllocError>
     requires stored { IsStored stored.now }
     requires fits { HasFittingReply (entry_stored stored.now) }
     ensures { OnOk result (out.new.items ≡ out.old.items ++ stored_line stored.now) }
 {
     match stored {
-        Stored::Packed(frames, kept) => put_kept(out, frames, kept),
-        Stored::Whole(entry) => put_line(out, entry),
+        StoredEntry::Packed(frames, kept) => put_entry(out, frames, kept),
+        StoredEntry::Whole(entry) => put_line(out, entry),
     }
 }
 
 /// The line of a packed entry.
-fn put_kept(out: &mut Vec<u8>, frames: &[Frame], kept: &Kept) -> Result<(), AllocError>
+fn put_entry(out: &mut Vec<u8>, frames: &[Frame], kept: &PackedEntry) -> Result<(), AllocError>
     requires small { IsSmall kept.now }
     requires within { frames_needed kept.now ≤ length frames.now }
     requires fits { HasFittingReply (entry_in frames.now kept.now) }

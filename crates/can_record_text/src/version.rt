@@ -1,15 +1,15 @@
 ghost use Rattle.std.specs.Prelude.{◌≡◌, ◌≤◌, IsTrue, false, length, reverse, true};
 ghost use Rattle.std.specs.List.{list_any};
 ghost use Rattle.can_event.specs.Replies.{entry_of};
-ghost use Rattle.can_record.specs.Kept.{entry_in, frames_needed, IsSmall};
-ghost use Rattle.can_record.specs.Stored.{entry_stored, IsStored};
+ghost use Rattle.can_record.specs.PackedEntry.{entry_in, frames_needed, IsSmall};
+ghost use Rattle.can_record.specs.StoredEntry.{entry_stored, IsStored};
 ghost use Rattle.can_record_text.specs.declared.version.Version.TheVariants as version;
 ghost use Rattle.can_record_text.specs.Spelling.{asks_for_fd, answers_with_fd, first_line, has_fd, is_fd_item, takes_fd, version_for};
 ghost use Rattle.can_record_text.specs.Values.{HasLimit, Restarts};
 
 use can_event::{BusConfig, Entry, Event, MAX_LIMIT, Opt, Reply};
 use can_frame::{Frame, Item};
-use can_record::{Kept, Record, Stored};
+use can_record::{PackedEntry, Record, StoredEntry};
 
 /// A version of the text of a record. Each record is written in one.
 #[derive(Debug, Clone, Copy, PartialEq, Eq)]
@@ -110,32 +110,32 @@ pub(crate) fn record_has_fd(record: &Record) -> bool
 }
 
 /// The same of an entry as it is stored.
-fn stored_has_fd(stored: &Stored<'_>) -> bool
+fn stored_has_fd(stored: &StoredEntry<'_>) -> bool
     requires { IsStored stored.now }
     ensures { result ≡ has_fd (entry_stored stored.now) }
 {
     match stored {
-        Stored::Packed(frames, kept) => kept_has_fd(frames, kept),
-        Stored::Whole(entry) => has_fd(&entry.event, &entry.reply),
+        StoredEntry::Packed(frames, kept) => packed_has_fd(frames, kept),
+        StoredEntry::Whole(entry) => has_fd(&entry.event, &entry.reply),
     }
 }
 
 /// The same of a packed entry.
-fn kept_has_fd(frames: &[Frame], kept: &Kept) -> bool
+fn packed_has_fd(frames: &[Frame], kept: &PackedEntry) -> bool
     requires small { IsSmall kept.now }
     requires within { frames_needed kept.now ≤ length frames.now }
     ensures { result ≡ has_fd (entry_in frames.now kept.now) }
 {
     match kept {
-        Kept::FdSent { place, .. } => frames[*place].is_fd(),
-        Kept::FdSendRefused { place, .. } => frames[*place].is_fd(),
-        Kept::FdReceived { place, .. } => frames[*place].is_fd(),
-        Kept::FdTried { place, .. } => frames[*place].is_fd(),
-        Kept::OptionSet {
+        PackedEntry::FdSent { place, .. } => frames[*place].is_fd(),
+        PackedEntry::FdSendRefused { place, .. } => frames[*place].is_fd(),
+        PackedEntry::FdReceived { place, .. } => frames[*place].is_fd(),
+        PackedEntry::FdTried { place, .. } => frames[*place].is_fd(),
+        PackedEntry::OptionSet {
             option: Opt::FdFrames(_),
             ..
         } => true,
-        Kept::OptionRefused {
+        PackedEntry::OptionRefused {
             option: Opt::FdFrames(_),
             ..
         } => true,

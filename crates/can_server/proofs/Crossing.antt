@@ -13,12 +13,12 @@ use Rattle.can_fault.specs.declared.fault_source.FaultSource as source
 use Rattle.can_meter.specs.declared.blank.MeterName as meter
 use Rattle.can_roll.specs.declared.roll_name.RollName as roll
 use Rattle.can_dialog.proofs.session.Session.TheSendSync as session
-use Rattle.can_hub.proofs.returned.Returned.TheSendSync as returned
+use Rattle.can_hub.proofs.returned.ReturnedPasses.TheSendSync as returned
 use Rattle.can_hub.proofs.Crossing.{buses_sync, port_send, shared}
 use Rattle.can_server.proofs.batch.Batch.TheSendSync as batch
 use Rattle.can_server.proofs.conn.Conn.TheSendSync as conn
-use Rattle.can_server.proofs.door.Door.TheSendSync as door
-use Rattle.can_server.proofs.guests.Guests.TheSendSync as guests
+use Rattle.can_server.proofs.acceptor.Acceptor.TheSendSync as acceptor
+use Rattle.can_server.proofs.clients.Clients.TheSendSync as clients
 use Rattle.can_server.proofs.opening.Opening.TheSendSync as opening
 use Rattle.can_server.proofs.opening.FirstBytes.TheSendSync as first
 use Rattle.can_server.proofs.scribing.Scribe.TheSendSync as scribe
@@ -26,7 +26,7 @@ use Rattle.can_server.specs.contracts.given.Given as given
 use Rattle.can_server.specs.declared.scribing.Keeper as keeper
 use Rattle.can_server.specs.contracts.server.Server as server
 use Rattle.can_server.specs.contracts.serving.LongServer as long_server
-use Rattle.can_server.specs.contracts.talk.Talk as talk
+use Rattle.can_server.specs.contracts.talk.Conversation as talk
 use Rattle.can_server.specs.contracts.delivering.Delivery as delivery
 
 -- what contracts know of what a keeper was given
@@ -46,7 +46,7 @@ module _ (N F G : RattleType) (g : roll.Ghosts N.Denot) (g' : meter.Ghosts N.Den
             (
               search (sendable, c) depth 20,
               (
-                search (sendable, crosses, guests.the_send) depth 20,
+                search (sendable, crosses, clients.the_send) depth 20,
                 (
                   search (sendable, crosses, returned.the_send) depth 20,
                   (search sendable depth 20, (search (sendable, crosses) depth 20, tt)),
@@ -72,4 +72,4 @@ module _ (N F G : RattleType) (g : roll.Ghosts N.Denot) (g' : meter.Ghosts N.Den
   pub long_server_sync : (ν ι : NamedLft) (C R K : RattleType) (k : keeper.Ghosts K.Denot) → IsSync C → IsSync R → IsSend K → IsSync (long_server.the_row ν κ ι N F G C R K g g' g'' k)
   long_server_sync ν ι C R K k c r kept =
       declared_sync (long_server.the_type ν κ ι N F G C R K g g' g'' k)
-      (shared ν _ _ (server_sync C R c r), (search (sendable, door.the_sync) depth 20, (search (sendable, crosses, stream.the_sync) depth 20, (shared ν _ _ (mutex_sync.the_sync _ (Vec-send _ (scribe.the_send ι N K g k kept))), tt))))
+      (shared ν _ _ (server_sync C R c r), (search (sendable, acceptor.the_sync) depth 20, (search (sendable, crosses, stream.the_sync) depth 20, (shared ν _ _ (mutex_sync.the_sync _ (Vec-send _ (scribe.the_send ι N K g k kept))), tt))))

@@ -1,9 +1,9 @@
 use Rattle.std.proofs.Common.{◌≡◌, ◌+◌, ◌<◌, ◌≤◌, ℕ, zero, suc, List, [], ◌∷◌, length, map, set, refl, ap, ◌∙◌, arith}
 use Rattle.std.specs.Prelude.{slice_index_or, Bool, Option}
-use Rattle.can_server.specs.Guests.{GuestsSeen}
-use Rattle.can_server.specs.declared.guests.Guest.{Guest}
+use Rattle.can_server.specs.Clients.{ClientsSeen}
+use Rattle.can_server.specs.declared.clients.Client.{Client}
 
-abbrev pub the_seen : List (Option Guest) → Bool → GuestsSeen
+abbrev pub the_seen : List (Option Client) → Bool → ClientsSeen
 the_seen xs a = record { places = xs; is_closed = a }
 
 module _ {X : Type 0} (f : X → X) where
@@ -34,6 +34,6 @@ module _ {X : Type 0} (f : X → X) where
   map_all zero (x ∷ xs) e = absurd (omega (arith, e))
   map_all (suc n) (x ∷ xs) e = ap (λ ys. f x ∷ ys) (map_all n xs (omega (arith, e)))
 
--- guests by their places and whether nobody comes in
-pub seen_as : (xs ys : List (Option Guest)) (a b : Bool) → xs ≡ ys → a ≡ b → the_seen xs a ≡ the_seen ys b
+-- clients by their places and whether nobody comes in
+pub seen_as : (xs ys : List (Option Client)) (a b : Bool) → xs ≡ ys → a ≡ b → the_seen xs a ≡ the_seen ys b
 seen_as xs ys a b same closed = ap (λ zs. the_seen zs a) same ∙ ap (the_seen ys) closed

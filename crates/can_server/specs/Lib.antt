@@ -1,4 +1,4 @@
-pub mod Guests
+pub mod Clients
 pub mod Driving
 pub mod Openings
 pub mod Batches

@@ -1,6 +1,6 @@
+use crate::acceptor::Acceptor;
+use crate::clients::NotAdmitted;
 use crate::conn::Conn;
-use crate::door::Door;
-use crate::guests::NotAdmitted;
 use crate::notice::Notice;
 use crate::server::Server;
 use crate::serving::Clock;
@@ -17,27 +17,27 @@ use std::thread::Threads;
 use std::time::Duration;
 use std::{thread, time};
 
-/// How long a door rests after a connection that could not be accepted, as for want of file descriptors.
+/// How long an acceptor rests after a connection that could not be accepted, as for want of file descriptors.
 const AFTER_A_FAULT_MS: u64 = 100;
 
-/// How often a door tries before this counts as a session: for some 6 seconds.
+/// How often an acceptor tries before this counts as a session: for some 6 seconds.
 const TRIES: u32 = 64;
 
 /// How often a connection looks for a place while others are shut out, for a second.
 const TURNS: u32 = 1_000;
 
-/// A visit of a client that was taken in: the door, the place among the guests, and the session's number.
+/// A visit of a client that was taken in: the acceptor, the place among the clients, and the session's number.
 #[derive(Drop)]
 pub struct Visit<'d> {
-    pub door: &'d Door,
+    pub acceptor: &'d Acceptor,
     pub place: usize,
     pub session: u32,
 }
 
-/// Who comes in at a door.
+/// Who comes in at an acceptor.
 #[derive(Drop)]
 enum Next {
-    /// A guest has this place.
+    /// A client has this place.
     Admitted(usize),
     /// Nobody could be accepted for all tries, or nobody else is let in now.
     Nobody,
@@ -45,7 +45,7 @@ enum Next {
     Closed,
 }
 
-// The doors of a server.
+// The acceptors of a server.
 impl<
     'a,
     N: RollName + MeterName + Send + Sync,
@@ -54,30 +54,30 @@ impl<
     C: Clock + Sync,
     R: Threads + Wait + time::Clock + Sync,
 > Server<'a, N, F, G, C, R> {
-    /// Accepts connections until the door has had its sessions, each served by a thread of its own, closes the door and
+    /// Accepts connections until the acceptor has had its sessions, each served by a thread of its own, closes the acceptor and
     /// waits for their ends. It accepts no more once the server is closed.
-    pub fn accept_all(&self, door: &Door) {
+    pub fn accept_all(&self, acceptor: &Acceptor) {
         thread::scope(thread::scope_env(), self.rt, |scope| {
-            for before in 0..self.most_connections(door) {
+            for before in 0..self.most_connections(acceptor) {
                 let session = before + 1;
-                match self.next_guest(door, session) {
+                match self.next_client(acceptor, session) {
                     Next::Admitted(place) => {
                         let visit = Visit {
-                            door,
+                            acceptor,
                             place,
                             session,
                         };
                         if scope.spawn(move || self.run_session(&visit)).is_err() {
-                            self.let_go(place);
-                            self.tell_end(session, Tally::none());
+                            self.release(place);
+                            self.report_end(session, Tally::none());
                         }
                     }
                     Next::Nobody => {}
                     Next::Closed => break,
                 }
             }
-            door.close();
-            door.turn_away();
+            acceptor.close();
+            acceptor.turn_away();
         });
     }
 }
@@ -90,41 +90,41 @@ impl<
     C: Clock,
     R: Wait + time::Clock,
 > Server<'a, N, F, G, C, R> {
-    /// How many connections a door accepts: each counts as one of its sessions, unless only those count that have been raw.
-    fn most_connections(&self, door: &Door) -> u32 {
+    /// How many connections an acceptor accepts: each counts as one of its sessions, unless only those count that have been raw.
+    fn most_connections(&self, acceptor: &Acceptor) -> u32 {
         if self.is_long {
             u32::MAX
         } else {
-            door.sessions()
+            acceptor.sessions()
         }
     }
 
-    /// Waits at a door for the next connection, and takes it in. After one that could not be accepted the door rests, and
+    /// Waits at an acceptor for the next connection, and takes it in. After one that could not be accepted the acceptor rests, and
     /// tries again.
-    fn next_guest(&self, door: &Door, session: u32) -> Next {
+    fn next_client(&self, acceptor: &Acceptor, session: u32) -> Next {
         for _ in 0..TRIES {
-            match door.accept() {
+            match acceptor.accept() {
                 Ok(conn) => return self.admit(conn, session),
-                Err(_) if self.is_over(door) => return Next::Closed,
+                Err(_) if self.is_over(acceptor) => return Next::Closed,
                 Err(_) => thread::sleep(self.rt, Duration::from_millis(AFTER_A_FAULT_MS)),
             }
         }
         Next::Nobody
     }
 
-    /// Whether nobody is let in at a door any more.
-    fn is_over(&self, door: &Door) -> bool {
-        door.is_used_up() || self.guests.lock(self.rt).is_closed()
+    /// Whether nobody is let in at an acceptor any more.
+    fn is_over(&self, acceptor: &Acceptor) -> bool {
+        acceptor.is_used_up() || self.clients.lock(self.rt).is_closed()
     }
 
-    /// Frees the place of a guest whose session is over, or whose thread could not be started.
-    pub fn let_go(&self, place: usize) {
-        self.guests.lock(self.rt).leave(place);
+    /// Frees the place of a client whose session is over, or whose thread could not be started.
+    pub fn release(&self, place: usize) {
+        self.clients.lock(self.rt).leave(place);
     }
 
     /// Reports to the host that a session is over.
-    pub fn tell_end(&self, session: u32, tally: Tally) {
-        self.host.tell(Notice::Went {
+    pub fn report_end(&self, session: u32, tally: Tally) {
+        self.host.notify(Notice::Went {
             session,
             refused: tally.refused,
             dropped: tally.dropped,
@@ -134,7 +134,7 @@ impl<
     /// Takes a connection in, if the server is not closed. Where as many sessions are at work as a server has, and none
     /// of them is idle, the client gets `too many sessions`.
     fn admit(&self, conn: Conn, session: u32) -> Next {
-        let from = if self.host.is_curious() {
+        let from = if self.host.wants_notices() {
             conn.peer()
         } else {
             None
@@ -144,26 +144,26 @@ impl<
         };
         match self.find_place(&conn) {
             Ok(place) => {
-                self.host.tell(Notice::Came { session, from });
+                self.host.notify(Notice::Came { session, from });
                 Next::Admitted(place)
             }
             Err(NotAdmitted::Closed) => Next::Closed,
             Err(NotAdmitted::Full) => {
                 conn.refuse(Cause::TooManySessions);
                 conn.shutdown();
-                self.host.tell(Notice::TurnedAway { session, from });
+                self.host.notify(Notice::TurnedAway { session, from });
                 Next::Nobody
             }
         }
     }
 
-    /// Finds a connection a place among the guests. Where all are taken, idle guests are shut out, and it waits for one
+    /// Finds a connection a place among the clients. Where all are taken, idle clients are shut out, and it waits for one
     /// of their places.
     fn find_place(&self, conn: &Arc<Conn, Global>) -> Result<usize, NotAdmitted> {
         for _ in 0..TURNS {
             let now = self.host.now();
             let found = self.ask_for_place(conn, now);
-            if found != Err(NotAdmitted::Full) || !self.guests.lock(self.rt).make_room(now) {
+            if found != Err(NotAdmitted::Full) || !self.clients.lock(self.rt).make_room(now) {
                 return found;
             }
             thread::sleep(self.rt, Duration::from_millis(1));
@@ -174,7 +174,7 @@ impl<
     /// Takes a place, if one is free.
     fn ask_for_place(&self, conn: &Arc<Conn, Global>, now: Moment) -> Result<usize, NotAdmitted> {
         match Arc::try_clone(conn) {
-            Ok(shared) => self.guests.lock(self.rt).admit(shared, now),
+            Ok(shared) => self.clients.lock(self.rt).admit(shared, now),
             Err(_) => Err(NotAdmitted::Full),
         }
     }

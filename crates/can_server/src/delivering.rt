@@ -1,12 +1,12 @@
 //! The thread of a session that delivers its items.
 
 use crate::conn::Conn;
-use crate::talk::Talk;
+use crate::conversation::Conversation;
 use can_fault::FaultSource;
 use can_hub::HubBus;
 use can_meter::MeterName;
 use can_roll::RollName;
-use can_station::{Gate, Station, Wake};
+use can_station::{Gate, Station, WakeReason};
 use std::sync::{Mutex, Wait};
 use std::time::Duration;
 use std::{thread, time};
@@ -26,7 +26,7 @@ pub struct Delivery<
     R: Wait,
 > {
     pub rt: &'s R,
-    pub talk: &'s Mutex<Talk<'t, N, F, G, R>>,
+    pub talk: &'s Mutex<Conversation<'t, N, F, G, R>>,
     pub conn: &'s Conn,
 }
 
@@ -47,7 +47,7 @@ impl<
         };
         for _ in self.rt.forever() {
             let (wake, waiting) = place.station.wait_items(self.rt, place.socket);
-            if wake != Wake::Ready {
+            if wake != WakeReason::Ready {
                 break;
             }
             if !self.deliver_waiting(waiting) {

@@ -60,9 +60,9 @@ impl<
         };
         if station.became_full() {
             station.stop(self.rt);
-            self.host.tell(Notice::Full { bus });
+            self.host.notify(Notice::Full { bus });
         } else if was_refused {
-            self.host.tell(Notice::NoDriver { bus });
+            self.host.notify(Notice::NoDriver { bus });
         }
     }
 
@@ -83,9 +83,9 @@ impl<
             let is_nearly_full = hold.is_nearly_full();
             match self.step_some(hold, most, pass) {
                 Stepped::On(changes) => {
-                    self.tell_changes(bus, changes);
+                    self.report_changes(bus, changes);
                     if is_nearly_full && !was_nearly_full {
-                        self.host.tell(Notice::NearlyFull { bus });
+                        self.host.notify(Notice::NearlyFull { bus });
                     }
                     was_nearly_full = is_nearly_full;
                     station.rest(self.rt, pace);
@@ -116,7 +116,7 @@ impl<
             if changes.are_some() {
                 return Stepped::On(changes);
             }
-            if is_in_vain(&attempt) && self.is_ending.load(Ordering::SeqCst) {
+            if makes_no_progress(&attempt) && self.is_ending.load(Ordering::SeqCst) {
                 return Stepped::Out;
             }
         }
@@ -124,17 +124,17 @@ impl<
     }
 
     /// Reports to the host which interfaces went bus off in an attempt, and which were restarted.
-    fn tell_changes(&self, bus: usize, changes: Changes) {
+    fn report_changes(&self, bus: usize, changes: Changes) {
         if !changes.are_some() {
             return;
         }
         for number in 0..16 {
             if let Some(iface) = Iface::new(number) {
                 if changes.off.contains(iface) {
-                    self.host.tell(Notice::WentOff { bus, iface });
+                    self.host.notify(Notice::WentOff { bus, iface });
                 }
                 if changes.restarted.contains(iface) {
-                    self.host.tell(Notice::Restarted { bus, iface });
+                    self.host.notify(Notice::Restarted { bus, iface });
                 }
             }
         }
@@ -184,7 +184,7 @@ impl Changes {
 
 /// Whether an attempt neither sent a frame nor restarted an interface. Once all sessions are over, more of these only fill
 /// the record.
-fn is_in_vain(attempt: &Attempt) -> bool
+fn makes_no_progress(attempt: &Attempt) -> bool
     ensures { IsTrue result ↔ IsInVain attempt.now }
 {
     match attempt {

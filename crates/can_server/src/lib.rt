@@ -1,40 +1,40 @@
 //! A server: the threads that serve the buses of a hub to many clients.
 //!
-//! [`serve`] takes connections in at its doors. Each is a session of two threads, one that reads what the client says
+//! [`serve`] takes connections in at its acceptors. Each is a session of two threads, one that reads what the client says
 //! and one that delivers its items, over a pass of the bus that it opens. Each bus has a driver, which steps it while
 //! an interface has a frame to send or counts towards its restart. At the end all passes are handed back, for the hub
 //! to settle.
 //!
 //! Of the threads it is proved that one list of passes is handed back for each bus, and that a server that is closed
-//! lets nobody in ([`Guests`]). The sessions are can_dialog's, each with a pass of its own; what one says, and the texts
+//! lets nobody in ([`Clients`]). The sessions are can_dialog's, each with a pass of its own; what one says, and the texts
 //! of its items, go out in order, each once ([`Batch`]). Which first bytes of a connection are a request of HTTP, which is
 //! closed, is [`FirstBytes`]. Not promised: that a peer gets anything, how long anybody waits, that no two wait for each
 //! other.
 #![tactic(auto)]
 
 mod accepting;
+pub mod acceptor;
 pub mod batch;
+pub mod clients;
 pub mod conn;
+mod conversation;
 mod delivering;
-pub mod door;
 mod driving;
 pub mod given;
-pub mod guests;
 pub mod notice;
 pub mod opening;
 pub mod scribing;
 mod server;
 pub mod serving;
 mod sessions;
-mod talk;
 
+pub use acceptor::{Acceptor, Listener};
 pub use batch::{Batch, Taken};
-pub use can_hub::{Bench, Buses, HeldPort, Hub, HubBus, HubEnd, Leaves, PassPort, SettleFault};
+pub use can_hub::{Bench, Buses, Hub, HubBus, HubEnd, Leaves, LockedPort, PassPort, SettleFault};
+pub use clients::{Clients, NotAdmitted};
 pub use conn::Conn;
-pub use door::{Door, Listener};
 pub use given::Given;
-pub use guests::{Guests, NotAdmitted};
 pub use notice::Notice;
 pub use opening::{FirstBytes, Opening};
-pub use scribing::{Keeper, Kept, Scribe};
+pub use scribing::{Keeper, Scribe, ScrollKeeper};
 pub use serving::{Clock, serve, serve_long};

@@ -1,7 +1,7 @@
 use can_frame::Iface;
 use std::net::SocketAddr;
 
-/// What a server reports to its host while it runs. The sessions of a door are numbered from 1.
+/// What a server reports to its host while it runs. The sessions of an acceptor are numbered from 1.
 #[derive(Debug, Clone, Copy)]
 pub enum Notice {
     /// A session begins. Its client has this address, or came to a Unix path.

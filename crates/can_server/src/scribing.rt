@@ -6,7 +6,7 @@ use can_bus::Journaled;
 use can_fault::FaultSource;
 use can_meter::MeterName;
 use can_roll::RollName;
-use can_station::{Block, Gate, Scroll, Station, Wake, WrongStation};
+use can_station::{Block, Gate, Scroll, Station, WakeReason, WrongStation};
 use std::alloc::{AllocError, Global};
 use std::marker::Model;
 use std::sync::Wait;
@@ -33,11 +33,11 @@ pub trait Keeper {
 
 /// The keeper of a server whose buses keep their records: it has no scribes.
 #[derive(Drop)]
-pub struct Unkept {
+pub struct Discard {
     given: Given,
 }
 
-impl Keeper for Unkept {
+impl Keeper for Discard {
     ghost given = { λ keeper. keeper.given };
 
     fn keep(&mut self, block: &Block) {
@@ -48,12 +48,12 @@ impl Keeper for Unkept {
 /// A keeper with the scroll of its bus: it was given the entries that were handed out to the scroll, and no others. Contracts
 /// see the scroll.
 #[derive(Drop)]
-pub struct Kept<N: RollName, K: Keeper + Drop> {
+pub struct ScrollKeeper<N: RollName, K: Keeper + Drop> {
     keeper: K,
     scroll: Scroll<N>,
 }
 
-impl<N: RollName, K: Keeper + Drop> Model for Kept<N, K> {
+impl<N: RollName, K: Keeper + Drop> Model for ScrollKeeper<N, K> {
     ghost use Rattle.std.specs.Prelude.{◌≡◌};
     ghost use Rattle.can_roll.specs.Seen.{ScrollSeen};
 
@@ -64,13 +64,13 @@ impl<N: RollName, K: Keeper + Drop> Model for Kept<N, K> {
     ghost invariant = { λ k. K.given k.keeper ≡ k.scroll.entries };
 }
 
-impl<N: RollName + MeterName, K: Keeper + Drop> Kept<N, K> {
+impl<N: RollName + MeterName, K: Keeper + Drop> ScrollKeeper<N, K> {
     /// A keeper that was given what was handed out to the scroll.
-    pub fn new(keeper: K, scroll: Scroll<N>) -> Kept<N, K>
+    pub fn new(keeper: K, scroll: Scroll<N>) -> ScrollKeeper<N, K>
         requires { K.given keeper ≡ scroll.entries }
         ensures { result ≡ scroll }
     {
-        Kept { keeper, scroll }
+        ScrollKeeper { keeper, scroll }
     }
 
     /// The number of its bus.
@@ -85,7 +85,7 @@ impl<N: RollName + MeterName, K: Keeper + Drop> Kept<N, K> {
         ensures given { K.given result.0 ≡ self.entries }
         ensures scroll { result.1 ≡ self }
     {
-        let Kept { keeper, scroll } = self;
+        let ScrollKeeper { keeper, scroll } = self;
         (keeper, scroll)
     }
 
@@ -107,7 +107,7 @@ impl<N: RollName + MeterName, K: Keeper + Drop> Kept<N, K> {
 /// Takes the entries of a bus in blocks, and gives them to a keeper.
 #[derive(Drop)]
 pub struct Scribe<'k, N: RollName, K: Keeper + Drop> {
-    kept: &'k mut Kept<N, K>,
+    kept: &'k mut ScrollKeeper<N, K>,
     block: Block,
     /// For how many entries it waits, and how long at most after the first of them.
     many: u64,
@@ -121,7 +121,7 @@ impl<'k, N: RollName + MeterName, K: Keeper + Drop> Scribe<'k, N, K> {
         alloc: Global,
         size: u32,
         patience: Duration,
-        kept: &'k mut Kept<N, K>,
+        kept: &'k mut ScrollKeeper<N, K>,
     ) -> Result<Scribe<'k, N, K>, AllocError> {
         Ok(Scribe {
             kept,
@@ -153,7 +153,7 @@ impl<'k, N: RollName + MeterName, K: Keeper + Drop> Scribe<'k, N, K> {
             let _ = station.wait_entries(rt, 1, Duration::from_secs(IDLE_SECONDS));
             let wake = station.wait_entries(rt, many, patience);
             kept.keep_next(rt, station, &mut block)?;
-            if wake == Wake::Stopped {
+            if wake == WakeReason::Stopped {
                 break;
             }
         }

@@ -1,8 +1,8 @@
-use crate::door::Door;
-use crate::guests::Guests;
+use crate::acceptor::Acceptor;
+use crate::clients::Clients;
 use crate::serving::Clock;
 use can_fault::FaultSource;
-use can_hub::{Buses, Returned};
+use can_hub::{Buses, ReturnedPasses};
 use can_meter::MeterName;
 use can_roll::RollName;
 use can_station::Gate;
@@ -15,10 +15,10 @@ use std::sync::{Mutex, Wait};
 use std::thread::Threads;
 use std::{thread, time};
 
-/// The doors of a server, and the stream whose end closes them.
+/// The acceptors of a server, and the stream whose end closes them.
 #[derive(Drop)]
 struct Closing<'d> {
-    doors: &'d [Door],
+    acceptors: &'d [Acceptor],
     until: &'d UnixStream,
 }
 
@@ -29,8 +29,8 @@ pub struct Server<'a, N: RollName + MeterName, F: FaultSource + Drop, G: Gate + 
     pub alloc: Global,
     pub buses: &'a Buses<N, F, G>,
     pub host: &'a C,
-    pub guests: &'a Mutex<Guests>,
-    pub returned: &'a Mutex<Returned<N>>,
+    pub clients: &'a Mutex<Clients>,
+    pub returned: &'a Mutex<ReturnedPasses<N>>,
     /// Whether its buses are those of long runs. Then a session may have the pass of one that is over, and counts once it
     /// is raw.
     pub is_long: bool,
@@ -47,7 +47,11 @@ impl<
     R: Threads + Wait + time::Clock + Sync,
 > Server<'a, N, F, G, C, R> {
     /// Serves to the end: the drivers run until all sessions are over.
-    pub fn run(&self, doors: &[Door], until: Option<&UnixStream>) -> Result<(), AllocError> {
+    pub fn run(
+        &self,
+        acceptors: &[Acceptor],
+        until: Option<&UnixStream>,
+    ) -> Result<(), AllocError> {
         thread::scope(thread::scope_env(), self.rt, |scope| {
             let mut started = Ok(());
             for bus in 0..self.buses.count() {
@@ -56,13 +60,13 @@ impl<
                 }
             }
             if let Some(until) = until {
-                let closing = Closing { doors, until };
+                let closing = Closing { acceptors, until };
                 if scope.spawn(move || self.close_after(&closing)).is_err() {
                     started = Err(AllocError);
                 }
             }
             let served = match started {
-                Ok(()) => self.serve_all(doors),
+                Ok(()) => self.serve_all(acceptors),
                 Err(AllocError) => Err(AllocError),
             };
             self.finish(until);
@@ -70,12 +74,12 @@ impl<
         })
     }
 
-    /// Serves the sessions of all doors.
-    fn serve_all(&self, doors: &[Door]) -> Result<(), AllocError> {
+    /// Serves the sessions of all acceptors.
+    fn serve_all(&self, acceptors: &[Acceptor]) -> Result<(), AllocError> {
         thread::scope(thread::scope_env(), self.rt, |scope| {
-            for door in doors {
-                if scope.spawn(move || self.accept_all(door)).is_err() {
-                    self.close(doors);
+            for acceptor in acceptors {
+                if scope.spawn(move || self.accept_all(acceptor)).is_err() {
+                    self.close(acceptors);
                     return Err(AllocError);
                 }
             }
@@ -94,7 +98,7 @@ impl<
 > Server<'a, N, F, G, C, R> {
     /// Ends all other threads: no session is at work any more.
     fn finish(&self, until: Option<&UnixStream>) {
-        let _ = self.guests.lock(self.rt).close();
+        let _ = self.clients.lock(self.rt).close();
         if let Some(until) = until {
             let _ = until.shutdown(Shutdown::Both);
         }
@@ -112,16 +116,16 @@ impl<
                 Ok(_) => {}
             }
         }
-        self.close(closing.doors);
+        self.close(closing.acceptors);
     }
 
-    /// Lets nobody in from now on, and ends the sessions at work. Threads that wait at a door are woken.
-    fn close(&self, doors: &[Door]) {
-        if !self.guests.lock(self.rt).close() {
+    /// Lets nobody in from now on, and ends the sessions at work. Threads that wait at an acceptor are woken.
+    fn close(&self, acceptors: &[Acceptor]) {
+        if !self.clients.lock(self.rt).close() {
             return;
         }
-        for door in doors {
-            door.close();
+        for acceptor in acceptors {
+            acceptor.close();
         }
     }
 }

@@ -1,14 +1,14 @@
 ghost use Rattle.std.specs.Prelude.{◌≡◌, length, IfOk};
 
-use crate::door::Door;
-use crate::guests::Guests;
+use crate::acceptor::Acceptor;
+use crate::clients::Clients;
 use crate::notice::Notice;
-use crate::scribing::{Keeper, Scribe, Unkept};
+use crate::scribing::{Discard, Keeper, Scribe};
 use crate::server::Server;
 use can_bus::LongEnd;
 use can_fault::FaultSource;
 use can_frame::Moment;
-use can_hub::{Buses, Hub, Leaves, Returned};
+use can_hub::{Buses, Hub, Leaves, ReturnedPasses};
 use can_meter::MeterName;
 use can_roll::RollName;
 use can_station::{Gate, Pass};
@@ -33,7 +33,7 @@ pub trait Clock {
 
     /// Whether the host wants reports of sessions, which take a look at each call that they made. It is asked at
     /// any time, and the reply stays the same.
-    fn is_curious(&self) -> bool {
+    fn wants_notices(&self) -> bool {
         false
     }
 
@@ -43,20 +43,20 @@ pub trait Clock {
         DEFAULT_WRITE
     }
 
-    /// Takes a notice. Those of sessions lack addresses and counts where the host is not curious.
-    fn tell(&self, _notice: Notice) {}
+    /// Takes a notice. Those of sessions lack addresses and counts where the host does not want them.
+    fn notify(&self, _notice: Notice) {}
 }
 
-/// Serves the sessions of all doors over the buses of a hub, and hands their passes back, those of each bus in a list
+/// Serves the sessions of all acceptors over the buses of a hub, and hands their passes back, those of each bus in a list
 /// of its own.
 ///
-/// Each bus has a driver, which steps while an interface has a frame to send or counts towards its restart; each door a
+/// Each bus has a driver, which steps while an interface has a frame to send or counts towards its restart; each acceptor a
 /// thread that accepts; each session one that reads and, in raw mode, one that delivers. It returns once as many
-/// sessions as the doors have were accepted and all are over, or after the end of `until`: then nobody comes in any
-/// more, and the sessions at work are shut down. After the last of its sessions a door is closed, so that the system
+/// sessions as the acceptors have were accepted and all are over, or after the end of `until`: then nobody comes in any
+/// more, and the sessions at work are shut down. After the last of its sessions an acceptor is closed, so that the system
 /// refuses who comes later. The 65th session at once gets `too many sessions` and counts as one that was accepted, unless
 /// a session has not been raw for 60 seconds by the clock: that one is closed, and the newcomer gets its place. Where no
-/// connection can be accepted, as for want of file descriptors, a door tries again each 100 ms; 64 tries in vain count
+/// connection can be accepted, as for want of file descriptors, an acceptor tries again each 100 ms; 64 tries in vain count
 /// as one session.
 ///
 /// A fault of a session's connection, or memory refused to it, ends only that session. `AllocError` where memory was
@@ -72,18 +72,18 @@ pub fn serve<
     rt: &R,
     alloc: Global,
     hub: &Hub<N, F, G, L>,
-    doors: &[Door],
+    acceptors: &[Acceptor],
     host: &C,
     until: Option<&UnixStream>,
 ) -> Result<Vec<Vec<Pass<N>>>, AllocError>
     ensures { IfOk result (λ passes. length passes.items ≡ length hub.now) }
 {
-    serve_buses::<_, _, _, _, Unkept, _>(rt, alloc, hub.buses(), doors, host, until, None)
+    serve_buses::<_, _, _, _, Discard, _>(rt, alloc, hub.buses(), acceptors, host, until, None)
 }
 
 /// Serves as `serve` does, over the buses of long runs, each of which needs a scribe: without one its sessions wait, once
 /// its tail is full. A session may have the pass of one
-/// that is over, so that there is no end to the sessions of a run; and it counts as one of its door's only once it is raw.
+/// that is over, so that there is no end to the sessions of a run; and it counts as one of its acceptor's only once it is raw.
 /// One that is raw after the last of these gets `too many sessions`.
 ///
 /// The scribes go on until the other threads are over, and then give their keepers the last entries. `AllocError` as by
@@ -99,14 +99,22 @@ pub fn serve_long<
     rt: &R,
     alloc: Global,
     hub: &Hub<N, F, G, LongEnd>,
-    doors: &[Door],
+    acceptors: &[Acceptor],
     host: &C,
     until: Option<&UnixStream>,
     scribes: Vec<Scribe<'_, N, K>>,
 ) -> Result<Vec<Vec<Pass<N>>>, AllocError>
     ensures { IfOk result (λ passes. length passes.items ≡ length hub.now) }
 {
-    serve_buses(rt, alloc, hub.buses(), doors, host, until, Some(scribes))
+    serve_buses(
+        rt,
+        alloc,
+        hub.buses(),
+        acceptors,
+        host,
+        until,
+        Some(scribes),
+    )
 }
 
 /// A server over the buses of long runs, and its scribes that have no thread yet.
@@ -123,7 +131,7 @@ struct LongServer<
     K: Keeper + Drop,
 > {
     server: &'s Server<'a, N, F, G, C, R>,
-    doors: &'a [Door],
+    acceptors: &'a [Acceptor],
     until: Option<&'a UnixStream>,
     scribes: &'s Mutex<Vec<Scribe<'k, N, K>>>,
 }
@@ -169,13 +177,13 @@ impl<
         }
     }
 
-    /// Serves the sessions of its doors.
+    /// Serves the sessions of its acceptors.
     fn serve(&self) -> Result<(), AllocError> {
-        self.server.run(self.doors, self.until)
+        self.server.run(self.acceptors, self.until)
     }
 }
 
-/// Serves the sessions of all doors over these buses, which are those of long runs where there are scribes.
+/// Serves the sessions of all acceptors over these buses, which are those of long runs where there are scribes.
 fn serve_buses<
     'x,
     N: RollName + MeterName + Send + Sync,
@@ -188,27 +196,27 @@ fn serve_buses<
     rt: &'x R,
     alloc: Global,
     buses: &'x Buses<N, F, G>,
-    doors: &'x [Door],
+    acceptors: &'x [Acceptor],
     host: &'x C,
     until: Option<&'x UnixStream>,
     scribes: Option<Vec<Scribe<'x, N, K>>>,
 ) -> Result<Vec<Vec<Pass<N>>>, AllocError>
     ensures { IfOk result (λ passes. length passes.items ≡ length buses.now) }
 {
-    let guests = Guests::new(alloc);
-    let returned = Returned::new(alloc, buses.count(), most_passes(doors));
-    let (Ok(guests), Ok(returned)) = (guests, returned) else {
+    let clients = Clients::new(alloc);
+    let returned = ReturnedPasses::new(alloc, buses.count(), most_passes(acceptors));
+    let (Ok(clients), Ok(returned)) = (clients, returned) else {
         buses.stop_all(rt);
         return Err(AllocError);
     };
-    let (guests, returned) = (Mutex::new(guests), Mutex::new(returned));
+    let (clients, returned) = (Mutex::new(clients), Mutex::new(returned));
     let is_ending = AtomicBool::new(false);
     let server = Server {
         rt,
         alloc,
         buses,
         host,
-        guests: &guests,
+        clients: &clients,
         returned: &returned,
         is_long: scribes.is_some(),
         is_ending: &is_ending,
@@ -218,24 +226,24 @@ fn serve_buses<
             let scribes = Mutex::new(scribes);
             let long = LongServer {
                 server: &server,
-                doors,
+                acceptors,
                 until,
                 scribes: &scribes,
             };
             long.run()
         }
-        None => server.run(doors, until),
+        None => server.run(acceptors, until),
     };
     drop(server);
     served?;
     Ok(returned.into_inner().into_lists(buses.count()))
 }
 
-/// The most passes that the sessions of these doors and a driver take of one bus.
-fn most_passes(doors: &[Door]) -> usize {
+/// The most passes that the sessions of these acceptors and a driver take of one bus.
+fn most_passes(acceptors: &[Acceptor]) -> usize {
     let mut most = 1_u32;
-    for door in doors {
-        most = most.saturating_add(door.sessions());
+    for acceptor in acceptors {
+        most = most.saturating_add(acceptor.sessions());
     }
     most.min(MOST_PASSES) as usize
 }

@@ -1,13 +1,13 @@
 use crate::accepting::Visit;
 use crate::conn::Conn;
+use crate::conversation::{Conversation, OpenSocket};
 use crate::delivering::{Delivery, stop_full};
 use crate::notice::Notice;
 use crate::server::Server;
 use crate::serving::Clock;
-use crate::talk::{Place, Talk};
 use can_fault::FaultSource;
 use can_frame::Iface;
-use can_hub::{HubBus, Returned, Tally};
+use can_hub::{HubBus, ReturnedPasses, Tally};
 use can_meter::MeterName;
 use can_proto::Cause;
 use can_roll::RollName;
@@ -20,7 +20,7 @@ use std::{thread, time};
 const PIECE: usize = 4096;
 
 /// What became of a read.
-enum Heard {
+enum ReadOutcome {
     /// A piece was taken, and the session goes on.
     More,
     /// The session is over.
@@ -40,19 +40,20 @@ impl<
 > Server<'a, N, F, G, C, R> {
     /// Runs a session to its end, and hands its pass back. Its place is free before the client sees the end.
     pub fn run_session(&self, visit: &Visit<'_>) {
-        let Some(conn) = self.guests.lock(self.rt).conn(visit.place) else {
+        let Some(conn) = self.clients.lock(self.rt).conn(visit.place) else {
             return;
         };
         let tally = self.converse(visit, &conn);
-        self.let_go(visit.place);
+        self.release(visit.place);
         conn.shutdown();
-        self.tell_end(visit.session, tally);
+        self.report_end(visit.session, tally);
     }
 
     /// Talks with a client to the end, and hands its pass back: what its calls came to.
     fn converse(&self, visit: &Visit<'_>, conn: &Conn) -> Tally {
         let most = self.host.write_bytes();
-        let Ok(mut talk) = Talk::new(self.rt, self.alloc, self.buses, self.spares(), most) else {
+        let Ok(mut talk) = Conversation::new(self.rt, self.alloc, self.buses, self.spares(), most)
+        else {
             conn.refuse(Cause::NoMemory);
             return Tally::none();
         };
@@ -70,24 +71,24 @@ impl<
     }
 
     /// The passes that a session may have.
-    fn spares(&self) -> Option<&'a Mutex<Returned<N>>> {
+    fn spares(&self) -> Option<&'a Mutex<ReturnedPasses<N>>> {
         self.is_long.then_some(self.returned)
     }
 
-    /// Reads what the client says. Once the session is raw, its guest keeps its place, and a thread delivers its items
+    /// Reads what the client says. Once the session is raw, its client keeps its place, and a thread delivers its items
     /// beside.
-    fn hear_all(&self, talk: &Mutex<Talk<'_, N, F, G, R>>, visit: &Visit<'_>, conn: &Conn) {
+    fn hear_all(&self, talk: &Mutex<Conversation<'_, N, F, G, R>>, visit: &Visit<'_>, conn: &Conn) {
         let Some(place) = self.hear_until_raw(talk, conn) else {
-            self.tell_request(talk, visit.session);
+            self.report_request(talk, visit.session);
             return;
         };
-        if self.is_long && !visit.door.count_raw() {
+        if self.is_long && !visit.acceptor.count_raw() {
             talk.lock(self.rt).end();
             conn.refuse(Cause::TooManySessions);
             return;
         }
-        self.guests.lock(self.rt).keep(visit.place);
-        self.host.tell(Notice::Opened {
+        self.clients.lock(self.rt).keep(visit.place);
+        self.host.notify(Notice::Opened {
             session: visit.session,
             bus: usize::from(place.station.number()),
             iface: place.iface,
@@ -116,9 +117,9 @@ impl<
     /// Reads to the end, if the items are delivered beside, and ends the session.
     fn hear_out(
         &self,
-        talk: &Mutex<Talk<'_, N, F, G, R>>,
+        talk: &Mutex<Conversation<'_, N, F, G, R>>,
         conn: &Conn,
-        place: &Place<'_, N, F, G>,
+        place: &OpenSocket<'_, N, F, G>,
         delivers: bool,
     ) {
         if delivers {
@@ -131,13 +132,13 @@ impl<
     /// Reads until the session is raw: where its socket is, or none if it ended before.
     fn hear_until_raw<'t>(
         &self,
-        talk: &Mutex<Talk<'t, N, F, G, R>>,
+        talk: &Mutex<Conversation<'t, N, F, G, R>>,
         conn: &Conn,
-    ) -> Option<Place<'t, N, F, G>> {
+    ) -> Option<OpenSocket<'t, N, F, G>> {
         for _ in self.rt.forever() {
             match self.hear(talk, conn) {
-                Heard::More => {}
-                Heard::Over | Heard::Gone => {
+                ReadOutcome::More => {}
+                ReadOutcome::Over | ReadOutcome::Gone => {
                     talk.lock(self.rt).end();
                     return None;
                 }
@@ -150,12 +151,12 @@ impl<
     }
 
     /// Reads until the session is over, or the client is gone. A write to a client that is gone ends here.
-    fn hear_on(&self, talk: &Mutex<Talk<'_, N, F, G, R>>, conn: &Conn) {
+    fn hear_on(&self, talk: &Mutex<Conversation<'_, N, F, G, R>>, conn: &Conn) {
         for _ in self.rt.forever() {
             match self.hear(talk, conn) {
-                Heard::More => {}
-                Heard::Over => break,
-                Heard::Gone => {
+                ReadOutcome::More => {}
+                ReadOutcome::Over => break,
+                ReadOutcome::Gone => {
                     conn.shutdown();
                     break;
                 }
@@ -164,33 +165,33 @@ impl<
     }
 
     /// Reports to the host that a session's client sent a request of HTTP, if it did.
-    fn tell_request(&self, talk: &Mutex<Talk<'_, N, F, G, R>>, session: u32) {
+    fn report_request(&self, talk: &Mutex<Conversation<'_, N, F, G, R>>, session: u32) {
         let is_request = talk.lock(self.rt).is_request();
         if is_request {
-            self.host.tell(Notice::Requested { session });
+            self.host.notify(Notice::Requested { session });
         }
     }
 
     /// Reports to the host that a session has restarted an interface, if it has.
-    fn tell_restart(&self, station: &Station<N, F, G, HubBus>, restarted: Option<Iface>) {
+    fn report_restart(&self, station: &Station<N, F, G, HubBus>, restarted: Option<Iface>) {
         if let Some(iface) = restarted {
             let bus = usize::from(station.number());
-            self.host.tell(Notice::Restarted { bus, iface });
+            self.host.notify(Notice::Restarted { bus, iface });
         }
     }
 
     /// Reads one piece, and carries it out.
-    fn hear(&self, talk: &Mutex<Talk<'_, N, F, G, R>>, conn: &Conn) -> Heard {
+    fn hear(&self, talk: &Mutex<Conversation<'_, N, F, G, R>>, conn: &Conn) -> ReadOutcome {
         let mut piece = [0_u8; PIECE];
         let count = match conn.read(&mut piece) {
-            Ok(0) | Err(_) => return Heard::Gone,
+            Ok(0) | Err(_) => return ReadOutcome::Gone,
             Ok(count) => count,
         };
         let moment = self.host.now();
         let mut talk = talk.lock(self.rt);
         let goes_on = talk.feed(self.alloc, &piece[..count], moment, conn);
         let station = talk.station();
-        let restarted = if self.host.is_curious() {
+        let restarted = if self.host.wants_notices() {
             talk.look_for_restart()
         } else {
             None
@@ -198,8 +199,12 @@ impl<
         drop(talk);
         if let Some(station) = station {
             stop_full(self.rt, station);
-            self.tell_restart(station, restarted);
+            self.report_restart(station, restarted);
         }
-        if goes_on { Heard::More } else { Heard::Over }
+        if goes_on {
+            ReadOutcome::More
+        } else {
+            ReadOutcome::Over
+        }
     }
 }

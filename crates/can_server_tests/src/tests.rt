@@ -1,11 +1,11 @@
 ghost use Rattle.std.specs.Prelude.{◌≡◌, length};
 ghost use Rattle.can_hub.specs.Benches.{NamedFrom};
 
+mod admission;
 mod clients;
 mod counts;
 mod dialogues;
 mod ends;
-mod guests;
 mod held;
 mod hubs;
 mod limits;

@@ -1,7 +1,7 @@
 use Rattle.std.proofs.Common.{◌≡◌, ◌≢◌, ℕ, ◌-◌, ◌+◌, ◌≤◌, ◌==◌, ◌||◌, suc, Bool, true, false, if◌then◌else◌, List, [], ◌∷◌, ◌++◌, length, take, drop, get_or, refl, sym, ap, ◌∙◌, arith}
 use Rattle.std.proofs.lemmas.Grind.{common_steps}
 use Rattle.std.proofs.lemmas.List.{take_more, take_all}
-use Rattle.can_session.specs.Unheard.{begun_after, has_outside}
+use Rattle.can_session.specs.IgnoredInput.{begun_after, has_outside}
 use Rattle.can_proto.specs.Messages.{has_mark}
 
 -- one byte more at the end: a mark decides, another byte leaves what is

@@ -4,8 +4,8 @@ use Rattle.std.specs.List.{flat_map, AllByRecursion}
 use Rattle.std.proofs.lemmas.Bool.{eqb-true}
 use Rattle.can_proto.specs.Messages.{has_mark}
 use Rattle.can_proto.specs.Words.{is_blank}
-use Rattle.can_session.specs.Unheard.{begun_after, has_outside, Part, part_text, IsPart, IsTail, AreInOrder}
-use Rattle.can_session.specs.Unheard.Part.{Gap, Whole}
+use Rattle.can_session.specs.IgnoredInput.{begun_after, has_outside, Part, part_text, IsPart, IsTail, AreInOrder}
+use Rattle.can_session.specs.IgnoredInput.Part.{Gap, Whole}
 use Rattle.can_session.proofs.Heard.{closed}
 
 pub cut-begun : (begun : Bool) (piece more : List ℕ) → begun_after begun (piece ++ more) ≡ begun_after (begun_after begun piece) more

@@ -21,9 +21,9 @@ use Rattle.can_dialog.specs.Turns.{ending, delivery, greeting}
 use Rattle.can_dialog.specs.Deliveries.{AreGiven}
 use Rattle.can_dialog.specs.Sessions.{SessionState, Turns, beginning}
 use Rattle.can_session.specs.BusSteps.{NamedBus, BusStep, next_number, head_on, verdict_on, plan_left}
-use Rattle.can_session.specs.Wires.{Wire, attempt_moment, wire_left, moment_left, begins_before}
-use Rattle.can_session.specs.declared.unheard.Unheard.{Unheard}
-use Rattle.can_session.specs.Unheard.{unheard_then}
+use Rattle.can_session.specs.Wires.{WireClock, attempt_moment, wire_left, moment_left, begins_before}
+use Rattle.can_session.specs.declared.ignored_input.IgnoredInput.{IgnoredInput}
+use Rattle.can_session.specs.IgnoredInput.{ignored_then}
 use Rattle.can_session.specs.Orders.{Effect, order_of}
 use Rattle.can_session.specs.Orders.Effect.{Does_nothing, Sets, Starts, Feeds, Drains, Ends, Attempts, Runs, Injects}
 use Rattle.can_session.specs.AttemptLines.{attempt_line}
@@ -37,8 +37,8 @@ pub record BenchState : Type 0 where
   pub bus : NamedBus
   pub sessions : List (Option SessionState)
   pub moment : ℕ
-  pub wire : Option Wire
-  pub unheard : Unheard
+  pub wire : Option WireClock
+  pub ignored : IgnoredInput
 
 -- session s: `Some None` where it was not started, `None` where there is no such number
 abbrev pub session_at : BenchState → ℕ → Option (Option SessionState)
@@ -50,7 +50,7 @@ with_session b s st bus = record b { sessions = slice_set b.sessions (s - 1) (So
 
 -- the bench where these bytes, fed to session s, are noted
 abbrev pub with_fed : BenchState → ℕ → List ℕ → BenchState
-with_fed b s bytes = record b { unheard = unheard_then b.unheard s bytes }
+with_fed b s bytes = record b { ignored = ignored_then b.ignored s bytes }
 
 -- what a session says in a line: its number, a space, the bytes and LF, or nothing at all
 abbrev pub spoken : ℕ → List ℕ → List ℕ
@@ -112,7 +112,7 @@ abbrev pub next_moment : BenchState → ℕ
 next_moment b = attempt_moment b.wire b.moment (head_on b.bus)
 
 -- what its line says of that: nothing where the bus has no bit rates
-abbrev pub said_moment : Option Wire → ℕ → Option ℕ
+abbrev pub said_moment : Option WireClock → ℕ → Option ℕ
 said_moment wire moment = option_map (λ w. moment) wire
 
 -- the bench when the time of an attempt has passed that came to this and had this verdict

@@ -5,5 +5,5 @@ pub mod BusSteps
 pub mod Wires
 pub mod Benches
 pub mod Runs
-pub mod Unheard
+pub mod IgnoredInput
 pub mod inner

@@ -13,8 +13,8 @@ use Rattle.can_session.specs.declared.lines.LineFault.TheVariants as line
 use Rattle.can_session.specs.declared.bench_run.BenchFault.{BenchFault}
 use Rattle.can_session.specs.declared.bench_run.BenchFault.TheVariants.{BadConfig, BadLine, TooLong, Read, Write, NoMemory}
 use Rattle.can_session.specs.Lines.{Input, IsLine, IsOver, FindsEnd, TakesLine, Stops, StopsBehind, lines_of, spelled}
-use Rattle.can_session.specs.declared.unheard.Unheard.{Unheard}
-use Rattle.can_session.specs.Unheard.{none_unheard}
+use Rattle.can_session.specs.declared.ignored_input.IgnoredInput.{IgnoredInput}
+use Rattle.can_session.specs.IgnoredInput.{none_ignored}
 use Rattle.can_session.specs.Orders.{order_of}
 use Rattle.can_session.specs.Wires.{unused}
 use Rattle.can_session.specs.Benches.{BenchState, AreCarriedOut, IsCarriedOut, IsRefused}
@@ -30,7 +30,7 @@ pub record IsBench (names : List (List ℕ)) (config : BusConfig) (capacity : �
 
 -- a bench before its first line, with a plan of faults, and bit rates if its bus has some
 abbrev pub at_start_with : PlanSeen → Option BusTiming → List (List ℕ) → BusConfig → ℕ → BenchState
-at_start_with plan timing names config capacity = record { capacity = capacity; bus = record { names = names; journal = record { config = config; history = [] }; plan = plan }; sessions = replicate 64 None; moment = 0; wire = option_map unused timing; unheard = none_unheard }
+at_start_with plan timing names config capacity = record { capacity = capacity; bus = record { names = names; journal = record { config = config; history = [] }; plan = plan }; sessions = replicate 64 None; moment = 0; wire = option_map unused timing; ignored = none_ignored }
 
 -- a bench before its first line, without a plan
 abbrev pub at_start : Option BusTiming → List (List ℕ) → BusConfig → ℕ → BenchState
@@ -102,8 +102,8 @@ abbrev pub EndsOver : {W : Type 0} → (W → Option (List ℕ)) → VerdictMap 
 EndsOver contents verdicts input b out result new = (now : Input) × Ends IsRecordOf contents verdicts input b out result now new
 
 -- a run over all lines of an input leaves this noted of what sessions were fed
-abbrev pub Notes : {W : Type 0} → (W → Option (List ℕ)) → VerdictMap → Option (List ℕ) → BenchState → W → Unheard → W → Type 0
-Notes contents verdicts input b out unheard new = (now : Input) × Ends (λ (_ : Unit {0}) after. unheard ≡ after.unheard) contents verdicts input b out (Ok tt) now new
+abbrev pub Notes : {W : Type 0} → (W → Option (List ℕ)) → VerdictMap → Option (List ℕ) → BenchState → W → IgnoredInput → W → Type 0
+Notes contents verdicts input b out ignored new = (now : Input) × Ends (λ (_ : Unit {0}) after. ignored ≡ after.ignored) contents verdicts input b out (Ok tt) now new
 
 -- why a bench is not made
 abbrev pub IsStartFault : BenchFault → Type 0

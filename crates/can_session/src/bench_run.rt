@@ -7,8 +7,8 @@ ghost use Rattle.can_session.specs.Benches.{BenchState};
 ghost use Rattle.can_session.specs.Runs.{IsBench, IsRecordOf, at_start, at_start_with, Ends, EndsOver, Notes, EndsAt, StepsOn, fault_of};
 
 use crate::bench_state::Bench;
+use crate::ignored_input::IgnoredInput;
 use crate::lines::{LineFault, Lines};
-use crate::unheard::Unheard;
 use can_bus::{BusConfig, Record};
 use can_fault::FaultSource;
 use can_frame::Names;
@@ -82,7 +82,7 @@ pub fn bench<F: FaultSource + Drop, R: Read + Drop, W: Write>(
     ensures headline { IfOk result (λ r. Headline r.config r.history) }
 {
     let plan = Plan::new(alloc);
-    bench_noting(alloc, config, plan, input, out, &mut Unheard::none())
+    bench_noting(alloc, config, plan, input, out, &mut IgnoredInput::none())
 }
 
 /// As `bench`, with a plan of the bus's faults beside the source, and notes what sessions were fed that is in no message,
@@ -93,7 +93,7 @@ pub fn bench_noting<F: FaultSource + Drop, R: Read + Drop, W: Write>(
     plan: Plan,
     input: R,
     out: &mut W,
-    unheard: &mut Unheard,
+    ignored: &mut IgnoredInput,
 ) -> Result<Record, BenchFault>
     ensures bad { (result ≡ Err BenchFault.BadConfig)
         ↔ (¬ IsBench config.names config.config config.rx_capacity) }
@@ -104,8 +104,8 @@ pub fn bench_noting<F: FaultSource + Drop, R: Read + Drop, W: Write>(
         out.old result out.new }
     ensures notes { OnOk result (Notes W.contents (F.verdicts config.script) (R.remaining input)
         (at_start_with plan config.timing config.names config.config config.rx_capacity)
-        out.old unheard.new out.new) }
-    ensures same { OnErr result (unheard.new ≡ unheard.old) }
+        out.old ignored.new out.new) }
+    ensures same { OnErr result (ignored.new ≡ ignored.old) }
     ensures good { OnOk result (IsBench config.names config.config config.rx_capacity) }
     ensures config { IfOk result (λ r. r.config ≡ config.config) }
     ensures legal { IfOk result (λ r. IsLegal r.config r.history) }
@@ -124,7 +124,7 @@ pub fn bench_noting<F: FaultSource + Drop, R: Read + Drop, W: Write>(
         return Err(BenchFault::NoMemory);
     };
     run(alloc, &mut state, &mut script, &mut lines, out)?;
-    *unheard = state.unheard();
+    *ignored = state.ignored();
     Ok(state.into_record())
 }
 

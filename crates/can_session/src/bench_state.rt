@@ -10,12 +10,12 @@ ghost use Rattle.can_session.specs.inner.Acts.{done_by, noted, noted_by, Puts};
 use crate::attempt_lines::put_attempt;
 use crate::bench_run::BenchFault;
 use crate::bus_port::BusPort;
-use crate::line_prefix::{begin_spoken, end_spoken};
+use crate::ignored_input::IgnoredInput;
+use crate::line_prefix::{begin_output, end_output};
 use crate::order::{Order, SessionNumber, read_order};
 use crate::starts::{make_bus, no_sessions, the_start};
 use crate::turns::{self, Act, BenchPort};
-use crate::unheard::Unheard;
-use crate::wire_clock::{Wire, unused_wire};
+use crate::wire_clock::{WireClock, unused_wire};
 use can_bus::{Attempt, BusConfig, Record, Refusal};
 use can_dialog::Session;
 use can_event::MAX_RX_CAPACITY;
@@ -34,8 +34,8 @@ pub struct Bench {
     capacity: u32,
     sessions: Vec<Option<Session>>,
     moment: Moment,
-    wire: Option<Wire>,
-    unheard: Unheard,
+    wire: Option<WireClock>,
+    ignored: IgnoredInput,
 }
 
 impl Model for Bench {
@@ -54,7 +54,7 @@ impl Model for Bench {
       sessions = s.sessions.items;
       moment = s.moment;
       wire = s.wire;
-      unheard = s.unheard;
+      ignored = s.ignored;
     } };
 
     ghost invariant = { λ s. length s.sessions.items ≡ 64 };
@@ -89,15 +89,15 @@ impl Bench {
             sessions,
             moment: the_start(),
             wire: unused_wire(timing),
-            unheard: Unheard::none(),
+            ignored: IgnoredInput::none(),
         })
     }
 
     /// What its sessions were fed that is in no message.
-    pub fn unheard(&self) -> Unheard
-        ensures { result ≡ self.now.unheard }
+    pub fn ignored(&self) -> IgnoredInput
+        ensures { result ≡ self.now.ignored }
     {
-        self.unheard
+        self.ignored
     }
 
     /// The record of its bus.
@@ -133,9 +133,9 @@ impl Bench {
                 Ok(true)
             }
             Order::Session(session) => self.start(session, said),
-            Order::Feed(session, bytes) => self.speak(session, Act::Feed(bytes), said),
-            Order::Drain(session) => self.speak(session, Act::Drain, said),
-            Order::End(session) => self.speak(session, Act::End, said),
+            Order::Feed(session, bytes) => self.run_act(session, Act::Feed(bytes), said),
+            Order::Drain(session) => self.run_act(session, Act::Drain, said),
+            Order::End(session) => self.run_act(session, Act::End, said),
             Order::Attempt => {
                 self.attempt(script, said)?;
                 Ok(true)
@@ -147,7 +147,7 @@ impl Bench {
 
     /// Runs one act of a session, if it was started, and puts its text after the number: whether it was.
     #[inline(always)]
-    pub fn speak(
+    pub fn run_act(
         &mut self,
         session: SessionNumber,
         act: Act<'_>,
@@ -162,10 +162,10 @@ impl Bench {
         match &mut self.sessions[session.place()] {
             None => Ok(false),
             Some(speaker) => {
-                note(&mut self.unheard, session, act);
-                let begun = begin_spoken(said, session)?;
+                note(&mut self.ignored, session, act);
+                let begun = begin_output(said, session)?;
                 turns::carry_out(speaker, self.alloc, act, self.moment, &mut self.port, said)?;
-                end_spoken(said, begun)?;
+                end_output(said, begun)?;
                 Ok(true)
             }
         }
@@ -323,11 +323,11 @@ fn tries(outcome: &Result<Attempt, Refusal>) -> bool
 }
 
 /// Notes what an act feeds to a session.
-fn note(unheard: &mut Unheard, session: SessionNumber, act: Act<'_>)
-    ensures { unheard.new ≡ noted_by act.entry session unheard.old }
+fn note(ignored: &mut IgnoredInput, session: SessionNumber, act: Act<'_>)
+    ensures { ignored.new ≡ noted_by act.entry session ignored.old }
 {
     match act {
-        Act::Feed(bytes) => unheard.hear(session, bytes),
+        Act::Feed(bytes) => ignored.hear(session, bytes),
         Act::Drain | Act::End => {}
     }
 }

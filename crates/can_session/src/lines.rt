@@ -108,11 +108,11 @@ impl<R: Read + Drop> Lines<R> {
             return false;
         }
         match find_line(self.held(), 0) {
-            Look::Line(len) => {
+            LineSearch::Line(len) => {
                 self.give(len, len + 1);
                 true
             }
-            Look::Long | Look::Begun => false,
+            LineSearch::Long | LineSearch::Begun => false,
         }
     }
 
@@ -151,12 +151,12 @@ impl<R: Read + Drop> Lines<R> {
         let mut searched = 0;
         loop {
             match find_line(self.held(), searched) {
-                Look::Line(len) => {
+                LineSearch::Line(len) => {
                     self.give(len, len + 1);
                     return Ok(true);
                 }
-                Look::Long => return Err(LineFault::LineTooLong),
-                Look::Begun => {}
+                LineSearch::Long => return Err(LineFault::LineTooLong),
+                LineSearch::Begun => {}
             }
             searched = self.held().len();
             if self.fill()? == 0 {
@@ -257,7 +257,7 @@ impl<R: Read + Drop> Lines<R> {
 }
 
 // What is at the front of what is held.
-enum Look {
+enum LineSearch {
     // A line of this many bytes and its LF.
     Line(usize),
     // More bytes than a line may have.
@@ -267,7 +267,7 @@ enum Look {
 }
 
 // Looks for a line, where the first bytes were searched before and hold no LF.
-fn find_line(held: &[u8], searched: usize) -> Look
+fn find_line(held: &[u8], searched: usize) -> LineSearch
     requires searched { searched ≤ length held.now }
     requires short { searched ≤ 4096 }
     requires unbroken { list_any is_lf (take searched held.now) ≡ false }
@@ -275,9 +275,9 @@ fn find_line(held: &[u8], searched: usize) -> Look
 {
     let shown = &held[..held.len().min(LONGEST_LINE + 1)];
     match line_end(&shown[searched..]) {
-        Some(more) => Look::Line(searched + more),
-        None if held.len() > LONGEST_LINE => Look::Long,
-        None => Look::Begun,
+        Some(more) => LineSearch::Line(searched + more),
+        None if held.len() > LONGEST_LINE => LineSearch::Long,
+        None => LineSearch::Begun,
     }
 }
 

@@ -5,7 +5,7 @@ ghost use Rattle.can_session.specs.Benches.{spoken, IsFed, IsDrained, IsEnded};
 ghost use Rattle.can_session.specs.inner.Acts.{Adds, done_by};
 
 use crate::bus_port::BusPort;
-use crate::line_prefix::{begin_spoken, end_spoken};
+use crate::line_prefix::{begin_output, end_output};
 use crate::order::SessionNumber;
 use can_arbiter::IndexArbiter;
 use can_bus::{Pending, Received};
@@ -39,9 +39,9 @@ pub fn begin(
     ensures { IfOk result (λ s.
         (s ≡ beginning capacity) × (said.new.items ≡ spoken number greeting)) }
 {
-    let begun = begin_spoken(said, number)?;
+    let begun = begin_output(said, number)?;
     let session = greeted(alloc, capacity, said)?;
-    end_spoken(said, begun)?;
+    end_output(said, begun)?;
     Ok(session)
 }
 

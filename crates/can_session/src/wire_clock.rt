@@ -16,16 +16,16 @@ const LAST: u64 = 9_999_999_999_999_999_999;
 
 /// The wire of a bus: how fast its bits go, and from when on it is free.
 #[derive(Clone, Copy)]
-pub struct Wire {
+pub struct WireClock {
     timing: Timing,
     free: u64,
 }
 
-impl Model for Wire {
+impl Model for WireClock {
     ghost use Rattle.std.specs.Prelude.{◌<◌, ◌^◌};
-    ghost use Rattle.can_session.specs.Wires.{Wire};
+    ghost use Rattle.can_session.specs.Wires.{WireClock};
 
-    ghost Value = { Wire };
+    ghost Value = { WireClock };
 
     ghost view = { λ w. record { timing = w.timing; free = w.free } };
 
@@ -34,7 +34,7 @@ impl Model for Wire {
     ghost inverse = { λ v. record { timing = v.timing; free = v.free } };
 }
 
-impl Wire {
+impl WireClock {
     /// The moment at which it is free.
     pub fn free_at(self) -> Moment
         ensures { result ≡ moment_of self.free }
@@ -69,11 +69,16 @@ impl Wire {
     }
 
     /// The wire after that attempt, which had this verdict and came to this.
-    pub fn after(self, set: Moment, verdict: Verdict, outcome: &Result<Attempt, Refusal>) -> Wire
+    pub fn after(
+        self,
+        set: Moment,
+        verdict: Verdict,
+        outcome: &Result<Attempt, Refusal>,
+    ) -> WireClock
         ensures { result ≡ wire_after set verdict outcome.now self }
     {
         let lasts = attempt_lasts(self.timing, verdict, outcome);
-        Wire {
+        WireClock {
             timing: self.timing,
             free: later(self.begin(set), lasts),
         }
@@ -81,11 +86,11 @@ impl Wire {
 }
 
 /// The wire of a bus before its first frame, if it has bit rates.
-pub fn unused_wire(timing: Option<Timing>) -> Option<Wire>
+pub fn unused_wire(timing: Option<Timing>) -> Option<WireClock>
     ensures { result ≡ option_map unused timing }
 {
     match timing {
-        Some(timing) => Some(Wire { timing, free: 0 }),
+        Some(timing) => Some(WireClock { timing, free: 0 }),
         None => None,
     }
 }

@@ -1,13 +1,13 @@
 mod bench;
 mod dialogue;
 mod fd_frames;
+mod ignored;
 mod lines;
 mod own_frames;
 mod restarts;
 mod rules;
 mod sessions;
 mod timed;
-mod unheard;
 
 use std::fmt::Debug;
 use std::process::Abort;

@@ -6,22 +6,22 @@ use Rattle.can_bus.specs.Stats.{socket_stats_of, iface_stats_of}
 use Rattle.can_bus.specs.Attempts.{winner}
 use Rattle.can_bus.specs.AutoRestart.{is_counting}
 use Rattle.can_station.specs.Held.{Held}
-use Rattle.can_station.specs.declared.waits.Wake.{Wake}
-use Rattle.can_station.specs.declared.waits.Wake.TheVariants as wake
+use Rattle.can_station.specs.declared.waits.WakeReason.{WakeReason}
+use Rattle.can_station.specs.declared.waits.WakeReason.TheVariants as wake
 
 -- How a wait ends, whether it does, and what a station reports without an event (own).
 
 -- what a stop signals to those who wait
-abbrev pub stopped_wake : Bool → Option Wake
+abbrev pub stopped_wake : Bool → Option WakeReason
 stopped_wake stopped = if stopped then Some wake.Stopped else None
 
 -- a wait for an item: the socket is not open, or items are left that were not taken, or the station was stopped
-abbrev pub item_wake : Option SocketStats → Bool → Option Wake
+abbrev pub item_wake : Option SocketStats → Bool → Option WakeReason
 item_wake None stopped = Some wake.Closed
 item_wake (Some counts) stopped = if nat_lt counts.taken counts.queued then Some wake.Ready else stopped_wake stopped
 
 -- the same, of socket s of a station
-abbrev pub frame_wake : {F : Type 0} → Held F → ℕ → Option Wake
+abbrev pub frame_wake : {F : Type 0} → Held F → ℕ → Option WakeReason
 frame_wake h s = item_wake (socket_stats_of h.journal.config h.journal.history s) h.stopped
 
 -- a bus has work for its driver: some interface wins it, or counts towards its restart
@@ -33,7 +33,7 @@ abbrev pub IsNearlyFull : Journal → Type 0
 IsNearlyFull j = j.config.limit - j.config.limit / 10 ≤ length j.history
 
 -- a wait for work: there is some, or the station was stopped
-abbrev pub work_wake : {F : Type 0} → Held F → Option Wake
+abbrev pub work_wake : {F : Type 0} → Held F → Option WakeReason
 work_wake h = if has_work h.journal then Some wake.Ready else stopped_wake h.stopped
 
 -- there is no work, and the station was stopped: a driver ends
@@ -50,7 +50,7 @@ abbrev pub waiting_at : Journal → ℕ → ℕ
 waiting_at j s = left_of (socket_stats_of j.config j.history s)
 
 -- a wait for an item of socket s ends so, with this many items that wait there
-abbrev pub EndsItemWait : {F : Type 0} → Held F → ℕ → Wake × ℕ → Type 0
+abbrev pub EndsItemWait : {F : Type 0} → Held F → ℕ → WakeReason × ℕ → Type 0
 EndsItemWait h s end = (frame_wake h s ≡ Some end.0) × (end.1 ≡ waiting_at h.journal s)
 
 -- the counts of socket s and of interface i

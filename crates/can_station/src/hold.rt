@@ -14,7 +14,7 @@ use crate::receives::keep_receive;
 use crate::refusals::StationRefusal;
 use crate::station::Station;
 use crate::station_state::StationState;
-use crate::waits::News;
+use crate::waits::Wakeups;
 use can_bus::{Attempt, Event, Journaled, Received, Refusal, Reply, RingBus, SocketId};
 use can_fault::FaultSource;
 use can_frame::{Frame, Iface, Moment, Names};
@@ -39,7 +39,7 @@ pub struct Hold<
 > {
     pub(crate) station: &'s Station<N, F, G, B>,
     pub(crate) state: MutexGuard<'s, StationState<N, F, B>>,
-    pub(crate) news: News,
+    pub(crate) wakeups: Wakeups,
 }
 
 impl<'s, N: RollName + MeterName, F: FaultSource + Drop, G: Gate + Drop, B: Journaled> Model
@@ -130,7 +130,7 @@ impl<'s, N: RollName + MeterName, F: FaultSource + Drop, G: Gate + Drop, B: Jour
             (ChangesNothing self.old slip.old calls.old self.new slip.new calls.new) }
     {
         let reply = self.state.call(alloc, slip, &event)?;
-        self.news.add(&event, &reply);
+        self.wakeups.add(&event, &reply);
         keep(calls, event, &reply);
         Some(reply)
     }
@@ -179,7 +179,7 @@ impl<'s, N: RollName + MeterName, F: FaultSource + Drop, G: Gate + Drop, B: Jour
     {
         let outcome = self.state.receive_into(slip, socket, room)?;
         if let Err(why) = outcome {
-            self.news.add_refusal(why);
+            self.wakeups.add_refusal(why);
         }
         keep_receive(calls, socket, outcome, room);
         Some(outcome)
@@ -228,7 +228,7 @@ impl<'s, N: RollName + MeterName, F: FaultSource + Drop, G: Gate + Drop, B: Jour
         station.gate.at(Point::InStep);
         let (verdict, reply) = self.state.step(alloc, slip, moment)?;
         let event = Event::Attempt(moment, verdict);
-        self.news.add(&event, &reply);
+        self.wakeups.add(&event, &reply);
         keep(calls, event, &reply);
         Some(reply)
     }
@@ -262,12 +262,12 @@ impl<N: RollName + MeterName, F: FaultSource + Drop, G: Gate + Drop, B: Journale
         let Hold {
             station,
             mut state,
-            news,
+            wakeups,
         } = self;
-        let woken = news.woken(&mut state);
+        let woken = wakeups.woken(&mut state);
         let is_awaited = state.take_awaited();
         drop(state);
-        station.wake(news, woken);
+        station.wake(wakeups, woken);
         if is_awaited {
             station.written.notify_all();
         }

@@ -26,10 +26,10 @@ pub mod pass;
 mod publishing;
 mod receives;
 pub mod refusals;
-mod rooms;
 pub mod station;
 pub mod station_state;
 mod taking;
+mod wait_queues;
 mod waits;
 
 pub use can_roll::Scroll;
@@ -40,4 +40,4 @@ pub use pass::{Pass, Settled};
 pub use refusals::{StationRefusal, TooManyPasses, WrongStation};
 pub use station::{Blanks, Station};
 pub use station_state::StationState;
-pub use waits::Wake;
+pub use waits::WakeReason;

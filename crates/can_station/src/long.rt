@@ -8,7 +8,7 @@ ghost use Rattle.can_station.specs.Passes.{InSome};
 use crate::gate::Gate;
 use crate::refusals::WrongStation;
 use crate::station::{Blanks, Station};
-use crate::waits::Wake;
+use crate::waits::WakeReason;
 use can_bus::{BusConfig, BusFault, Journaled, LongRingBus, PackedRecord};
 use can_fault::FaultSource;
 use can_meter::MeterName;
@@ -108,15 +108,20 @@ impl<N: RollName + MeterName, F: FaultSource + Drop, G: Gate + Drop, B: Journale
 
     /// Waits until there are this many entries that were not taken yet, or too few places for a call, or so long.
     /// `Stopped` after `end_entries`, else `Ready`. A bus with its whole record always has places.
-    pub fn wait_entries<R: Wait + Clock>(&self, rt: &R, many: u64, duration: Duration) -> Wake {
+    pub fn wait_entries<R: Wait + Clock>(
+        &self,
+        rt: &R,
+        many: u64,
+        duration: Duration,
+    ) -> WakeReason {
         let state = self.state.lock(rt);
         let (state, _) = self
             .written
             .wait_timeout_while(rt, state, duration, |state| state.waits_for(many));
         if state.are_entries_over() {
-            Wake::Stopped
+            WakeReason::Stopped
         } else {
-            Wake::Ready
+            WakeReason::Ready
         }
     }
 

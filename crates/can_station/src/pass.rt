@@ -3,7 +3,7 @@ ghost use Rattle.can_roll.specs.Seen.{roll_seen};
 ghost use Rattle.can_roll.specs.Lists.{Distinct, AllBelow};
 ghost use Rattle.can_station.specs.Passes.{AllOf, AllMatch, CanClose, IsReady, IsReadyFor, HasPlace, Keeps, Suits, calls_listed, kept_calls, numbers_of};
 
-use can_bus::{Event, Looked, Record, Reply};
+use can_bus::{EntryRef, Event, Record, Reply};
 use can_record::PackedList;
 use can_roll::{Roll, RollName, Slip};
 use std::alloc::{AllocError, Global};
@@ -53,7 +53,7 @@ impl<N: RollName> Pass<N> {
     }
 
     /// The call at a place with its reply, from 0 for the oldest, if it keeps one there. No memory is taken.
-    pub fn call(&self, place: usize) -> Option<Looked<'_>>
+    pub fn call(&self, place: usize) -> Option<EntryRef<'_>>
         ensures { result ≡ slice_get (reverse (kept_calls self.now)) place }
     {
         match &self.calls {

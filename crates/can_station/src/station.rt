@@ -11,9 +11,9 @@ use crate::gate::{Gate, Point};
 use crate::hold::Hold;
 use crate::pass::{Pass, Settled, make_ready, make_ready_for};
 use crate::refusals::{StationRefusal, TooManyPasses, WrongStation};
-use crate::rooms::Rooms;
 use crate::station_state::StationState;
-use crate::waits::{News, ROOM};
+use crate::wait_queues::WaitQueues;
+use crate::waits::{ROOM, Wakeups};
 use can_bus::{Attempt, BusConfig, BusFault, Event, Journaled, Refusal, Reply, RingBus};
 use can_fault::FaultSource;
 use can_frame::{Moment, Names};
@@ -61,7 +61,7 @@ pub struct Station<
     /// Where drivers wait for frames to send and interfaces to restart.
     pub(crate) work: Condvar,
     /// Where receivers wait for items.
-    pub(crate) items: Rooms,
+    pub(crate) items: WaitQueues,
     /// Where rests wait for the end.
     pub(crate) ends: Condvar,
     /// Where calls wait for a place in the bus's tail.
@@ -178,7 +178,7 @@ impl<N: RollName + MeterName, F: FaultSource + Drop, G: Gate + Drop, B: Journale
         let station = Station {
             state: Mutex::new(state),
             work: Condvar::new(),
-            items: Rooms::new(),
+            items: WaitQueues::new(),
             ends: Condvar::new(),
             room: Condvar::new(),
             written: Condvar::new(),
@@ -241,7 +241,7 @@ impl<N: RollName + MeterName, F: FaultSource + Drop, G: Gate + Drop, B: Journale
         Hold {
             station: self,
             state: self.own(rt, state),
-            news: News::none(),
+            wakeups: Wakeups::none(),
         }
     }
 

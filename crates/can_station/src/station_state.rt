@@ -18,9 +18,9 @@ use crate::gauges::{absorb_all, are_gauges_of};
 use crate::pass::{Pass, Settled, are_all_of, recall_all};
 use crate::publishing::{counters_before, publish_changes};
 use crate::refusals::{TooManyPasses, WrongStation};
-use crate::rooms::{ROOMS, RoomSet, Sleeper, Sleepers};
 use crate::taking::Taking;
-use crate::waits::Wake;
+use crate::wait_queues::{QUEUES, QueueSet, Waiter, Waiters};
+use crate::waits::WakeReason;
 use can_bus::{
     BusConfig, Event, IfaceStats, Journaled, Received, Record, Refusal, Reply, RingBus, SocketId,
     SocketStats,
@@ -54,7 +54,7 @@ pub struct StationState<N: RollName + MeterName, F: FaultSource + Drop, B: Journ
     keeper: Keeper<N>,
     spare: Gauge<N>,
     stopped: bool,
-    sleepers: Sleepers,
+    waiters: Waiters,
     pub(crate) taking: Taking,
 }
 
@@ -130,7 +130,7 @@ impl<N: RollName + MeterName, F: FaultSource + Drop, B: Journaled> StationState<
             keeper,
             spare,
             stopped: false,
-            sleepers: Sleepers::none(),
+            waiters: Waiters::none(),
             taking: Taking::none(),
         };
         (state, scroll)
@@ -312,33 +312,33 @@ impl<N: RollName + MeterName, F: FaultSource + Drop, B: Journaled> StationState<
     }
 
     /// Why a wait for an item of this socket ends; where it does not, the thread is noted as one who waits.
-    pub(crate) fn frame_wake_or_sleep(&mut self, socket: SocketId) -> Option<Wake>
+    pub(crate) fn frame_wake_or_sleep(&mut self, socket: SocketId) -> Option<WakeReason>
         ensures wake { result ≡ frame_wake self.old socket.0 }
         ensures same { self.new ≡ self.old }
     {
         let wake = self.frame_wake(socket);
         if wake.is_none() {
-            self.sleepers.add(socket);
+            self.waiters.add(socket);
         }
         wake
     }
 
-    /// The rooms in which a wait for an item may be over. Nobody counts as waiting there any more.
-    pub(crate) fn take_woken(&mut self) -> RoomSet
+    /// The queues in which a wait for an item may be over. Nobody counts as waiting there any more.
+    pub(crate) fn take_woken(&mut self) -> QueueSet
         ensures { self.new ≡ self.old }
     {
         let woken = self.woken();
-        self.sleepers.leave(woken);
+        self.waiters.leave(woken);
         woken
     }
 
-    fn woken(&self) -> RoomSet {
-        let mut woken = RoomSet::none();
-        for place in 0..ROOMS {
-            let is_over = match self.sleepers.sleeper(place) {
-                Sleeper::Nobody => false,
-                Sleeper::One(socket) => self.frame_wake(socket).is_some(),
-                Sleeper::Several => true,
+    fn woken(&self) -> QueueSet {
+        let mut woken = QueueSet::none();
+        for place in 0..QUEUES {
+            let is_over = match self.waiters.waiter(place) {
+                Waiter::Nobody => false,
+                Waiter::One(socket) => self.frame_wake(socket).is_some(),
+                Waiter::Several => true,
             };
             if is_over {
                 woken.add(place);
@@ -348,12 +348,12 @@ impl<N: RollName + MeterName, F: FaultSource + Drop, B: Journaled> StationState<
     }
 
     /// Why a wait for an item of this socket ends, if it does.
-    pub(crate) fn frame_wake(&self, socket: SocketId) -> Option<Wake>
+    pub(crate) fn frame_wake(&self, socket: SocketId) -> Option<WakeReason>
         ensures { result ≡ frame_wake self.now socket.0 }
     {
         match self.bus.socket_stats(socket) {
-            None => Some(Wake::Closed),
-            Some(counts) if counts.queued > counts.taken => Some(Wake::Ready),
+            None => Some(WakeReason::Closed),
+            Some(counts) if counts.queued > counts.taken => Some(WakeReason::Ready),
             Some(_) => self.stopped_wake(),
         }
     }
@@ -380,22 +380,22 @@ impl<N: RollName + MeterName, F: FaultSource + Drop, B: Journaled> StationState<
     }
 
     /// Why a wait for work ends, if it does.
-    pub(crate) fn work_wake(&self) -> Option<Wake>
+    pub(crate) fn work_wake(&self) -> Option<WakeReason>
         ensures { result ≡ work_wake self.now }
     {
         if self.has_work() {
-            Some(Wake::Ready)
+            Some(WakeReason::Ready)
         } else {
             self.stopped_wake()
         }
     }
 
     /// What a stop signals to those who wait.
-    fn stopped_wake(&self) -> Option<Wake>
+    fn stopped_wake(&self) -> Option<WakeReason>
         ensures { result ≡ stopped_wake self.now.stopped }
     {
         if self.stopped {
-            Some(Wake::Stopped)
+            Some(WakeReason::Stopped)
         } else {
             None
         }

@@ -5,7 +5,7 @@ ghost use Rattle.can_station.specs.Waits.{work_wake};
 
 use crate::long::Block;
 use crate::station_state::StationState;
-use crate::waits::Wake;
+use crate::waits::WakeReason;
 use can_bus::Journaled;
 use can_fault::FaultSource;
 use can_meter::MeterName;
@@ -63,7 +63,7 @@ impl<N: RollName + MeterName, F: FaultSource + Drop, B: Journaled> StationState<
     {
         match self.work_wake() {
             None => true,
-            Some(Wake::Ready) => self.is_short(),
+            Some(WakeReason::Ready) => self.is_short(),
             Some(_) => false,
         }
     }

@@ -4,9 +4,9 @@ ghost use Rattle.can_station.specs.Waits.{AreCounts, EndsItemWait, IsIdleAndStop
 
 use crate::gate::{Gate, Point};
 use crate::hold::Hold;
-use crate::rooms::RoomSet;
 use crate::station::Station;
 use crate::station_state::StationState;
+use crate::wait_queues::QueueSet;
 use can_bus::{Event, IfaceStats, Journaled, Refusal, Reply, SocketId, SocketStats};
 use can_fault::FaultSource;
 use can_frame::Iface;
@@ -27,7 +27,7 @@ const REPORTED: u8 = 2;
 
 /// Why a wait ended.
 #[derive(Debug, Clone, Copy, PartialEq, Eq)]
-pub enum Wake {
+pub enum WakeReason {
     /// There is something to do: an item waits, or a frame, or an interface counts towards its restart.
     Ready,
     /// The socket is not open.
@@ -38,7 +38,7 @@ pub enum Wake {
 
 /// What calls have changed for those who wait.
 #[derive(Debug, Clone, Copy, PartialEq, Eq)]
-pub(crate) struct News {
+pub(crate) struct Wakeups {
     /// There may be a frame to send.
     has_work: bool,
     /// There may be an item, or a socket is closed.
@@ -47,10 +47,10 @@ pub(crate) struct News {
     is_full: bool,
 }
 
-impl News {
+impl Wakeups {
     /// Nothing changed.
-    pub(crate) fn none() -> News {
-        News {
+    pub(crate) fn none() -> Wakeups {
+        Wakeups {
             has_work: false,
             has_items: false,
             is_full: false,
@@ -80,18 +80,18 @@ impl News {
     }
 }
 
-impl News {
-    /// The rooms of those for whom there is an item, or whose socket is closed.
+impl Wakeups {
+    /// The queues of those for whom there is an item, or whose socket is closed.
     pub(crate) fn woken<N: RollName + MeterName, F: FaultSource + Drop, B: Journaled>(
         self,
         state: &mut StationState<N, F, B>,
-    ) -> RoomSet
+    ) -> QueueSet
         ensures { state.new ≡ state.old }
     {
         if self.has_items {
             state.take_woken()
         } else {
-            RoomSet::none()
+            QueueSet::none()
         }
     }
 }
@@ -118,7 +118,7 @@ impl<N: RollName + MeterName, F: FaultSource + Drop, G: Gate + Drop, B: Journale
 
     /// Waits until an item is queued to the socket. `Closed` where it is not open, else `Ready` where an item is
     /// queued, else `Stopped` after `stop`; else it sleeps until a call changes that.
-    pub fn wait_frame<R: Wait>(&self, rt: &R, socket: SocketId) -> Wake
+    pub fn wait_frame<R: Wait>(&self, rt: &R, socket: SocketId) -> WakeReason
         ensures { InSome F self.now (λ held. frame_wake held socket.0 ≡ Some result) }
     {
         self.wait_items(rt, socket).0
@@ -126,10 +126,10 @@ impl<N: RollName + MeterName, F: FaultSource + Drop, G: Gate + Drop, B: Journale
 
     /// Waits as `wait_frame` does, and counts the items that are queued to the socket when it wakes, both of one
     /// moment: at least one where it is `Ready`, none where it is `Closed` or `Stopped`.
-    pub fn wait_items<R: Wait>(&self, rt: &R, socket: SocketId) -> (Wake, u64)
+    pub fn wait_items<R: Wait>(&self, rt: &R, socket: SocketId) -> (WakeReason, u64)
         ensures { InSome F self.now (λ held. EndsItemWait held socket.0 result) }
     {
-        let state = self.items.room(socket).wait_while(
+        let state = self.items.queue(socket).wait_while(
             rt,
             self.state.lock(rt),
             |state|
@@ -145,7 +145,7 @@ impl<N: RollName + MeterName, F: FaultSource + Drop, G: Gate + Drop, B: Journale
 
     /// Waits until a live interface has a frame to send, or an interface counts towards its restart. `Ready` where one
     /// does, else `Stopped` after `stop`; else it sleeps until a call changes that.
-    pub fn wait_work<R: Wait>(&self, rt: &R) -> Wake
+    pub fn wait_work<R: Wait>(&self, rt: &R) -> WakeReason
         ensures { InSome F self.now (λ held. work_wake held ≡ Some result) }
     {
         let state = self.work.wait_while(
@@ -184,7 +184,7 @@ impl<N: RollName + MeterName, F: FaultSource + Drop, G: Gate + Drop, B: Journale
         Some(Hold {
             station: self,
             state,
-            news: News::none(),
+            wakeups: Wakeups::none(),
         })
     }
 
@@ -220,13 +220,13 @@ impl<N: RollName + MeterName, F: FaultSource + Drop, G: Gate + Drop, B: Journale
         self.ends.notify_all();
     }
 
-    /// Wakes those to whom calls gave something to do: who waits for work, and who waits for items in these rooms. The
+    /// Wakes those to whom calls gave something to do: who waits for work, and who waits for items in these queues. The
     /// lock has to be free.
-    pub(crate) fn wake(&self, news: News, woken: RoomSet) {
-        if news.is_full {
+    pub(crate) fn wake(&self, wakeups: Wakeups, woken: QueueSet) {
+        if wakeups.is_full {
             let _ = self.fullness.compare_exchange(ROOM, FULL, SeqCst, SeqCst);
         }
-        if news.has_work {
+        if wakeups.has_work {
             self.work.notify_all();
         }
         self.items.wake(woken);

@@ -5,9 +5,9 @@ ghost use Rattle.canbusd.specs.Outcomes.{IsDone, Succeeds};
 ghost use Rattle.canbusd_options.specs.Help.{IsNoMemory, ShowsHelp};
 ghost use Rattle.canbusd_options.specs.Program.{AskJob};
 
-use can_session::Unheard;
+use can_session::IgnoredInput;
 use canbusd_audit::audit_files;
-use canbusd_bench::{run_bench, tell_unheard};
+use canbusd_bench::{run_bench, tell_ignored};
 use canbusd_io::{OUTPUT, ProgramError, Report, write_failure};
 use canbusd_options::{Job, read_options};
 use canbusd_serve::{ServerRuntime, run_serve};
@@ -65,15 +65,15 @@ fn carry_out<H: ServerRuntime, R: Read + Drop + Send + 'static, W: Write + Drop,
     ensures done { result ≡ 0 → IsDone (writer_contents W.contents) job.entry (R.remaining input) output.old output.new }
     ensures flushed { result ≡ 0 → writer_buffer output.new ≡ [] }
 {
-    let mut unheard = Unheard::none();
-    let outcome = match do_job(rt, alloc, job, input, output, errors, &mut unheard) {
+    let mut ignored = IgnoredInput::none();
+    let outcome = match do_job(rt, alloc, job, input, output, errors, &mut ignored) {
         Ok(false) => return FAILED,
         Ok(true) => Ok(()),
         Err(failure) => Err(failure),
     };
     let status = finish(alloc, outcome, output, errors);
     if status == DONE {
-        tell_unheard(&unheard, errors);
+        tell_ignored(&ignored, errors);
     }
     status
 }
@@ -86,12 +86,12 @@ fn do_job<'a, H: ServerRuntime, R: Read + Drop + Send + 'static, W: Write + Drop
     input: R,
     output: &mut BufWriter<W>,
     errors: &mut E,
-    unheard: &mut Unheard,
+    ignored: &mut IgnoredInput,
 ) -> Result<bool, Report<'a>>
     ensures { IfOk result (λ whole. IsTrue whole → IsDone (writer_contents W.contents) job.entry (R.remaining input) output.old output.new) }
 {
     match job {
-        Job::Bench(options) => run_bench(rt, alloc, &options, input, output, unheard)?,
+        Job::Bench(options) => run_bench(rt, alloc, &options, input, output, ignored)?,
         Job::Audit(options) => audit_files(rt, alloc, &options, output, errors)?,
         Job::Serve(options) => return run_serve(rt, alloc, &options, input, output, errors),
     }

@@ -19,8 +19,8 @@ use Rattle.can_replay.specs.TextAudits.{AreTaken, EndsNoLine, IsFrontOf, IsLine,
 use Rattle.canbusd_io.specs.declared.program_error.ProgramError.{ProgramError}
 use Rattle.canbusd_io.specs.declared.program_error.ProgramError.TheVariants as fault
 use Rattle.canbusd_io.specs.Files.{IsOfFile, IsOfReading}
-use Rattle.canbusd_audit.specs.declared.held.Held.{Held}
-use Rattle.canbusd_audit.specs.declared.held.Held.TheVariants as held
+use Rattle.canbusd_audit.specs.declared.buffered.Buffered.{Buffered}
+use Rattle.canbusd_audit.specs.declared.buffered.Buffered.TheVariants as held
 
 -- What an audit of a text answers (own choice).
 
@@ -177,7 +177,7 @@ abbrev pub IsAtFault : Option (List ℕ) → TextAudit → ReadFault → Type 0
 IsAtFault now audit why = (first : Option (List ℕ)) → IsUnderway first now audit → (text : List ℕ) × IsTextIn first text × Reads text (Err why)
 
 -- what a reader held was taken by an audit
-abbrev pub BecomesOf : Held → Option (List ℕ) → Option (List ℕ) → TextAudit → TextAudit → Type 0
+abbrev pub BecomesOf : Buffered → Option (List ℕ) → Option (List ℕ) → TextAudit → TextAudit → Type 0
 BecomesOf held.End old new before after = IsAtEnd old × (after ≡ before)
 BecomesOf held.Lines old new before after = GoesOn old new before after
 BecomesOf (held.Wrong why) old new before after = IsAtFault old before why

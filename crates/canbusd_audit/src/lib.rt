@@ -9,8 +9,8 @@
 #![tactic(auto)]
 
 mod audit_job;
+mod buffered;
 mod ends;
-mod held;
 mod joined;
 mod line_taking;
 mod notes;

@@ -3,7 +3,7 @@ ghost use Rattle.can_replay.specs.TextAudits.{AreTaken, EndsNoLine};
 ghost use Rattle.canbusd_audit.specs.Audited.{FaultsInput, FaultsLast, IsInputTaken, IsNextLine, IsOfLine, TakesLast};
 ghost use Rattle.canbusd_io.specs.Files.{IsOfReading};
 
-use crate::held::{Held, take_held};
+use crate::buffered::{Buffered, take_held};
 use crate::notes::{record_note, with_cut_note};
 use can_record_text::ReadFault;
 use can_replay::TextAudit;
@@ -30,12 +30,12 @@ pub fn take_lines<'a, R: BufRead>(
     let mut lines = 0;
     for _ in 0..u64::MAX {
         match take_held(alloc, input, audit, &mut lines) {
-            Ok(Held::Lines) => {}
-            Ok(Held::End) => {
+            Ok(Buffered::Lines) => {}
+            Ok(Buffered::End) => {
                 torn.clear();
                 return Ok(lines);
             }
-            Ok(Held::Wrong(fault)) => {
+            Ok(Buffered::Wrong(fault)) => {
                 return Err(held_failure(alloc, path, lines, input, torn, fault));
             }
             Err(error) => return Err(read_failure(alloc, path, &error)),

@@ -14,7 +14,7 @@ use can_event::MAX_LIMIT;
 use can_fault::Perfect;
 use can_frame::Names;
 use can_rules::Plan;
-use can_session::{BenchConfig, BenchFault, Unheard, bench_noting};
+use can_session::{BenchConfig, BenchFault, IgnoredInput, bench_noting};
 use canbusd_io::{
     INPUT, OUTPUT, ProgramError, Report, bus_config, fixed_note, limits_note, read_names,
     read_plan, reason_note, save_log, save_record, without, write_failure,
@@ -44,13 +44,13 @@ pub fn run_bench<'a, H: Files, R: Read + Drop, W: Write>(
     options: &BenchOptions<'a>,
     input: R,
     output: &mut W,
-    unheard: &mut Unheard,
+    ignored: &mut IgnoredInput,
 ) -> Result<(), Report<'a>>
     ensures done { OnOk result (IsBenched W.contents options.now (R.remaining input) output.old output.new) }
     ensures fault { IfErr result (λ failure.
         FailsAs W.contents options.now (R.remaining input) output.old failure.error output.new) }
 {
-    match run_out(rt, alloc, options, input, output, unheard) {
+    match run_out(rt, alloc, options, input, output, ignored) {
         Ok(Ran { record, refusal }) => {
             save_run(rt, alloc, options, &record)?;
             match refusal {
@@ -73,7 +73,7 @@ fn run_out<'a, H: Files, R: Read + Drop, W: Write>(
     options: &BenchOptions<'a>,
     input: R,
     output: &mut W,
-    unheard: &mut Unheard,
+    ignored: &mut IgnoredInput,
 ) -> Result<Ran<'a>, Report<'a>>
     ensures ran { IfOk result (λ ran.
         HasRun W.contents options.now (R.remaining input) output.old ran output.new) }
@@ -83,7 +83,7 @@ fn run_out<'a, H: Files, R: Read + Drop, W: Write>(
 {
     let names = read_names(alloc, options.bus.names)?;
     let mut watch = Watch::new(alloc, options.is_strict, output);
-    let ran = run_scripted(rt, alloc, options, names, input, &mut watch, unheard);
+    let ran = run_scripted(rt, alloc, options, names, input, &mut watch, ignored);
     let (output, refusal) = watch.finish(alloc);
     output
         .flush()
@@ -138,7 +138,7 @@ fn run_scripted<'a, H: Files, R: Read + Drop, W: Write>(
     names: Names,
     input: R,
     output: &mut W,
-    unheard: &mut Unheard,
+    ignored: &mut IgnoredInput,
 ) -> Result<Record, Report<'a>>
     ensures run { IfOk result (λ r.
         IsRun W.contents options.now names (R.remaining input) output.old r output.new) }
@@ -147,7 +147,7 @@ fn run_scripted<'a, H: Files, R: Read + Drop, W: Write>(
         output.new) }
 {
     let plan = read_plan(rt, alloc, options.bus, &names)?;
-    run_on(alloc, options, names, plan, input, output, unheard)
+    run_on(alloc, options, names, plan, input, output, ignored)
 }
 
 // Runs the bench of these names and faults.
@@ -158,7 +158,7 @@ fn run_on<'a, R: Read + Drop, W: Write>(
     plan: Plan,
     input: R,
     output: &mut W,
-    unheard: &mut Unheard,
+    ignored: &mut IgnoredInput,
 ) -> Result<Record, Report<'a>>
     ensures ends { IfOk result (λ r.
         EndsOver W.contents no_verdicts (R.remaining input) (begun plan options.now names)
@@ -178,7 +178,7 @@ fn run_on<'a, R: Read + Drop, W: Write>(
         timing: options.timing,
     };
     let mut input = Recent::new(alloc, input);
-    match bench_noting(alloc, config, plan, &mut input, output, unheard) {
+    match bench_noting(alloc, config, plan, &mut input, output, ignored) {
         Ok(record) => Ok(record),
         Err(fault) => {
             let notes = bench_note(alloc, fault, options, &input);

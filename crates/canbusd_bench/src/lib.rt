@@ -6,10 +6,10 @@
 #![tactic(auto)]
 
 mod bench_job;
+mod ignored_notes;
 mod input_notes;
 mod recent;
-mod unheard_notes;
 mod watch;
 
 pub use bench_job::run_bench;
-pub use unheard_notes::tell_unheard;
+pub use ignored_notes::tell_ignored;

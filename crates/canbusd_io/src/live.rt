@@ -3,7 +3,7 @@ ghost use Rattle.std.specs.Prelude.{◌≡◌, ◌++◌, [], None, All, IsOk, Is
 ghost use Rattle.can_logfile.specs.Log.{joined, log_lines};
 ghost use Rattle.can_record_text.specs.Spelling.{end_words, entry_lines, front_lines, spell};
 ghost use Rattle.can_record_text.specs.declared.version.Version.TheVariants as version;
-ghost use Rattle.can_record_text.specs.inner.Stored.{HasFittingReply};
+ghost use Rattle.can_record_text.specs.inner.StoredLines.{HasFittingReply};
 ghost use Rattle.canbusd_io.specs.Live.{Stays, Takes, whole_contents};
 
 use crate::draft::Draft;

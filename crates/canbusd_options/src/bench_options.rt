@@ -7,8 +7,8 @@ ghost use Rattle.canbusd_options.specs.Options.{AreBenchOptions, AreOneFile, Giv
 ghost use Rattle.canbusd_options.specs.Program.{bench_app, flag_rule, option_rule};
 
 use crate::bus_options::{
-    BUS, BusSettings, USUAL_LIMIT, Verb, bus_argument, free_option, settings_given, text_within,
-    with_bus_options,
+    BUS, BusSettings, Subcommand, USUAL_LIMIT, bus_argument, free_option, settings_given,
+    text_within, with_bus_options,
 };
 use crate::bus_word::BusWord;
 use crate::help::BENCH_HELP;
@@ -54,7 +54,7 @@ pub fn bench_options<'a>(alloc: Global, bench: &ArgMatches<'a>) -> Result<BenchO
     ensures taken { IfErr result (λ e. GiveBenchOptions (rows_in bench.now) → IsNoMemory e) }
     ensures refused { IfErr result RefusesValue }
 {
-    let settings = settings_given(alloc, Verb::Bench, bench, USUAL_LIMIT)?;
+    let settings = settings_given(alloc, Subcommand::Bench, bench, USUAL_LIMIT)?;
     let timing = timing_given(alloc, bench)?;
     let record = bench.get_str(RECORD);
     let log = bench.get_str(LOG);
@@ -63,7 +63,7 @@ pub fn bench_options<'a>(alloc: Global, bench: &ArgMatches<'a>) -> Result<BenchO
         let message = format!(in alloc;
             "invalid value '{path}' for '--log': --record names this file"
         )?;
-        return Err(Verb::Bench.error(alloc, &message)?);
+        return Err(Subcommand::Bench.error(alloc, &message)?);
     }
     Ok(BenchOptions {
         settings,
@@ -85,7 +85,7 @@ fn timing_given(alloc: Global, bench: &ArgMatches<'_>) -> Result<Option<Timing>,
     match (bench.get_str(BITRATE), bench.get_str(DBITRATE)) {
         (Some(bitrate), dbitrate) => Ok(Some(timing_of(alloc, bitrate, dbitrate)?)),
         (None, None) => Ok(None),
-        (None, Some(_)) => Err(Verb::Bench.error(alloc, "'--dbitrate' needs '--bitrate'")?),
+        (None, Some(_)) => Err(Subcommand::Bench.error(alloc, "'--dbitrate' needs '--bitrate'")?),
     }
 }
 
@@ -98,7 +98,7 @@ fn timing_of(alloc: Global, bitrate: &str, dbitrate: Option<&str>) -> Result<Tim
 {
     let nominal = text_within(
         alloc,
-        Verb::Bench,
+        Subcommand::Bench,
         BITRATE,
         bitrate,
         LEAST_BITRATE,
@@ -109,7 +109,7 @@ fn timing_of(alloc: Global, bitrate: &str, dbitrate: Option<&str>) -> Result<Tim
     };
     let fast = text_within(
         alloc,
-        Verb::Bench,
+        Subcommand::Bench,
         DBITRATE,
         dbitrate,
         nominal,

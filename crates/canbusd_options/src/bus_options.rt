@@ -54,19 +54,19 @@ pub struct BusSettings {
 
 /// The command whose words are read.
 #[derive(Debug, Clone, Copy)]
-pub enum Verb {
+pub enum Subcommand {
     Bench,
     Serve,
 }
 
-impl Verb {
+impl Subcommand {
     /// A fault of the words of this command, with its usage.
     pub fn error(self, alloc: Global, message: &str) -> Result<Error, AllocError>
         ensures { IfOk result (λ e. kind_of e ≡ ValueValidation) }
     {
         let mut command = match self {
-            Verb::Bench => bench_command(alloc)?.bin_name("canbusd bench")?,
-            Verb::Serve => serve_command(alloc)?.bin_name("canbusd serve")?,
+            Subcommand::Bench => bench_command(alloc)?.bin_name("canbusd bench")?,
+            Subcommand::Serve => serve_command(alloc)?.bin_name("canbusd serve")?,
         };
         command.error(ErrorKind::ValueValidation, message)
     }
@@ -75,7 +75,7 @@ impl Verb {
 /// What the options of a command say of a bus, with this limit where none is given.
 pub fn settings_given(
     alloc: Global,
-    verb: Verb,
+    verb: Subcommand,
     matches: &ArgMatches<'_>,
     limit: &str,
 ) -> Result<BusSettings, Error>
@@ -93,7 +93,7 @@ pub fn settings_given(
     })
 }
 
-fn ack_mode(alloc: Global, verb: Verb, matches: &ArgMatches<'_>) -> Result<AckMode, Error>
+fn ack_mode(alloc: Global, verb: Subcommand, matches: &ArgMatches<'_>) -> Result<AckMode, Error>
     ensures given { IfOk result (λ mode. given_in matches.now (codes "ack") ≡ mode_text mode) }
     ensures taken { IfErr result (λ e. IsMode (given_in matches.now (codes "ack")) → IsNoMemory e) }
     ensures refused { IfErr result RefusesValue }
@@ -113,7 +113,7 @@ fn ack_mode(alloc: Global, verb: Verb, matches: &ArgMatches<'_>) -> Result<AckMo
 #[tactic(auto, using(crate::proofs::Rules::text_in_rows))]
 fn number_given(
     alloc: Global,
-    verb: Verb,
+    verb: Subcommand,
     matches: &ArgMatches<'_>,
     option: &str,
     limits: &str,
@@ -135,7 +135,7 @@ fn number_given(
 #[tactic(auto, using(crate::proofs::Rules::text_in_rows))]
 fn limit_given(
     alloc: Global,
-    verb: Verb,
+    verb: Subcommand,
     matches: &ArgMatches<'_>,
     default: &str,
 ) -> Result<u32, Error>
@@ -152,7 +152,7 @@ fn limit_given(
 // The number that a text writes, in only decimal digits, which an option was given.
 fn number_of(
     alloc: Global,
-    verb: Verb,
+    verb: Subcommand,
     option: &str,
     text: &str,
     limits: &str,
@@ -171,7 +171,7 @@ fn number_of(
 #[tactic(auto, using(crate::proofs::Rules::text_in_rows))]
 pub fn number_within(
     alloc: Global,
-    verb: Verb,
+    verb: Subcommand,
     matches: &ArgMatches<'_>,
     option: &str,
     least: u32,
@@ -191,7 +191,7 @@ pub fn number_within(
 /// The number that a text writes, in only decimal digits and within limits, which an option was given.
 pub fn text_within(
     alloc: Global,
-    verb: Verb,
+    verb: Subcommand,
     option: &str,
     text: &str,
     least: u32,
@@ -215,7 +215,7 @@ pub fn text_within(
 // The fault of an option whose text is no number within limits.
 fn number_error(
     alloc: Global,
-    verb: Verb,
+    verb: Subcommand,
     option: &str,
     text: &str,
     limits: &str,

@@ -6,7 +6,7 @@ ghost use Rattle.canbusd_options.specs.Program.{AskJob, IsAsked, program};
 
 use crate::audit_options::{AuditOptions, audit_command, audit_options};
 use crate::bench_options::{BenchOptions, bench_command, bench_options};
-use crate::bus_options::Verb;
+use crate::bus_options::Subcommand;
 use crate::help::PROGRAM_HELP;
 use crate::serve_options::{ServeOptions, serve_command, serve_options};
 use clap::{Command, Error};
@@ -40,7 +40,7 @@ pub fn read_options<'a>(alloc: Global, words: &'a [String]) -> Result<Job<'a>, E
     }
     match matches.subcommand_matches("audit") {
         Some(audit) => Ok(Job::Audit(audit_options(alloc, audit)?)),
-        None => Err(Verb::Bench.error(alloc, "no command was given")?),
+        None => Err(Subcommand::Bench.error(alloc, "no command was given")?),
     }
 }
 

@@ -3,7 +3,7 @@ ghost use Rattle.std.specs.Prelude.{◌≡◌, ◌↔◌, codes, IfErr, IfNone, 
 ghost use Rattle.canbusd_options.specs.Help.{IsNoMemory, RefusesValue};
 ghost use Rattle.canbusd_options.specs.Options.{CanRecord, GoWith, IsRecording, given, most_sessions, recording_text, rows_in, server_limit, usual_sessions};
 
-use crate::bus_options::{LIMIT, USUAL_LIMIT, Verb};
+use crate::bus_options::{LIMIT, Subcommand, USUAL_LIMIT};
 use crate::serve_options::{FLUSH, OUT, SYNC};
 use clap::{ArgMatches, Error};
 use std::alloc::Global;
@@ -103,11 +103,11 @@ pub fn recording_given(alloc: Global, serve: &ArgMatches<'_>) -> Result<Recordin
         let message = format!(in alloc;
             "invalid value '{text}' for '--record': end, live or none"
         )?;
-        return Err(Verb::Serve.error(alloc, &message)?);
+        return Err(Subcommand::Serve.error(alloc, &message)?);
     };
     match recording.clash(serve) {
         None => Ok(recording),
-        Some(message) => Err(Verb::Serve.error(alloc, message)?),
+        Some(message) => Err(Subcommand::Serve.error(alloc, message)?),
     }
 }
 

@@ -6,7 +6,7 @@ ghost use Rattle.canbusd_options.specs.Options.{AreBusWords, AreServeOptions, Gi
 ghost use Rattle.canbusd_options.specs.Program.{default_rule, flag_rule, option_rule, serve_app, words_rule};
 
 use crate::bus_options::{
-    BUS, BusSettings, Verb, bus_argument, free_option, number_option, number_within,
+    BUS, BusSettings, Subcommand, bus_argument, free_option, number_option, number_within,
     settings_given, text_within, with_bus_options,
 };
 use crate::bus_word::BusWord;
@@ -78,12 +78,19 @@ pub fn serve_options<'a>(alloc: Global, serve: &ArgMatches<'a>) -> Result<ServeO
     let recording = recording_given(alloc, serve)?;
     let (usual, most) = (recording.usual_sessions(), recording.most_sessions());
     Ok(ServeOptions {
-        settings: settings_given(alloc, Verb::Serve, serve, recording.limit())?,
+        settings: settings_given(alloc, Subcommand::Serve, serve, recording.limit())?,
         buses: buses_given(alloc, serve)?,
         address: serve.get_str(LISTEN).unwrap_or(""),
         sessions: sessions_given(alloc, serve, usual, most)?,
-        pace_ms: number_within(alloc, Verb::Serve, serve, PACE, 0, MOST_PACE)?,
-        write_bytes: number_within(alloc, Verb::Serve, serve, WRITE, LEAST_WRITE, MOST_WRITE)?,
+        pace_ms: number_within(alloc, Subcommand::Serve, serve, PACE, 0, MOST_PACE)?,
+        write_bytes: number_within(
+            alloc,
+            Subcommand::Serve,
+            serve,
+            WRITE,
+            LEAST_WRITE,
+            MOST_WRITE,
+        )?,
         folder: serve.get_str(OUT),
         recording,
         flush_ms: flush_given(alloc, serve)?,
@@ -111,7 +118,7 @@ fn sessions_given(
     ensures refused { IfErr result RefusesValue }
 {
     let text = serve.get_str(SESSIONS).unwrap_or(usual);
-    text_within(alloc, Verb::Serve, SESSIONS, text, 1, most)
+    text_within(alloc, Subcommand::Serve, SESSIONS, text, 1, most)
 }
 
 // How long what is written live may wait.
@@ -126,7 +133,7 @@ fn flush_given(alloc: Global, serve: &ArgMatches<'_>) -> Result<u32, Error>
     ensures refused { IfErr result RefusesValue }
 {
     let text = serve.get_str(FLUSH).unwrap_or(USUAL_FLUSH);
-    text_within(alloc, Verb::Serve, FLUSH, text, 0, MOST_FLUSH)
+    text_within(alloc, Subcommand::Serve, FLUSH, text, 0, MOST_FLUSH)
 }
 
 fn buses_given<'a>(alloc: Global, serve: &ArgMatches<'a>) -> Result<Vec<BusWord<'a>>, AllocError>

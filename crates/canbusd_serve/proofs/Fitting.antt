@@ -6,7 +6,7 @@ use Rattle.can_event.specs.declared.bus_config.BusConfig.{BusConfig}
 use Rattle.can_event.specs.declared.entry.Entry.{Entry}
 use Rattle.can_bus.specs.Legal.{IsLegal}
 use Rattle.can_bus.proofs.Fitting.{legal_is_spelled}
-use Rattle.can_record_text.specs.inner.Stored.{HasFittingReply}
+use Rattle.can_record_text.specs.inner.StoredLines.{HasFittingReply}
 use Rattle.can_server.specs.Keeping.{AreLegalLast}
 
 -- The entries of a legal history have lines.

@@ -1,6 +1,6 @@
 //! Where the entries of a long run go: into the files of its bus, while it is served.
 ghost use Rattle.std.specs.Prelude.{◌≡◌, [], All};
-ghost use Rattle.can_record_text.specs.inner.Stored.{HasFittingReply};
+ghost use Rattle.can_record_text.specs.inner.StoredLines.{HasFittingReply};
 ghost use Rattle.canbusd_serve.specs.LongRuns.{LogGets, RecordGets};
 
 use crate::host::Host;

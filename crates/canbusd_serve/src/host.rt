@@ -42,7 +42,7 @@ impl<H: Wait + time::Clock, E: Write> Clock for Host<'_, '_, '_, H, E> {
         }
     }
 
-    fn is_curious(&self) -> bool {
+    fn wants_notices(&self) -> bool {
         self.options.is_verbose
     }
 
@@ -50,7 +50,7 @@ impl<H: Wait + time::Clock, E: Write> Clock for Host<'_, '_, '_, H, E> {
         self.options.write_bytes as usize
     }
 
-    fn tell(&self, notice: Notice) {
+    fn notify(&self, notice: Notice) {
         self.put_line(&notice);
         match notice {
             Notice::NearlyFull { bus } if self.options.recording == Recording::AtEnd => {

@@ -4,7 +4,7 @@ ghost use Rattle.canbusd_io.specs.declared.program_error.ProgramError.TheVariant
 ghost use Rattle.canbusd_serve.specs.Served.{IsHeardAt, IsOfServing, LeavesPort};
 
 use crate::socket_file::SocketFile;
-use can_server::{Door, Listener};
+use can_server::{Acceptor, Listener};
 use canbusd_io::{ProgramError, Report, reason_note};
 use std::alloc::{AllocError, Global};
 use std::fs::File;
@@ -16,10 +16,10 @@ use std::rt::Files;
 /// What is reported where somebody listens at the port.
 const FREE_PORT: &str = "  with port 0, as in --listen 127.0.0.1:0, the system picks a free one\n";
 
-/// A door where a server listens, and the text of its address.
+/// An acceptor where a server listens, and the text of its address.
 #[derive(Drop)]
 pub struct Listening {
-    pub doors: [Door; 1],
+    pub acceptors: [Acceptor; 1],
     /// The address as it was given; where its port is 0, the address that the listener got.
     pub heard: String,
     /// The socket's file, where the address is a Unix path.
@@ -41,8 +41,8 @@ pub fn listen<'a, H: Files<File = File> + Net<Listener = TcpListener, Stream = T
         Err(error) => return Err(listen_failure(alloc, address, &error)),
     };
     match open(alloc, address, listener, sessions) {
-        Ok((door, heard)) => Ok(Listening {
-            doors: [door],
+        Ok((acceptor, heard)) => Ok(Listening {
+            acceptors: [acceptor],
             heard,
             file,
         }),
@@ -58,15 +58,15 @@ fn open<'a>(
     address: &str,
     listener: Listener,
     sessions: u32,
-) -> Result<(Door, String), Report<'a>>
+) -> Result<(Acceptor, String), Report<'a>>
     ensures heard { IfOk result (λ opened. IsHeardAt address.now (string_bytes opened.1)) }
     ensures fault { IfErr result (λ failure. IsOfServing failure.error) }
 {
     let Ok(heard) = heard_at(alloc, address, &listener) else {
         return Err(Report::new(alloc, ProgramError::NoMemory));
     };
-    match Door::new(listener, sessions) {
-        Ok(door) => Ok((door, heard)),
+    match Acceptor::new(listener, sessions) {
+        Ok(acceptor) => Ok((acceptor, heard)),
         Err(error) => Err(listen_failure(alloc, address, &error)),
     }
 }

@@ -1,6 +1,6 @@
 //! The files that a server of long runs writes while it serves.
 ghost use Rattle.std.specs.Prelude.{◌≡◌, length, All, IfErr, IfOk, IsTrue};
-ghost use Rattle.can_record_text.specs.inner.Stored.{HasFittingReply};
+ghost use Rattle.can_record_text.specs.inner.StoredLines.{HasFittingReply};
 ghost use Rattle.canbusd_serve.specs.LongRuns.{LogGets, RecordGets};
 ghost use Rattle.canbusd_serve.specs.Served.{IsOfServing};
 

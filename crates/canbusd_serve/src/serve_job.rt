@@ -21,7 +21,7 @@ use can_bus::{BusFault, LongEnd, TAIL_SIZE};
 use can_fault::Perfect;
 use can_meter::MeterName;
 use can_roll::RollName;
-use can_server::{Bench, Door, Hub, Kept, Scribe, serve, serve_long};
+use can_server::{Acceptor, Bench, Hub, Scribe, ScrollKeeper, serve, serve_long};
 use can_station::{Blanks, Open, Pass, Scroll, Settled};
 use canbusd_io::{
     INPUT, OUTPUT, ProgramError, Report, Reporter, bus_config, fixed_note, read_names, read_plan,
@@ -322,14 +322,18 @@ impl<'r, 'a, H: ServerRuntime> ServerRun<'r, 'a, H> {
         let address = self.options.address;
         let sessions = self.options.sessions;
         let listening = listen(self.rt, self.alloc, address, sessions)?;
-        let Listening { doors, heard, file } = listening;
-        let served = self.serve_doors(hub, &doors, &heard, input, output, errors);
+        let Listening {
+            acceptors,
+            heard,
+            file,
+        } = listening;
+        let served = self.serve_acceptors(hub, &acceptors, &heard, input, output, errors);
         leave(self.rt, file);
         served
     }
 
     // Looks at what the server needs besides, puts out where it listens, and serves.
-    fn serve_doors<
+    fn serve_acceptors<
         N: RollName + MeterName + Send + Sync,
         R: Read + Drop + Send + 'static,
         W: Write,
@@ -337,7 +341,7 @@ impl<'r, 'a, H: ServerRuntime> ServerRun<'r, 'a, H> {
     >(
         &self,
         hub: Served<'_, N>,
-        doors: &[Door],
+        acceptors: &[Acceptor],
         heard: &str,
         input: R,
         output: &mut W,
@@ -360,7 +364,7 @@ impl<'r, 'a, H: ServerRuntime> ServerRun<'r, 'a, H> {
         };
         let files = self.open_files(&hub, errors)?;
         put_listening(self.alloc, heard, output)?;
-        self.serve_until(hub, files, doors, until, errors)
+        self.serve_until(hub, files, acceptors, until, errors)
     }
 
     // Looks whether the folder takes files, and opens those of long runs.
@@ -388,7 +392,7 @@ impl<'r, 'a, H: ServerRuntime> ServerRun<'r, 'a, H> {
         &self,
         hub: Served<'_, N>,
         files: Vec<LiveFiles<File>>,
-        doors: &[Door],
+        acceptors: &[Acceptor],
         until: Option<UnixStream>,
         errors: &mut E,
     ) -> Result<Run<N>, Report<'a>>
@@ -407,8 +411,10 @@ impl<'r, 'a, H: ServerRuntime> ServerRun<'r, 'a, H> {
             has_lost: &self.has_lost,
         };
         let served = match hub {
-            Served::Whole(hub) => self.serve_whole(hub, doors, &host, until),
-            Served::Long(hub, scrolls) => self.serve_long(hub, files, scrolls, doors, &host, until),
+            Served::Whole(hub) => self.serve_whole(hub, acceptors, &host, until),
+            Served::Long(hub, scrolls) => self.serve_long(
+                hub, files, scrolls, acceptors, &host, until,
+            ),
         };
         match served {
             Ok(run) => Ok(run),
@@ -420,13 +426,13 @@ impl<'r, 'a, H: ServerRuntime> ServerRun<'r, 'a, H> {
     fn serve_whole<N: RollName + MeterName + Send + Sync, E: Write + Send>(
         &self,
         hub: &Hub<N, Perfect, Open>,
-        doors: &[Door],
+        acceptors: &[Acceptor],
         host: &Host<'_, 'a, '_, H, E>,
         until: Option<UnixStream>,
     ) -> Result<Run<N>, AllocError>
         ensures { IfOk result (λ run. length run.passes.items ≡ length hub.now) }
     {
-        let passes = serve(self.rt, self.alloc, hub, doors, host, until.as_ref())?;
+        let passes = serve(self.rt, self.alloc, hub, acceptors, host, until.as_ref())?;
         Ok(Run {
             passes,
             files: Vec::new(self.alloc),
@@ -440,7 +446,7 @@ impl<'r, 'a, H: ServerRuntime> ServerRun<'r, 'a, H> {
         hub: &Hub<N, Perfect, Open, LongEnd>,
         files: Vec<LiveFiles<File>>,
         scrolls: Vec<Scroll<N>>,
-        doors: &[Door],
+        acceptors: &[Acceptor],
         host: &Host<'_, 'a, '_, H, E>,
         until: Option<UnixStream>,
     ) -> Result<Run<N>, AllocError>
@@ -463,7 +469,7 @@ impl<'r, 'a, H: ServerRuntime> ServerRun<'r, 'a, H> {
             scribes.push(Scribe::new(self.alloc, TAIL_SIZE, patience, kept)?)?;
         }
         let until = until.as_ref();
-        run.passes = serve_long(self.rt, self.alloc, hub, doors, host, until, scribes)?;
+        run.passes = serve_long(self.rt, self.alloc, hub, acceptors, host, until, scribes)?;
         for kept in kept {
             let (keeper, scroll) = kept.into_parts();
             run.files.push_reserved(keeper.kept);
@@ -503,7 +509,7 @@ fn keepers_of<
     host: &'o Host<'h, 'a, 'l, H, E>,
     files: Vec<LiveFiles<F>>,
     scrolls: Vec<Scroll<N>>,
-) -> Result<Vec<Kept<N, FileKeeper<'o, 'h, 'a, 'l, F, H, E>>>, AllocError>
+) -> Result<Vec<ScrollKeeper<N, FileKeeper<'o, 'h, 'a, 'l, F, H, E>>>, AllocError>
     requires scrolls { AreNewScrolls 0 scrolls.items }
     requires each { length files.items ≡ length scrolls.items }
     ensures { IfOk result (λ kept. length kept.items ≡ length scrolls.items) }
@@ -516,7 +522,7 @@ fn keepers_of<
             kept: KeptFiles::new(files),
             reported: None,
         };
-        kept.push(Kept::new(keeper, scroll))?;
+        kept.push(ScrollKeeper::new(keeper, scroll))?;
     }
     Ok(kept)
 }

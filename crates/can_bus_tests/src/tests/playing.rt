@@ -5,7 +5,7 @@ use super::readings::Readings;
 use super::writing_out::{record_lines, written_out};
 use can_arbiter::Arbiter;
 use can_bus::{
-    Attempt, Bus, BusConfig, Entry, Event, ListBus, Looked, Pending, Received, Record, Refusal,
+    Attempt, Bus, BusConfig, Entry, EntryRef, Event, ListBus, Pending, Received, Record, Refusal,
     Reply, RingBus, SocketId, is_spelled, run,
 };
 use can_queue::BoundedQueue;
@@ -34,7 +34,7 @@ pub fn entries_of(alloc: Global, record: &Record) -> Result<Vec<Entry>, Fail> {
     Ok(record.to_entries(alloc)?)
 }
 
-fn looked_at(record: &Record, place: usize) -> Option<Looked<'_>> {
+fn looked_at(record: &Record, place: usize) -> Option<EntryRef<'_>> {
     record.entries().get(place)
 }
 

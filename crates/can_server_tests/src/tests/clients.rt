@@ -1,9 +1,9 @@
-// What the tests of a server share: what it runs on, its host, its doors and its clients.
+// What the tests of a server share: what it runs on, its host, its acceptors and its clients.
 
 ghost use Rattle.std.specs.Prelude.{◌≡◌, length};
 
 use super::*;
-use can_server::{Conn, Door, Listener, Notice, serve};
+use can_server::{Acceptor, Conn, Listener, Notice, serve};
 use can_station::Settled;
 use std::io::Write;
 use std::net::{Net, TcpListener, TcpStream};
@@ -68,7 +68,7 @@ impl can_server::Clock for Host {
         }
     }
 
-    fn tell(&self, notice: Notice) {
+    fn notify(&self, notice: Notice) {
         let count = match notice {
             Notice::Full { .. } => &self.told,
             Notice::WentOff { .. } => &self.off,
@@ -118,18 +118,18 @@ impl Address {
     }
 }
 
-/// A door of a server, and its address.
+/// An acceptor of a server, and its address.
 #[derive(Drop)]
 pub struct Entrance {
-    door: Door,
+    acceptor: Acceptor,
     address: Address,
 }
 
 impl Entrance {
-    /// A door for this many sessions on a free port of this machine.
+    /// An acceptor for this many sessions on a free port of this machine.
     pub fn new<R: Machine>(rt: &R, sessions: u32) -> Entrance {
         let Ok(entrance) = Entrance::on_port(rt, sessions) else {
-            panic!(rt; "no door");
+            panic!(rt; "no acceptor");
         };
         entrance
     }
@@ -138,16 +138,16 @@ impl Entrance {
         let listener = TcpListener::bind(rt, "127.0.0.1:0")?;
         Ok(Entrance {
             address: Address::Tcp(listener.local_addr()?),
-            door: Door::new(Listener::Tcp(listener), sessions)?,
+            acceptor: Acceptor::new(Listener::Tcp(listener), sessions)?,
         })
     }
 
-    /// A door for this many sessions at a path.
+    /// An acceptor for this many sessions at a path.
     pub fn at_path<R: Machine + Files>(rt: &R, path: &str, sessions: u32) -> io::Result<Entrance> {
         let listener = UnixListener::bind(rt, path)?;
         Ok(Entrance {
             address: Address::Unix(listener.local_addr()?),
-            door: Door::new(Listener::Unix(listener), sessions)?,
+            acceptor: Acceptor::new(Listener::Unix(listener), sessions)?,
         })
     }
 
@@ -156,14 +156,14 @@ impl Entrance {
         self.address.come(rt, alloc)
     }
 
-    /// The doors of a server that has no other.
-    pub fn into_doors<R: Machine>(self, rt: &R, alloc: Global) -> Vec<Door> {
-        one(rt, alloc, self.door)
+    /// The acceptors of a server that has no other.
+    pub fn into_acceptors<R: Machine>(self, rt: &R, alloc: Global) -> Vec<Acceptor> {
+        one(rt, alloc, self.acceptor)
     }
 
-    /// These doors, and where more clients may come.
-    pub fn into_parts<R: Machine>(self, rt: &R, alloc: Global) -> (Vec<Door>, Address) {
-        (one(rt, alloc, self.door), self.address)
+    /// These acceptors, and where more clients may come.
+    pub fn into_parts<R: Machine>(self, rt: &R, alloc: Global) -> (Vec<Acceptor>, Address) {
+        (one(rt, alloc, self.acceptor), self.address)
     }
 }
 
@@ -255,7 +255,7 @@ pub fn serves<N, F, G, R>(
     rt: &R,
     alloc: Global,
     hub: &Hub<N, F, G>,
-    doors: &[Door],
+    acceptors: &[Acceptor],
     host: &Host,
     until: Option<&UnixStream>,
 ) -> Vec<Vec<Pass<N>>>
@@ -265,7 +265,7 @@ where
     G: Gate + Drop + Send + Sync,
     R: Machine,
 {
-    let Ok(passes) = serve(rt, alloc, hub, doors, host, until) else {
+    let Ok(passes) = serve(rt, alloc, hub, acceptors, host, until) else {
         panic!(rt; "not served");
     };
     passes

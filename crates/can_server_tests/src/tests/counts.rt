@@ -5,32 +5,32 @@ ghost use Rattle.can_hub.specs.Benches.{NamedFrom};
 
 use super::*;
 use can_dialog::Session;
-use can_server::HeldPort;
+use can_server::LockedPort;
 use can_test_support::Output;
 use std::marker::Brand;
 
 /// A session over a pass, each of whose pieces goes through one held port, as a server's do.
 #[derive(Drop)]
-struct Talk<'a, N: RollName + MeterName, R: Wait> {
+struct Conversation<'a, N: RollName + MeterName, R: Wait> {
     rt: &'a R,
     session: Session,
     port: PassPort<'a, N, Perfect, Open, R>,
 }
 
-impl<'a, N: RollName + MeterName, R: Wait + Abort> Talk<'a, N, R> {
+impl<'a, N: RollName + MeterName, R: Wait + Abort> Conversation<'a, N, R> {
     /// A session over a hub that has just begun.
-    fn new(rt: &'a R, alloc: Global, hub: &'a Hub<N, Perfect, Open>) -> Talk<'a, N, R> {
+    fn new(rt: &'a R, alloc: Global, hub: &'a Hub<N, Perfect, Open>) -> Conversation<'a, N, R> {
         let Ok(session) = Session::new(alloc, 16) else {
             panic!(rt; "session");
         };
         let port = PassPort::new(rt, alloc, hub.buses());
-        Talk { rt, session, port }
+        Conversation { rt, session, port }
     }
 
     fn is_told(&mut self, alloc: Global, piece: &str, wanted: &str) {
         let mut out = Output::new(alloc, 1_000);
         let moment = moment(self.rt, 0);
-        let mut port = HeldPort::new(&mut self.port);
+        let mut port = LockedPort::new(&mut self.port);
         let fed = self
             .session
             .feed(alloc, piece.as_bytes(), moment, &mut port, &mut out);
@@ -71,8 +71,8 @@ fn counts<N: RollName + MeterName, R: Wait + Abort>(
     requires { NamedFrom N.roll N.meter 0 benches.items }
 {
     let hub = made::<N, _, _, _>(rt, alloc, benches);
-    let mut first = Talk::new(rt, alloc, &hub);
-    let mut second = Talk::new(rt, alloc, &hub);
+    let mut first = Conversation::new(rt, alloc, &hub);
+    let mut second = Conversation::new(rt, alloc, &hub);
     first.is_told(alloc, "< open can0 >< rawmode >", "< ok >< ok >");
     second.is_told(alloc, "< open can1 >< rawmode >", "< ok >< ok >");
     // Each call but a send and a receive needs the lock that the send before it has taken.

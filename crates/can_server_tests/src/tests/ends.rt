@@ -12,7 +12,7 @@ use std::sync::atomic::Ordering;
 use std::thread::join;
 
 /// One client is raw and one has only been greeted when the server is told to end.
-fn tell_end<R: Abort>(mut first: Client<'_, R>, mut second: Client<'_, R>, until: UnixStream) {
+fn report_end<R: Abort>(mut first: Client<'_, R>, mut second: Client<'_, R>, until: UnixStream) {
     first.ask("< open can0 >< rawmode >", "< hi >< ok >< ok >");
     second.hear("< hi >");
     drop(until);
@@ -34,11 +34,11 @@ fn ends<N: RollName + MeterName + Send + Sync, R: Machine>(
     let hub = made::<N, _, _, _>(rt, alloc, benches);
     let host = Host::new(rt);
     let (first, second) = (entrance.admit(rt, alloc), entrance.admit(rt, alloc));
-    let doors = entrance.into_doors(rt, alloc);
+    let acceptors = entrance.into_acceptors(rt, alloc);
     let ((), passes) = join(
         rt,
-        || tell_end(first, second, until),
-        || serves(rt, alloc, &hub, &doors, &host, Some(&told)),
+        || report_end(first, second, until),
+        || serves(rt, alloc, &hub, &acceptors, &host, Some(&told)),
     );
     let Some(bus) = settled(rt, alloc, hub, passes).pop() else {
         panic!(rt; "no bus");
@@ -72,11 +72,11 @@ fn ends_in_vain<N: RollName + MeterName + Send + Sync, R: Machine>(
     let hub = made::<N, _, _, _>(rt, alloc, benches);
     let host = Host::new(rt);
     let only = entrance.admit(rt, alloc);
-    let doors = entrance.into_doors(rt, alloc);
+    let acceptors = entrance.into_acceptors(rt, alloc);
     let ((), passes) = join(
         rt,
         || send_in_vain(only),
-        || serves(rt, alloc, &hub, &doors, &host, None),
+        || serves(rt, alloc, &hub, &acceptors, &host, None),
     );
     assert!(rt; host.told.load(Ordering::SeqCst) == 0);
     assert!(rt; settled(rt, alloc, hub, passes).len() == 1);

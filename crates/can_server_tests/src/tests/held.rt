@@ -12,12 +12,12 @@ use std::thread;
 use std::thread::join;
 use std::time::{Clock, Duration};
 
-/// What a gate and its test tell each other: how often a thread was held, how often it was let go, and whether the gate
+/// What a gate and its test notify each other: how often a thread was held, how often it was let go, and whether the gate
 /// gave up waiting.
 #[derive(Drop)]
 struct Signals {
     held: AtomicU64,
-    let_go: AtomicU64,
+    release: AtomicU64,
     late: AtomicBool,
 }
 
@@ -25,7 +25,7 @@ impl Signals {
     fn new() -> Signals {
         Signals {
             held: AtomicU64::new(0),
-            let_go: AtomicU64::new(0),
+            release: AtomicU64::new(0),
             late: AtomicBool::new(false),
         }
     }
@@ -49,7 +49,7 @@ impl<C: Clock> Gate for Holding<'_, C> {
     fn at(&self, point: Point) {
         if let (Point::InStep, Some(signals)) = (point, self.signals) {
             let before = signals.held.fetch_add(1, Ordering::SeqCst);
-            signals.wait_for(self.clock, &signals.let_go, before.wrapping_add(1));
+            signals.wait_for(self.clock, &signals.release, before.wrapping_add(1));
         }
     }
 }
@@ -87,11 +87,11 @@ fn go_on<N: MeterName, R: Machine>(
     assert!(rt; reaches(rt, &signals.held, 1));
     clients.far_sender.say("< send 124 1 7 >");
     clients.far_listener.hear("< frame 124 23.424242 07 >");
-    signals.let_go.store(1, Ordering::SeqCst);
+    signals.release.store(1, Ordering::SeqCst);
     assert!(rt; reaches(rt, &signals.held, 2));
     assert!(rt; reading(rt, gauge, 0) == (4, 8, 0));
     clients.sender.ask("< status >", "< status active 8 0 >");
-    signals.let_go.store(2, Ordering::SeqCst);
+    signals.release.store(2, Ordering::SeqCst);
     let copies = "< frame 123 23.424242  >< frame 123 23.424242  >";
     clients.listener.hear(copies);
 }
@@ -114,7 +114,7 @@ fn hub_goes_on<N: RollName + MeterName + Send + Sync, R: Machine>(
         far_sender: entrance.admit(rt, alloc),
         far_listener: entrance.admit(rt, alloc),
     };
-    let doors = entrance.into_doors(rt, alloc);
+    let acceptors = entrance.into_acceptors(rt, alloc);
     assert!(rt; hub.count() == 2);
     let Ok(mut gauge) = hub.gauge(rt, 0) else {
         panic!(rt; "no gauge");
@@ -122,7 +122,7 @@ fn hub_goes_on<N: RollName + MeterName + Send + Sync, R: Machine>(
     let ((), passes) = join(
         rt,
         || go_on(rt, signals, clients, &mut gauge),
-        || serves(rt, alloc, &hub, &doors, &host, None),
+        || serves(rt, alloc, &hub, &acceptors, &host, None),
     );
     assert!(rt; !signals.late.load(Ordering::SeqCst));
     let (_, transmit, receive) = reading(rt, &mut gauge, 0);
@@ -195,11 +195,11 @@ fn sessions_meet<N: RollName + MeterName + Send + Sync, R: Machine>(
     let hub = made::<N, _, _, _>(rt, alloc, benches);
     let host = Host::new(rt);
     let (first, second) = (entrance.admit(rt, alloc), entrance.admit(rt, alloc));
-    let doors = entrance.into_doors(rt, alloc);
+    let acceptors = entrance.into_acceptors(rt, alloc);
     let ((), passes) = join(
         rt,
         || open_both(first, second),
-        || serves(rt, alloc, &hub, &doors, &host, None),
+        || serves(rt, alloc, &hub, &acceptors, &host, None),
     );
     assert!(rt; !signals.late.load(Ordering::SeqCst));
     assert!(rt; settled(rt, alloc, hub, passes).len() == 1);
@@ -232,7 +232,7 @@ impl<C: Clock> Gate for Watching<'_, C> {
     fn at(&self, point: Point) {
         let signals = self.signals;
         let steps = &signals.held;
-        let answers = &signals.let_go;
+        let answers = &signals.release;
         if point == Point::AfterReply && steps.load(Ordering::SeqCst) > 0 {
             answers.fetch_add(1, Ordering::SeqCst);
         }
@@ -273,11 +273,11 @@ fn step_has_the_lock<N: RollName + MeterName + Send + Sync, R: Machine>(
     let hub = made::<N, _, _, _>(rt, alloc, benches);
     let host = Host::new(rt);
     let (first, second) = (entrance.admit(rt, alloc), entrance.admit(rt, alloc));
-    let doors = entrance.into_doors(rt, alloc);
+    let acceptors = entrance.into_acceptors(rt, alloc);
     let ((), passes) = join(
         rt,
         || ask_meanwhile(rt, signals, first, second),
-        || serves(rt, alloc, &hub, &doors, &host, None),
+        || serves(rt, alloc, &hub, &acceptors, &host, None),
     );
     assert!(rt; !signals.late.load(Ordering::SeqCst));
     assert!(rt; settled(rt, alloc, hub, passes).len() == 1);

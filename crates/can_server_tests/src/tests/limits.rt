@@ -12,7 +12,7 @@ use std::thread::join;
 /// How many sessions a server has at once.
 const MOST: u32 = 64;
 
-/// Each hears the greeting, and the one that comes last that it is one too many. It was the last that the door takes.
+/// Each hears the greeting, and the one that comes last that it is one too many. It was the last that the acceptor takes.
 fn crowd<R: Machine>(
     rt: &R,
     address: &Address,
@@ -47,11 +47,11 @@ fn fills<N: RollName + MeterName + Send + Sync, R: Machine>(
         assert!(rt; clients.push(entrance.admit(rt, alloc)).is_ok());
     }
     let last = entrance.admit(rt, alloc);
-    let (doors, address) = entrance.into_parts(rt, alloc);
+    let (acceptors, address) = entrance.into_parts(rt, alloc);
     let ((), passes) = join(
         rt,
         || crowd(rt, &address, clients, last),
-        || serves(rt, alloc, &hub, &doors, &host, None),
+        || serves(rt, alloc, &hub, &acceptors, &host, None),
     );
     let Some(bus) = settled(rt, alloc, hub, passes).pop() else {
         panic!(rt; "no bus");
@@ -109,11 +109,11 @@ fn lets_in<N: RollName + MeterName + Send + Sync, R: Machine>(
     for _ in 0..SILENT {
         assert!(rt; silent.push(entrance.admit(rt, alloc)).is_ok());
     }
-    let (doors, address) = entrance.into_parts(rt, alloc);
+    let (acceptors, address) = entrance.into_parts(rt, alloc);
     let ((), passes) = join(
         rt,
         || make_room(rt, alloc, &host, &address, first, silent),
-        || serves(rt, alloc, &hub, &doors, &host, None),
+        || serves(rt, alloc, &hub, &acceptors, &host, None),
     );
     let Some(bus) = settled(rt, alloc, hub, passes).pop() else {
         panic!(rt; "no bus");
@@ -155,11 +155,11 @@ fn is_full<N: RollName + MeterName + Send + Sync, R: Machine>(
     let hub = made::<N, _, _, _>(rt, alloc, benches);
     let host = Host::new(rt);
     let (first, second) = (entrance.admit(rt, alloc), entrance.admit(rt, alloc));
-    let doors = entrance.into_doors(rt, alloc);
+    let acceptors = entrance.into_acceptors(rt, alloc);
     let ((), passes) = join(
         rt,
         || meet_full_record(first, second),
-        || serves(rt, alloc, &hub, &doors, &host, None),
+        || serves(rt, alloc, &hub, &acceptors, &host, None),
     );
     assert!(rt; host.told.load(Ordering::SeqCst) == 1);
     let Some(bus) = settled(rt, alloc, hub, passes).pop() else {

@@ -47,11 +47,11 @@ impl Clock for Counting {
         self.moment
     }
 
-    fn is_curious(&self) -> bool {
+    fn wants_notices(&self) -> bool {
         true
     }
 
-    fn tell(&self, notice: Notice) {
+    fn notify(&self, notice: Notice) {
         match notice {
             Notice::Came {
                 session: 1 | 2,
@@ -110,11 +110,11 @@ fn told<N: RollName + MeterName + Send + Sync, R: Machine>(
     let hub = made::<N, _, _, _>(rt, alloc, benches);
     let host = Counting::new(rt);
     let (first, second) = (entrance.admit(rt, alloc), entrance.admit(rt, alloc));
-    let doors = entrance.into_doors(rt, alloc);
+    let acceptors = entrance.into_acceptors(rt, alloc);
     let ((), served) = join(
         rt,
         || talk(first, second),
-        || serve(rt, alloc, &hub, &doors, &host, None).is_ok(),
+        || serve(rt, alloc, &hub, &acceptors, &host, None).is_ok(),
     );
     assert!(rt; served);
     let counts = [&host.came, &host.opened, &host.went];

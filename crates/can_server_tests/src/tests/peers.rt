@@ -42,11 +42,11 @@ fn serves_on<N: RollName + MeterName + Send + Sync, R: Machine>(
     let host = Host::new(rt);
     let (first, second) = (entrance.admit(rt, alloc), entrance.admit(rt, alloc));
     let (third, fourth) = (entrance.admit(rt, alloc), entrance.admit(rt, alloc));
-    let doors = entrance.into_doors(rt, alloc);
+    let acceptors = entrance.into_acceptors(rt, alloc);
     let ((), passes) = join(
         rt,
         || outlive(first, second, third, fourth),
-        || serves(rt, alloc, &hub, &doors, &host, None),
+        || serves(rt, alloc, &hub, &acceptors, &host, None),
     );
     let Some(bus) = settled(rt, alloc, hub, passes).pop() else {
         panic!(rt; "no bus");
@@ -88,11 +88,11 @@ fn serves_silent<N: RollName + MeterName + Send + Sync, R: Machine>(
     let host = Host::new(rt);
     let (first, second) = (entrance.admit(rt, alloc), entrance.admit(rt, alloc));
     let silent = entrance.admit(rt, alloc);
-    let doors = entrance.into_doors(rt, alloc);
+    let acceptors = entrance.into_acceptors(rt, alloc);
     let ((), passes) = join(
         rt,
         || exchange(first, second, silent),
-        || serves(rt, alloc, &hub, &doors, &host, None),
+        || serves(rt, alloc, &hub, &acceptors, &host, None),
     );
     assert!(rt; settled(rt, alloc, hub, passes).len() == 1);
 }

@@ -35,11 +35,11 @@ fn record<N: RollName + MeterName + Send + Sync, R: Machine>(
     let hub = made::<N, _, _, _>(rt, alloc, benches);
     let host = Host::new(rt);
     let (first, second) = (entrance.admit(rt, alloc), entrance.admit(rt, alloc));
-    let doors = entrance.into_doors(rt, alloc);
+    let acceptors = entrance.into_acceptors(rt, alloc);
     let ((), passes) = join(
         rt,
         || talk(first, second),
-        || serves(rt, alloc, &hub, &doors, &host, None),
+        || serves(rt, alloc, &hub, &acceptors, &host, None),
     );
     for count in [&host.off, &host.restarted] {
         assert!(rt; count.load(Ordering::SeqCst) == 1);

@@ -33,11 +33,11 @@ fn record<N: RollName + MeterName + Send + Sync, R: Machine>(
     let hub = made::<N, _, _, _>(rt, alloc, benches);
     let host = Host::new(rt);
     let (first, second) = (entrance.admit(rt, alloc), entrance.admit(rt, alloc));
-    let doors = entrance.into_doors(rt, alloc);
+    let acceptors = entrance.into_acceptors(rt, alloc);
     let ((), passes) = join(
         rt,
         || talk(first, second),
-        || serves(rt, alloc, &hub, &doors, &host, None),
+        || serves(rt, alloc, &hub, &acceptors, &host, None),
     );
     let Some(bus) = settled(rt, alloc, hub, passes).pop() else {
         panic!(rt; "no bus");
@@ -114,11 +114,11 @@ fn keeps_pace<N: RollName + MeterName + Send + Sync, R: Machine>(
     let hub = made::<N, _, _, _>(rt, alloc, benches);
     let host = Host::new(rt);
     let (first, second) = (entrance.admit(rt, alloc), entrance.admit(rt, alloc));
-    let doors = entrance.into_doors(rt, alloc);
+    let acceptors = entrance.into_acceptors(rt, alloc);
     let (taken, passes) = join(
         rt,
         || time_two(rt, first, second),
-        || serves(rt, alloc, &hub, &doors, &host, None),
+        || serves(rt, alloc, &hub, &acceptors, &host, None),
     );
     assert!(rt; taken >= Duration::from_millis(u64::from(PACE_MS)));
     let Some(bus) = settled(rt, alloc, hub, passes).pop() else {

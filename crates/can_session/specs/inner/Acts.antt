@@ -3,8 +3,8 @@ use Rattle.can_dialog.specs.Sessions.{SessionState}
 use Rattle.can_session.specs.BusSteps.{NamedBus}
 use Rattle.can_session.specs.declared.turns.Act.{Act}
 use Rattle.can_session.specs.declared.turns.Act.TheVariants.{Feed, Drain, End}
-use Rattle.can_session.specs.declared.unheard.Unheard.{Unheard}
-use Rattle.can_session.specs.Unheard.{unheard_then}
+use Rattle.can_session.specs.declared.ignored_input.IgnoredInput.{IgnoredInput}
+use Rattle.can_session.specs.IgnoredInput.{ignored_then}
 use Rattle.can_session.specs.Benches.{BenchState, IsFed, IsDrained, IsEnded}
 
 -- What a session does at a line (own choice).
@@ -16,13 +16,13 @@ done_by Drain moment = IsDrained
 done_by End moment = IsEnded
 
 -- what is noted after an act of session s
-abbrev pub noted_by : Act → ℕ → Unheard → Unheard
-noted_by (Feed bytes) s u = unheard_then u s bytes.now
+abbrev pub noted_by : Act → ℕ → IgnoredInput → IgnoredInput
+noted_by (Feed bytes) s u = ignored_then u s bytes.now
 noted_by _ s u = u
 
 -- the bench where what an act feeds to session s is noted
 abbrev pub noted : Act → ℕ → BenchState → BenchState
-noted act s b = record b { unheard = noted_by act s b.unheard }
+noted act s b = record b { ignored = noted_by act s b.ignored }
 
 -- a session does this, and what it says comes after what was said
 abbrev pub Adds : (SessionState → NamedBus → List ℕ → SessionState → NamedBus → Type 0) → SessionState → NamedBus → List ℕ → SessionState → NamedBus → List ℕ → Type 0

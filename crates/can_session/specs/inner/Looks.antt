@@ -1,7 +1,7 @@
 use Rattle.std.specs.Prelude.{◌≡◌, ℕ, ◌+◌, ◌<◌, List, [], ◌∷◌, ◌++◌, take, length}
 use Rattle.can_session.specs.Lines.{IsLine, IsLong}
-use Rattle.can_session.specs.declared.lines.Look.{Look}
-use Rattle.can_session.specs.declared.lines.Look.TheVariants.{Line, Long, Begun}
+use Rattle.can_session.specs.declared.lines.LineSearch.{LineSearch}
+use Rattle.can_session.specs.declared.lines.LineSearch.TheVariants.{Line, Long, Begun}
 
 -- What one look at the bytes that are held finds (own choice).
 
@@ -12,7 +12,7 @@ pub record LineAt (held : List ℕ) (len : ℕ) : Type 0 where
   pub within : len < length held
 
 -- what a look found is there
-abbrev pub Shows : List ℕ → Look → Type 0
+abbrev pub Shows : List ℕ → LineSearch → Type 0
 Shows held (Line len) = LineAt held len
 Shows held Long = IsLong held
 Shows held Begun = IsLine held

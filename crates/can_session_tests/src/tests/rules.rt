@@ -2,7 +2,7 @@
 use super::same;
 use crate::tests::bench::{TWO, config_of, stops, two_write, two_write_parts};
 use can_rules::Plan;
-use can_session::{BenchFault, Unheard, bench_noting};
+use can_session::{BenchFault, IgnoredInput, bench_noting};
 use can_test_support::Part;
 use std::process::Abort;
 use std::test::Fail;
@@ -100,14 +100,14 @@ fn lines_of_a_plan_are_asked_first(rt: HostRuntime) -> Result<(), Fail> {
     let input =
         "session 1\nfeed 1 < open can0 >< rawmode >< send 1 0 >< send 2 0 >\nattempt\nattempt\nattempt\n";
     let mut output = Vec::new(alloc);
-    let mut unheard = Unheard::none();
+    let mut ignored = IgnoredInput::none();
     let ended = bench_noting(
         alloc,
         config,
         plan,
         input.as_bytes(),
         &mut output,
-        &mut unheard,
+        &mut ignored,
     );
     assert!(rt; ended.is_ok());
     let wanted =

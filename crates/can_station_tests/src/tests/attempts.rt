@@ -7,7 +7,7 @@ use super::*;
 use can_attempt::Class;
 use can_bus::RingBus;
 use can_fault::{GlobalKind, LocalKind, Perfect};
-use can_station::{Open, Wake};
+use can_station::{Open, WakeReason};
 use std::marker::Brand;
 use std::test::Fail;
 use std::thread::Threads;
@@ -165,7 +165,9 @@ fn attempt_wakes<N: RollName + MeterName + Send + Sync, R: Threads + Wait + Abor
     let mut caller = entered(rt, alloc, &station);
     let (sender, receiver) = (caller.open(0, 4), caller.open(1, 4));
     caller.sends(sender, 0x123, 0);
-    assert!(rt; woken(rt, &mut caller, Awaited::Frame(receiver), Act::Attempt) == Wake::Ready);
+    assert!(rt;
+        woken(rt, &mut caller, Awaited::Frame(receiver), Act::Attempt) == WakeReason::Ready
+    );
     assert!(rt; matches!(caller.receive(receiver), Ok(Some(_))));
 }
 

@@ -6,7 +6,7 @@ use super::*;
 use can_bus::Refusal;
 use can_fault::Perfect;
 use can_frame::Item;
-use can_station::{Open, Wake};
+use can_station::{Open, WakeReason};
 use can_test_support::fd_frame;
 use std::marker::Brand;
 use std::test::Fail;
@@ -38,7 +38,7 @@ fn sends<N: RollName + MeterName, R: Wait + Abort>(mut caller: Party<'_, N, R>) 
 fn receives<N: RollName + MeterName, R: Wait + Abort>(mut caller: Party<'_, N, R>) -> Pass<N> {
     let rt = caller.rt;
     assert!(rt; caller.set_option(RECEIVER, Opt::FdFrames(true)).is_ok());
-    assert!(rt; caller.station.wait_work(rt) == Wake::Ready);
+    assert!(rt; caller.station.wait_work(rt) == WakeReason::Ready);
     caller.tries(1);
     let Ok(Some(received)) = caller.receive(RECEIVER) else {
         panic!(rt; "no item");

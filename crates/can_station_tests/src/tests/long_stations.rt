@@ -7,7 +7,7 @@ use super::*;
 use can_attempt::Class;
 use can_bus::{BusFault, LongEnd, LongRingBus, PackedRecord, Record, Refusal};
 use can_fault::Perfect;
-use can_station::{Block, Open, Scroll, Wake, WrongStation};
+use can_station::{Block, Open, Scroll, WakeReason, WrongStation};
 use std::marker::Brand;
 use std::test::Fail;
 use std::thread::{Threads, join};
@@ -111,7 +111,7 @@ fn takes<N: RollName + MeterName, R: Wait + Abort + Clock>(
     let mut block = new_block(rt, alloc, SIZE);
     for _ in rt.forever() {
         let duration = Duration::from_micros(chance.next(300));
-        if station.wait_entries(rt, chance.next(20), duration) == Wake::Stopped {
+        if station.wait_entries(rt, chance.next(20), duration) == WakeReason::Stopped {
             break;
         }
         assert!(rt; station.take_entries(rt, scroll, &mut block).is_ok());
@@ -333,7 +333,7 @@ fn lets_some_by<N: RollName + MeterName, R: Wait + Abort + Clock>(
     count: u64,
 ) {
     let (rt, station) = (taker.rt, taker.station);
-    assert!(rt; station.wait_entries(rt, 100, Duration::from_secs(100)) == Wake::Ready);
+    assert!(rt; station.wait_entries(rt, 100, Duration::from_secs(100)) == WakeReason::Ready);
     assert!(rt; reaches(rt, sent, count));
     pause(rt);
     assert!(rt; sent.load(Ordering::SeqCst) == count);
@@ -428,11 +428,11 @@ fn goes_on_to_the_end<N: RollName + MeterName, R: Wait + Abort + Clock>(
 {
     let (station, mut scroll) = made_short::<N, _>(rt, alloc, blanks);
     let mut caller = entered(rt, alloc, &station);
-    assert!(rt; station.wait_entries(rt, 1, Duration::from_millis(1)) == Wake::Ready);
+    assert!(rt; station.wait_entries(rt, 1, Duration::from_millis(1)) == WakeReason::Ready);
     let socket = caller.open(0, 4);
-    assert!(rt; station.wait_entries(rt, 1, Duration::from_secs(100)) == Wake::Ready);
+    assert!(rt; station.wait_entries(rt, 1, Duration::from_secs(100)) == WakeReason::Ready);
     station.end_entries(rt);
-    assert!(rt; station.wait_entries(rt, 100, Duration::from_secs(100)) == Wake::Stopped);
+    assert!(rt; station.wait_entries(rt, 100, Duration::from_secs(100)) == WakeReason::Stopped);
     for number in 0..3 {
         caller.sends(socket, 0x123, number);
     }

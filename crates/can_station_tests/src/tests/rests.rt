@@ -4,7 +4,7 @@ ghost use Rattle.std.specs.Prelude.{◌≡◌};
 
 use super::*;
 use can_fault::Perfect;
-use can_station::{Open, Wake};
+use can_station::{Open, WakeReason};
 use std::marker::Brand;
 use std::test::Fail;
 use std::thread::{Threads, join};
@@ -68,15 +68,15 @@ fn count_items<N: RollName + MeterName, R: Wait + Abort>(rt: &R, alloc: Global, 
     for micros in 1..=3 {
         assert!(rt; caller.send(sender, 0x123).is_ok());
         caller.tries(micros);
-        assert!(rt; station.wait_items(rt, receiver) == (Wake::Ready, micros));
+        assert!(rt; station.wait_items(rt, receiver) == (WakeReason::Ready, micros));
     }
     assert!(rt; matches!(caller.receive(receiver), Ok(Some(_))));
-    assert!(rt; station.wait_items(rt, receiver) == (Wake::Ready, 2));
+    assert!(rt; station.wait_items(rt, receiver) == (WakeReason::Ready, 2));
     station.stop(rt);
-    assert!(rt; station.wait_items(rt, receiver) == (Wake::Ready, 2));
-    assert!(rt; station.wait_items(rt, sender) == (Wake::Stopped, 0));
+    assert!(rt; station.wait_items(rt, receiver) == (WakeReason::Ready, 2));
+    assert!(rt; station.wait_items(rt, sender) == (WakeReason::Stopped, 0));
     assert!(rt; caller.close(receiver).is_ok());
-    assert!(rt; station.wait_items(rt, receiver) == (Wake::Closed, 0));
+    assert!(rt; station.wait_items(rt, receiver) == (WakeReason::Closed, 0));
 }
 
 #[test]

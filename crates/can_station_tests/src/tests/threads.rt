@@ -5,7 +5,7 @@ ghost use Rattle.std.specs.Prelude.{◌≡◌};
 use super::*;
 use can_bus::{Entry, Event, Reply};
 use can_fault::Perfect;
-use can_station::{Open, Wake, WrongStation};
+use can_station::{Open, WakeReason, WrongStation};
 use std::marker::Brand;
 use std::test::Fail;
 use std::thread::{Threads, join};
@@ -38,7 +38,7 @@ fn sends<N: RollName + MeterName, R: Wait + Abort>(
 /// Tries 200 frames, each once it waits to be sent.
 fn drives<N: RollName + MeterName, R: Wait + Abort>(mut caller: Party<'_, N, R>) -> Pass<N> {
     for micros in 0..200 {
-        assert!(caller.rt; caller.station.wait_work(caller.rt) == Wake::Ready);
+        assert!(caller.rt; caller.station.wait_work(caller.rt) == WakeReason::Ready);
         caller.tries(micros);
     }
     caller.leave()
@@ -47,7 +47,7 @@ fn drives<N: RollName + MeterName, R: Wait + Abort>(mut caller: Party<'_, N, R>)
 /// Receives 200 items, each once it is there.
 fn receives<N: RollName + MeterName, R: Wait + Abort>(mut caller: Party<'_, N, R>) -> Pass<N> {
     for _ in 0..200 {
-        assert!(caller.rt; caller.station.wait_frame(caller.rt, RECEIVER) == Wake::Ready);
+        assert!(caller.rt; caller.station.wait_frame(caller.rt, RECEIVER) == WakeReason::Ready);
         assert!(caller.rt; matches!(caller.receive(RECEIVER), Ok(Some(_))));
     }
     caller.leave()

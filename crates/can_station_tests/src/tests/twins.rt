@@ -5,7 +5,7 @@ ghost use Rattle.std.specs.Prelude.{◌≡◌};
 use super::*;
 use can_bus::{Event, IfaceStats, Record, Reply, RingBus};
 use can_filter::{Filter, FilterSet};
-use can_station::{Open, Wake};
+use can_station::{Open, WakeReason};
 use can_test_support::{DESTROYED, joined};
 use std::marker::Brand;
 use std::test::Fail;
@@ -149,28 +149,28 @@ fn call_bus(bus: &mut RingBus, source: &mut Script, alloc: Global, event: Event)
 }
 
 /// How a wait for this socket has to end, by the bus's counts: `None` where it may not.
-fn frame_wake(bus: &RingBus, socket: SocketId, is_stopped: bool) -> Option<Wake> {
+fn frame_wake(bus: &RingBus, socket: SocketId, is_stopped: bool) -> Option<WakeReason> {
     match bus.socket_stats(socket) {
-        None => Some(Wake::Closed),
-        Some(counts) if counts.queued > counts.taken => Some(Wake::Ready),
-        Some(_) if is_stopped => Some(Wake::Stopped),
+        None => Some(WakeReason::Closed),
+        Some(counts) if counts.queued > counts.taken => Some(WakeReason::Ready),
+        Some(_) if is_stopped => Some(WakeReason::Stopped),
         Some(_) => None,
     }
 }
 
 /// The same of a wait for work: for frames to send, of which an interface that is bus off has none, and for interfaces
 /// that are bus off, where they are restarted by attempts.
-fn work_wake<R: Abort>(rt: &R, bus: &RingBus, run: Run) -> Option<Wake> {
+fn work_wake<R: Abort>(rt: &R, bus: &RingBus, run: Run) -> Option<WakeReason> {
     for number in 0..3 {
         if let Some(counts) = bus.iface_stats(iface(rt, number)) {
             let comes_back = run.auto_restart > 0 && counts.counters.tec() >= 256;
             if counts.waiting > 0 || comes_back {
-                return Some(Wake::Ready);
+                return Some(WakeReason::Ready);
             }
         }
     }
     if run.is_stopped {
-        Some(Wake::Stopped)
+        Some(WakeReason::Stopped)
     } else {
         None
     }

@@ -3,7 +3,7 @@
 ghost use Rattle.std.specs.Prelude.{◌≡◌};
 
 use super::*;
-use can_station::{Open, Wake};
+use can_station::{Open, WakeReason};
 use std::marker::Brand;
 use std::test::Fail;
 use std::thread::{Threads, join};
@@ -59,7 +59,7 @@ fn wait<N: RollName + MeterName, R: Wait>(
     awaited: Awaited,
     begun: &AtomicU64,
     ended: &AtomicU64,
-) -> Wake {
+) -> WakeReason {
     begun.store(1, Ordering::SeqCst);
     let wake = match awaited {
         Awaited::Work => station.wait_work(rt),
@@ -92,7 +92,7 @@ pub fn woken<N: RollName + MeterName + Send + Sync, R: Threads + Wait + Abort + 
     caller: &mut Party<'_, N, R>,
     awaited: Awaited,
     ending: Act,
-) -> Wake {
+) -> WakeReason {
     let station = caller.station;
     let (begun, ended) = (AtomicU64::new(0), AtomicU64::new(0));
     let (is_woken, wake) = join(
@@ -116,15 +116,15 @@ fn each_call_wakes<N: RollName + MeterName + Send + Sync, R: Threads + Wait + Ab
     let station = made::<N, _, _, _>(rt, alloc, blanks, 0, config(2), faults, Open);
     let mut caller = entered(rt, alloc, &station);
     let (sender, receiver) = (caller.open(0, 4), caller.open(1, 4));
-    assert!(rt; woken(rt, &mut caller, Awaited::Work, Act::Send(sender)) == Wake::Ready);
-    assert!(rt; woken(rt, &mut caller, Awaited::Frame(receiver), Act::Step) == Wake::Ready);
+    assert!(rt; woken(rt, &mut caller, Awaited::Work, Act::Send(sender)) == WakeReason::Ready);
+    assert!(rt; woken(rt, &mut caller, Awaited::Frame(receiver), Act::Step) == WakeReason::Ready);
     assert!(rt; matches!(caller.receive(receiver), Ok(Some(_))));
     goes_off(&mut caller, sender);
-    assert!(rt; woken(rt, &mut caller, Awaited::Frame(sender), Act::Restart) == Wake::Ready);
+    assert!(rt; woken(rt, &mut caller, Awaited::Frame(sender), Act::Restart) == WakeReason::Ready);
     let close = Act::Close(receiver);
-    assert!(rt; woken(rt, &mut caller, Awaited::Frame(receiver), close) == Wake::Closed);
+    assert!(rt; woken(rt, &mut caller, Awaited::Frame(receiver), close) == WakeReason::Closed);
     assert!(rt; matches!(caller.receive(sender), Ok(Some(_))));
-    assert!(rt; woken(rt, &mut caller, Awaited::Frame(sender), Act::Stop) == Wake::Stopped);
+    assert!(rt; woken(rt, &mut caller, Awaited::Frame(sender), Act::Stop) == WakeReason::Stopped);
 }
 
 /// How the waits of two sockets end, where another thread makes a step.
@@ -132,7 +132,7 @@ fn woken_both<N: RollName + MeterName + Send + Sync, R: Threads + Wait + Abort +
     rt: &R,
     caller: &mut Party<'_, N, R>,
     sockets: [SocketId; 2],
-) -> (Wake, Wake) {
+) -> (WakeReason, WakeReason) {
     let station = caller.station;
     let [one, other] = sockets;
     let (begun, ended) = (AtomicU64::new(0), AtomicU64::new(0));
@@ -181,7 +181,7 @@ fn a_frame_wakes_all<
     for _ in 0..2 {
         assert!(rt; caller.send(sender, 0x123).is_ok());
         let wakes = woken_both(rt, &mut caller, [first, last]);
-        assert!(rt; wakes == (Wake::Ready, Wake::Ready));
+        assert!(rt; wakes == (WakeReason::Ready, WakeReason::Ready));
         assert!(rt; matches!(caller.receive(first), Ok(Some(_))));
         assert!(rt; matches!(caller.receive(last), Ok(Some(_))));
     }
@@ -224,7 +224,7 @@ fn stop_wakes<N: RollName + MeterName + Send + Sync, R: Threads + Wait + Abort +
     let faults = script(rt, alloc, "");
     let station = made::<N, _, _, _>(rt, alloc, blanks, 0, config(2), faults, Open);
     let mut caller = entered(rt, alloc, &station);
-    assert!(rt; woken(rt, &mut caller, Awaited::Work, Act::Stop) == Wake::Stopped);
+    assert!(rt; woken(rt, &mut caller, Awaited::Work, Act::Stop) == WakeReason::Stopped);
     drives_to_the_end(caller);
 }
 

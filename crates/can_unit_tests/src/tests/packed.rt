@@ -1,5 +1,5 @@
 ghost use Rattle.std.specs.Prelude.{◌≡◌, ◌≤◌, false};
-ghost use Rattle.can_record.specs.Wide.{is_wide};
+ghost use Rattle.can_record.specs.Boxed.{needs_box};
 
 use super::{same, same_at};
 use can_attempt::Class;
@@ -88,7 +88,7 @@ fn holds(record: &PackedRecord, place: usize, entry: &Entry) -> bool {
 
 /// Packs an entry between two with FD frames, and compares what is given back.
 fn comes_back(rt: &(impl Abort + AllocGlobal), event: Event, reply: Reply)
-    requires { is_wide event reply ≡ false }
+    requires { needs_box event reply ≡ false }
 {
     let first = Entry {
         event: Event::Send(SocketId(1), fd(rt, 64)),

@@ -16,19 +16,19 @@ post_frame-requires g c = λ k d h. omega (arith, c.requires.dropped k d h)
 pub post_faults-requires : goal.post_faults-requires
 post_faults-requires g c = subst (All (λ (v : SocketState). v.dropped + 2 < 2 ^ 64)) (sym c.post_frame.ensures) (frame-dropped c.tried.result.now c.args.pending.now c.args.sockets.now c.requires.dropped)
 
-pub returns-then-not-is_calm : goal.returns-then-not-is_calm
-returns-then-not-is_calm g c =
+pub returns-then-not-is_fault_free : goal.returns-then-not-is_fault_free
+returns-then-not-is_fault_free g c =
     let o = c.args.attempted.now in
     let p = c.args.pending.now in
     let frame = c.post_frame.ensures ∙ ap (λ (t : Tried). map (reached (frame_posts t p)) c.args.sockets.now) c.tried.ensures in
     c.post_faults.ensures ∙ ap (map (reached (fault_posts c.args.reporting o))) frame
     ∙ map-reached_both (frame_posts o.tried p) (fault_posts c.args.reporting o) (outcome_posts c.args.reporting o p) (in_two_parts c.args.reporting o p) c.args.sockets.now
 
-pub returns-else-not-is_calm : goal.returns-else-not-is_calm
-returns-else-not-is_calm g c =
+pub returns-else-not-is_fault_free : goal.returns-else-not-is_fault_free
+returns-else-not-is_fault_free g c =
     let o = c.args.attempted.now in
     let p = c.args.pending.now in
-    let calm = c.requires.calm c.if-not-is_calm.false in
+    let calm = c.requires.calm c.if-not-is_fault_free.false in
     let whole : class_of (transmission_of o) ≡ class.Done =
     ap (λ (v : Verdict). class_of (attempt_between o.nodes o.tried.winner v o.ack)) calm.good ∙ calm_class o.nodes o.tried.winner calm.zeros o.ack calm.acknowledged in
     let frame = c.post_frame.ensures ∙ ap (λ (t : Tried). map (reached (frame_posts t p)) c.args.sockets.now) c.tried.ensures in

@@ -1,6 +1,6 @@
 use Rattle.std.proofs.Common.{◌≤◌, ◌+◌, ℕ, ◌∷◌, [], List, refl, ap, ◌∙◌, arith}
 use Rattle.can_proto.specs.declared.message.Incoming.TheVariants.{Message}
-use Rattle.can_proto.specs.declared.scanning.Place.TheVariants.{Outside, At}
+use Rattle.can_proto.specs.declared.scanning.RunStart.TheVariants.{Outside, At}
 use Rattle.can_proto.proofs.Pieces.{close_mark}
 use Rattle.can_proto.proofs.Steps.{slice_is, opens-given, opens-kept, closes-at, text-carried, text-at, text-outside, nothing_new, pushed, reads-mark}
 use Rattle.can_proto.proofs.scanning.at_mark.Goals as goal

@@ -1,7 +1,7 @@
 use Rattle.std.proofs.Common.{sym, ap, ◌∙◌}
 use Rattle.std.specs.Option.{option_map}
 use Rattle.std.proofs.lemmas.Option.{slice_get_within, get_or_from_slice_get}
-use Rattle.can_record.specs.Stored.{entry_stored}
+use Rattle.can_record.specs.StoredEntry.{entry_stored}
 use Rattle.can_record_text.proofs.Growing.{no_lines_yet, line_more, torn}
 use Rattle.can_record_text.proofs.long_writing.write_block.Goals as goal
 

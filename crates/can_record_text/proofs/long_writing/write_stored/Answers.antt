@@ -1,5 +1,5 @@
-use Rattle.can_record.specs.Stored.{entry_stored}
-use Rattle.can_record_text.specs.inner.Stored.{stored_line}
+use Rattle.can_record.specs.StoredEntry.{entry_stored}
+use Rattle.can_record_text.specs.inner.StoredLines.{stored_line}
 use Rattle.can_record_text.proofs.Growing.{nothing_out}
 use Rattle.can_record_text.proofs.LineLists.{line_never_empty}
 use Rattle.can_record_text.proofs.long_writing.write_stored.Goals as goal

@@ -1,6 +1,6 @@
 use Rattle.std.proofs.Common.{◌∙◌, ap, reverse, sym}
 use Rattle.std.specs.Option.{option_map}
-use Rattle.can_record.specs.Stored.{entry_stored}
+use Rattle.can_record.specs.StoredEntry.{entry_stored}
 use Rattle.can_record_text.proofs.Versioning.{fd_here, none_more}
 use Rattle.can_record_text.proofs.version.record_has_fd.Goals as goal
 

@@ -71,7 +71,7 @@ returns-clause-notes g c =
         ran.3,
         ran.4,
         subst (λ (b : BenchState). Ran g.W.Write.contents (g.F.FaultSource.verdicts c.args.config.script) ran.0 b c.args.out.now ran.1 c.run.new.out) c.in_ok-state.ensures.made ran.5,
-        c.unheard.ensures ∙ ap (λ (b : BenchState). b.unheard) (sym ran.6),
+        c.ignored.ensures ∙ ap (λ (b : BenchState). b.ignored) (sym ran.6),
       ),
     )
 

@@ -1,5 +1,5 @@
 use Rattle.std.proofs.Common.{All, sym, subst}
-use Rattle.can_record_text.specs.inner.Stored.{HasFittingReply}
+use Rattle.can_record_text.specs.inner.StoredLines.{HasFittingReply}
 use Rattle.canbusd_serve.proofs.Fitting.{rest_fit}
 use Rattle.canbusd_serve.proofs.live_files.finish.Goals as goal
 

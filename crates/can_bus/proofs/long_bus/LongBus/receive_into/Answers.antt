@@ -1,7 +1,7 @@
 use Rattle.std.proofs.Common.{◌≤◌, refl, ap, ◌∙◌, subst}
 use Rattle.can_event.specs.Replies.{receive_reply, taken_reply}
 use Rattle.can_event.specs.declared.event.Event.TheVariants as event
-use Rattle.can_record.specs.Kept.{receive_entry}
+use Rattle.can_record.specs.PackedEntry.{receive_entry}
 use Rattle.can_bus.specs.Changes.{Receives}
 use Rattle.can_bus.specs.Lean.{record_of}
 use Rattle.can_bus.specs.Long.{LongJournal, handed_entries, journal_of}

@@ -1,6 +1,6 @@
 use Rattle.std.proofs.Common.{◌+◌, ◌^◌, ◌<◌, Some, None, All, refl, sym, subst}
 use Rattle.can_bus.specs.Changes.{AreReady}
-use Rattle.can_bus.specs.State.{LineState, SocketState, Parts}
+use Rattle.can_bus.specs.State.{InterfaceState, SocketState, Parts}
 use Rattle.can_bus.proofs.Between.{came, fewer_three, ready_left, small_between}
 use Rattle.can_bus.proofs.state.State.attempt.Goals as goal
 
@@ -8,10 +8,10 @@ pub try_head-tried-requires-clause-ready : goal.try_head-tried-requires-clause-r
 try_head-tried-requires-clause-ready g c = ready_left _ c.count-restarted.new.self (subst AreReady (sym c.self.view_is) c.requires.ready)
 
 pub try_head-tried-requires-clause-gone : goal.try_head-tried-requires-clause-gone
-try_head-tried-requires-clause-gone g c = subst (λ (p : Parts). All (λ (l : LineState). l.gone + 1 < 2 ^ 64) p.lines) (sym c.self.view_is) c.requires.gone
+try_head-tried-requires-clause-gone g c = subst (λ (p : Parts). All (λ (l : InterfaceState). l.gone + 1 < 2 ^ 64) p.interfaces) (sym c.self.view_is) c.requires.gone
 
 pub try_head-tried-requires-clause-done : goal.try_head-tried-requires-clause-done
-try_head-tried-requires-clause-done g c = subst (λ (p : Parts). All (λ (l : LineState). l.done + 1 < 2 ^ 64) p.lines) (sym c.self.view_is) c.requires.done
+try_head-tried-requires-clause-done g c = subst (λ (p : Parts). All (λ (l : InterfaceState). l.done + 1 < 2 ^ 64) p.interfaces) (sym c.self.view_is) c.requires.done
 
 pub try_head-tried-requires-clause-dropped : goal.try_head-tried-requires-clause-dropped
 try_head-tried-requires-clause-dropped g c = fewer_three _ (subst (λ (p : Parts). All (λ (v : SocketState). v.dropped + 4 < 2 ^ 64) p.sockets) (sym c.self.view_is) c.requires.dropped)

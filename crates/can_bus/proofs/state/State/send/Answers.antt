@@ -1,8 +1,8 @@
 use Rattle.std.proofs.Common.{◌≡◌, ◌+◌, ◌<◌, ◌^◌, [], ◌∷◌, ◌++◌, sym, ap, ◌∙◌, refl, arith}
 use Rattle.can_filter.specs.declared.options.Options.{Options}
 use Rattle.can_bus.specs.Changes.{pending_of}
-use Rattle.can_bus.specs.State.{LineState}
-use Rattle.can_bus.proofs.Reading.{stands-at, fd-off-for, off-for, on-line, of-line, line-of, found_full, took}
+use Rattle.can_bus.specs.State.{InterfaceState}
+use Rattle.can_bus.proofs.Reading.{stands-at, fd-off-for, off-for, on-interface, of-interface, interface-of, found_full, took}
 use Rattle.can_bus.proofs.state.State.send.Goals as goal
 
 pub returns-then-lacks_fd : goal.returns-then-lacks_fd
@@ -15,37 +15,37 @@ returns-then-is_off g c =
     let stands = stands-at _ _ _ _ _ c.deref.ensures.value c.in-Some.ensures.within c.in-Some.ensures.found c.index-socket.ensures in
     (off-for _ _ _ _ _ (pending_of c.args.frame c.args.id) _ c.self.view_is stands c.iface-iface.ensures (sym c.lacks_fd.ensures ∙ c.if-lacks_fd.false) (sym c.is_off.ensures ∙ c.if-is_off.true), refl)
 
-pub index_mut-line-requires : goal.index_mut-line-requires
-index_mut-line-requires g c =
-    let within = on-line _ _ _ _ _ _ _ c.self.view_is c.requires.known c.deref.ensures.value c.in-Some.ensures.within c.index-socket.ensures c.number.ensures.number c.iface-iface.ensures in
+pub index_mut-interface-requires : goal.index_mut-interface-requires
+index_mut-interface-requires g c =
+    let within = on-interface _ _ _ _ _ _ _ c.self.view_is c.requires.known c.deref.ensures.value c.in-Some.ensures.within c.index-socket.ensures c.number.ensures.number c.iface-iface.ensures in
     omega (arith, within)
 
 pub send-requires-clause-sent : goal.send-requires-clause-sent
 send-requires-clause-sent g c =
-    let within = on-line _ _ _ _ _ _ _ c.self.view_is c.requires.known c.deref.ensures.value c.in-Some.ensures.within c.index-socket.ensures c.number.ensures.number c.iface-iface.ensures in
-    of-line (λ (l : LineState). l.sent + 1 < 2 ^ 64) _ _ _ _ c.self.view_is c.requires.sent within c.index_mut-line.ensures.value
+    let within = on-interface _ _ _ _ _ _ _ c.self.view_is c.requires.known c.deref.ensures.value c.in-Some.ensures.within c.index-socket.ensures c.number.ensures.number c.iface-iface.ensures in
+    of-interface (λ (l : InterfaceState). l.sent + 1 < 2 ^ 64) _ _ _ _ c.self.view_is c.requires.sent within c.index_mut-interface.ensures.value
 
 pub send-requires-clause-refused : goal.send-requires-clause-refused
 send-requires-clause-refused g c =
-    let within = on-line _ _ _ _ _ _ _ c.self.view_is c.requires.known c.deref.ensures.value c.in-Some.ensures.within c.index-socket.ensures c.number.ensures.number c.iface-iface.ensures in
-    of-line (λ (l : LineState). l.refused + 1 < 2 ^ 64) _ _ _ _ c.self.view_is c.requires.refused within c.index_mut-line.ensures.value
+    let within = on-interface _ _ _ _ _ _ _ c.self.view_is c.requires.known c.deref.ensures.value c.in-Some.ensures.within c.index-socket.ensures c.number.ensures.number c.iface-iface.ensures in
+    of-interface (λ (l : InterfaceState). l.refused + 1 < 2 ^ 64) _ _ _ _ c.self.view_is c.requires.refused within c.index_mut-interface.ensures.value
 
 pub returns-in_default-send : goal.returns-in_default-send
 returns-in_default-send g c =
     let stands = stands-at _ _ _ _ _ c.deref.ensures.value c.in-Some.ensures.within c.in-Some.ensures.found c.index-socket.ensures in
-    let within = on-line _ _ _ _ _ _ _ c.self.view_is c.requires.known c.deref.ensures.value c.in-Some.ensures.within c.index-socket.ensures c.number.ensures.number c.iface-iface.ensures in
-    let is_line = line-of _ _ _ _ _ _ _ stands c.number.ensures.number c.iface-iface.ensures within c.index_mut-line.ensures.value in
+    let within = on-interface _ _ _ _ _ _ _ c.self.view_is c.requires.known c.deref.ensures.value c.in-Some.ensures.within c.index-socket.ensures c.number.ensures.number c.iface-iface.ensures in
+    let is_interface = interface-of _ _ _ _ _ _ _ stands c.number.ensures.number c.iface-iface.ensures within c.index_mut-interface.ensures.value in
     let full = c.in_default-send.ensures.full in
-    found_full _ _ _ _ _ (pending_of c.args.frame c.args.id) _ _ _ c.self.view_is is_line c.number.ensures.number c.iface-iface.ensures (sym c.lacks_fd.ensures ∙ c.if-lacks_fd.false) (sym c.is_off.ensures ∙ c.if-is_off.false) full.0 full.1
+    found_full _ _ _ _ _ (pending_of c.args.frame c.args.id) _ _ _ c.self.view_is is_interface c.number.ensures.number c.iface-iface.ensures (sym c.lacks_fd.ensures ∙ c.if-lacks_fd.false) (sym c.is_off.ensures ∙ c.if-is_off.false) full.0 full.1
 
 pub returns : goal.returns
 returns g c =
-    let l = c.index_mut-line.result.now in
+    let l = c.index_mut-interface.result.now in
     let stands = stands-at _ _ _ _ _ c.deref.ensures.value c.in-Some.ensures.within c.in-Some.ensures.found c.index-socket.ensures in
-    let within = on-line _ _ _ _ _ _ _ c.self.view_is c.requires.known c.deref.ensures.value c.in-Some.ensures.within c.index-socket.ensures c.number.ensures.number c.iface-iface.ensures in
-    let is_line = line-of _ _ _ _ _ _ _ stands c.number.ensures.number c.iface-iface.ensures within c.index_mut-line.ensures.value in
+    let within = on-interface _ _ _ _ _ _ _ c.self.view_is c.requires.known c.deref.ensures.value c.in-Some.ensures.within c.index-socket.ensures c.number.ensures.number c.iface-iface.ensures in
+    let is_interface = interface-of _ _ _ _ _ _ _ stands c.number.ensures.number c.iface-iface.ensures within c.index_mut-interface.ensures.value in
     let sent = c.in-Some-send.ensures.sent in
     let taken : c.send.new.self ≡ record l { waiting = l.waiting ++ pending_of c.args.frame c.args.id c.index-socket.result.now ∷ []; sent = l.sent + 1 } =
     sent.2 ∙ ap (λ (o : Options). record l { waiting = l.waiting ++ record { frame = c.args.frame; socket = c.args.id; loopback = o.loopback } ∷ []; sent = l.sent + 1 }) c.options.ensures in
-    took _ _ _ _ _ _ (pending_of c.args.frame c.args.id) _ _ _ _ _ c.self.view_is is_line c.number.ensures.number c.iface-iface.ensures
-    (sym c.lacks_fd.ensures ∙ c.if-lacks_fd.false) (sym c.is_off.ensures ∙ c.if-is_off.false) sent.1 sent.0 taken c.head_key-key.ensures c.compete.ensures
+    took _ _ _ _ _ _ (pending_of c.args.frame c.args.id) _ _ _ _ _ c.self.view_is is_interface c.number.ensures.number c.iface-iface.ensures
+    (sym c.lacks_fd.ensures ∙ c.if-lacks_fd.false) (sym c.is_off.ensures ∙ c.if-is_off.false) sent.1 sent.0 taken c.head_key-key.ensures c.set_key.ensures

@@ -4,17 +4,17 @@ use Rattle.can_hub.specs.Buses.{BusSeen}
 use Rattle.can_hub.proofs.AllNames.{one_bus_more, all_buses}
 use Rattle.can_hub.proofs.buses.Buses.put_names.Goals as goal
 
-pub loop-wire-preserved : goal.loop-wire-preserved
-loop-wire-preserved g c =
-    let n = c.loop-wire.wire-index in
-    let same : c.deref-wire-items.result.now ≡ c.args.self.now = c.deref-wire-items.ensures.value ∙ c.self.view_is in
-    one_bus_more c.args.self.now n c.wire-item.result c.args.text.now.items c.loop-wire.text.items c.put_names.new.text.items
-    (subst (λ (bs : List BusSeen). n < length bs) same c.loop-wire-test.true) (c.wire-item.is ∙ ap (λ (bs : List BusSeen). get_or bs n c.wire-item.result) same)
-    c.loop-wire.invariant (c.in_ok-put_names.ensures ∙ ap (λ (b : BusSeen). c.loop-wire.text.items ++ spaced b.names) c.wire.view_is)
+pub loop-network-preserved : goal.loop-network-preserved
+loop-network-preserved g c =
+    let n = c.loop-network.network-index in
+    let same : c.deref-network-items.result.now ≡ c.args.self.now = c.deref-network-items.ensures.value ∙ c.self.view_is in
+    one_bus_more c.args.self.now n c.network-item.result c.args.text.now.items c.loop-network.text.items c.put_names.new.text.items
+    (subst (λ (bs : List BusSeen). n < length bs) same c.loop-network-test.true) (c.network-item.is ∙ ap (λ (bs : List BusSeen). get_or bs n c.network-item.result) same)
+    c.loop-network.invariant (c.in_ok-put_names.ensures ∙ ap (λ (b : BusSeen). c.loop-network.text.items ++ spaced b.names) c.network.view_is)
 
 pub returns : goal.returns
 returns g c =
-    let n = c.loop-wire.wire-index in
-    let same : c.deref-wire-items.result.now ≡ c.args.self.now = c.deref-wire-items.ensures.value ∙ c.self.view_is in
-    let ended : length c.deref-wire-items.result.now ≤ n = omega (arith, c.loop-wire-test.false) in
-    all_buses c.args.self.now n c.args.text.now.items c.loop-wire.text.items (subst (λ (bs : List BusSeen). length bs ≤ n) same ended) c.loop-wire.invariant
+    let n = c.loop-network.network-index in
+    let same : c.deref-network-items.result.now ≡ c.args.self.now = c.deref-network-items.ensures.value ∙ c.self.view_is in
+    let ended : length c.deref-network-items.result.now ≤ n = omega (arith, c.loop-network-test.false) in
+    all_buses c.args.self.now n c.args.text.now.items c.loop-network.text.items (subst (λ (bs : List BusSeen). length bs ≤ n) same ended) c.loop-network.invariant

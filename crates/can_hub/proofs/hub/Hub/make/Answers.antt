@@ -7,7 +7,7 @@ use Rattle.can_hub.proofs.hub.Hub.make.Goals as goal
 pub invariant_of-buses : goal.invariant_of-buses
 invariant_of-buses g c =
     let benches = c.args.benches.items in
-    let made = c.in_ok-wires.ensures.made in
+    let made = c.in_ok-networks.ensures.made in
     let hub : MakeHubWithin g.L.Leaves.limits benches = subst (λ (b : List _). MakeHubWithin g.L.Leaves.limits b) c.deref.ensures.value (c.make_hub.ensures.0 (search (rules, c.if-not-make_hub.false))) in
     let long = ap length made in
     let same = same_length 0 benches in (
@@ -19,11 +19,11 @@ invariant_of-buses g c =
 pub invariant_of-result : goal.invariant_of-result
 invariant_of-result g c =
     let benches = c.args.benches.items in
-    let made = c.in_ok-wires.ensures.made in
+    let made = c.in_ok-networks.ensures.made in
     let hub : MakeHubWithin g.L.Leaves.limits benches = subst (λ (b : List _). MakeHubWithin g.L.Leaves.limits b) c.deref.ensures.value (c.make_hub.ensures.0 (search (rules, c.if-not-make_hub.false))) in
     let long = ap length made in
     let same = same_length 0 benches in (
-      limited g.L.Leaves.limits 0 benches c.in_ok-wires.wires.items made hub.proper,
+      limited g.L.Leaves.limits 0 benches c.in_ok-networks.networks.items made hub.proper,
       c.in_ok-settled.ensures.items,
       omega (arith, long, same, c.in_ok-settled.ensures.capacity, c.len.ensures, c.args.benches.ok.0),
     )

@@ -10,19 +10,19 @@ use Rattle.can_hub.proofs.Making.{emptied}
 use Rattle.can_hub.proofs.Ending.{configured_push, settle_none, own_push, settle_push}
 use Rattle.can_hub.proofs.hub.Hub.settle.Goals as goal
 
-pub loop-wire-init : goal.loop-wire-init
-loop-wire-init g c =
+pub loop-network-init : goal.loop-network-init
+loop-network-init g c =
     let own = c.self.invariant in
     let wired = c.buses.invariant in
-    let given = c.into_iter-wire-iterator.ensures.into_iter_gives in
-    let items = into_iter_items c.into_iter-wire-iterator.result in
+    let given = c.into_iter-network-iterator.ensures.into_iter_gives in
+    let items = into_iter_items c.into_iter-network-iterator.result in
     let lists = c.into_iter-lists.ensures in
     let zero : length c.self.inside.settled.items ≡ 0 = ap length own.1 in
-    let wires = ap length given.0 in
+    let networks = ap length given.0 in
     let passes = ap length lists.rest in
-    let same : c.buses.inside.wires.items ≡ c.args.self = c.buses.view_is ∙ c.self.view_is in
-    let here : length c.buses.inside.wires.items ≡ length c.self.inside.buses = ap length c.buses.view_is in
-    let buses : length c.buses.inside.wires.items ≡ length c.args.self = ap length same in (
+    let same : c.buses.inside.networks.items ≡ c.args.self = c.buses.view_is ∙ c.self.view_is in
+    let here : length c.buses.inside.networks.items ≡ length c.self.inside.buses = ap length c.buses.view_is in
+    let buses : length c.buses.inside.networks.items ≡ length c.args.self = ap length same in (
       [],
       [],
       record {
@@ -34,29 +34,29 @@ loop-wire-init g c =
         settled = settle_none Global g.L.Leaves.journal c.self.inside.settled.items own.1;
         place = sym zero;
         numbered = subst (λ (ds : List _). NumberedFrom (length ds) items) (sym own.1) (subst (λ (ws : List BusSeen). NumberedFrom 0 ws) (sym given.0) wired.0);
-        wires = omega (arith, given.1, wires, c.buses.inside.wires.ok.0);
+        networks = omega (arith, given.1, networks, c.buses.inside.networks.ok.0);
         passes = omega (arith, lists.len, passes, c.args.passes.ok.0);
-        same = omega (arith, given.1, c.buses.inside.wires.ok.0, lists.len, c.args.passes.ok.0, c.requires, buses);
-        room = omega (arith, zero, given.1, c.buses.inside.wires.ok.0, own.2, here);
+        same = omega (arith, given.1, c.buses.inside.networks.ok.0, lists.len, c.args.passes.ok.0, c.requires, buses);
+        room = omega (arith, zero, given.1, c.buses.inside.networks.ok.0, own.2, here);
       },
     )
 
 pub returns-in_default-settle-clause-refused : goal.returns-in_default-settle-clause-refused
 returns-in_default-settle-clause-refused g c =
-    let before = c.loop-wire.invariant.0 in
-    let i = c.loop-wire.invariant.2 in
+    let before = c.loop-network.invariant.0 in
+    let i = c.loop-network.invariant.2 in
     let own = c.in-Some-next.own in
-    let done = c.loop-wire.settled.items in
+    let done = c.loop-network.settled.items in
     let numbered = subst (λ (ws : List BusSeen). NumberedFrom (length done) ws) c.in-Some.ensures.steps.0 i.numbered in
-    let here : c.wire.inside.station.number ≡ c.in-Some.wire.number = ap (λ (b : BusSeen). b.number) c.wire.view_is in
-    let bus : c.wire.inside.station.number ≡ c.len-bus.result = omega (arith, numbered.0, here, c.len-bus.ensures, c.loop-wire.settled.ok.0) in
+    let here : c.network.inside.station.number ≡ c.in-Some.network.number = ap (λ (b : BusSeen). b.number) c.network.view_is in
+    let bus : c.network.inside.station.number ≡ c.len-bus.result = omega (arith, numbered.0, here, c.len-bus.ensures, c.loop-network.settled.ok.0) in
     let none = ap length c.new.ensures.items in
     record {
       before = before;
       own = own;
-      after = into_iter_items c.next-in-loop-wire.new.self;
+      after = into_iter_items c.next-in-loop-network.new.self;
       lists = sym i.lists ∙ ap (λ (r : List (Vec PassSeen Global)). before ++ r) c.in-Some-next.ensures.items;
-      place = omega (arith, i.place, c.len-bus.ensures, c.loop-wire.settled.ok.0);
+      place = omega (arith, i.place, c.len-bus.ensures, c.loop-network.settled.ok.0);
       earlier = i.own;
       foreign = elim c.in_default-settle.ensures.refused [
         | inl other ↦ subst (λ (k : ℕ). SomeOther k own.items) bus other
@@ -66,44 +66,44 @@ returns-in_default-settle-clause-refused g c =
 
 pub settled_as-requires : goal.settled_as-requires
 settled_as-requires g c =
-    let all : All (λ b. g.L.Leaves.limits b.config) (c.in-Some.wire ∷ into_iter_items c.next.new.self) = subst (λ (bs : List BusSeen). All (λ b. g.L.Leaves.limits b.config) bs) c.in-Some.ensures.steps.0 c.loop-wire.invariant.2.limited in
-    subst g.L.Leaves.limits (sym (c.in-Ok.ensures.config ∙ ap (λ (b : BusSeen). b.config) c.wire.view_is)) (All-head (λ (b : BusSeen). g.L.Leaves.limits b.config) c.in-Some.wire (into_iter_items c.next.new.self) all)
+    let all : All (λ b. g.L.Leaves.limits b.config) (c.in-Some.network ∷ into_iter_items c.next.new.self) = subst (λ (bs : List BusSeen). All (λ b. g.L.Leaves.limits b.config) bs) c.in-Some.ensures.steps.0 c.loop-network.invariant.2.limited in
+    subst g.L.Leaves.limits (sym (c.in-Ok.ensures.config ∙ ap (λ (b : BusSeen). b.config) c.network.view_is)) (All-head (λ (b : BusSeen). g.L.Leaves.limits b.config) c.in-Some.network (into_iter_items c.next.new.self) all)
 
-pub loop-wire-preserved : goal.loop-wire-preserved
-loop-wire-preserved g c =
-    let before = c.loop-wire.invariant.0 in
-    let gone = c.loop-wire.invariant.1 in
-    let i = c.loop-wire.invariant.2 in
+pub loop-network-preserved : goal.loop-network-preserved
+loop-network-preserved g c =
+    let before = c.loop-network.invariant.0 in
+    let gone = c.loop-network.invariant.1 in
+    let i = c.loop-network.invariant.2 in
     let own = c.in-Some-next.own in
-    let done = c.loop-wire.settled.items in
+    let done = c.loop-network.settled.items in
     let new = c.push_reserved.new.self.items in
     let steps = c.in-Some.ensures.steps in
     let lists = c.in-Some-next.ensures in
     let more = into_iter_items c.next.new.self in
     let numbered = subst (λ (ws : List BusSeen). NumberedFrom (length done) ws) steps.0 i.numbered in
-    let here : c.wire.inside.station.number ≡ c.in-Some.wire.number = ap (λ (b : BusSeen). b.number) c.wire.view_is in
-    let bus : c.wire.inside.station.number ≡ length done = omega (arith, numbered.0, here) in
+    let here : c.network.inside.station.number ≡ c.in-Some.network.number = ap (λ (b : BusSeen). b.number) c.network.view_is in
+    let bus : c.network.inside.station.number ≡ length done = omega (arith, numbered.0, here) in
     let grown : length new ≡ length done + 1 = ap length c.push_reserved.ensures.items ∙ length-append done (c.settled_as.result ∷ []) in
     let longer : length (before ++ own ∷ []) ≡ length before + 1 = length-append before (own ∷ []) in
-    let wires = ap length steps.0 in
+    let networks = ap length steps.0 in
     let passes = ap length lists.items in
     let s = c.settled_as.result in
-    let all : All (λ b. g.L.Leaves.limits b.config) (c.in-Some.wire ∷ more) = subst (λ (bs : List BusSeen). All (λ b. g.L.Leaves.limits b.config) bs) steps.0 i.limited in
+    let all : All (λ b. g.L.Leaves.limits b.config) (c.in-Some.network ∷ more) = subst (λ (bs : List BusSeen). All (λ b. g.L.Leaves.limits b.config) bs) steps.0 i.limited in
     let next : suc (length done) ≡ length new = omega (arith, grown) in (
       before ++ own ∷ [],
-      gone ++ c.in-Some.wire ∷ [],
+      gone ++ c.in-Some.network ∷ [],
       record {
-        buses = append_assoc gone (c.in-Some.wire ∷ []) (into_iter_items c.next.new.self) ∙ ap (λ (r : List BusSeen). gone ++ r) (sym steps.0) ∙ i.buses;
-        configured = subst (λ (ds : List _). AllConfigured g.L.Leaves.journal (gone ++ c.in-Some.wire ∷ []) ds) (sym c.push_reserved.ensures.items)
-            (configured_push g.L.Leaves.journal gone done c.in-Some.wire s i.configured (ap (λ (j : Journal). j.config) c.settled_as.ensures.history ∙ c.in-Ok.ensures.config ∙ ap (λ (b : BusSeen). b.config) c.wire.view_is));
-        limited = All-tail (λ (b : BusSeen). g.L.Leaves.limits b.config) c.in-Some.wire more all;
-        lists = append_assoc before (own ∷ []) (into_iter_items c.next-in-loop-wire.new.self) ∙ ap (λ (r : List (Vec PassSeen Global)). before ++ r) (sym lists.items) ∙ i.lists;
+        buses = append_assoc gone (c.in-Some.network ∷ []) (into_iter_items c.next.new.self) ∙ ap (λ (r : List BusSeen). gone ++ r) (sym steps.0) ∙ i.buses;
+        configured = subst (λ (ds : List _). AllConfigured g.L.Leaves.journal (gone ++ c.in-Some.network ∷ []) ds) (sym c.push_reserved.ensures.items)
+            (configured_push g.L.Leaves.journal gone done c.in-Some.network s i.configured (ap (λ (j : Journal). j.config) c.settled_as.ensures.history ∙ c.in-Ok.ensures.config ∙ ap (λ (b : BusSeen). b.config) c.network.view_is));
+        limited = All-tail (λ (b : BusSeen). g.L.Leaves.limits b.config) c.in-Some.network more all;
+        lists = append_assoc before (own ∷ []) (into_iter_items c.next-in-loop-network.new.self) ∙ ap (λ (r : List (Vec PassSeen Global)). before ++ r) (sym lists.items) ∙ i.lists;
         own = own_push 0 (length done) before own i.own (omega (arith, i.place)) (subst (λ (k : ℕ). AllOf k own.items) bus c.in-Ok.ensures.refused.0);
         settled = subst (λ (ds : List _). AllSettleIn g.L.Leaves.journal (before ++ own ∷ []) ds) (sym c.push_reserved.ensures.items) (settle_push g.L.Leaves.journal before done own s i.settled
             (subst (λ (j : Journal). SettlesIn j s.passes own.items) (sym c.settled_as.ensures.history) (subst (λ (n : ℕ). SettlesIn (left_in c.in-Ok.left.history) n own.items) (sym c.settled_as.ensures.passes) c.in-Ok.ensures.settled)));
         place = omega (arith, grown, longer, i.place);
         numbered = subst (λ (k : ℕ). NumberedFrom k more) next numbered.1;
-        wires = omega (arith, steps.1, i.wires, wires);
+        networks = omega (arith, steps.1, i.networks, networks);
         passes = omega (arith, lists.len, i.passes, passes);
         same = omega (arith, steps.1, lists.len, i.same);
         room = omega (arith, grown, steps.1, i.room, c.push_reserved.ensures.capacity);
@@ -112,16 +112,16 @@ loop-wire-preserved g c =
 
 pub returns-clause-settled : goal.returns-clause-settled
 returns-clause-settled g c =
-    let before = c.loop-wire.invariant.0 in
-    let i = c.loop-wire.invariant.2 in
-    let none = emptied (into_iter_items c.loop-wire.lists) (omega (arith, c.in-None.ensures.steps.0, i.same, i.passes)) in
+    let before = c.loop-network.invariant.0 in
+    let i = c.loop-network.invariant.2 in
+    let none = emptied (into_iter_items c.loop-network.lists) (omega (arith, c.in-None.ensures.steps.0, i.same, i.passes)) in
     let all : before ≡ c.args.passes.items = sym (append-nil before) ∙ ap (λ (r : List (Vec PassSeen Global)). before ++ r) (sym none) ∙ i.lists in
-    subst (λ (ps : List (Vec PassSeen Global)). AllSettleIn g.L.Leaves.journal ps c.loop-wire.settled.items) all i.settled
+    subst (λ (ps : List (Vec PassSeen Global)). AllSettleIn g.L.Leaves.journal ps c.loop-network.settled.items) all i.settled
 
 pub returns-clause-configured : goal.returns-clause-configured
 returns-clause-configured g c =
-    let gone = c.loop-wire.invariant.1 in
-    let i = c.loop-wire.invariant.2 in
-    let none = emptied (into_iter_items c.loop-wire.wire-iterator) (omega (arith, c.in-None.ensures.steps.0, i.wires)) in
+    let gone = c.loop-network.invariant.1 in
+    let i = c.loop-network.invariant.2 in
+    let none = emptied (into_iter_items c.loop-network.network-iterator) (omega (arith, c.in-None.ensures.steps.0, i.networks)) in
     let all : gone ≡ c.args.self = sym (append-nil gone) ∙ ap (λ (r : List BusSeen). gone ++ r) (sym none) ∙ i.buses in
-    subst (λ (bs : List BusSeen). AllConfigured g.L.Leaves.journal bs c.loop-wire.settled.items) all i.configured
+    subst (λ (bs : List BusSeen). AllConfigured g.L.Leaves.journal bs c.loop-network.settled.items) all i.configured

@@ -1,6 +1,6 @@
 use Rattle.std.proofs.Common.{◌≡◌, ◌≤◌, ◌+◌, ◌∷◌, ◌++◌, [], length, length-append, ap, arith}
 use Rattle.std.proofs.lemmas.Grind.{common_steps}
-use Rattle.can_record.specs.Kept.{entry_in, frames_needed, fd_frames}
+use Rattle.can_record.specs.PackedEntry.{entry_in, frames_needed, fd_frames}
 use Rattle.can_record.specs.Records.{PackedEntries}
 use Rattle.can_record.proofs.Growing.{entries_pushed, few_frames, within_pushed}
 use Rattle.can_record.proofs.packed_record.PackedRecord.push.Goals as goal

@@ -2,7 +2,7 @@ use Rattle.std.proofs.Common.{◌≡◌, ◌≤◌, ◌+◌, ◌∷◌, ◌++◌
 use Rattle.std.proofs.lemmas.Grind.{common_steps}
 use Rattle.can_event.specs.Replies.{receive_reply}
 use Rattle.can_event.specs.declared.event.Event.TheVariants.{Receive}
-use Rattle.can_record.specs.Kept.{entry_in, frames_needed, receive_entry, receive_frames}
+use Rattle.can_record.specs.PackedEntry.{entry_in, frames_needed, receive_entry, receive_frames}
 use Rattle.can_record.specs.Records.{PackedEntries}
 use Rattle.can_record.proofs.Growing.{entries_pushed, few_frames, within_pushed}
 use Rattle.can_record.proofs.packed_record.PackedRecord.push_receive.Goals as goal

@@ -3,7 +3,7 @@ use Rattle.std.proofs.lemmas.Grind.{common_steps}
 use Rattle.can_event.specs.Replies.{told}
 use Rattle.can_event.specs.declared.event.Event.TheVariants.{Send}
 use Rattle.can_event.specs.declared.reply.Reply.TheVariants.{Sent}
-use Rattle.can_record.specs.Kept.{entry_in, frames_needed, fd_frames_of, send_entry}
+use Rattle.can_record.specs.PackedEntry.{entry_in, frames_needed, fd_frames_of, send_entry}
 use Rattle.can_record.specs.Records.{PackedEntries}
 use Rattle.can_record.proofs.Growing.{entries_pushed, few_frames, within_pushed}
 use Rattle.can_record.proofs.packed_record.PackedRecord.push_send.Goals as goal

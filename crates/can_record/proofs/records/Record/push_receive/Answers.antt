@@ -1,5 +1,5 @@
 use Rattle.std.proofs.Common.{ap}
-use Rattle.can_record.specs.Kept.{receive_entry}
+use Rattle.can_record.specs.PackedEntry.{receive_entry}
 use Rattle.can_record.specs.Journal.{Kept}
 use Rattle.can_record.proofs.Longer.{still_record}
 use Rattle.can_record.proofs.records.Record.push_receive.Goals as goal

@@ -9,7 +9,7 @@ pub returns-clause-tried : goal.returns-clause-tried
 returns-clause-tried g c =
     let stood = c.self.inside in
     let verdicts = g.F.FaultSource.verdicts c.args.script.now in
-    let old : BenchState = record { capacity = stood.capacity; bus = stood.port; sessions = stood.sessions.items; moment = stood.moment; wire = stood.wire; unheard = stood.unheard } in
+    let old : BenchState = record { capacity = stood.capacity; bus = stood.port; sessions = stood.sessions.items; moment = stood.moment; wire = stood.wire; ignored = stood.ignored } in
     let bus = c.attempt-verdict.new.self in
     let source = c.verdict-source.result in
     let verdict = c.attempt-verdict.result.0 in

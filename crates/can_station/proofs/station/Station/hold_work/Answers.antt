@@ -3,7 +3,7 @@ use Rattle.std.specs.Prelude.{is_none, Some}
 use Rattle.std.specs.Sync.Mutex.{mutex_guard_value}
 use Rattle.can_station.specs.Held.{Held}
 use Rattle.can_station.specs.Waits.{stopped_wake, has_work, work_wake}
-use Rattle.can_station.specs.declared.waits.Wake.TheVariants as wake
+use Rattle.can_station.specs.declared.waits.WakeReason.TheVariants as wake
 use Rattle.can_station.proofs.station.Station.hold_work.Goals as goal
 
 -- a wait for work that ends without work is one of a station that was stopped

@@ -1,0 +1,156 @@
+ghost use Rattle.std.specs.Prelude.{◌≡◌};
+ghost use Rattle.can_hub.specs.PassSteps.{is_shared};
+
+use crate::hub_bus::HubBus;
+use crate::pass_port::{PassPort, pass_on};
+use crate::tally::Counted;
+use can_bus::{Event, IfaceStats, Received, Refusal, Reply, SocketId, SocketStats};
+use can_confine::Counters;
+use can_dialog::{Port, PortRefusal};
+use can_fault::FaultSource;
+use can_frame::Iface;
+use can_meter::MeterName;
+use can_roll::RollName;
+use can_station::{Gate, Hold, Station};
+use std::alloc::AllocError;
+use std::marker::Model;
+use std::sync::Wait;
+
+/// A [`PassPort`] for a few calls: sends and receives that follow one another are made in one hold of the station's
+/// lock. It takes the lock for the first of them, and frees it before any other call and when it is dropped.
+#[derive(Drop)]
+pub struct LockedPort<
+    'p,
+    'a,
+    N: RollName + MeterName,
+    F: FaultSource + Drop,
+    G: Gate + Drop,
+    R: Wait,
+> {
+    port: &'p mut PassPort<'a, N, F, G, R>,
+    hold: Option<Hold<'a, N, F, G, HubBus>>,
+}
+
+impl<'p, 'a, N: RollName + MeterName, F: FaultSource + Drop, G: Gate + Drop, R: Wait> Model
+    for LockedPort<'p, 'a, N, F, G, R> {
+    ghost use Rattle.can_hub.specs.PassSteps.{PortSeen};
+
+    ghost Value = { PortSeen };
+
+    ghost view = { λ p. p.port.now };
+}
+
+impl<'p, 'a, N: RollName + MeterName, F: FaultSource + Drop, G: Gate + Drop, R: Wait> LockedPort<
+    'p,
+    'a,
+    N,
+    F,
+    G,
+    R,
+> {
+    /// The same port; no lock is taken.
+    pub fn new(port: &'p mut PassPort<'a, N, F, G, R>) -> LockedPort<'p, 'a, N, F, G, R>
+        ensures { result ≡ port.old }
+    {
+        LockedPort { port, hold: None }
+    }
+}
+
+/// The hold of this station. Where there is none it takes the lock, after a hold of another station is dropped.
+fn hold_of<'h, 'a, N: RollName + MeterName, F: FaultSource + Drop, G: Gate + Drop, R: Wait>(
+    rt: &R,
+    station: &'a Station<N, F, G, HubBus>,
+    taken: &'h mut Option<Hold<'a, N, F, G, HubBus>>,
+) -> &'h mut Hold<'a, N, F, G, HubBus>
+    ensures { result.now.number ≡ station.now.number }
+{
+    let is_own = match taken {
+        Some(hold) => hold.number() == station.number(),
+        None => false,
+    };
+    if !is_own {
+        *taken = None;
+        *taken = Some(station.lock(rt));
+    }
+    taken.as_mut().unwrap()
+}
+
+/// Whether an event may be made in one hold with others: it is a send or a receive.
+fn is_shared(event: &Event) -> bool
+    ensures { result ≡ is_shared event.now }
+{
+    matches!(event, Event::Send(_, _) | Event::Receive(_))
+}
+
+impl<'p, 'a, N: RollName + MeterName, F: FaultSource + Drop, G: Gate + Drop, R: Wait> Port
+    for LockedPort<'p, 'a, N, F, G, R> {
+    ghost use Rattle.can_hub.specs.PassSteps.{PassStep};
+
+    ghost step = { PassStep F };
+
+    fn call(&mut self, event: Event) -> Result<Reply, PortRefusal> {
+        if !is_shared(&event) {
+            self.hold = None;
+            return self.port.call(event);
+        }
+        let port = &mut *self.port;
+        let Some(entered) = &mut port.entered else {
+            return Err(PortRefusal::Bus(Refusal::NoSocket));
+        };
+        let counted = Counted::of(&event);
+        let hold = hold_of(port.rt, entered.station, &mut self.hold);
+        let outcome = hold.call(port.alloc, &mut entered.pass, event);
+        port.tally.add(counted, &outcome);
+        pass_on(outcome)
+    }
+
+    // The call that a session makes most, without an event and a reply between.
+    fn receive_into(&mut self, socket: SocketId, room: &mut Received) -> Result<bool, PortRefusal> {
+        let port = &mut *self.port;
+        let Some(entered) = &mut port.entered else {
+            return Err(PortRefusal::Bus(Refusal::NoSocket));
+        };
+        let hold = hold_of(port.rt, entered.station, &mut self.hold);
+        pass_on(hold.receive_into(port.alloc, &mut entered.pass, socket, room))
+    }
+
+    // No lock is needed for it.
+    fn put_names(&self, text: &mut Vec<u8>) -> Result<(), AllocError> {
+        self.port.put_names(text)
+    }
+
+    fn attach(&mut self, name: &[u8]) -> Result<Iface, PortRefusal> {
+        self.hold = None;
+        self.port.attach(name)
+    }
+
+    fn socket_stats(&mut self, socket: SocketId) -> Option<SocketStats> {
+        self.hold = None;
+        self.port.socket_stats(socket)
+    }
+
+    fn iface_stats(&mut self, iface: Iface) -> Option<IfaceStats> {
+        self.hold = None;
+        self.port.iface_stats(iface)
+    }
+
+    fn status(&mut self, iface: Iface) -> Counters {
+        self.hold = None;
+        self.port.status(iface)
+    }
+
+    fn inject(&mut self, rule: &[u8]) -> Result<(), PortRefusal> {
+        self.hold = None;
+        self.port.inject(rule)
+    }
+
+    fn rules(&mut self) -> u64 {
+        self.hold = None;
+        self.port.rules()
+    }
+
+    fn end_rules(&mut self) {
+        self.hold = None;
+        self.port.end_rules();
+    }
+}

@@ -1,0 +1,56 @@
+ghost use Rattle.std.specs.Prelude.{◌≡◌};
+ghost use Rattle.can_event.specs.Replies.{receive_reply};
+ghost use Rattle.can_event.specs.declared.event.Event.TheVariants as asked;
+ghost use Rattle.can_event.specs.declared.socket_id.SocketId.{SocketId};
+ghost use Rattle.can_record.specs.Boxed.{needs_box, is_large, is_off_alone};
+
+use can_event::{Event, Received, Refusal, Reply};
+use can_frame::{Iface, IfaceSet};
+
+/// Whether an entry does not fit in 32 bytes.
+pub fn needs_box(event: &Event, reply: &Reply) -> bool
+    ensures { result ≡ needs_box event.now reply.now }
+{
+    match (event, reply) {
+        (Event::SetFilters(_, _), _) => true,
+        (Event::Open(_, _), Reply::Opened(_))
+        | (Event::Close(_), Reply::Closed(_))
+        | (Event::SetOption(_, _) | Event::Restart(_, _), Reply::Done)
+        | (Event::Receive(_), Reply::Received(None))
+        | (Event::Attempt(_, _), Reply::Idle { .. })
+        | (_, Reply::Refused(_)) => false,
+        (Event::Send(_, _), Reply::Sent(number)) => is_large(*number),
+        (Event::Receive(_), Reply::Received(Some(received))) => is_large(received.number),
+        (Event::Attempt(moment, _), Reply::Tried(tried)) => {
+            is_large(tried.number)
+                || tried.moment != *moment
+                || !is_off_alone(tried.winner, tried.off)
+        }
+        _ => true,
+    }
+}
+
+/// Whether the entry of a receive does not fit in 32 bytes: it took an item into the room, or took none, or was refused.
+pub fn receive_needs_box(outcome: Result<bool, Refusal>, room: &Received) -> bool
+    ensures { (id : SocketId) →
+        result ≡ needs_box (asked.Receive id) (receive_reply room.now outcome) }
+{
+    match outcome {
+        Ok(true) => is_large(room.number),
+        _ => false,
+    }
+}
+
+/// Whether the number of a frame does not fit 32 bits.
+fn is_large(number: u64) -> bool
+    ensures { result ≡ is_large number }
+{
+    number >= 0x1_0000_0000
+}
+
+/// Whether at most the winner went bus off.
+fn is_off_alone(winner: Iface, off: IfaceSet) -> bool
+    ensures { result ≡ is_off_alone winner off }
+{
+    off.is_empty() || off.0 == 1 << winner.number()
+}

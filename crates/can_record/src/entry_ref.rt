@@ -1,0 +1,67 @@
+ghost use Rattle.std.specs.Prelude.{◌≡◌};
+ghost use Rattle.can_record.specs.StoredEntry.{entry_stored, IsStored};
+
+use crate::stored_entry::StoredEntry;
+use crate::unpacking::{event_in, reply_in};
+use can_event::Entry;
+use std::marker::Model;
+use std::ops::Deref;
+
+/// An entry that is looked at: made for the look, or borrowed from where it is kept. Contracts see the entry.
+#[derive(Drop)]
+pub struct EntryRef<'a> {
+    sight: EntryCow<'a>,
+}
+
+/// Whose the entry is.
+#[derive(Drop)]
+enum EntryCow<'a> {
+    Owned(Entry),
+    Borrowed(&'a Entry),
+}
+
+impl<'a> Model for EntryRef<'a> {
+    ghost use Rattle.can_event.specs.declared.entry.Entry.{Entry};
+    ghost use Rattle.can_record.specs.EntryRef.{entry_seen};
+
+    ghost Value = { Entry };
+
+    ghost view = { λ l. entry_seen l.sight };
+}
+
+impl<'a> EntryRef<'a> {
+    /// The entry that is stored: made of what is packed, or borrowed.
+    pub fn of(stored: &StoredEntry<'a>) -> EntryRef<'a>
+        requires { IsStored stored.now }
+        ensures { result ≡ entry_stored stored.now }
+    {
+        let sight = match stored {
+            StoredEntry::Packed(frames, kept) => EntryCow::Owned(Entry {
+                event: event_in(frames, kept),
+                reply: reply_in(frames, kept),
+            }),
+            StoredEntry::Whole(entry) => EntryCow::Borrowed(entry),
+        };
+        EntryRef { sight }
+    }
+
+    /// The entry.
+    pub fn entry(&self) -> &Entry
+        ensures { result.now ≡ self.now }
+    {
+        match &self.sight {
+            EntryCow::Owned(entry) => entry,
+            EntryCow::Borrowed(entry) => entry,
+        }
+    }
+}
+
+impl<'a> Deref for EntryRef<'a> {
+    type Target = Entry;
+
+    ghost deref_gives = { λ looked entry. entry ≡ looked };
+
+    fn deref(&self) -> &Entry {
+        self.entry()
+    }
+}

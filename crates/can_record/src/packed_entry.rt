@@ -1,0 +1,143 @@
+use can_event::{Closed, Entry, Opt, Refusal, SocketId};
+use can_fault::Verdict;
+use can_frame::{ErrorFrame, Iface, IfaceSet, Moment};
+
+/// An entry in 32 bytes: fields are laid out in their order, so small ones come right after the kind.
+///
+/// A frame of at most 8 bytes is kept by its identifier word, its length and its bytes. An FD frame is kept in a list
+/// beside the entries, and its entry has its place there.
+#[derive(Drop)]
+pub enum PackedEntry {
+    Opened {
+        iface: Iface,
+        capacity: u32,
+        socket: SocketId,
+    },
+    OpenRefused {
+        iface: Iface,
+        capacity: u32,
+        why: Refusal,
+    },
+    Closed {
+        socket: SocketId,
+        counts: Closed,
+    },
+    CloseRefused {
+        socket: SocketId,
+        why: Refusal,
+    },
+    OptionSet {
+        socket: SocketId,
+        option: Opt,
+    },
+    OptionRefused {
+        socket: SocketId,
+        option: Opt,
+        why: Refusal,
+    },
+    Sent {
+        len: u8,
+        socket: SocketId,
+        word: u32,
+        number: u32,
+        bytes: [u8; 8],
+    },
+    FdSent {
+        socket: SocketId,
+        number: u32,
+        place: usize,
+    },
+    SendRefused {
+        why: Refusal,
+        len: u8,
+        socket: SocketId,
+        word: u32,
+        bytes: [u8; 8],
+    },
+    FdSendRefused {
+        why: Refusal,
+        socket: SocketId,
+        place: usize,
+    },
+    NothingReceived {
+        socket: SocketId,
+    },
+    FrameReceived {
+        from: Iface,
+        len: u8,
+        socket: SocketId,
+        word: u32,
+        number: u32,
+        bytes: [u8; 8],
+        moment: Moment,
+    },
+    FdReceived {
+        from: Iface,
+        socket: SocketId,
+        number: u32,
+        place: usize,
+        moment: Moment,
+    },
+    ErrorReceived {
+        from: Iface,
+        socket: SocketId,
+        number: u32,
+        error: ErrorFrame,
+        moment: Moment,
+    },
+    ReceiveRefused {
+        socket: SocketId,
+        why: Refusal,
+    },
+    Idle {
+        restarted: IfaceSet,
+        verdict: Verdict,
+        moment: Moment,
+    },
+    Tried {
+        /// The class and the verdict as one number.
+        end: u8,
+        /// The interfaces that the verdict names.
+        named: IfaceSet,
+        word: u32,
+        number: u32,
+        accepted: IfaceSet,
+        restarted: IfaceSet,
+        bytes: [u8; 8],
+        /// The moment, the winner, the length and whether the winner went off as one number.
+        stamp: u64,
+    },
+    FdTried {
+        end: u8,
+        winner: Iface,
+        number: u32,
+        named: IfaceSet,
+        accepted: IfaceSet,
+        off: IfaceSet,
+        restarted: IfaceSet,
+        place: usize,
+        moment: Moment,
+    },
+    AttemptRefused {
+        verdict: Verdict,
+        moment: Moment,
+        why: Refusal,
+    },
+    Restarted {
+        iface: Iface,
+        moment: Moment,
+    },
+    RestartRefused {
+        iface: Iface,
+        moment: Moment,
+        why: Refusal,
+    },
+    /// Any entry, in memory of its own.
+    Boxed(Box<Entry>),
+}
+
+/// How the frame of an entry is kept: by its identifier word, its length and its bytes, or an FD frame by its place.
+pub enum PackedFrame {
+    Words { word: u32, len: u8, bytes: [u8; 8] },
+    Place(usize),
+}

@@ -1,0 +1,131 @@
+ghost use Rattle.std.specs.Prelude.{◌≡◌, ◌%◌, ◌^◌, [], IsTrue, nat_le};
+ghost use Rattle.can_record.specs.PackedEntry.{stamp_off};
+ghost use Rattle.can_record_text.specs.inner.StoredLines.{IsPackedLine};
+
+use crate::short_lines::{
+    push_attempt, push_data, push_error_from, push_idle, push_nothing, push_outcome, push_receive,
+    push_send, push_sent, push_winner,
+};
+use crate::short_words::{ShortLine, push_error, push_moment, push_packed};
+use can_frame::IfaceSet;
+use can_record::verdicts::class_in;
+use can_record::{PackedEntry, stamp_moment, verdict_in};
+
+/// The line of a packed entry, if it is of a usual kind; else what is in the room means nothing. It is written from
+/// the packed fields: no frame, event or reply is made, which would take longer than the line.
+pub(crate) fn push_entry(line: &mut ShortLine, kept: &PackedEntry) -> bool
+    requires { line.old ≡ [] }
+    ensures { IsTrue result → IsPackedLine line.new kept.now }
+{
+    match kept {
+        PackedEntry::NothingReceived { socket } => {
+            push_nothing(line, *socket);
+            true
+        }
+        PackedEntry::FrameReceived {
+            from,
+            len,
+            socket,
+            word,
+            number,
+            bytes,
+            moment,
+        } => {
+            if asks(*word) {
+                return false;
+            }
+            push_receive(line, *socket);
+            push_data(line, *from, u64::from(*number));
+            push_packed(line, *word, *len, bytes);
+            push_moment(line, *moment, b'\n');
+            true
+        }
+        PackedEntry::ErrorReceived {
+            from,
+            socket,
+            error,
+            moment,
+            ..
+        } => {
+            push_receive(line, *socket);
+            push_error_from(line, *from);
+            push_error(line, *error);
+            push_moment(line, *moment, b'\n');
+            true
+        }
+        PackedEntry::Sent {
+            len,
+            socket,
+            word,
+            number,
+            bytes,
+        } => {
+            if asks(*word) {
+                return false;
+            }
+            push_send(line, *socket);
+            push_packed(line, *word, *len, bytes);
+            push_sent(line, u64::from(*number));
+            true
+        }
+        kept => push_entry_attempt(line, kept),
+    }
+}
+
+/// The same of an attempt.
+fn push_entry_attempt(line: &mut ShortLine, kept: &PackedEntry) -> bool
+    requires { line.old ≡ [] }
+    ensures { IsTrue result → IsPackedLine line.new kept.now }
+{
+    match kept {
+        PackedEntry::Idle {
+            restarted,
+            verdict,
+            moment,
+        } => {
+            if !restarted.is_empty() {
+                return false;
+            }
+            push_idle(line, *moment, *verdict, *restarted);
+            true
+        }
+        PackedEntry::Tried {
+            end,
+            named,
+            word,
+            number,
+            accepted,
+            restarted,
+            bytes,
+            stamp,
+        } => {
+            if asks(*word) || !restarted.is_empty() {
+                return false;
+            }
+            push_attempt(line, stamp_moment(*stamp), verdict_in(*end / 4, *named));
+            push_winner(line, *stamp / 32 % 16, u64::from(*number));
+            push_packed(line, *word, (*stamp / 2 % 16) as u8, bytes);
+            push_outcome(line, class_in(*end % 4), *accepted, off_in(*stamp));
+            true
+        }
+        _ => false,
+    }
+}
+
+/// Whether the frame of a word is a remote frame.
+fn asks(word: u32) -> bool
+    ensures { result ≡ nat_le (2 ^ 30) (word % 2 ^ 31) }
+{
+    word % 0x8000_0000 >= 0x4000_0000
+}
+
+/// The winner of a stamp, where it went off.
+fn off_in(stamp: u64) -> IfaceSet
+    ensures { result ≡ stamp_off stamp }
+{
+    if stamp % 2 == 0 {
+        return IfaceSet::empty();
+    }
+    let winner = stamp / 32 % 16;
+    IfaceSet(1 << winner)
+}

@@ -1,0 +1,123 @@
+use crate::conn::Conn;
+use std::io;
+use std::net::{TcpListener, TcpStream};
+use std::os::fd::OwnedFd;
+use std::os::unix::net::{UnixListener, UnixStream};
+use std::sync::atomic::{AtomicU64, Ordering};
+
+/// The most connections that wait at a listener: Linux's `somaxconn`, as it mostly is.
+const MOST_WAITING: u32 = 4096;
+
+/// Where connections come in.
+#[derive(Drop)]
+pub enum Listener {
+    Tcp(TcpListener),
+    Unix(UnixListener),
+}
+
+impl Listener {
+    /// Waits for the next connection. What is written to it over TCP goes out at once.
+    fn accept(&self) -> io::Result<Conn> {
+        match self {
+            Listener::Tcp(listener) => {
+                let (stream, _) = listener.accept()?;
+                stream.set_nodelay(true)?;
+                Ok(Conn::Tcp(stream))
+            }
+            Listener::Unix(listener) => {
+                let (stream, _) = listener.accept()?;
+                Ok(Conn::Unix(stream))
+            }
+        }
+    }
+
+    /// From now on `accept` is a fault where no connection waits.
+    fn never_waits(&self) -> io::Result<()> {
+        match self {
+            Listener::Tcp(listener) => listener.set_nonblocking(true),
+            Listener::Unix(listener) => listener.set_nonblocking(true),
+        }
+    }
+
+    /// A second handle of the listening socket, to shut it down by.
+    fn shutdown_handle(&self) -> io::Result<Conn> {
+        match self {
+            Listener::Tcp(listener) => {
+                let handle = OwnedFd::from(listener.try_clone()?);
+                Ok(Conn::Tcp(TcpStream::from(handle)))
+            }
+            Listener::Unix(listener) => {
+                let handle = OwnedFd::from(listener.try_clone()?);
+                Ok(Conn::Unix(UnixStream::from(handle)))
+            }
+        }
+    }
+}
+
+/// A listener, with how many sessions it takes.
+#[derive(Drop)]
+pub struct Acceptor {
+    listener: Listener,
+    shutdown_handle: Conn,
+    sessions: u32,
+    /// How many sessions have been raw, where those count.
+    raw: AtomicU64,
+}
+
+impl Acceptor {
+    /// An acceptor for this many sessions. It takes a file descriptor.
+    pub fn new(listener: Listener, sessions: u32) -> io::Result<Acceptor> {
+        let shutdown_handle = listener.shutdown_handle()?;
+        Ok(Acceptor {
+            listener,
+            shutdown_handle,
+            sessions,
+            raw: AtomicU64::new(0),
+        })
+    }
+
+    /// How many sessions it takes.
+    pub fn sessions(&self) -> u32 {
+        self.sessions
+    }
+
+    /// Counts a session that is raw now, and returns whether it is one of those that the acceptor takes. The last of them
+    /// closes the acceptor.
+    pub(crate) fn count_raw(&self) -> bool {
+        let before = self.raw.fetch_add(1, Ordering::SeqCst);
+        let sessions = u64::from(self.sessions);
+        if before.saturating_add(1) >= sessions {
+            self.close();
+        }
+        before < sessions
+    }
+
+    /// Whether as many sessions have been raw as it takes.
+    pub(crate) fn is_used_up(&self) -> bool {
+        self.raw.load(Ordering::SeqCst) >= u64::from(self.sessions)
+    }
+
+    /// Waits for the next connection.
+    pub(crate) fn accept(&self) -> io::Result<Conn> {
+        self.listener.accept()
+    }
+
+    /// Lets nobody in any more: who comes later is refused by the system. A thread that waits for a connection returns:
+    /// Linux refuses an `accept` on a listening socket that was shut down.
+    pub(crate) fn close(&self) {
+        self.shutdown_handle.shutdown();
+    }
+
+    /// Closes the connections that came before the acceptor was closed and that nobody has accepted. Linux still gives those
+    /// of a Unix path.
+    pub(crate) fn turn_away(&self) {
+        if self.listener.never_waits().is_err() {
+            return;
+        }
+        for _ in 0..MOST_WAITING {
+            if self.accept().is_err() {
+                break;
+            }
+        }
+    }
+}

@@ -1,0 +1,66 @@
+use Rattle.std.specs.Prelude.{◌≡◌, ℕ, ◌-◌, ◌==◌, Bool, true, false, ◌||◌, if◌then◌else◌, List, [], ◌∷◌, ◌++◌, get_or, slice_set, replicate}
+use Rattle.std.specs.List.{flat_map, AllByRecursion}
+use Rattle.can_proto.specs.Messages.{has_mark}
+use Rattle.can_proto.specs.Words.{is_blank}
+use Rattle.can_session.specs.declared.ignored_input.IgnoredInput.{IgnoredInput}
+
+-- What sessions are fed that is in no message (own choice).
+
+-- whether a message is begun and not ended after these bytes, where `begun` says whether one was before
+abbrev pub begun_after : Bool → List ℕ → Bool
+begun_after begun [] = begun
+begun_after begun (b ∷ bs) = begun_after (if b == 60 then true else if b == 62 then false else begun) bs
+
+-- whether some of these bytes are outside messages and not blank, or in a message that a `<` begins anew
+abbrev pub has_outside : Bool → List ℕ → Bool
+has_outside begun [] = false
+has_outside false (b ∷ bs) = if b == 60 then has_outside true bs else if is_blank b then has_outside false bs else true
+has_outside true (b ∷ bs) = if b == 60 then true else has_outside (if b == 62 then false else true) bs
+
+-- a part of a stream in order: a blank between messages, or a message with this inside
+pub data Part : Type 0 where
+  Gap : ℕ → Part
+  Whole : List ℕ → Part
+
+-- its bytes
+abbrev pub part_text : Part → List ℕ
+part_text (Gap b) = b ∷ []
+part_text (Whole inside) = 60 ∷ inside ++ 62 ∷ []
+
+-- the byte is a blank, or no mark is inside the message
+abbrev pub IsPart : Part → Type 0
+IsPart (Gap b) = is_blank b ≡ true
+IsPart (Whole inside) = has_mark inside ≡ false
+
+-- what comes after the parts: nothing, or a message that is begun
+abbrev pub IsTail : Bool → List ℕ → Type 0
+IsTail false tail = tail ≡ []
+IsTail true tail = (inside : List ℕ) × (tail ≡ 60 ∷ inside) × (has_mark inside ≡ false)
+
+-- bytes that are messages with nothing but blanks between them, and at the end nothing, or a message that is begun
+pub record AreInOrder (bytes : List ℕ) (begun : Bool) : Type 0 where
+  pub parts : List Part
+  pub tail : List ℕ
+  pub good : AllByRecursion IsPart parts
+  pub last : IsTail begun tail
+  pub whole : bytes ≡ flat_map part_text parts ++ tail
+
+-- the flag of session s
+abbrev pub flag : List Bool → ℕ → Bool
+flag flags s = get_or flags (s - 1) false
+
+-- in which sessions a message is begun and not ended, after session s was fed these bytes
+abbrev pub begun_then : List Bool → ℕ → List ℕ → List Bool
+begun_then begun s bytes = slice_set begun (s - 1) (begun_after (flag begun s) bytes)
+
+-- which sessions were fed bytes outside messages, after session s was fed these
+abbrev pub outside_then : List Bool → List Bool → ℕ → List ℕ → List Bool
+outside_then outside begun s bytes = slice_set outside (s - 1) (flag outside s || has_outside (flag begun s) bytes)
+
+-- of no session, before any of them was fed
+abbrev pub none_ignored : IgnoredInput
+none_ignored = record { begun = replicate 64 false; outside = replicate 64 false }
+
+-- of each session, after session s was fed these bytes
+abbrev pub ignored_then : IgnoredInput → ℕ → List ℕ → IgnoredInput
+ignored_then u s bytes = record { begun = begun_then u.begun s bytes; outside = outside_then u.outside u.begun s bytes }

@@ -1,0 +1,110 @@
+//! What sessions are fed that is in no message, so that a run can report it.
+ghost use Rattle.std.specs.Prelude.{◌≡◌, true, false};
+ghost use Rattle.can_proto.specs.Messages.{has_mark};
+ghost use Rattle.can_session.specs.IgnoredInput.{begun_after, flag, has_outside, none_ignored, ignored_then};
+
+use crate::order::SessionNumber;
+
+/// Which sessions of a run were fed bytes outside messages, and which a message that was not ended. Spaces, tabs, CR and
+/// LF outside messages do not count.
+#[derive(Debug, Clone, Copy, PartialEq, Eq)]
+pub struct IgnoredInput {
+    // A flag for each session.
+    begun: [bool; 64],
+    outside: [bool; 64],
+}
+
+impl IgnoredInput {
+    /// Of no session.
+    pub fn none() -> IgnoredInput
+        ensures { result ≡ none_ignored }
+    {
+        IgnoredInput {
+            begun: [false; 64],
+            outside: [false; 64],
+        }
+    }
+
+    /// Whether the session's last message was begun and not ended.
+    pub fn has_begun(&self, session: SessionNumber) -> bool
+        ensures { result ≡ flag self.now.begun session }
+    {
+        self.begun[session.place()]
+    }
+
+    /// Whether the session was fed bytes outside messages, or a message that a `<` inside began anew.
+    pub fn has_outside(&self, session: SessionNumber) -> bool
+        ensures { result ≡ flag self.now.outside session }
+    {
+        self.outside[session.place()]
+    }
+
+    /// Looks at what a session is fed.
+    pub fn hear(&mut self, session: SessionNumber, bytes: &[u8])
+        ensures { self.new ≡ ignored_then self.old session bytes.now }
+    {
+        let place = session.place();
+        let was_begun = self.begun[place];
+        if !self.outside[place] {
+            self.outside[place] = are_outside(bytes, was_begun);
+        }
+        self.begun[place] = is_begun_after(bytes, was_begun);
+    }
+}
+
+// Whether a message is begun and not ended after these bytes: the last mark decides.
+fn is_begun_after(bytes: &[u8], was_begun: bool) -> bool
+    ensures { result ≡ begun_after was_begun bytes.now }
+{
+    let mut rest = bytes;
+    while let [front @ .., last] = rest {
+        match *last {
+            b'<' => return true,
+            b'>' => return false,
+            _ => rest = front,
+        }
+    }
+    was_begun
+}
+
+// Whether some of the bytes are outside messages, or in a message that a `<` begins anew.
+fn are_outside(bytes: &[u8], was_begun: bool) -> bool
+    ensures { result ≡ has_outside was_begun bytes.now }
+{
+    if !was_begun && is_message(bytes) {
+        return false;
+    }
+    let mut is_begun = was_begun;
+    for byte in bytes {
+        match *byte {
+            b'<' if is_begun => return true,
+            b'<' => is_begun = true,
+            b'>' if is_begun => is_begun = false,
+            b' ' | b'\t' | b'\r' | b'\n' => {}
+            _ if is_begun => {}
+            _ => return true,
+        }
+    }
+    false
+}
+
+// Whether the bytes are one message and no more, as they mostly are.
+fn is_message(bytes: &[u8]) -> bool
+    ensures { result ≡ true → has_outside false bytes.now ≡ false }
+{
+    match bytes {
+        [b'<', inside @ .., b'>'] => !has_marks(inside),
+        _ => false,
+    }
+}
+
+// Whether a message begins or ends among the bytes. No byte decides early, so that the compiler can compare many at once.
+fn has_marks(bytes: &[u8]) -> bool
+    ensures { result ≡ has_mark bytes.now }
+{
+    let mut found = false;
+    for byte in bytes {
+        found = found | ((*byte == b'<') | (*byte == b'>'));
+    }
+    found
+}

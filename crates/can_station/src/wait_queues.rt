@@ -1,0 +1,128 @@
+ghost use Rattle.std.specs.Prelude.{◌<◌};
+
+use can_bus::SocketId;
+use std::array;
+use std::sync::Condvar;
+
+/// How many queues there are: as many as sockets can be open at once.
+pub(crate) const QUEUES: usize = 64;
+
+/// Where receivers wait for items, so that a call wakes only those whose sockets got one. Each socket has a queue, which
+/// it shares with those opened 64 before or after it.
+#[derive(Drop)]
+pub(crate) struct WaitQueues {
+    queues: [Condvar; QUEUES],
+}
+
+impl WaitQueues {
+    pub(crate) fn new() -> WaitQueues {
+        WaitQueues {
+            queues: array::from_fn(|_| Condvar::new()),
+        }
+    }
+
+    /// The queue of a socket.
+    pub(crate) fn queue(&self, socket: SocketId) -> &Condvar {
+        &self.queues[place_of(socket)]
+    }
+
+    /// Wakes those who wait in these queues.
+    pub(crate) fn wake(&self, which: QueueSet) {
+        if which == QueueSet::none() {
+            return;
+        }
+        for place in 0..QUEUES {
+            if which.contains(place) {
+                self.queues[place].notify_all();
+            }
+        }
+    }
+
+    /// Wakes everybody.
+    pub(crate) fn wake_all(&self) {
+        for queue in &self.queues {
+            queue.notify_all();
+        }
+    }
+}
+
+/// The place of a socket's queue.
+fn place_of(socket: SocketId) -> usize
+    ensures { result < 64 }
+{
+    socket.0 as usize % QUEUES
+}
+
+/// Some of the queues: bit 0 is the first.
+#[derive(Debug, Clone, Copy, PartialEq, Eq)]
+pub(crate) struct QueueSet(u64);
+
+impl QueueSet {
+    pub(crate) fn none() -> QueueSet {
+        QueueSet(0)
+    }
+
+    pub(crate) fn add(&mut self, place: usize)
+        requires { place < 64 }
+    {
+        self.0 |= 1 << place;
+    }
+
+    fn contains(self, place: usize) -> bool
+        requires { place < 64 }
+    {
+        self.0 >> place & 1 == 1
+    }
+}
+
+/// Who waits in a queue.
+#[derive(Debug, Clone, Copy, PartialEq, Eq)]
+pub(crate) enum Waiter {
+    Nobody,
+    /// Threads that wait for items of this socket.
+    One(SocketId),
+    /// Threads that wait for items of several sockets.
+    Several,
+}
+
+/// Who waits in each queue.
+#[derive(Debug, Drop)]
+pub(crate) struct Waiters {
+    queues: [Waiter; QUEUES],
+}
+
+impl Waiters {
+    pub(crate) fn none() -> Waiters {
+        Waiters {
+            queues: [Waiter::Nobody; QUEUES],
+        }
+    }
+
+    /// Who waits in a queue.
+    pub(crate) fn waiter(&self, place: usize) -> Waiter
+        requires { place < 64 }
+    {
+        self.queues[place]
+    }
+
+    /// Notes that a thread is about to wait for an item of this socket.
+    pub(crate) fn add(&mut self, socket: SocketId) {
+        let place = place_of(socket);
+        let one = Waiter::One(socket);
+        let waiter = self.queues[place];
+        self.queues[place] = if waiter == Waiter::Nobody || waiter == one {
+            one
+        } else {
+            Waiter::Several
+        };
+    }
+
+    /// Notes that nobody waits in these queues.
+    pub(crate) fn leave(&mut self, which: QueueSet) {
+        for place in 0..QUEUES {
+            if which.contains(place) {
+                self.queues[place] = Waiter::Nobody;
+            }
+        }
+    }
+}

@@ -1,0 +1,34 @@
+use Rattle.std.proofs.Common.{◌≡◌, ◌+◌, ◌-◌, ◌++◌, ℕ, List, Some, Err, arith, drop, length, length-drop, subst, take, take_all}
+use Rattle.memchr.specs.Find.{IsFirstByte, is_byte}
+use Rattle.can_record_text.specs.RecordFaults.{Reads}
+use Rattle.can_replay.specs.TextAudits.{AreTaken, IsLine, MayFollow}
+use Rattle.canbusd_audit.proofs.HeldLines.{fails_in, takes_more}
+use Rattle.canbusd_audit.proofs.buffered.carry_held.Goals as goal
+
+whole_rest : (xs : List ℕ) (n : ℕ) → take (length xs - n) (drop n xs) ≡ drop n xs
+whole_rest xs n = take_all _ _ (omega (arith, length-drop n xs))
+
+pub returns-in-Err-clause-fault : goal.returns-in-Err-clause-fault
+returns-in-Err-clause-fault c =
+    let held = c.args.held.now in
+    let len = c.loop-place.len in
+    let place = c.in-Some.place in
+    let found : IsFirstByte (is_byte 10) (drop len held) (Some place) = rw whole_rest at c.in-Some.ensures in
+    let size : len + place + 1 - len ≡ place + 1 = omega arith in
+    fails_in held len place c.args.audit.now c.loop-place.audit c.in-Err.fault found c.loop-place.invariant.taken
+    (subst (λ (n : ℕ). (text after : List ℕ) → AreTaken text c.loop-place.audit → IsLine (take n (drop len held)) → MayFollow (take n (drop len held)) after → Reads (text ++ (take n (drop len held) ++ after)) (Err c.in-Err.fault)) size c.in-Err.ensures.fault)
+
+pub loop-place-preserved : goal.loop-place-preserved
+loop-place-preserved c =
+    let held = c.args.held.now in
+    let len = c.loop-place.len in
+    let place = c.in-Some.place in
+    let found : IsFirstByte (is_byte 10) (drop len held) (Some place) = rw whole_rest at c.in-Some.ensures in
+    let size : len + place + 1 - len ≡ place + 1 = omega arith in
+    let end : len + (place + 1) ≡ len + place + 1 = omega arith in
+    record {
+      within = omega (arith, found.0.high, length-drop len held);
+      taken = subst (λ (n : ℕ). (text : List ℕ) → AreTaken text c.args.audit.now → AreTaken (text ++ take n held) c.carry.new.self) end
+          (takes_more held len place c.args.audit.now c.loop-place.audit c.carry.new.self found c.loop-place.invariant.taken
+          (subst (λ (n : ℕ). (text : List ℕ) → AreTaken text c.loop-place.audit → IsLine (take n (drop len held)) → AreTaken (text ++ take n (drop len held)) c.carry.new.self) size c.in-Ok.ensures.taken));
+    }

@@ -1,0 +1,80 @@
+ghost use Rattle.std.specs.Prelude.{◌≡◌, ◌≤◌, IfOk, IfSome, IsNone, length, take};
+ghost use Rattle.canbusd_audit.specs.Audited.{BecomesOf, IsWrongNext, TakesMore};
+
+use can_record_text::ReadFault;
+use can_replay::TextAudit;
+use memchr::memchr;
+use std::alloc::Global;
+use std::io;
+use std::io::{BufRead, Error, ErrorKind};
+
+/// What an input held.
+#[derive(Debug, Clone, Copy)]
+pub enum Buffered {
+    /// No byte, since the input has ended.
+    End,
+    /// Whole lines, which were taken, and maybe a part of the next one; or nothing, where the read was interrupted.
+    Lines,
+    /// A line at fault, which it still holds, after those that were taken.
+    Wrong(ReadFault),
+}
+
+/// Takes the whole lines that an input holds, and counts them. It reads once where the input holds nothing.
+pub fn take_held<R: BufRead>(
+    alloc: Global,
+    input: &mut R,
+    audit: &mut TextAudit,
+    lines: &mut u64,
+) -> io::Result<Buffered>
+    ensures { IfOk result (λ held. BecomesOf held (R.remaining input.old) (R.remaining input.new) audit.old audit.new) }
+{
+    let held = match input.fill_buf() {
+        Ok(held) => held,
+        Err(error) => return unfilled(error),
+    };
+    if held.is_empty() {
+        return Ok(Buffered::End);
+    }
+    let (len, fault) = carry_held(alloc, held, audit, lines);
+    input.consume(len);
+    match fault {
+        None => Ok(Buffered::Lines),
+        Some(fault) => Ok(Buffered::Wrong(fault)),
+    }
+}
+
+// What became of a read that failed.
+fn unfilled(error: Error) -> io::Result<Buffered>
+    ensures { IfOk result (λ held. held ≡ Buffered.Lines) }
+{
+    if error.kind() == ErrorKind::Interrupted {
+        Ok(Buffered::Lines)
+    } else {
+        Err(error)
+    }
+}
+
+// Takes the whole lines that these bytes begin with, and counts them: how many bytes they have, and the fault of the line that
+// follows them, if it is at fault.
+fn carry_held(
+    alloc: Global,
+    held: &[u8],
+    audit: &mut TextAudit,
+    lines: &mut u64,
+) -> (usize, Option<ReadFault>)
+    ensures within { result.0 ≤ length held.now }
+    ensures taken { IsNone result.1 → TakesMore audit.old (take result.0 held.now) audit.new }
+    ensures fault { IfSome result.1 (λ why. IsWrongNext audit.old held.now why) }
+{
+    let mut len = 0;
+    while let Some(place) = memchr(b'\n', &held[len..]) {
+        let end = len + place + 1;
+        match audit.carry(alloc, &held[len..end]) {
+            Ok(()) => {}
+            Err(fault) => return (len, Some(fault)),
+        }
+        *lines = lines.saturating_add(1);
+        len = end;
+    }
+    (len, None)
+}
