@@ -26,7 +26,7 @@ use Rattle.can_server.specs.contracts.given.Given as given
 use Rattle.can_server.specs.declared.scribing.Keeper as keeper
 use Rattle.can_server.specs.contracts.server.Server as server
 use Rattle.can_server.specs.contracts.serving.LongServer as long_server
-use Rattle.can_server.specs.contracts.talk.Conversation as talk
+use Rattle.can_server.specs.contracts.conversation.Conversation as talk
 use Rattle.can_server.specs.contracts.delivering.Delivery as delivery
 
 -- what contracts know of what a keeper was given
