@@ -5,27 +5,15 @@ use can_audit::{
 };
 use can_bus::{Event, Record, SocketId};
 use can_frame::Iface;
+use can_test_support::ONE_FRAME;
 use std::alloc::{AllocError, Global};
 
-/// The example of docs/RECORD.md.
-const TEXT: &str = "canbus record 1
-bus 2 always 0000 10 100
-open 0 256 = socket 0
-open 1 1 = socket 1
-send 0 123#01FF = number 0
-attempt 0.000001 good = tried 0 0 123#01FF done 0002 0000
-receive 1 = data 0 0 123#01FF 0.000001
-receive 1 = none
-close 1 = closed 0 0
-end 7
-";
-
 pub fn texts(alloc: Global) -> Result<(), Stop> {
-    let record = read_record(alloc, TEXT)?;
+    let record = read_record(alloc, ONE_FRAME)?;
     let text = record_text(alloc, &record)?;
-    demand(text.as_slice() == TEXT.as_bytes())?;
+    demand(text.as_slice() == ONE_FRAME.as_bytes())?;
     audit(alloc, &record)?;
-    let other = String::from_str(alloc, TEXT)?.replace(alloc, "done 0002", "done 0000")?;
+    let other = String::from_str(alloc, ONE_FRAME)?.replace(alloc, "done 0002", "done 0000")?;
     match audit(alloc, &read_record(alloc, &other)?) {
         Err(AuditFault::Wrong { entry, .. }) => demand(entry == 3),
         Err(AuditFault::NoMemory) => Err(Stop::NoMemory),
@@ -42,7 +30,7 @@ fn events_of(alloc: Global, record: &Record) -> Result<Vec<Event>, AllocError> {
 }
 
 pub fn replies(alloc: Global) -> Result<(), Stop> {
-    let record = read_record(alloc, TEXT)?;
+    let record = read_record(alloc, ONE_FRAME)?;
     replayed(alloc, &record)?;
     copied(alloc, &record)
 }

@@ -9,5 +9,5 @@ mod texts;
 mod values;
 
 pub use streams::{Closed, Output, Pieces};
-pub use texts::{DESTROYED, Part, joined, text_of, times};
+pub use texts::{DESTROYED, ONE_FRAME, Part, joined, text_of, times};
 pub use values::{Unmade, config, fd_frame, frame, iface, script};

@@ -82,6 +82,19 @@ pub fn text_of(alloc: Global, parts: &[Part]) -> Result<String, AllocError> {
     Ok(text)
 }
 
+/// The record of docs/RECORD.md: a frame goes from interface 0 to interface 1, and is taken there.
+pub const ONE_FRAME: &str = "canbus record 1
+bus 2 always 0000 10 100
+open 0 256 = socket 0
+open 1 1 = socket 1
+send 0 123#01FF = number 0
+attempt 0.000001 good = tried 0 0 123#01FF done 0002 0000
+receive 1 = data 0 0 123#01FF 0.000001
+receive 1 = none
+close 1 = closed 0 0
+end 7
+";
+
 /// The script of a bus whose first 32 attempts are destroyed, which takes an interface off that makes them all.
 pub const DESTROYED: &str = "\
 0 global bit\n1 global bit\n2 global bit\n3 global bit\n4 global bit\n5 global bit\n6 global bit\n7 global bit\n\

@@ -2,7 +2,9 @@
 
 use super::auditing::audited;
 use super::replying::compared;
-use super::texts::{bad_line, bus_text, carried_out, fault, legal_lines, made, read, stays};
+use super::texts::{
+    are_refused, bad_line, bus_text, carried_out, fault, legal_lines, made, read, stay, stays,
+};
 use super::*;
 use can_audit::ReadFault;
 use can_bus::Opt;
@@ -39,10 +41,8 @@ receive 1 = data 0 0 123#01FF 0.000001
 end 5
 ";
 
-/// What comes before the entries of a text, and after one entry.
+/// What comes before the entries of a text.
 const FRONT: &str = "canbus record 3\nbus 3 peers FFFF 1024 16777216 0\n";
-
-const BACK: &str = "\nend 1\n";
 
 /// A text with one piece changed.
 fn changed(rt: &impl AllocGlobal, text: &str, from: &str, to: &str) -> Result<String, Fail> {
@@ -165,14 +165,6 @@ fn versions_1_and_2_have_no_fd_frames(rt: HostRuntime) -> Result<(), Fail> {
     Ok(())
 }
 
-/// The text of one entry with this line.
-fn one_line(rt: &impl AllocGlobal, line: &str) -> Result<String, Fail> {
-    let mut text = String::from_str(rt.alloc(), FRONT)?;
-    text.push_str(line)?;
-    text.push_str(BACK)?;
-    Ok(text)
-}
-
 #[test]
 fn each_line_of_version_3_is_read_and_written(rt: HostRuntime) -> Result<(), Fail> {
     let lines = [
@@ -186,10 +178,7 @@ fn each_line_of_version_3_is_read_and_written(rt: HostRuntime) -> Result<(), Fai
         "receive 0 = data 15 3 7FF##001 9999999999.999999",
         "attempt 0.000001 lastbit = tried 0 0 123##0 lastbit FFFE 0000",
     ];
-    for line in lines {
-        stays(&rt, &one_line(&rt, line)?)?;
-    }
-    Ok(())
+    stay(&rt, FRONT, &lines)
 }
 
 #[test]
@@ -214,9 +203,5 @@ fn what_no_line_of_version_3_spells_is_refused(rt: HostRuntime) -> Result<(), Fa
         "attempt 0.000001 good = tried 0 0 123##2 done 0002 0000",
         "attempt 0.000001 good = idle restarted 0001",
     ];
-    for line in lines {
-        let text = one_line(&rt, line)?;
-        same_at(&rt, line, bad_line(&rt, &text), Some(3));
-    }
-    Ok(())
+    are_refused(&rt, FRONT, &lines)
 }

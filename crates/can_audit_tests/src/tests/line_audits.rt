@@ -1,10 +1,11 @@
 // A text that is audited line by line, against the same text read whole.
 
-use super::texts::{ONE_FRAME, audit_by_lines, read_bytes};
+use super::texts::{audit_by_lines, read_bytes};
 use super::{same, same_at};
 use can_audit::{AuditFault, ReadFault, TextAudit, TextFault, audit};
 use can_bus::{Received, Reply, Tried};
 use can_frame::Item;
+use can_test_support::ONE_FRAME;
 use std::alloc::AllocGlobal;
 use std::process::Abort;
 use std::test::Fail;

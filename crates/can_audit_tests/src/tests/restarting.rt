@@ -1,7 +1,7 @@
 // Records of a bus with automatic restart: version 2 of the text.
 
 use super::auditing::audited;
-use super::texts::{bad_line, fault, read, stays};
+use super::texts::{are_refused, bad_line, fault, one_entry, read, stay, stays};
 use super::*;
 use can_audit::{AuditFault, ReadFault};
 use can_bus::{Received, Reply, Tried};
@@ -58,10 +58,8 @@ attempt 0.000035 good = tried 0 1 123# done 0002 0000
 end 43
 ";
 
-/// What comes before the entries of a text, and after one entry.
+/// What comes before the entries of a text.
 const FRONT: &str = "canbus record 2\nbus 3 peers FFFF 1024 16777216 1000000\n";
-
-const BACK: &str = "\nend 1\n";
 
 /// The text above with one piece changed.
 fn changed(rt: &impl AllocGlobal, from: &str, to: &str) -> Result<String, Fail> {
@@ -189,14 +187,6 @@ fn version_1_has_no_restarted_reply(rt: HostRuntime) -> Result<(), Fail> {
     Ok(())
 }
 
-/// The text of one entry with this line.
-fn one_line(rt: &impl AllocGlobal, line: &str) -> Result<String, Fail> {
-    let mut text = String::from_str(rt.alloc(), FRONT)?;
-    text.push_str(line)?;
-    text.push_str(BACK)?;
-    Ok(text)
-}
-
 #[test]
 fn each_line_of_version_2_is_read_and_written(rt: HostRuntime) -> Result<(), Fail> {
     let lines = [
@@ -209,10 +199,7 @@ fn each_line_of_version_2_is_read_and_written(rt: HostRuntime) -> Result<(), Fai
         "attempt 0.000001 good = bus-off",
         "restart 1 23.424242 = ok",
     ];
-    for line in lines {
-        stays(&rt, &one_line(&rt, line)?)?;
-    }
-    Ok(())
+    stay(&rt, FRONT, &lines)
 }
 
 #[test]
@@ -235,17 +222,13 @@ fn what_no_line_of_version_2_spells_is_refused(rt: HostRuntime) -> Result<(), Fa
         "restart 1 23.424242 = ok restarted 0001",
         "receive 0 = none restarted 0001",
     ];
-    for line in lines {
-        let text = one_line(&rt, line)?;
-        same_at(&rt, line, bad_line(&rt, &text), Some(3));
-    }
-    Ok(())
+    are_refused(&rt, FRONT, &lines)
 }
 
 /// An attempt that restarted nothing ends its line: the next line is the one that is wrong.
 #[test]
 fn restarted_does_not_begin_a_line(rt: HostRuntime) -> Result<(), Fail> {
-    let next = one_line(&rt, "attempt 0.000001 good = idle\nrestarted 0001")?;
+    let next = one_entry(&rt, FRONT, "attempt 0.000001 good = idle\nrestarted 0001")?;
     same(&rt, bad_line(&rt, &next), Some(4));
     Ok(())
 }

@@ -9,30 +9,15 @@ use can_bus::{Bus, BusConfig, Event, ListBus, Record, SocketId, run};
 use can_fault::Verdict;
 use can_frame::{CanId, Frame, Iface, IfaceSet, Moment};
 use can_record_text::text_laws::read_back;
-use can_test_support::iface;
+use can_test_support::{ONE_FRAME, iface, joined};
 use std::alloc::AllocGlobal;
 use std::io;
 use std::io::Write;
 use std::process::Abort;
 use std::test::Fail;
 
-/// A frame goes from interface 0 to interface 1, and is taken there.
-pub const ONE_FRAME: &str = "canbus record 1
-bus 2 always 0000 10 100
-open 0 256 = socket 0
-open 1 1 = socket 1
-send 0 123#01FF = number 0
-attempt 0.000001 good = tried 0 0 123#01FF done 0002 0000
-receive 1 = data 0 0 123#01FF 0.000001
-receive 1 = none
-close 1 = closed 0 0
-end 7
-";
-
-/// What comes before the entries of a text, and after one entry.
+/// What comes before the entries of a text.
 const FRONT: &str = "canbus record 1\nbus 3 peers FFFF 1024 16777216\n";
-
-const BACK: &str = "\nend 1\n";
 
 // The calls, without their clauses: a test runs them, and its proof has nothing to say of them.
 
@@ -103,7 +88,33 @@ pub fn fault(rt: &impl AllocGlobal, text: &str) -> Option<ReadFault> {
     read(rt, text).err()
 }
 
-/// What is done in the text above.
+/// The text that begins so and has this line as its one entry.
+pub fn one_entry(rt: &impl AllocGlobal, front: &str, line: &str) -> Result<String, Fail> {
+    Ok(joined(rt.alloc(), &[front, line, "\nend 1\n"])?)
+}
+
+/// Each of these lines, as the one entry of a text that begins so, is read and written as it is.
+pub fn stay(rt: &(impl Abort + AllocGlobal), front: &str, lines: &[&str]) -> Result<(), Fail> {
+    for line in lines {
+        stays(rt, &one_entry(rt, front, line)?)?;
+    }
+    Ok(())
+}
+
+/// Each of these lines, as the one entry of a text that begins so, is refused: it is the third line.
+pub fn are_refused(
+    rt: &(impl Abort + AllocGlobal),
+    front: &str,
+    lines: &[&str],
+) -> Result<(), Fail> {
+    for line in lines {
+        let text = one_entry(rt, front, line)?;
+        same_at(rt, *line, bad_line(rt, &text), Some(3));
+    }
+    Ok(())
+}
+
+/// What is done in that record.
 fn one_frame(rt: &impl AllocGlobal) -> Result<Vec<Event>, Fail> {
     let frame = Frame::data(CanId::standard(0x123)?, &[0x01, 0xFF])?;
     let mut events = Vec::with_capacity(rt.alloc(), 7)?;
@@ -287,14 +298,6 @@ fn a_legal_record_is_known_by_its_lines(rt: HostRuntime) -> Result<(), Fail> {
     Ok(())
 }
 
-/// The text of one entry with this line.
-fn one_line(rt: &impl AllocGlobal, line: &str) -> Result<String, Fail> {
-    let mut text = String::from_str(rt.alloc(), FRONT)?;
-    text.push_str(line)?;
-    text.push_str(BACK)?;
-    Ok(text)
-}
-
 #[test]
 fn each_kind_of_line_is_read_and_written(rt: HostRuntime) -> Result<(), Fail> {
     let lines = [
@@ -322,10 +325,7 @@ fn each_kind_of_line_is_read_and_written(rt: HostRuntime) -> Result<(), Fail> {
         "restart 0 23.424242 = not-bus-off",
         "restart 1 23.424242 = ok",
     ];
-    for line in lines {
-        stays(&rt, &one_line(&rt, line)?)?;
-    }
-    Ok(())
+    stay(&rt, FRONT, &lines)
 }
 
 #[test]
@@ -355,11 +355,7 @@ fn what_no_line_spells_is_refused(rt: HostRuntime) -> Result<(), Fail> {
         "resume 0 = ok",
         "",
     ];
-    for line in lines {
-        let text = one_line(&rt, line)?;
-        same_at(&rt, line, bad_line(&rt, &text), Some(3));
-    }
-    Ok(())
+    are_refused(&rt, FRONT, &lines)
 }
 
 /// Whether a text is refused, or written again as it is.

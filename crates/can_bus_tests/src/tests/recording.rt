@@ -4,22 +4,10 @@ use super::all_play;
 use super::playing::{entries_of, made_of};
 use can_bus::{Entry, Event, Received, Refusal, Reply};
 use can_record_text::read_record;
-use can_test_support::config;
+use can_test_support::{ONE_FRAME, config};
 use std::alloc::AllocGlobal;
 use std::process::Abort;
 use std::test::Fail;
-
-/// A frame goes from interface 0 to interface 1, and is taken there.
-const ONE_FRAME: &str = "canbus record 1
-bus 2 always 0000 10 1000
-open 0 256 = socket 0
-open 1 1 = socket 1
-send 0 123#01FF = number 0
-attempt 0.000001 good = tried 0 0 123#01FF done 0002 0000
-receive 1 = data 0 0 123#01FF 0.000001
-receive 1 = none
-close 1 = closed 0 0
-end 7";
 
 /// The record of one entry.
 const ONE_ENTRY: &str = "canbus record 1\nbus 2 always 0000 10 1000\nENTRY\nend 1\n";
@@ -95,7 +83,7 @@ fn refuses_no_interfaces(rt: &(impl Abort + AllocGlobal)) {
 
 #[test]
 fn records_are_made_of_entries_that_fit(rt: HostRuntime) -> Result<(), Fail> {
-    all_play(&rt, &[ONE_FRAME])?;
+    all_play(&rt, &[ONE_FRAME.trim_end()])?;
     refuses_replies_that_do_not_fit(&rt)?;
     refuses_replies_without_a_line(&rt)?;
     refuses_no_interfaces(&rt);

@@ -1,6 +1,6 @@
 // Which benches make a hub, what it finds, and how it is settled.
 
-ghost use Rattle.std.specs.Prelude.{◌≡◌, ◌<◌};
+ghost use Rattle.std.specs.Prelude.{◌≡◌, ◌<◌, length};
 ghost use Rattle.can_hub.specs.Benches.{NamedFrom};
 
 use super::*;
@@ -215,7 +215,9 @@ fn takes_first<N: RollName + MeterName, R: Wait + Abort>(
     hub: &Hub<N, Perfect, Open, LongEnd>,
     scrolls: Vec<Scroll<N>>,
     is_exchanged: bool,
-) -> Vec<Scroll<N>> {
+) -> Vec<Scroll<N>>
+    ensures { length result.items ≡ length hub.now }
+{
     let mut scrolls = scrolls;
     let (Some(far), Some(mut near)) = (scrolls.pop(), scrolls.pop()) else {
         panic!(rt; "no scrolls");

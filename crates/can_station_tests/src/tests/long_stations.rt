@@ -442,7 +442,23 @@ fn goes_on_to_the_end<N: RollName + MeterName, R: Wait + Abort + Clock>(
     takes_block(&caller, &mut scroll, 0, 4);
 }
 
-/// A station gives no block to another's scroll, and does not settle with it.
+/// A station gives no block to another's scroll.
+fn gives_no_block<N: RollName + MeterName, R: Wait + Abort>(
+    rt: &R,
+    alloc: Global,
+    station: &LongStation<N, Perfect>,
+    own: &mut Scroll<N>,
+    far: &mut Scroll<N>,
+) {
+    let mut caller = entered(rt, alloc, station);
+    caller.open(0, 4);
+    let mut block = new_block(rt, alloc, SHORT);
+    let taken = station.take_entries(rt, far, &mut block);
+    assert!(rt; taken == Err(WrongStation) && block.entries.len() == 0);
+    takes_block(&caller, own, 0, 1);
+}
+
+/// Nor does it settle with it.
 fn strange_scroll<N: RollName + MeterName, R: Wait + Abort>(
     rt: &R,
     alloc: Global,
@@ -454,12 +470,7 @@ fn strange_scroll<N: RollName + MeterName, R: Wait + Abort>(
 {
     let (station, mut scroll) = made_short::<N, _>(rt, alloc, here);
     let (_, mut far) = made_under::<N, _, _>(rt, alloc, there, 1, config(2), SHORT, Perfect);
-    let mut caller = entered(rt, alloc, &station);
-    caller.open(0, 4);
-    let mut block = new_block(rt, alloc, SHORT);
-    let taken = station.take_entries(rt, &mut far, &mut block);
-    assert!(rt; taken == Err(WrongStation) && block.entries.len() == 0);
-    takes_block(&caller, &mut scroll, 0, 1);
+    gives_no_block(rt, alloc, &station, &mut scroll, &mut far);
     let outcome = station.settle_scroll(rt, far, Vec::new(alloc), Vec::new(alloc));
     assert!(rt; matches!(outcome, Err(WrongStation)));
 }
@@ -518,23 +529,17 @@ fn no_call_waits_once_nobody_takes_entries(rt: HostRuntime) -> Result<(), Fail> 
     Ok(())
 }
 
+/// The greatest limit is that of a long run, and there are as many blanks as interfaces.
 #[test]
-fn the_greatest_limit_is_that_of_a_long_run(rt: HostRuntime) -> Result<(), Fail> {
-    let blanks = Blanks::new(rt.alloc(), 2)?;
-    assert!(&rt; accepts::<Brand>(rt.alloc(), blanks, limited(4_294_967_294)));
-    Ok(())
-}
-
-#[test]
-fn no_limit_is_greater_than_that(rt: HostRuntime) -> Result<(), Fail> {
-    let blanks = Blanks::new(rt.alloc(), 2)?;
-    assert!(&rt; !accepts::<Brand>(rt.alloc(), blanks, limited(4_294_967_295)));
-    Ok(())
-}
-
-#[test]
-fn blanks_are_for_as_many_interfaces(rt: HostRuntime) -> Result<(), Fail> {
-    let blanks = Blanks::new(rt.alloc(), 3)?;
-    assert!(&rt; !accepts::<Brand>(rt.alloc(), blanks, limited(1000)));
+fn a_long_station_has_a_limit_and_blanks(rt: HostRuntime) -> Result<(), Fail> {
+    let rows = [
+        (2, 4_294_967_294, true),
+        (2, 4_294_967_295, false),
+        (3, 1000, false),
+    ];
+    for (ifaces, limit, wanted) in rows {
+        let blanks = Blanks::new(rt.alloc(), ifaces)?;
+        assert!(&rt; accepts::<Brand>(rt.alloc(), blanks, limited(limit)) == wanted);
+    }
     Ok(())
 }

@@ -296,49 +296,18 @@ fn is_idle<N: RollName>(pass: &Pass<N>, place: usize, restarted: IfaceSet) -> bo
     }
 }
 
+/// Also where the station was stopped before, and where a call restarts an interface before the attempt that would.
 #[test]
 fn a_station_tells_what_its_bus_tells(rt: HostRuntime) -> Result<(), Fail> {
-    let blanks = Blanks::new(rt.alloc(), 3)?;
-    run_both::<Brand, _>(&rt, rt.alloc(), blanks, PLAIN);
-    Ok(())
-}
-
-#[test]
-fn a_stopped_station_tells_what_its_bus_tells(rt: HostRuntime) -> Result<(), Fail> {
-    let blanks = Blanks::new(rt.alloc(), 3)?;
-    let run = Run {
-        is_stopped: true,
-        ..PLAIN
-    };
-    run_both::<Brand, _>(&rt, rt.alloc(), blanks, run);
-    Ok(())
-}
-
-#[test]
-fn a_station_restarts_as_its_bus_does(rt: HostRuntime) -> Result<(), Fail> {
-    let blanks = Blanks::new(rt.alloc(), 3)?;
-    run_both::<Brand, _>(&rt, rt.alloc(), blanks, RESTARTING);
-    Ok(())
-}
-
-#[test]
-fn a_stopped_station_restarts_as_its_bus_does(rt: HostRuntime) -> Result<(), Fail> {
-    let blanks = Blanks::new(rt.alloc(), 3)?;
-    let run = Run {
-        is_stopped: true,
-        ..RESTARTING
-    };
-    run_both::<Brand, _>(&rt, rt.alloc(), blanks, run);
-    Ok(())
-}
-
-#[test]
-fn a_call_restarts_before_the_attempt_that_would(rt: HostRuntime) -> Result<(), Fail> {
-    let blanks = Blanks::new(rt.alloc(), 3)?;
-    let run = Run {
-        by_call: true,
-        ..RESTARTING
-    };
-    run_both::<Brand, _>(&rt, rt.alloc(), blanks, run);
+    let mut stopped = PLAIN;
+    stopped.is_stopped = true;
+    let mut stopped_restarting = RESTARTING;
+    stopped_restarting.is_stopped = true;
+    let mut by_call = RESTARTING;
+    by_call.by_call = true;
+    for run in [PLAIN, stopped, RESTARTING, stopped_restarting, by_call] {
+        let blanks = Blanks::new(rt.alloc(), 3)?;
+        run_both::<Brand, _>(&rt, rt.alloc(), blanks, run);
+    }
     Ok(())
 }

@@ -1,4 +1,4 @@
-use Rattle.can_station_tests.proofs.tests.long_stations.the_greatest_limit_is_that_of_a_long_run.Given as goal
+use Rattle.can_station_tests.proofs.tests.long_stations.a_long_station_has_a_limit_and_blanks.Given as goal
 
 abbrev pub ghosts-accepts-N-RollName : goal.ghosts-accepts-N-RollName
 ghosts-accepts-N-RollName g a = record { roll = λ _. a.blanks.roll }
