@@ -1,3 +1,4 @@
 pub mod Buses
 pub mod Files
 pub mod Live
+pub mod LiveLines

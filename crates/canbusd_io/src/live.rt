@@ -1,10 +1,11 @@
 //! The record and the log of a bus that are written while a server runs.
-ghost use Rattle.std.specs.Prelude.{◌≡◌, ◌++◌, [], None, All, IsOk, IsSome, OnErr, OnOk, reverse};
+ghost use Rattle.std.specs.Prelude.{◌≡◌, ◌++◌, [], None, All, IfOk, IsOk, IsSome, OnErr, OnOk, reverse};
 ghost use Rattle.can_logfile.specs.Log.{joined, log_lines};
 ghost use Rattle.can_record_text.specs.Spelling.{end_words, entry_lines, front_lines, spell};
 ghost use Rattle.can_record_text.specs.declared.version.Version.TheVariants as version;
 ghost use Rattle.can_record_text.specs.inner.StoredLines.{HasFittingReply};
-ghost use Rattle.canbusd_io.specs.Live.{Stays, Takes, whole_contents};
+ghost use Rattle.canbusd_io.specs.Live.{MayGet, Stays, Takes, whole_contents};
+ghost use Rattle.canbusd_io.specs.LiveLines.{LogHas, RecordHas};
 
 use crate::draft::Draft;
 use crate::live_file::{FileOver, LiveFile, look_at_lock, make};
@@ -22,13 +23,18 @@ use std::fs::{File, OpenFile};
 use std::io;
 use std::io::{ErrorKind, Write};
 use std::rt::Files;
+use std::snapshot::Snapshot;
 
 /// The record of a bus, which gets the lines of its entries while a server runs. It is written as a draft, and gets its
 /// name once it is whole.
 #[derive(Drop)]
 pub struct LiveRecord<F: Write + OpenFile + Drop> {
     draft: Draft,
+    /// What its bus was made with.
+    pub config: BusConfig,
     pub file: LiveFile<F>,
+    /// The file before its first line, which only contracts see: it takes no memory.
+    pub start: Snapshot<LiveFile<F>>,
 }
 
 impl LiveRecord<File> {
@@ -39,16 +45,14 @@ impl LiveRecord<File> {
         draft: &Draft,
         config: BusConfig,
         is_synced: bool,
-    ) -> io::Result<LiveRecord<File>> {
+    ) -> io::Result<LiveRecord<File>>
+        ensures config { IfOk result (λ live. live.config ≡ config) }
+        ensures front { IfOk result (λ live. RecordHas ⟦<File as Write>⟧.contents live []) }
+    {
         let path = String::from_str(alloc, draft.draft())?;
         let file = make(rt, &path)?;
         let file = LiveFile::new(alloc, path, file, is_synced)?;
-        let mut record = LiveRecord {
-            draft: draft.copy(alloc)?,
-            file,
-        };
-        record.begin(alloc, config)?;
-        Ok(record)
+        LiveRecord::begin(alloc, draft.copy(alloc)?, file, config)
     }
 }
 
@@ -58,23 +62,34 @@ impl<F: Write + OpenFile + Drop> LiveRecord<F> {
         &self.file.path
     }
 
-    // Writes the first two lines.
-    fn begin(&mut self, alloc: Global, config: BusConfig) -> io::Result<()>
-        ensures { Takes (whole_contents F.contents) self.old.file.out self.new.file.out
-            (front_lines version.Four config []) result }
+    // The record of a bus with this configuration in a file, which gets its first two lines.
+    fn begin(
+        alloc: Global,
+        draft: Draft,
+        file: LiveFile<F>,
+        config: BusConfig,
+    ) -> io::Result<LiveRecord<F>>
+        ensures config { IfOk result (λ live. live.config ≡ config) }
+        ensures start { IfOk result (λ live. live.start.value ≡ file) }
+        ensures front { IfOk result (λ live. RecordHas F.contents live []) }
     {
-        let Some(out) = &mut self.file.out else {
-            return Ok(());
-        };
-        let put = write_front(alloc, config, out);
-        self.file.settle(put).map_err(|over| over.why)
+        let start = Snapshot::of(&file);
+        let file = with_front(alloc, file, config)?;
+        Ok(LiveRecord {
+            draft,
+            config,
+            file,
+            start,
+        })
     }
 
     /// Writes the lines of the entries that come next. A fault ends the file, and is reported once.
     pub fn keep(&mut self, alloc: Global, entries: &PackedRecord) -> Result<(), Report<'static>>
         requires { All HasFittingReply entries.now.entries }
-        ensures { Takes (whole_contents F.contents) self.old.file.out self.new.file.out
+        ensures lines { Takes (whole_contents F.contents) self.old.file.out self.new.file.out
             (entry_lines entries.now.entries []) result }
+        ensures config { self.new.config ≡ self.old.config }
+        ensures start { self.new.start ≡ self.old.start }
     {
         let Some(out) = &mut self.file.out else {
             return Ok(());
@@ -86,13 +101,17 @@ impl<F: Write + OpenFile + Drop> LiveRecord<F> {
     /// Writes the lines of the last entries and the line of the end, after which there are this many entries, and gives
     /// the file its name. A file that is over gets neither.
     pub fn finish<H: Files>(
-        mut self,
+        &mut self,
         rt: &H,
         alloc: Global,
         entries: &PackedRecord,
         count: u64,
     ) -> Result<(), Report<'static>>
         requires { All HasFittingReply entries.now.entries }
+        ensures lines { MayGet (whole_contents F.contents) self.old.file.out self.new.file.out
+            (entry_lines entries.now.entries [] ++ spell (end_words count) []) }
+        ensures config { self.new.config ≡ self.old.config }
+        ensures start { self.new.start ≡ self.old.start }
     {
         self.end(alloc, entries, count)?;
         if self.file.out.is_none() {
@@ -109,8 +128,10 @@ impl<F: Write + OpenFile + Drop> LiveRecord<F> {
         count: u64,
     ) -> Result<(), Report<'static>>
         requires { All HasFittingReply entries.now.entries }
-        ensures { Takes (whole_contents F.contents) self.old.file.out self.new.file.out
+        ensures lines { Takes (whole_contents F.contents) self.old.file.out self.new.file.out
             (entry_lines entries.now.entries [] ++ spell (end_words count) []) result }
+        ensures config { self.new.config ≡ self.old.config }
+        ensures start { self.new.start ≡ self.old.start }
     {
         self.keep(alloc, entries)?;
         let Some(out) = &mut self.file.out else {
@@ -138,11 +159,32 @@ impl<F: Write + OpenFile + Drop> LiveRecord<F> {
         ensures stays { OnOk result
             (Stays (whole_contents F.contents) self.old.file.out self.new.file.out) }
         ensures over { OnErr result (self.new.file.out ≡ None) }
+        ensures config { self.new.config ≡ self.old.config }
+        ensures start { self.new.start ≡ self.old.start }
     {
         match self.file.settle(put) {
             Ok(()) => Ok(()),
             Err(over) => Err(record_failure(alloc, &self.file.path, &over)),
         }
+    }
+}
+
+// The file with the first two lines of a record of this configuration.
+fn with_front<F: Write + OpenFile + Drop>(
+    alloc: Global,
+    mut file: LiveFile<F>,
+    config: BusConfig,
+) -> io::Result<LiveFile<F>>
+    ensures { IfOk result (λ live. MayGet (whole_contents F.contents) file.out live.out
+        (front_lines version.Four config [])) }
+{
+    let Some(out) = &mut file.out else {
+        return Ok(file);
+    };
+    let put = write_front(alloc, config, out);
+    match file.settle(put) {
+        Ok(()) => Ok(file),
+        Err(over) => Err(over.why),
     }
 }
 
@@ -167,6 +209,8 @@ fn entries_note(alloc: Global, entries: u64) -> Result<String, AllocError> {
 pub struct LiveLog<F: Write + OpenFile + Drop> {
     pub names: Names,
     pub file: LiveFile<F>,
+    /// The file before its first line, which only contracts see: it takes no memory.
+    pub start: Snapshot<LiveFile<F>>,
 }
 
 impl LiveLog<File> {
@@ -177,12 +221,17 @@ impl LiveLog<File> {
         path: &str,
         names: Names,
         is_synced: bool,
-    ) -> io::Result<LiveLog<File>> {
+    ) -> io::Result<LiveLog<File>>
+        ensures names { IfOk result (λ log. log.names ≡ names) }
+        ensures none { IfOk result (λ log. LogHas ⟦<File as Write>⟧.contents log []) }
+    {
         let file = make(rt, path)?;
         let path = String::from_str(alloc, path)?;
+        let file = LiveFile::new(alloc, path, file, is_synced)?;
         Ok(LiveLog {
             names,
-            file: LiveFile::new(alloc, path, file, is_synced)?,
+            start: Snapshot::of(&file),
+            file,
         })
     }
 }
@@ -204,6 +253,7 @@ impl<F: Write + OpenFile + Drop> LiveLog<F> {
         ensures lines { Takes (whole_contents F.contents) self.old.file.out self.new.file.out
             (joined (log_lines self.old.names (reverse entries.now.entries))) result }
         ensures names { self.new.names ≡ self.old.names }
+        ensures start { self.new.start ≡ self.old.start }
     {
         let Some(out) = &mut self.file.out else {
             return Ok(());

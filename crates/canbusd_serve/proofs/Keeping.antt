@@ -1,40 +1,28 @@
-use Rattle.std.proofs.Common.{◌≡◌, ◌∷◌, ◌++◌, ◌∙◌, ℕ, List, [], Option, Some, None, append-nil, ap, refl, sym, subst}
-use Rattle.std.proofs.KnownBytes.{Appends-nil, Appends-trans}
+use Rattle.std.proofs.Common.{◌≡◌, ◌∷◌, ◌++◌, ◌∙◌, ℕ, List, [], IfSome, Option, Some, None, append-nil, append_assoc, ap, length, refl, sym, subst, take, drop, take-append-drop}
+use Rattle.std.proofs.KnownBytes.{Appends-trans}
 use Rattle.std.proofs.lemmas.Grind.{flat_map-append}
+use Rattle.std.proofs.lemmas.List.{length-reverse}
 use Rattle.std.specs.Prelude.{reverse}
+use Rattle.can_bus.specs.Long.{LongJournal, handed_entries, held_back}
+use Rattle.can_event.specs.declared.bus_config.BusConfig.{BusConfig}
 use Rattle.can_event.specs.declared.entry.Entry.{Entry}
 use Rattle.can_logfile.specs.Log.{joined, log_lines}
 use Rattle.can_logfile.proofs.Fronts.{blocks-log}
-use Rattle.can_record_text.specs.Spelling.{entry_line, entry_lines}
+use Rattle.can_record_text.specs.Spelling.{bus_words, end_words, entry_line, entry_lines, first_line, front_lines, spell}
+use Rattle.can_record_text.specs.declared.version.Version.TheVariants as version
+use Rattle.can_record_text.proofs.Again.{spell-rest}
 use Rattle.can_record_text.proofs.LineLists.{lines-rest}
-use Rattle.canbusd_io.specs.Live.{whole_contents}
+use Rattle.canbusd_io.specs.Live.{MayGet, whole_contents}
+use Rattle.canbusd_io.specs.LiveLines.{LogHas, RecordHas}
 use Rattle.canbusd_io.specs.declared.live.LiveLog.{LiveLog}
 use Rattle.canbusd_io.specs.declared.live.LiveRecord.{LiveRecord}
-use Rattle.canbusd_serve.specs.LongRuns.{KeepsInFiles, LogGets, MayGet, RecordGets}
+use Rattle.can_hub.specs.Settling.{AllHanded}
+use Rattle.can_roll.specs.Seen.{ScrollSeen}
+use Rattle.can_station.specs.declared.pass.Settled.{Settled}
+use Rattle.canbusd_serve.specs.LongRuns.{AllGiven, AllGivenFirst, AreWhole, HaveLines, LogGets, RecordGets}
 use Rattle.canbusd_serve.specs.declared.live_files.LiveFiles.{LiveFiles}
 
--- What the files of a bus get.
-
--- a file that got no text has what it had
-stays : {W : Type 0} (contents : W → Option (List ℕ)) (file : Option W) → MayGet contents file file []
-stays contents None = tt
-stays contents (Some w) = Appends-nil (contents w)
-
-no_entries : {F : Type 0} (contents : F → Option (List ℕ)) (kept : Option (LiveRecord F)) → RecordGets contents kept [] kept
-unfolding entry_lines
-no_entries contents None = refl
-no_entries contents (Some r) = stays (whole_contents contents) r.file.out
-
-no_frames : {F : Type 0} (contents : F → Option (List ℕ)) (kept : Option (LiveLog F)) → LogGets contents kept [] kept
-no_frames contents None = refl
-no_frames contents (Some l) = (refl, stays (whole_contents contents) l.file.out)
-
--- where there are no entries, nothing happens
-pub nothing_kept : {F : Type 0} (contents : F → Option (List ℕ)) (files : LiveFiles F) (entries : List Entry) → entries ≡ [] → KeepsInFiles contents files entries files
-nothing_kept contents files entries none =
-    subst (λ (es : List Entry). KeepsInFiles contents files es files) (sym none) (record { kept = no_entries contents files.record; logged = no_frames contents files.log })
-
--- ---- one block after another
+-- What the files of a bus have, one block after another.
 
 -- the lines of entries, and of more
 lines-then : (es more : List Entry) → entry_lines (es ++ more) [] ≡ entry_lines es (entry_lines more [])
@@ -53,32 +41,106 @@ log-lines names es more =
     ∙ ap (λ (x : List (List ℕ)). log_lines names (reverse es) ++ x) (append-nil (log_lines names (reverse more))) in
     ap joined both ∙ flat_map-append (λ (line : List ℕ). line) (log_lines names (reverse es)) (log_lines names (reverse more))
 
+-- the first two lines and a text, and more
+front-then : (c : BusConfig) (text more : List ℕ) → front_lines version.Four c text ++ more ≡ front_lines version.Four c (text ++ more)
+front-then c text more =
+    ap (λ (x : List ℕ). (first_line version.Four ++ x) ++ more) (sym (spell-rest (bus_words version.Four c) text))
+    ∙ append_assoc (first_line version.Four) (spell (bus_words version.Four c) [] ++ text) more
+    ∙ ap (λ (x : List ℕ). first_line version.Four ++ x)
+    (append_assoc (spell (bus_words version.Four c) []) text more ∙ spell-rest (bus_words version.Four c) (text ++ more))
+
+-- ---- one text after another
+
 gets_then : {W : Type 0} (contents : W → Option (List ℕ)) (a b c : Option W) (s t : List ℕ) → MayGet contents a b s → MayGet contents b c t → MayGet contents a c (s ++ t)
 gets_then contents a b None s t f g = tt
 gets_then contents a None (Some w) s t f g = absurd g
 gets_then contents None (Some v) (Some w) s t f g = absurd f
 gets_then contents (Some u) (Some v) (Some w) s t f g = Appends-trans (contents u) (contents v) (contents w) s t f g
 
-record_then : {F : Type 0} (contents : F → Option (List ℕ)) (a b c : Option (LiveRecord F)) (es more : List Entry) → RecordGets contents a es b → RecordGets contents b more c → RecordGets contents a (es ++ more) c
-record_then {F} contents None b c es more f g = subst (λ (x : Option (LiveRecord F)). RecordGets contents x more c) f g
-record_then contents (Some r) None c es more f g = absurd f
-record_then contents (Some r) (Some s) None es more f g = absurd g
-record_then contents (Some r) (Some s) (Some t) es more f g =
-    subst (MayGet (whole_contents contents) r.file.out t.file.out) (sym (record-lines es more)) (gets_then (whole_contents contents) r.file.out s.file.out t.file.out (entry_lines es []) (entry_lines more []) f g)
+record_then : {F : Type 0} (contents : F → Option (List ℕ)) (a b : Option (LiveRecord F)) (text more : List ℕ) → IfSome a (λ r. RecordHas contents r text) → RecordGets contents a more b → IfSome b (λ r. RecordHas contents r (text ++ more))
+record_then {F} contents None b text more has gets = subst (λ (x : Option (LiveRecord F)). IfSome x (λ r. RecordHas contents r (text ++ more))) (sym gets) tt
+record_then contents (Some r) None text more has gets = absurd gets
+record_then contents (Some r) (Some s) text more has gets =
+    let both = gets_then (whole_contents contents) r.start.value.out r.file.out s.file.out (front_lines version.Four r.config text) more has gets.2 in
+    let lines = subst (MayGet (whole_contents contents) r.start.value.out s.file.out) (front-then r.config text more) both in
+    let bus = subst (λ (c : BusConfig). MayGet (whole_contents contents) r.start.value.out s.file.out (front_lines version.Four c (text ++ more))) (sym gets.1) lines in
+    subst (λ start. MayGet (whole_contents contents) start.value.out s.file.out (front_lines version.Four s.config (text ++ more))) (sym gets.0) bus
 
-log_then : {F : Type 0} (contents : F → Option (List ℕ)) (a b c : Option (LiveLog F)) (es more : List Entry) → LogGets contents a es b → LogGets contents b more c → LogGets contents a (es ++ more) c
-log_then {F} contents None b c es more f g = subst (λ (x : Option (LiveLog F)). LogGets contents x more c) f g
-log_then contents (Some r) None c es more f g = absurd f
-log_then contents (Some r) (Some s) None es more f g = absurd g
-log_then contents (Some r) (Some s) (Some t) es more f g =
-    let next = subst (λ (names : List (List ℕ)). MayGet (whole_contents contents) s.file.out t.file.out (joined (log_lines names (reverse more)))) f.0 g.1 in (
-      g.0 ∙ f.0,
-      subst (MayGet (whole_contents contents) r.file.out t.file.out) (sym (log-lines r.names es more)) (gets_then (whole_contents contents) r.file.out s.file.out t.file.out _ _ f.1 next),
-    )
+log_then : {F : Type 0} (contents : F → Option (List ℕ)) (a b : Option (LiveLog F)) (es more : List Entry) → IfSome a (λ l. LogHas contents l es) → LogGets contents a more b → IfSome b (λ l. LogHas contents l (es ++ more))
+log_then {F} contents None b es more has gets = subst (λ (x : Option (LiveLog F)). IfSome x (λ l. LogHas contents l (es ++ more))) (sym gets) tt
+log_then contents (Some l) None es more has gets = absurd gets
+log_then contents (Some l) (Some m) es more has gets =
+    let both = gets_then (whole_contents contents) l.start.value.out l.file.out m.file.out _ _ has gets.2 in
+    let lines = subst (MayGet (whole_contents contents) l.start.value.out m.file.out) (sym (log-lines l.names es more)) both in
+    let bus = subst (λ (names : List (List ℕ)). MayGet (whole_contents contents) l.start.value.out m.file.out (joined (log_lines names (reverse (es ++ more))))) (sym gets.1) lines in
+    subst (λ start. MayGet (whole_contents contents) start.value.out m.file.out (joined (log_lines m.names (reverse (es ++ more))))) (sym gets.0) bus
 
--- files that were given entries, and then more, were given all of them
-pub keeps_then : {F : Type 0} (contents : F → Option (List ℕ)) (a b c : LiveFiles F) (es more : List Entry) → KeepsInFiles contents a es b → KeepsInFiles contents b more c → KeepsInFiles contents a (es ++ more) c
-keeps_then contents a b c es more f g = record {
-  kept = record_then contents a.record b.record c.record es more f.kept g.kept;
-  logged = log_then contents a.log b.log c.log es more f.logged g.logged;
+-- files that have the lines of entries, and get those of more, have those of all of them
+have_then : {F : Type 0} (contents : F → Option (List ℕ)) (a b : LiveFiles F) (es more : List Entry) → HaveLines contents es a → RecordGets contents a.record (entry_lines more []) b.record → LogGets contents a.log more b.log
+    → HaveLines contents (es ++ more) b
+have_then contents a b es more have record_gets log_gets = record {
+  recorded = subst (λ (text : List ℕ). IfSome b.record (λ r. RecordHas contents r text)) (sym (record-lines es more)) (record_then contents a.record b.record (entry_lines es []) (entry_lines more []) have.recorded record_gets);
+  logged = log_then contents a.log b.log es more have.logged log_gets;
 }
+
+-- the record first, and then the log
+pub have_after : {F : Type 0} (contents : F → Option (List ℕ)) (a m b : LiveFiles F) (es more given : List Entry) → HaveLines contents es a → RecordGets contents a.record (entry_lines more []) m.record → m.log ≡ a.log
+    → LogGets contents m.log more b.log → b.record ≡ m.record → given ≡ es ++ more → HaveLines contents given b
+have_after {F} contents a m b es more given have record_gets same_log log_gets same_record is =
+    subst (λ (all : List Entry). HaveLines contents all b) (sym is)
+    (have_then contents a b es more have (subst (λ (r : Option (LiveRecord F)). RecordGets contents a.record (entry_lines more []) r) (sym same_record) record_gets)
+    (subst (λ (l : Option (LiveLog F)). LogGets contents l more b.log) same_log log_gets))
+
+-- ---- the end
+
+-- what was handed out and what was held back are the whole history
+whole_history : (j : LongJournal) → handed_entries j ++ held_back j ≡ reverse j.history
+whole_history j = take-append-drop j.handed (reverse j.history)
+
+-- so are the lines of both, and the last one
+end-lines : (es more whole : List Entry) (count : ℕ) → es ++ more ≡ whole → count ≡ length whole
+    → entry_lines es [] ++ (entry_lines more [] ++ spell (end_words count) []) ≡ entry_lines whole (spell (end_words (length whole)) [])
+end-lines es more whole count is counted =
+    sym (append_assoc (entry_lines es []) (entry_lines more []) (spell (end_words count) []))
+    ∙ ap (λ (x : List ℕ). x ++ spell (end_words count) []) (sym (record-lines es more) ∙ ap (λ (x : List Entry). entry_lines x []) is)
+    ∙ lines-rest whole (spell (end_words count) [])
+    ∙ ap (λ (n : ℕ). entry_lines whole (spell (end_words n) [])) counted
+
+-- files that were given what a bus handed out, and get what it held back and the last line, are those of its whole history
+whole_then : {F : Type 0} (contents : F → Option (List ℕ)) (j : LongJournal) (a b : LiveFiles F) (count : ℕ) → HaveLines contents (handed_entries j) a → count ≡ length j.history
+    → RecordGets contents a.record (entry_lines (held_back j) [] ++ spell (end_words count) []) b.record → LogGets contents a.log (held_back j) b.log → AreWhole contents (reverse j.history) b
+whole_then contents j a b count have counted record_gets log_gets = record {
+  recorded = subst (λ (text : List ℕ). IfSome b.record (λ r. RecordHas contents r text))
+      (end-lines (handed_entries j) (held_back j) (reverse j.history) count (whole_history j) (counted ∙ sym (length-reverse j.history)))
+      (record_then contents a.record b.record _ _ have.recorded record_gets);
+  logged = subst (λ (es : List Entry). IfSome b.log (λ l. LogHas contents l es)) (whole_history j) (log_then contents a.log b.log (handed_entries j) (held_back j) have.logged log_gets);
+}
+
+-- the record first, and then the log
+pub whole_after : {F : Type 0} (contents : F → Option (List ℕ)) (j : LongJournal) (a m b : LiveFiles F) (rest : List Entry) (count : ℕ) → HaveLines contents (handed_entries j) a → rest ≡ held_back j → count ≡ length j.history
+    → RecordGets contents a.record (entry_lines rest [] ++ spell (end_words count) []) m.record → m.log ≡ a.log → LogGets contents m.log rest b.log → b.record ≡ m.record → AreWhole contents (reverse j.history) b
+whole_after {F} contents j a m b rest count have is counted record_gets same_log log_gets same_record =
+    let text = λ (es : List Entry). entry_lines es [] ++ spell (end_words count) [] in
+    let ended = subst (λ (es : List Entry). RecordGets contents a.record (text es) m.record) is record_gets in
+    let logged = subst (λ (es : List Entry). LogGets contents m.log es b.log) is log_gets in
+    whole_then contents j a b count have counted
+    (subst (λ (r : Option (LiveRecord F)). RecordGets contents a.record (text (held_back j)) r) (sym same_record) ended)
+    (subst (λ (l : Option (LiveLog F)). LogGets contents l (held_back j) b.log) same_log logged)
+
+-- ---- all buses
+
+-- what was given to files is what was handed out to their scrolls, which is what was handed out of the histories
+pub given_first : (files : List (List Entry)) (scrolls : List ScrollSeen) (settled : List (Settled LongJournal)) → AllGiven files scrolls → AllHanded handed_entries scrolls settled → AllGivenFirst files settled
+given_first [] [] [] given handed = tt
+given_first (f ∷ files) (s ∷ scrolls) (e ∷ settled) given handed = (given.0 ∙ handed.0, given_first files scrolls settled given.1 handed.1)
+given_first [] [] (e ∷ settled) given handed = absurd handed
+given_first [] (s ∷ scrolls) settled given handed = absurd given
+given_first (f ∷ files) [] settled given handed = absurd given
+given_first (f ∷ files) (s ∷ scrolls) [] given handed = absurd handed
+
+-- one file more, which was given what was handed out to one scroll more
+pub given_push : (files : List (List Entry)) (scrolls : List ScrollSeen) (f : List Entry) (s : ScrollSeen) → AllGiven files scrolls → f ≡ s.entries → AllGiven (files ++ f ∷ []) (scrolls ++ s ∷ [])
+given_push [] [] f s all is = (is, tt)
+given_push (x ∷ xs) (y ∷ ys) f s all is = (all.0, given_push xs ys f s all.1 is)
+given_push [] (y ∷ ys) f s all is = absurd all
+given_push (x ∷ xs) [] f s all is = absurd all

@@ -1,3 +1,4 @@
+pub mod Crossing
 pub mod Fitting
 pub mod Keeping
 pub mod Serving

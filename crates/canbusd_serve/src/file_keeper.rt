@@ -1,7 +1,8 @@
 //! Where the entries of a long run go: into the files of its bus, while it is served.
 ghost use Rattle.std.specs.Prelude.{◌≡◌, [], All};
 ghost use Rattle.can_record_text.specs.inner.StoredLines.{HasFittingReply};
-ghost use Rattle.canbusd_serve.specs.LongRuns.{LogGets, RecordGets};
+ghost use Rattle.can_record_text.specs.Spelling.{entry_lines};
+ghost use Rattle.canbusd_serve.specs.LongRuns.{HaveLines, LogGets, RecordGets};
 
 use crate::host::Host;
 use crate::live_files::LiveFiles;
@@ -11,7 +12,6 @@ use can_station::Block;
 use std::fs::OpenFile;
 use std::io::Write;
 use std::marker::Model;
-use std::snapshot::Snapshot;
 use std::sync::Wait;
 use std::time::Instant;
 use std::{io, time};
@@ -22,42 +22,42 @@ const PATIENCE: u64 = 1;
 /// How many seconds pass at least before that is reported again.
 const PAUSE: u64 = 60;
 
-/// The files of a bus, which have the lines of the entries that they were given after what they had at first, as far as they
-/// are not over. Contracts see these entries.
+/// The files of a bus, which have the lines of the entries that they were given, as far as they are not over. Contracts see
+/// these entries.
 #[derive(Drop)]
 pub struct KeptFiles<F: Write + OpenFile + Drop> {
     files: LiveFiles<F>,
     given: Given,
-    // The files as they were at first: they take no memory.
-    start: Snapshot<LiveFiles<F>>,
 }
 
 impl<F: Write + OpenFile + Drop> Model for KeptFiles<F> {
     ghost use Rattle.std.specs.Prelude.{List};
     ghost use Rattle.can_event.specs.declared.entry.Entry.{Entry};
-    ghost use Rattle.canbusd_serve.specs.LongRuns.{KeepsInFiles};
+    ghost use Rattle.canbusd_serve.specs.LongRuns.{HaveLines};
 
     ghost Value = { List Entry };
 
     ghost view = { λ k. k.given };
 
-    ghost invariant = { λ k. KeepsInFiles F.contents k.start.value k.given k.files };
+    ghost invariant = { λ k. HaveLines F.contents k.given k.files };
 }
 
 impl<F: Write + OpenFile + Drop> KeptFiles<F> {
     /// Files that were given nothing.
     pub fn new(files: LiveFiles<F>) -> KeptFiles<F>
+        requires { HaveLines F.contents [] files }
         ensures { result ≡ [] }
     {
         KeptFiles {
-            start: Snapshot::of(&files),
             files,
             given: Given::new(),
         }
     }
 
     /// The files.
-    pub fn into_files(self) -> LiveFiles<F> {
+    pub fn into_files(self) -> LiveFiles<F>
+        ensures { HaveLines F.contents self result }
+    {
         let KeptFiles { files, .. } = self;
         files
     }
@@ -98,7 +98,8 @@ fn keep_record<F: Write + OpenFile + Drop, H: Wait + time::Clock, E: Write>(
     reported: &mut Option<Instant>,
 )
     requires { All HasFittingReply entries.now.entries }
-    ensures kept { RecordGets F.contents files.old.record entries.now.entries files.new.record }
+    ensures kept { RecordGets F.contents files.old.record (entry_lines entries.now.entries [])
+        files.new.record }
     ensures same { files.new.log ≡ files.old.log }
 {
     let begun = Instant::now(host.rt);

@@ -1,7 +1,10 @@
 //! The files that a server of long runs writes while it serves.
-ghost use Rattle.std.specs.Prelude.{◌≡◌, length, All, IfErr, IfOk, IsTrue};
+ghost use Rattle.std.specs.Prelude.{◌≡◌, ◌++◌, [], length, reverse, All, IfErr, IfOk, IsTrue};
+ghost use Rattle.can_bus.specs.Long.{handed_entries};
+ghost use Rattle.can_record_text.specs.Spelling.{end_words, entry_lines, spell};
 ghost use Rattle.can_record_text.specs.inner.StoredLines.{HasFittingReply};
-ghost use Rattle.canbusd_serve.specs.LongRuns.{LogGets, RecordGets};
+ghost use Rattle.canbusd_io.specs.LiveLines.{LogHas, RecordHas};
+ghost use Rattle.canbusd_serve.specs.LongRuns.{AllGivenFirst, AreBegun, AreWhole, HaveLines, LogGets, RecordGets};
 ghost use Rattle.canbusd_serve.specs.Served.{IsOfServing};
 
 use crate::file_keeper::KeptFiles;
@@ -31,11 +34,32 @@ impl<F: Write + OpenFile + Drop> LiveFiles<F> {
         entries: &PackedRecord,
     ) -> Result<(), Report<'static>>
         requires { All HasFittingReply entries.now.entries }
-        ensures kept { RecordGets F.contents self.old.record entries.now.entries self.new.record }
+        ensures kept { RecordGets F.contents self.old.record (entry_lines entries.now.entries [])
+            self.new.record }
         ensures same { self.new.log ≡ self.old.log }
     {
         match &mut self.record {
             Some(record) => record.keep(alloc, entries),
+            None => Ok(()),
+        }
+    }
+
+    /// Writes the lines of the last entries and the line of the end to the record, if it is wanted, and gives it its name.
+    /// There are this many entries then.
+    fn finish_record<H: Files>(
+        &mut self,
+        rt: &H,
+        alloc: Global,
+        entries: &PackedRecord,
+        count: u64,
+    ) -> Result<(), Report<'static>>
+        requires { All HasFittingReply entries.now.entries }
+        ensures kept { RecordGets F.contents self.old.record
+            (entry_lines entries.now.entries [] ++ spell (end_words count) []) self.new.record }
+        ensures same { self.new.log ≡ self.old.log }
+    {
+        match &mut self.record {
+            Some(record) => record.finish(rt, alloc, entries, count),
             None => Ok(()),
         }
     }
@@ -68,6 +92,7 @@ pub fn open_all<'a, H: Files<File = File>, E: Write>(
     errors: &mut E,
 ) -> Result<Vec<LiveFiles<File>>, Report<'a>>
     ensures each { IfOk result (λ files. length files.items ≡ length options.now.buses.items) }
+    ensures begun { IfOk result (λ files. AreBegun ⟦<File as Write>⟧.contents files.items) }
     ensures fault { IfErr result (λ failure. IsOfServing failure.error) }
 {
     let mut all = Vec::new(alloc);
@@ -87,7 +112,8 @@ fn open_files<'a, H: Files<File = File>, E: Write>(
     bus: BusWord<'a>,
     errors: &mut E,
 ) -> Result<LiveFiles<File>, Report<'a>>
-    ensures { IfErr result (λ failure. IsOfServing failure.error) }
+    ensures begun { IfOk result (λ files. HaveLines ⟦<File as Write>⟧.contents [] files) }
+    ensures fault { IfErr result (λ failure. IsOfServing failure.error) }
 {
     let Some(folder) = options.folder else {
         return Ok(LiveFiles {
@@ -115,7 +141,8 @@ fn open_record<'a, H: Files<File = File>, E: Write>(
     names: &Names,
     errors: &mut E,
 ) -> Result<LiveRecord<File>, Report<'a>>
-    ensures { IfErr result (λ failure. IsOfServing failure.error) }
+    ensures front { IfOk result (λ live. RecordHas ⟦<File as Write>⟧.contents live []) }
+    ensures fault { IfErr result (λ failure. IsOfServing failure.error) }
 {
     let draft = draft_of(rt, alloc, folder, &bus, errors)?;
     let config = bus_config(options.settings, names);
@@ -135,7 +162,8 @@ fn open_log<'a, H: Files<File = File>>(
     bus: BusWord<'a>,
     names: Names,
 ) -> Result<LiveLog<File>, Report<'a>>
-    ensures { IfErr result (λ failure. IsOfServing failure.error) }
+    ensures none { IfOk result (λ log. LogHas ⟦<File as Write>⟧.contents log []) }
+    ensures fault { IfErr result (λ failure. IsOfServing failure.error) }
 {
     let Ok(path) = log_path(alloc, folder, bus.first_name()) else {
         return Err(Report::new(alloc, ProgramError::NoMemory));
@@ -149,7 +177,8 @@ fn log_path(alloc: Global, folder: &str, name: &str) -> Result<String, AllocErro
     format!(in alloc; "{folder}/{name}.log")
 }
 
-/// Writes what is missing of the files of each bus, and gives its record its name. A fault ends only its file.
+/// Writes what is missing of the files of each bus, and gives its record its name. A fault ends only its file. The caller
+/// shows that they were given what was handed out of the history that the bus left.
 pub fn finish_all<H: Files, E: Write>(
     rt: &H,
     alloc: Global,
@@ -158,36 +187,38 @@ pub fn finish_all<H: Files, E: Write>(
     settled: &[Settled<LongEnd>],
     reporter: &mut Reporter<'_, E>,
 )
+    requires { AllGivenFirst files.items settled.now }
     ensures { IsTrue reporter.old.has_reported → IsTrue reporter.new.has_reported }
 {
-    for ((files, bus), settled) in files.into_iter().zip(buses).zip(settled) {
-        finish(
-            rt,
-            alloc,
-            files.into_files(),
-            bus,
-            &settled.history,
-            reporter,
-        );
+    let mut buses = buses.iter();
+    let mut settled = settled.iter();
+    for files in files {
+        let Some(bus) = buses.next() else {
+            break;
+        };
+        let Some(own) = settled.next() else {
+            break;
+        };
+        let _ = finish(rt, alloc, files, bus, &own.history, reporter);
     }
 }
 
-fn finish<H: Files, E: Write>(
+// Returns the files as they are at the end: the record of the bus is the text of its whole history.
+fn finish<F: Write + OpenFile + Drop, H: Files, E: Write>(
     rt: &H,
     alloc: Global,
-    files: LiveFiles<File>,
+    kept: KeptFiles<F>,
     bus: &BusWord<'_>,
     end: &LongEnd,
     reporter: &mut Reporter<'_, E>,
-)
-    ensures { IsTrue reporter.old.has_reported → IsTrue reporter.new.has_reported }
+) -> LiveFiles<F>
+    requires { kept ≡ handed_entries end.now }
+    ensures told { IsTrue reporter.old.has_reported → IsTrue reporter.new.has_reported }
+    ensures whole { AreWhole F.contents (reverse end.now.history) result }
 {
-    let LiveFiles { record, log } = files;
+    let mut files = kept.into_files();
     let rest = end.entries();
-    if let Some(record) = record {
-        reporter.report(record.finish(rt, alloc, rest, end.len()));
-    }
-    if let Some(mut log) = log {
-        reporter.report(log.keep(alloc, bus.first_name(), rest));
-    }
+    reporter.report(files.finish_record(rt, alloc, rest, end.len()));
+    reporter.report(files.keep_log(alloc, bus.first_name(), rest));
+    files
 }

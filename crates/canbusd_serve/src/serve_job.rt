@@ -6,7 +6,7 @@ ghost use Rattle.can_hub.specs.HubBuses.{IsOfLongRuns};
 ghost use Rattle.canbusd_io.specs.declared.program_error.ProgramError.TheVariants as fault;
 ghost use Rattle.canbusd_io.specs.Files.{Took};
 ghost use Rattle.can_hub.specs.Settling.{AreNewScrolls};
-ghost use Rattle.canbusd_serve.specs.LongRuns.{AllGiven, AllGivenFirst, HasFiles, HasGiven, HasNewScrolls, buses_in};
+ghost use Rattle.canbusd_serve.specs.LongRuns.{AllGiven, AllGivenFirst, AreBegun, HasFiles, HasGiven, HasNewScrolls, buses_in};
 ghost use Rattle.canbusd_serve.specs.Served.{AreAllBenches, AreEnds, IsBenchOf, IsHeardAt, IsListening, IsOfBus, IsOfHub, IsOfServer, IsOfServing, IsServed, Serves, journals, listening_line, record_journal};
 
 use crate::buses_notes::buses_note;
@@ -374,7 +374,8 @@ impl<'r, 'a, H: ServerRuntime> ServerRun<'r, 'a, H> {
         errors: &mut E,
     ) -> Result<Vec<LiveFiles<File>>, Report<'a>>
         requires { length (buses_in hub.now) ≡ length self.now.options.now.buses.items }
-        ensures files { IfOk result (λ files. HasFiles hub.now (length files.items)) }
+        ensures files { IfOk result (λ files.
+            HasFiles ⟦<File as Write>⟧.contents hub.now files.items) }
         ensures fault { IfErr result (λ failure. IsOfServing failure.error) }
     {
         match hub {
@@ -396,7 +397,7 @@ impl<'r, 'a, H: ServerRuntime> ServerRun<'r, 'a, H> {
         until: Option<UnixStream>,
         errors: &mut E,
     ) -> Result<Run<N>, Report<'a>>
-        requires files { HasFiles hub (length files.items) }
+        requires files { HasFiles ⟦<File as Write>⟧.contents hub files.items }
         requires scrolls { HasNewScrolls hub }
         ensures passes { IfOk result (λ run. length run.passes.items ≡ length (buses_in hub.entry)) }
         ensures given { IfOk result (λ run.
@@ -451,6 +452,7 @@ impl<'r, 'a, H: ServerRuntime> ServerRun<'r, 'a, H> {
         until: Option<UnixStream>,
     ) -> Result<Run<N>, AllocError>
         requires files { length files.items ≡ length hub.now }
+        requires begun { AreBegun ⟦<File as Write>⟧.contents files.items }
         requires scrolls { AreNewScrolls 0 scrolls.items }
         requires each { length scrolls.items ≡ length hub.now }
         ensures passes { IfOk result (λ run. length run.passes.items ≡ length hub.now) }
@@ -464,9 +466,14 @@ impl<'r, 'a, H: ServerRuntime> ServerRun<'r, 'a, H> {
         };
         let mut kept = keepers_of(self.alloc, host, files, scrolls)?;
         let patience = Duration::from_millis(u64::from(self.options.flush_ms));
+        // With a name of its own the iterator lends each keeper for as long as there are scribes.
+        let each = kept.iter_mut();
         let mut scribes = Vec::new(self.alloc);
-        for kept in kept.iter_mut() {
-            scribes.push(Scribe::new(self.alloc, TAIL_SIZE, patience, kept)?)?;
+        for kept in each {
+            let scribe = Scribe::new(self.alloc, TAIL_SIZE, patience, kept)?;
+            let Ok(()) = scribes.push(scribe) else {
+                return Err(AllocError);
+            };
         }
         let until = until.as_ref();
         run.passes = serve_long(self.rt, self.alloc, hub, acceptors, host, until, scribes)?;
@@ -510,12 +517,17 @@ fn keepers_of<
     files: Vec<LiveFiles<F>>,
     scrolls: Vec<Scroll<N>>,
 ) -> Result<Vec<ScrollKeeper<N, FileKeeper<'o, 'h, 'a, 'l, F, H, E>>>, AllocError>
+    requires begun { AreBegun F.contents files.items }
     requires scrolls { AreNewScrolls 0 scrolls.items }
     requires each { length files.items ≡ length scrolls.items }
     ensures { IfOk result (λ kept. length kept.items ≡ length scrolls.items) }
 {
     let mut kept = Vec::new(alloc);
-    for (files, scroll) in files.into_iter().zip(scrolls) {
+    let mut files = files.into_iter();
+    for scroll in scrolls {
+        let Some(files) = files.next() else {
+            unreachable!()
+        };
         let keeper = FileKeeper {
             host,
             bus: kept.len(),

@@ -1,6 +1,7 @@
 use Rattle.std.proofs.Common.{◌++◌, append-nil, ap, sym, ◌∙◌}
 use Rattle.std.proofs.lemmas.List.{nil_from_length}
 use Rattle.canbusd_serve.proofs.Fitting.{last_fit}
+use Rattle.canbusd_serve.proofs.Keeping.{have_after}
 use Rattle.canbusd_serve.proofs.file_keeper.FileKeeperKeeper.keep.Goals as goal
 
 pub returns-then-len-eq0 : goal.returns-then-len-eq0
@@ -10,3 +11,8 @@ returns-then-len-eq0 g c =
 
 pub keep_record-requires : goal.keep_record-requires
 keep_record-requires g c = last_fit c.args.block.now.entries.entries c.requires
+
+pub invariant_of-self : goal.invariant_of-self
+invariant_of-self g c =
+    have_after g.F.Write.contents _ c.keep_record.new.files c.keep_log.new.files _ c.args.block.now.entries.entries c.note.new.self c.self.invariant c.keep_record.ensures.kept c.keep_record.ensures.same c.keep_log.ensures.kept c.keep_log.ensures.same
+    c.note.ensures

@@ -1,5 +1,15 @@
-use Rattle.std.proofs.Common.{◌≡◌, length}
+use Rattle.std.proofs.Common.{◌≡◌, ◌+◌, ◌≤◌, length, vec_capacity}
+use Rattle.std.specs.Vec.Iter.{into_iter_items, into_iter_len}
+use Rattle.canbusd_serve.specs.LongRuns.{AllGiven}
 use Rattle.canbusd_serve.proofs.serve_job.ServerRun.serve_long.Given as goal
 
-abbrev pub invariant-loop-bus : goal.invariant-loop-bus
-invariant-loop-bus g l = length l.scribes.items ≡ length l.yielded
+abbrev pub invariant-loop-kept-2 : goal.invariant-loop-kept-2
+invariant-loop-kept-2 g l = record {
+  given : AllGiven l.run.files.items l.run.scrolls.items;
+  passes : length l.run.passes.items ≡ length l.fn.scrolls.items;
+  counted : into_iter_len l.kept-iterator ≡ length (into_iter_items l.kept-iterator);
+  each : length l.run.scrolls.items + into_iter_len l.kept-iterator ≡ length l.fn.scrolls.items;
+  same : length l.run.files.items ≡ length l.run.scrolls.items;
+  files : length l.run.files.items + into_iter_len l.kept-iterator ≤ vec_capacity l.run.files;
+  scrolls : length l.run.scrolls.items + into_iter_len l.kept-iterator ≤ vec_capacity l.run.scrolls;
+}

@@ -1,0 +1,47 @@
+-- What goes to a thread of its own. What only contracts see of a keeper and its files is no part of the rules of the language.
+use denote.RattleType.{RattleType}
+use denote.Ref.{NamedLft}
+use denote.Param.Send.{IsSend, IsSync, sendable, view_send}
+use denote.Param.SendFields.{as_row_send, declared_send}
+use Rattle.std.proofs.Crossing.{crosses}
+use Rattle.std.specs.declared.io.traits.Write as write
+use Rattle.can_frame.proofs.names.Names.TheSendSync as names
+use Rattle.can_event.proofs.bus_config.BusConfig.TheSendSync as config
+use Rattle.can_hub.proofs.Crossing.{lent}
+use Rattle.can_server.proofs.Crossing.{given_send}
+use Rattle.canbusd_io.proofs.draft.Draft.TheSendSync as draft
+use Rattle.canbusd_io.proofs.live_file.LiveFile.TheSendSync as file
+use Rattle.canbusd_io.specs.contracts.live.LiveRecord as record_of
+use Rattle.canbusd_io.specs.contracts.live.LiveLog as log_of
+use Rattle.canbusd_serve.specs.contracts.live_files.LiveFiles as live
+use Rattle.canbusd_serve.specs.contracts.host.Host as host
+use Rattle.canbusd_serve.proofs.host.Host.TheSendSync as host_sync
+use Rattle.canbusd_serve.specs.contracts.file_keeper.FileKeeper as keeper
+use Rattle.canbusd_serve.specs.contracts.file_keeper.KeptFiles as kept
+use Rattle.canbusd_serve.specs.contracts.file_keeper.KeptFiles.TheInside as kept_inside
+
+-- a record, and a log
+record_send : (F : RattleType) → IsSend F → IsSend (record_of.the_row F)
+record_send F s = declared_send (record_of.the_type F) (draft.the_send, (config.the_send, (file.the_send F s, (search (sendable, as_row_send) depth 20, tt))))
+
+log_send : (F : RattleType) → IsSend F → IsSend (log_of.the_row F)
+log_send F s = declared_send (log_of.the_type F) (names.the_send, (file.the_send F s, (search (sendable, as_row_send) depth 20, tt)))
+
+-- the files of a bus
+live_send : (F : RattleType) → IsSend F → IsSend (live.the_row F)
+live_send F s =
+    let one : IsSend (record_of.the_row F) = record_send F s in
+    let log : IsSend (log_of.the_row F) = log_send F s in
+    declared_send (live.the_type F) (search (sendable, as_row_send, one) depth 20, (search (sendable, as_row_send, log) depth 20, tt))
+
+-- the files of a bus, with what they were given
+pub kept_send : (F : RattleType) (g : write.Ghosts F.Denot) → IsSend F → IsSend (kept.the_row F g)
+kept_send F g s =
+    let inside : IsSend (kept_inside.the_row F g) = declared_send (kept_inside.the_type F g) (live_send F s, (given_send, tt)) in
+    view_send _ _ _ _ _ inside
+
+-- the keeper of a bus, which reports to the host that all share
+pub keeper_send : (o h a l : NamedLft) (F H E : RattleType) (g : write.Ghosts F.Denot) → IsSend F → IsSync H → IsSend E → IsSend (keeper.the_row o h a l F H E g)
+keeper_send o h a l F H E g s r e =
+    let hosts : IsSync (host.the_row h a l H E) = host_sync.the_sync h a l H E e r in
+    declared_send (keeper.the_type o h a l F H E g) (lent o _ _ hosts, (search (sendable, as_row_send) depth 20, (kept_send F g s, (search (sendable, crosses, as_row_send) depth 20, tt))))
