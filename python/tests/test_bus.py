@@ -104,9 +104,9 @@ def test_error_frames_and_state_to_bus_off_and_back():
         with server.bus("can0") as can0, server.bus("can1", error_frames=False) as can1:
             assert can0.state is can.BusState.ACTIVE
             can0.send(message(0x123))
-            told = [shape(can0.recv(WAIT)) for _ in range(3)]
+            shapes = [shape(can0.recv(WAIT)) for _ in range(3)]
             # Transmit count 96 and 128 (CRTL with the counts), then bus off.
-            assert told == [
+            assert shapes == [
                 error(0x204, "0008000000006000"), error(0x204, "0020000000008000"), error(0x040, "0000000000000000")
             ]  # fmt: skip
             assert can0.state is can.BusState.ERROR

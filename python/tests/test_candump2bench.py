@@ -28,7 +28,7 @@ def test_its_first_line_says_how_to_run_it():
         "  can0       7FF  [08]  01 02 03 04 05 06 07 08",
     ],
 )
-def test_what_candump_writes_on_a_screen_is_told_apart(line):
+def test_what_candump_writes_on_a_screen_is_known_as_such(line):
     done = converted(f"(1.000000) can0 123#1122\n{line}\n")
     assert done.returncode == 1
     assert done.stderr.startswith("candump2bench: standard input:2: not ")

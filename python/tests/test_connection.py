@@ -37,7 +37,7 @@ class Played:
         self._thread = threading.Thread(target=self._serve, daemon=True)
         self._thread.start()
 
-    def tell(self, text):
+    def write(self, text):
         step = 1 if self._cut else len(text) or 1
         for start in range(0, len(text), step):
             self.peer.sendall(text[start : start + step])
@@ -45,7 +45,7 @@ class Played:
     def _serve(self):
         with contextlib.suppress(OSError):
             self.peer, _ = self._listener.accept()
-            self.tell(self._greeting)
+            self.write(self._greeting)
             rest = b""
             while True:
                 piece = self.peer.recv(4096)
@@ -67,7 +67,7 @@ class Played:
         elif answer is None:
             answer = "< ok >"
         if answer:
-            self.tell(answer.encode())
+            self.write(answer.encode())
 
     def close(self):
         self._listener.close()
@@ -112,11 +112,11 @@ def test_messages_cut_at_each_byte(play):
     with CanbusdBus("can0", address=played.address) as bus:
         for cut in range(len(STREAM) + 1):
             whole = STREAM[:cut].count(b">")
-            played.tell(STREAM[:cut])
+            played.write(STREAM[:cut])
             got = [bus.recv(WAIT) for _ in range(whole)]
             # What is cut off is nothing yet.
             assert bus.recv(0) is None
-            played.tell(STREAM[cut:])
+            played.write(STREAM[cut:])
             got += [bus.recv(WAIT) for _ in range(len(READ) - whole)]
             assert list(map(shape, got)) == READ
             assert [one.timestamp for one in got] == MOMENTS
@@ -170,7 +170,7 @@ def test_whose_a_frame_is(play):
         for number in (0, 7, 5000, 4294967293):
             played.answers["send"] = f"< frame 124 1.000000  same {number + 1} >< ack {number} >"
             bus.send(message(1))
-            played.tell(
+            played.write(
                 b"< frame 123 1.000000  same %d >< fdframe 123 1.000000 0102 same %d >< remote 123 1.000000 4 other %d >"
                 b"< error 040 1.000000 0000000000000000 >" % ((number,) * 3)
             )
@@ -186,7 +186,7 @@ def test_only_the_last_own_numbers_are_kept(play):
         for page in range(pages):
             played.answers["send"] = f"< ack {page * connection_module.PAGE} >"
             bus.send(message(1))
-        played.tell(b"".join(b"< frame 123 1.000000  same %d >" % (n * connection_module.PAGE) for n in range(pages)))
+        played.write(b"".join(b"< frame 123 1.000000  same %d >" % (n * connection_module.PAGE) for n in range(pages)))
         assert [bus.recv(WAIT).is_rx for _ in range(pages)] == [True] + [False] * (pages - 1)
 
 
@@ -275,7 +275,7 @@ def test_an_answer_that_comes_too_late(play, old, end):
         played.answers.clear()
         played.answers.update(answers)
         # It belongs to no later question.
-        played.tell(b"< error bus off >%b< error no buffers >%b" % (end, end))
+        played.write(b"< error bus off >%b< error no buffers >%b" % (end, end))
         bus.send(message(2))
         played.answers["status"] = "< status active 1 2 >"
         assert bus.error_counters() == ("active", 1, 2)
@@ -294,7 +294,7 @@ def test_an_answer_that_comes_too_late(play, old, end):
 def test_what_is_no_message_is_a_fault(play, junk):
     played = play()
     with CanbusdBus("can0", address=played.address) as bus:
-        played.tell(junk.encode())
+        played.write(junk.encode())
         with pytest.raises(can.CanOperationError, match="no message of canbusd"):
             bus.recv(WAIT)
 
@@ -303,7 +303,7 @@ def test_what_is_no_message_is_a_fault(play, junk):
 def test_what_nobody_asked_for_ends_the_connection(play, said, reason):
     played = play()
     with CanbusdBus("can0", address=played.address) as bus:
-        played.tell(said)
+        played.write(said)
         for _ in range(2):
             with pytest.raises(can.CanOperationError, match=reason):
                 bus.recv(WAIT)
@@ -332,7 +332,7 @@ def ends_of(bus):
 def test_frames_before_the_end_are_received(play):
     played = play()
     with CanbusdBus("can0", address=played.address) as bus:
-        played.tell(STREAM)
+        played.write(STREAM)
         played.close()
         assert [shape(bus.recv(WAIT)) for _ in READ] == READ
         ends_of(bus)
@@ -362,7 +362,7 @@ def test_a_server_that_ends(how):
             bus.shutdown()
 
 
-def test_a_server_that_dies_is_told_once_to_asyncio():
+def test_a_server_that_dies_is_reported_once_on_asyncio():
     faults = []
 
     class Listener(can.Listener):

@@ -61,7 +61,7 @@ def test_a_log_that_grows(tmp_path):
 @pytest.mark.parametrize("text", [LIVE, LIVE_RESTARTED], ids=["4", "restarted"])
 @pytest.mark.parametrize("size", [1, 50, 1000])
 def test_a_record_that_grows(tmp_path, text, size):
-    """By so many bytes at a time, the last of which come with another name."""
+    """By this many bytes at a time, the last of which come with another name."""
     growing, path = tmp_path / "can0.rec.new", tmp_path / "can0.rec"
     growing.write_text(text[: text.index("open")])
     live = LiveRecord(path, ["a", "b"])
@@ -185,7 +185,7 @@ def attempts_of(server, frame, outcome):
 
 
 def closed(record, count):
-    """The record, once so many sessions of it are closed."""
+    """The record, once that many sessions of it are closed."""
     return record if sum(line.startswith("close ") for line in record.lines) == count else None
 
 

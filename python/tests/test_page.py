@@ -39,7 +39,7 @@ CUT = """[...document.querySelectorAll('main *, header *')].filter(one => {
 }).map(one => one.outerHTML.slice(0, 80))"""
 # Rows of lists that are wider than their list.
 WIDE = "[...document.querySelectorAll('.row')].filter(one => one.checkVisibility() && one.scrollWidth > one.clientWidth).length"
-# The contrast of each text with what is behind it, as WCAG 2 defines it, where it is below 4.5.
+# The contrast of each text with its background, as WCAG 2 defines it, where it is below 4.5.
 WEAK = """(() => {
   const channels = colour => colour.match(/[\\d.]+/g).map(Number);
   const luminance = ([red, green, blue]) => {
@@ -47,7 +47,7 @@ WEAK = """(() => {
       .map(one => one <= 0.03928 ? one / 12.92 : ((one + 0.055) / 1.055) ** 2.4);
     return 0.2126 * parts[0] + 0.7152 * parts[1] + 0.0722 * parts[2];
   };
-  const behind = one => {
+  const background = one => {
     for (; one; one = one.parentElement) {
       const colour = channels(getComputedStyle(one).backgroundColor);
       if (colour.length < 4 || colour[3] > 0.99) return colour;
@@ -58,7 +58,7 @@ WEAK = """(() => {
   for (const one of document.querySelectorAll('body *')) {
     if (!one.checkVisibility() || ![...one.childNodes].some(child => child.nodeType === 3 && child.data.trim())) continue;
     const style = getComputedStyle(one);
-    const [dark, light] = [luminance(channels(style.color)), luminance(behind(one))].sort((a, b) => a - b);
+    const [dark, light] = [luminance(channels(style.color)), luminance(background(one))].sort((a, b) => a - b);
     if ((light + 0.05) / (dark + 0.05) < 4.5) weak.push(one.outerHTML.slice(0, 80));
   }
   return weak;

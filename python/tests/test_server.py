@@ -66,7 +66,7 @@ def test_the_log_has_all_kinds_of_frames(server):
     assert [shape(one) for one in server.log()] == [shape(one) for one in sent]
 
 
-def test_faults_are_told_apart_in_the_log():
+def test_the_log_has_a_frame_for_each_kind_of_fault():
     with Server("can0,can1", faults=Faults().destroyed(0), ack="peers") as server:
         send_one(server)
     # BUSERROR.

@@ -190,7 +190,7 @@ def test_news_have_the_frames_and_counts_of_both_interfaces():
 
 @contextlib.contextmanager
 def connections(port, count):
-    """So many connections that ask nothing."""
+    """Connections that ask nothing."""
     with contextlib.ExitStack() as all_of_them:
         made = []
         for _ in range(count):

@@ -129,7 +129,7 @@ class Readiness:
                 os.read(self._reader, PIECE)
 
     def forget(self, connected: socket.socket) -> None:
-        """Looks no more at the socket, which has come to its end and would be readable for ever."""
+        """Looks no more at the socket, which has ended and would be readable for ever."""
         self._epoll.unregister(connected)
 
     def close(self) -> None:
@@ -143,7 +143,7 @@ class Connection:
     """A session with the server at this address, which has greeted.
 
     `timeout` is the number of seconds in which the server has to answer. Calls raise ConnectionError once the
-    connection has come to its end, and NoAnswer.
+    connection has ended, and NoAnswer.
     """
 
     def __init__(self, address: str, timeout: float) -> None:

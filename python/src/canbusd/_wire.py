@@ -41,7 +41,7 @@ class Bits(NamedTuple):
     fast: int = 0
 
     def then(self, count: int) -> "Bits":
-        """Returns these bits, and so many at the nominal bit rate after them."""
+        """Returns these bits, and others at the nominal bit rate after them."""
         return Bits(self.nominal + count, self.fast)
 
 
@@ -168,12 +168,12 @@ def fd_to_data_end(text: str, switches: bool) -> Bits:
 
 
 def with_data(bits: int, count: int, data: bytes) -> tuple[int, int]:
-    """So many bits, and those of the data after them."""
+    """Bits, and those of the data after them."""
     return bits << 8 * len(data) | int.from_bytes(data, "big"), count + 8 * len(data)
 
 
 def crc(bits: int, count: int) -> int:
-    """Returns the CRC of so many bits of a classic frame."""
+    """Returns the CRC of the first bits of a classic frame."""
     register, table = 0, crc_table()
     for byte in bits.to_bytes(-(-count // 8), "big"):
         register = register << 8 & 0x7FFF ^ table[register >> 7 ^ byte]
@@ -193,7 +193,7 @@ def crc_table() -> list[int]:
 
 
 def stuff_bits(bits: int, count: int, at_end: bool = False) -> int:
-    """Returns how many stuff bits there are among so many bits from start of frame on; with `at_end` after them too."""
+    """Returns how many stuff bits there are among the first bits from start of frame on; with `at_end` after them too."""
     size = -(-count // 8)
     # The first byte is filled with bits that alternate, of which the last one is recessive as before a frame.
     filled = (0x55 << count | bits) & (1 << 8 * size) - 1

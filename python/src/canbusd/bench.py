@@ -74,6 +74,20 @@ def set_of(names: Optional[str]) -> tuple[str, ...]:
     return tuple(names.split(",")) if names and names != "-" else ()
 
 
+def bus_of(names: Union[str, Sequence[str]], faults: Optional[Script]) -> tuple[tuple[str, ...], Optional[Script]]:
+    """Returns the names of a bus and its faults, which may be a file after the names, as for the program: can0,can1@FILE."""
+    if isinstance(names, str):
+        names, given, script_path = names.partition("@")
+        if given and faults is not None:
+            raise ValueError("faults are given twice, as a file after the names too")
+        faults = Path(script_path) if given else faults
+    parts = tuple(names.split(",") if isinstance(names, str) else names)
+    if not parts or not all(isinstance(name, str) for name in parts):
+        raise ValueError(f"names are those of the interfaces, such as 'can0,can1', not {names!r}")
+    check_names(parts)
+    return parts, faults
+
+
 def rate_words(bitrate: Optional[int], dbitrate: Optional[int]) -> list[str]:
     """Returns the words of the command line that give these bit rates, if there are any."""
     rates = {"bitrate": bitrate, "dbitrate": dbitrate}
@@ -222,16 +236,7 @@ class Bench(ProgramRun):
     ) -> None:
         words = option_words(ack, report, auto_restart=auto_restart, txqueue=txqueue, rxqueue=rxqueue, limit=limit)
         words += rate_words(bitrate, dbitrate)
-        if isinstance(names, str):
-            # As the program is given a bus: can0,can1@FILE.
-            names, given, script_path = names.partition("@")
-            if given and faults is not None:
-                raise ValueError("faults are given twice, as a file after the names too")
-            faults = Path(script_path) if given else faults
-        self.names = tuple(names.split(",") if isinstance(names, str) else names)
-        if not self.names or not all(isinstance(name, str) for name in self.names):
-            raise ValueError(f"names are those of the interfaces, such as 'can0,can1', not {names!r}")
-        check_names(self.names)
+        self.names, faults = bus_of(names, faults)
         script = script_text(faults)
         super().__init__(out)
         self._sessions = 0
@@ -399,7 +404,7 @@ class Bench(ProgramRun):
         return self._out / f"{self.names[0]}.{ending}"
 
     def _attempt_of(self, words: "re.Match[str]") -> Optional[Attempt]:
-        """The attempt that the bench tells of in these words."""
+        """The attempt that these words of a line describe."""
         moment, restarted = float(words["at"] or self._moment), set_of(words["restarted"])
         if words["winner"] is None:
             return Attempt(moment, "", 0, "", "idle", "good", (), (), restarted) if restarted else None

@@ -4,12 +4,13 @@
         bus.send(can.Message(arbitration_id=0x123, data=[1, 2], is_extended_id=False))
 """
 
+import contextlib
 import errno
 import functools
 import logging
 import threading
 import time
-from collections.abc import Iterable, Sequence
+from collections.abc import Iterable, Iterator, Sequence
 from math import isfinite
 from typing import TYPE_CHECKING, Any, Optional, TypeVar, Union, cast
 
@@ -146,6 +147,14 @@ class Periodic:
             self._is_refused = True
 
 
+def interface_name(channel: object) -> str:
+    """Returns the name of an interface; ValueError for a channel that is none."""
+    name = str(channel)
+    if not NAME.fullmatch(name):
+        raise ValueError(f"channel is the name of an interface, such as can0, not {channel!r}")
+    return name
+
+
 class CanbusdBus(InjectsFaults, BusABC):
     """A raw socket on an interface of a canbusd server.
 
@@ -180,9 +189,7 @@ class CanbusdBus(InjectsFaults, BusABC):
     ) -> None:
         # python-can 4.3 warns of a bus that is not shut down, also where it never came to be.
         self._is_shutdown = True
-        self.channel = str(channel)
-        if not NAME.fullmatch(self.channel):
-            raise ValueError(f"channel is the name of an interface, such as can0, not {channel!r}")
+        self.channel = interface_name(channel)
         if "host" in kwargs or "port" in kwargs:
             raise ValueError("host and port are not taken; give address='HOST:PORT'")
         self.address = server_address(address)
@@ -200,6 +207,26 @@ class CanbusdBus(InjectsFaults, BusABC):
         #: How many of its frames `send_many` lets wait in the transmit queue; at most as many as have room there.
         self.window = 10
         self.channel_info = f"canbusd: channel '{self.channel}' of the server at {self.address}"
+        self._prepare()
+        self._connection = self._open(messages)
+        with self._closed_on_a_fault():
+            super().__init__(channel=self.channel, can_filters=can_filters)  # type: ignore[arg-type]
+        self._is_shutdown = False
+
+    @contextlib.contextmanager
+    def _closed_on_a_fault(self) -> Iterator[None]:
+        """Closes the connection where what is done with it first fails."""
+        try:
+            yield
+        except CanOperationError as fault:
+            self._connection.close()
+            raise CanInitializationError(f"{self.channel_info}: {fault}") from None
+        except BaseException:
+            self._connection.close()
+            raise
+
+    def _prepare(self) -> None:
+        """What is known of the bus before it is connected."""
         # From version 4.3 on.
         protocols = getattr(can, "CanProtocol", None)
         if protocols is not None:
@@ -210,16 +237,6 @@ class CanbusdBus(InjectsFaults, BusABC):
         self._unfiltered = 0
         self._warned_of_flags = False
         self._lock_send_periodic = threading.Lock()
-        self._connection = self._open(messages)
-        try:
-            super().__init__(channel=self.channel, can_filters=can_filters)  # type: ignore[arg-type]
-        except CanOperationError as fault:
-            self._connection.close()
-            raise CanInitializationError(f"{self.channel_info}: {fault}") from None
-        except BaseException:
-            self._connection.close()
-            raise
-        self._is_shutdown = False
 
     def __enter__(self: Self) -> Self:
         # That of python-can 4.1 has no type.

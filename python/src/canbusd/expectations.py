@@ -190,7 +190,7 @@ class Drive:
         return None
 
     def failure(self, timeout: float) -> str:
-        """Returns why the interface is not off after so many seconds."""
+        """Returns why the interface is not off after these seconds."""
         counters, stats = self._bus.error_counters(), self._bus.stats()
         now = in_words(self._name, counters)
         return f"{now}, and did not go bus off within {timeout:g} seconds: {self._reason(counters, stats)}"

@@ -55,7 +55,7 @@ class Frame:
     """A frame that is sent or was received, with the names that python-can's `Message` has.
 
     `str()` of it is candump's spelling, `123#1122`, which `Frame.parse` reads. Unlike a `Message` it has an 11-bit
-    identifier unless told otherwise. Two frames are equal whatever their timestamps are, and whoever sent them.
+    identifier unless `extended` says otherwise. Two frames are equal whatever their timestamps are, and whoever sent them.
     """
 
     arbitration_id: int

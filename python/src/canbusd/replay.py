@@ -2,7 +2,7 @@
 
 This is the independent oracle: a second implementation of the rules, to which the tests hold the proved program. The
 program is not asked, and nothing of it is used: each reply in the record is compared with the one that the rules give,
-so a replay that comes to its end is an audit. What only shows a run, such as names and attempts, is in canbusd.record.
+so a replay to the end of a record is an audit. What only shows a run, such as names and attempts, is in canbusd.record.
 """
 
 import functools

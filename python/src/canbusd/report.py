@@ -274,6 +274,12 @@ def fault_of(fault: str, names: Sequence[str]) -> str:
     return verdict_words(verdict, names) + (f", by `{rule}`" if rule else "")
 
 
+def fullest_socket(run: Replay) -> int:
+    """The number of the socket that lost most, or got most where none lost anything."""
+    worst = max(run.sockets, key=lambda socket: (socket.dropped, socket.queued), default=None)
+    return worst.number if worst else 0
+
+
 def data_of(
     run: Replay,
     names: Sequence[str],
@@ -287,10 +293,8 @@ def data_of(
     block, texts, verdicts = Block(), Texts(), Texts()
     # Place 0 is no error message frame.
     texts.place("")
-    timeline = Timeline(run, rules)
-    events = events_of(run, names)
+    timeline, events = Timeline(run, rules), events_of(run, names)
     heading, first = heading_of(run, names, events)
-    worst = max(run.sockets, key=lambda socket: (socket.dropped, socket.queued), default=None)
     header = {
         "title": title,
         "heading": heading,
@@ -306,7 +310,7 @@ def data_of(
         "lost": lost_frames(run, timeline.places, texts),
         "ifaces": ifaces_of(run),
         "sockets": [socket_of(socket) for socket in run.sockets],
-        "socket": worst.number if worst else 0,
+        "socket": fullest_socket(run),
         "bits": bits_of(run),
         "texts": texts.all(),
         "meanings": {place: meaning(text) for place, text in enumerate(texts.all()) if text and meaning(text)},

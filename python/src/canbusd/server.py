@@ -138,21 +138,25 @@ class Server(Expectations, ProgramRun):
     ) -> None:
         if not buses or not all(isinstance(bus, str) for bus in buses):
             raise ValueError(f"buses are given by the names of their interfaces, such as 'can0,can1', not {buses!r}")
-        words, numbers = record_options(record, limit, flush, sync)
-        options = words + option_words(
-            ack,
-            report,
-            auto_restart=auto_restart,
-            pace_ms=pace_ms,
-            write_bytes=write_bytes,
-            txqueue=txqueue,
-            rxqueue=rxqueue,
-            **numbers,
-        )
+        options, numbers = record_options(record, limit, flush, sync)
+        numbers.update(auto_restart=auto_restart, pace_ms=pace_ms, write_bytes=write_bytes)
+        options += option_words(ack, report, txqueue=txqueue, rxqueue=rxqueue, **numbers)
         observed = tuple(observe.split(",") if isinstance(observe, str) else observe)
         super().__init__(out)
         self._txqueue = txqueue
         self._by_bus = bus_words(buses, faults, self._folder)
+        self._prepare(record)
+        for name in observed:
+            self._first(name)
+        words = ["--until-eof", "--listen", listen, *options, "--out", str(self._out)]
+        self._start("serve", *words, "--", *(bus[-1] for bus in self._by_bus.values()))
+        #: Where clients connect: HOST:PORT, or a Unix path.
+        self.address = self._listening()
+        if observed:
+            self._observing(observed)
+
+    def _prepare(self, record: str) -> None:
+        """What is known of the run before it begins."""
         # When the record is written; logs and records that are written while the server runs, by bus.
         self._record_when = record
         self._logs = {name: LiveLog(self._out / f"{name}.log") for name in self._by_bus}
@@ -160,16 +164,8 @@ class Server(Expectations, ProgramRun):
         # The rules that were injected here, by the first interface of their bus.
         self._injected: dict[str, list[Rule]] = {}
         self._observer: Optional[Observer] = None
-        for name in observed:
-            self._first(name)
         self._ending = threading.Lock()
         self._result: Optional[Result] = None
-        words = ["--until-eof", "--listen", listen, *options, "--out", str(self._out)]
-        self._start("serve", *words, "--", *(bus[-1] for bus in self._by_bus.values()))
-        #: Where clients connect: HOST:PORT, or a Unix path.
-        self.address = self._listening()
-        if observed:
-            self._observing(observed)
 
     @property
     def _ends_too(self) -> str:

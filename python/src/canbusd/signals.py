@@ -4,7 +4,7 @@
     print(database.decode(frame))  # Engine: speed=120.5 km/h, gear=Drive
     bus.send(database.encode("Engine", {"speed": 120.5, "gear": "Drive"}).message())
 
-cantools or canmatrix reads the file, whichever is installed; each of its messages is behind MessageFormat here.
+cantools or canmatrix reads the file, whichever is installed; MessageFormat is what both make of its messages.
 """
 
 import importlib
@@ -71,7 +71,7 @@ class MessageFormat(ABC):
 
     @abstractmethod
     def decode(self, data: bytes) -> Iterator[Signal]:
-        """Yields the signals that so many bytes have; of multiplexed ones only those that are there."""
+        """Yields the signals that a frame of this length has; of multiplexed ones only those that are there."""
 
     @abstractmethod
     def encode(self, values: Mapping[str, Value]) -> bytes:

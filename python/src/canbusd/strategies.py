@@ -61,7 +61,7 @@ def fd_frames(extended: Optional[bool] = None) -> SearchStrategy[Frame]:
 
 
 def bytes_of(lengths: Sequence[int]) -> SearchStrategy[bytes]:
-    """So many bytes, each length as often."""
+    """Bytes of these lengths, each as often."""
     return st.sampled_from(lengths).flatmap(lambda length: st.binary(min_size=length, max_size=length))
 
 
@@ -87,7 +87,7 @@ def rules(names: Names, attempts: int = 32) -> SearchStrategy[Rule]:
 
 
 def fault_plans(names: Names, attempts: int = 32, most: int = 8, most_rules: int = 0) -> SearchStrategy[Faults]:
-    """Fault plans of a bus with these interfaces: at most so many faults, in the first attempts, and at most so many rules.
+    """Fault plans of a bus with these interfaces: at most `most` faults, in the first attempts, and `most_rules` rules.
 
     They shrink to few faults in early attempts, of which one in the last bit is the simplest.
     """

@@ -121,9 +121,9 @@ def add_arguments(parser: argparse.ArgumentParser) -> None:
         choices=("a", "A", "d", "z"),
         help="timestamps: absolute, absolute with date, delta, or from zero",
     )
-    parser.add_argument("-n", dest="count", type=int, metavar="COUNT", help="end after so many frames")
+    parser.add_argument("-n", dest="count", type=int, metavar="COUNT", help="end after COUNT frames")
     parser.add_argument(
-        "-T", dest="timeout", type=float, metavar="MS", help="end after so many milliseconds without a frame"
+        "-T", dest="timeout", type=float, metavar="MS", help="end after MS milliseconds without a frame"
     )
     add_database(parser)
     add_address(parser)

@@ -167,13 +167,13 @@ function stack(plot, i, sums, top, x, wide, fills, whole) {
   }
   if (won(sums, i, RESTART)) block(plot.pen, theme.restart, x, top, wide, 4);
 }
-// How much room there is for words behind an instant.
+// How much room there is for words after an instant.
 function labelRoom(plot, step, x) {
   if (!time.isInstant) return 0;
   const next = step + 1 < axis.count ? placeOf(plot, axis.start[step + 1]) : plot.width;
   return Math.min(next, plot.width) - x - 6;
 }
-function bar(plot, i, step, top, left, wide, fills, behind = 0) {
+function bar(plot, i, step, top, left, wide, fills, room = 0) {
   const { pen } = plot, kind = steps.kind[step], high = STRIP - 4;
   if (kind === IDLE) {
     block(pen, theme.idle, left, top + STRIP - 5, wide, 3);
@@ -185,9 +185,9 @@ function bar(plot, i, step, top, left, wide, fills, behind = 0) {
   if (steps.iface[step] !== i) return;
   block(pen, fills[KINDS[kind]], left, top + 2, wide, high);
   const words = kind === RESTART ? ["restart"] : [textOf(step), textOf(step).split("#")[0]];
-  if (!behind) plate(pen, words, left, wide, top + 2 + high / 2, theme[KINDS[kind]], theme.on);
+  if (!room) plate(pen, words, left, wide, top + 2 + high / 2, theme[KINDS[kind]], theme.on);
   else {
-    const text = words.find(one => pen.measureText(one).width < behind);
+    const text = words.find(one => pen.measureText(one).width < room);
     if (text) write(pen, text, left + wide + 3, top + 2 + high / 2, theme.soft);
   }
 }
@@ -472,7 +472,7 @@ function chooseSocket(socket) {
   redraw();
 }
 
-// Filters: each list is found anew when it is shown, and when a filter or what is seen has changed.
+// Filters: each list is filtered again when it is shown, and when a filter or what is seen has changed.
 
 function finders() {
   const node = at("of-node").value, text = at("of-frame").value.trim().toUpperCase().replace(/^0X/, "");

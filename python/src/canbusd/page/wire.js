@@ -123,8 +123,8 @@ strip = (plain => (plot, i, top, fills) => {
   for (let step = axis.stepAt(view.from); step < last; step++) {
     const from = placeOf(plot, axis.start[step]), to = Math.min(from + widthOf(plot, step), plot.width);
     const left = Math.max(from, 0), wide = Math.max(to - left - (to - left > 5 ? 1 : 0), 2);
-    const behind = placeOf(plot, axis.start[step + 1]) - to - 6;
-    if (to >= 0 && left < plot.width) bar(plot, i, step, top, left, wide, fills, behind > wide ? behind : 0);
+    const room = placeOf(plot, axis.start[step + 1]) - to - 6;
+    if (to >= 0 && left < plot.width) bar(plot, i, step, top, left, wide, fills, room > wide ? room : 0);
   }
 })(strip);
 const widthOf = (plot, step) => wire.busy[step] / 1e9 / (view.to - view.from) * plot.width;
@@ -176,7 +176,7 @@ fieldList = extend(fieldList, (list, step) => {
   list.append(...pairs.flatMap(([name, value]) => [element("dt", name), element("dd", value)]));
   return list;
 });
-// Whether the frame came to its end: in other attempts it was destroyed before.
+// Whether the frame was sent whole: in other attempts it was destroyed before.
 const isWhole = step => ["done", "lastbit"].includes(KINDS[steps.kind[step]]);
 function bitWords(step) {
   const nominal = times(wire.nominal[step], "bit"), fast = wire.fast[step];
