@@ -3,7 +3,7 @@
  * `serve`: that is serve_limit.c.
  *
  * The record stays in memory as 16 bytes an event.  Frames, moments and filter
- * lists stand in areas of their own; a send names its frame, an attempt the
+ * lists are in areas of their own; a send names its frame, an attempt the
  * frame it tried, a receive (and a queued item) the attempt or restart that
  * posted it.  Nothing is allocated after the start but the ring of an opened
  * socket.
@@ -672,7 +672,7 @@ static inline void settle_all(socket_t *s)
     s->all = !s->filters || (s->join ? s->filters->all_and : s->filters->all_or);
 }
 
-/* The list stands at filter_list + filter_end already. */
+/* The list is at filter_list + filter_end already. */
 static entry *do_filters(u32 number, socket_t *s, u32 count)
 {
     entry *e = new_entry(FILTERS, 0, FINE, number, filter_end, count);
@@ -725,7 +725,7 @@ static inline void set_head(u32 i)
         with_head &= ~(1u << i);
 }
 
-/* The frame's data stands at frames + frame_end already. */
+/* The frame's data is at frames + frame_end already. */
 static inline entry *do_send(u32 number, socket_t *s, u32 word, u32 len)
 {
     u32 place = frame_end;
@@ -1481,7 +1481,7 @@ static char *message(session_t *s, const char *p, const char *end, char *o)
 
 /* A `send` in its plainest spelling, from the byte after `<`: answers the byte
  * after `>`, or NULL for everything else.  A byte that is no digit, no space and
- * no `>` stands at the end of what can be read. */
+ * no `>` is at the end of what can be read. */
 static inline const char *plain_send(session_t *s, const char *p, char **o)
 {
     if (memcmp(p, " send ", 6) != 0)
@@ -1910,7 +1910,7 @@ static void write_record(const char *path)
 /* ---------------------------------------------------------------- audit */
 
 /* A line is right if what the replay gives has exactly its text.  Only a line
- * that differs is read by the strict rules below, to tell `bad line` from `wrong`. */
+ * that differs is read by the strict rules below, to know `bad line` from `wrong`. */
 
 static inline socket_t *socket_of(u64 number)
 {

@@ -60,8 +60,8 @@ class Server:
         """The figures of serve_load; each frame came once, and in order."""
         where = ["--unix", os.path.join(self.folder.name, "socket"), "--pid", str(self.child.pid)]
         line = [LOAD, *where, "--names", "can0,can1", "--seconds", "3600", *words]
-        told = subprocess.run(line, stdout=subprocess.PIPE, text=True, check=True).stdout.split()
-        return dict(zip(told[::2], told[1::2]))
+        words = subprocess.run(line, stdout=subprocess.PIPE, text=True, check=True).stdout.split()
+        return dict(zip(words[::2], words[1::2]))
 
     def memory(self):
         """How many megabytes are resident."""

@@ -144,7 +144,7 @@ static void watch(const session_t *s, int op)
     epoll_ctl(epoll_fd, op, s->fd, &e);
 }
 
-/* A place for n more bytes behind what is there. */
+/* A place for n more bytes after what is there. */
 static char *place(session_t *s, size_t n)
 {
     if (UNLIKELY(s->size - s->to < n)) {
@@ -558,7 +558,7 @@ static const char *message(session_t *s, const char *p, const char *end)
 
 /* A `send` in its plainest spelling, from the byte after `<`: answers the byte
  * after `>`, or NULL for everything else.  A byte that is no digit, no space and
- * no `>` stands at the end of what can be read. */
+ * no `>` is at the end of what can be read. */
 static inline const char *plain_send(session_t *s, const char *p)
 {
     if (memcmp(p, " send ", 6) != 0)
@@ -602,7 +602,7 @@ static inline const char *plain_send(session_t *s, const char *p)
     return p + 1;
 }
 
-/* The byte at end is LF, as is the one behind what is kept. */
+/* The byte at end is LF, as is the one after what is kept. */
 static void feed(session_t *s, const char *p, const char *end)
 {
     while (s->mode != ENDED && s->mode != GONE) {

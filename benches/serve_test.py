@@ -24,11 +24,11 @@ import time
 
 from serve_compare import HERE, Failed, Server, load
 
-COUNTS = ("refused", "dropped", "lost", "doubled", "disorder", "wrong", "told", "stalls")
+COUNTS = ("refused", "dropped", "lost", "doubled", "disorder", "wrong", "miscounted", "stalls")
 failed = 0
 
 
-def tell(name, good, text=""):
+def report(name, good, text=""):
     global failed
     failed += not good
     print(f"{'ok' if good else 'FAILED':<7}{name}{': ' if text else ''}{text}", flush=True)
@@ -143,7 +143,7 @@ def test_texts(folder):
             order = sorted if size else list    # a frame may come before a later answer
             if order(got.split(b">")) != order(wanted.split(b">")):
                 bad.append(f"{text[:60]!r}: {got!r}")
-        tell(f"{len(TEXTS)} texts, {place}, {f'pieces of {size}' if size else 'whole'}", not bad,
+        report(f"{len(TEXTS)} texts, {place}, {f'pieces of {size}' if size else 'whole'}", not bad,
              "; ".join(bad))
     for row in PAIRS:
         test_pair(*row, folder)
@@ -153,7 +153,7 @@ def test_texts(folder):
         last = read_until(all_of_them[64], b"< error too many sessions >")
         for one in all_of_them:
             one.close()
-        tell("the 65th session at once", greetings == [b"< hi >"] * 64
+        report("the 65th session at once", greetings == [b"< hi >"] * 64
              and last == b"< error too many sessions >")
 
 
@@ -173,7 +173,7 @@ def test_pair(name, first_words, words, wanted, folder):
                 (one, two)[which].sendall(text.encode())
                 got = without_moments(read_until((one, two)[which], answer.encode()))
                 bad += "" if got == answer.encode() else f"{got} "
-    tell(f"pair can0, {name} {first_words} {words}", not bad, bad)
+    report(f"pair can0, {name} {first_words} {words}", not bad, bad)
 
 
 # ------------------------------------------------------------ runs of serve_load
@@ -184,12 +184,12 @@ def run(name, command, sessions, words, folder, status, check, seconds=30):
             got, found, errors = load(server, ["--sessions", str(sessions)] + words.split(),
                                       seconds)
     except (Failed, subprocess.TimeoutExpired) as fault:
-        tell(name, False, str(fault))
+        report(name, False, str(fault))
         return
     good = got == status and check(found)
     counts = " ".join(f"{key} {found[key]}" for key in COUNTS if found.get(key, "0") not in "0-")
     first = errors.splitlines()[0] if errors else ""
-    tell(name, good, f"{found.get('result', 'no line')} {counts}"
+    report(name, good, f"{found.get('result', 'no line')} {counts}"
          + (f" [{first}]" if status or not good else ""))
 
 
@@ -251,9 +251,9 @@ def test_wrong(folder):
             ("swap", 1000, "", "disorder", None), ("swap", 25001, "", "disorder", "1"),
             ("double", 1000, "", "doubled", "30"), ("double", 25001, "", "doubled", "1"),
             ("data", 1000, "", "wrong", "30"), ("data", 25001, "", "wrong", "1"),
-            ("refuse", 1000, "", "refused", "10"), ("refuse", 9001, "", "told", None),
+            ("refuse", 1000, "", "refused", "10"), ("refuse", 9001, "", "miscounted", None),
             ("forget", 1000, "", "lost", "30"), ("forget", 9001, "", "lost", "3"),
-            ("mute", 1000, "", "lost", None), ("count", 4, "", "told", None)):
+            ("mute", 1000, "", "lost", None), ("count", 4, "", "miscounted", None)):
         run(f"wrong: {kind}, one in {every} {words}", f"{wrong} {kind} --every {every}", 4, words,
             folder, 1, lambda found, key=key, count=count: found["result"] == "fault"
             and found[key] != "0" and count in (None, found[key]))
@@ -269,7 +269,7 @@ def test_wrong(folder):
     with Server(limit, 2, "", folder) as server:
         threading.Timer(0.5, server.child.kill).start()
         status, found, _ = load(server, ["--frames", "9000000", "--window", "1"], 20)
-        tell("a server that is killed", status == 1 and found["result"] == "fault", found["result"])
+        report("a server that is killed", status == 1 and found["result"] == "fault", found["result"])
     path = os.path.join(folder, "silent")
     thread = threading.Thread(target=silent, args=(path,))
     thread.start()
@@ -279,7 +279,7 @@ def test_wrong(folder):
     for where, seconds, line in ((path, 1, "result late\n"), (path + "x", 1, "")):
         done = subprocess.run([f"{HERE}/serve_load", "--unix", where, "--seconds", str(seconds)],
                               capture_output=True, text=True, timeout=20)
-        tell("a server that says nothing" if line else "nobody listens",
+        report("a server that says nothing" if line else "nobody listens",
              done.returncode == 1 and done.stdout.endswith(line))
     thread.join()
 

@@ -37,11 +37,11 @@ def run_line(line, text="", **more):
 
 def is_clean(fault):
     """Whether a fault is reported in one line, without a traceback."""
-    status, written, told = fault
+    status, written, errors = fault
     return (
         status == 1
         and written == ""
-        and re.fullmatch(r"(?:canbusd-report|canbusd report|candump2bench): [^\n]+\n", told)
+        and re.fullmatch(r"(?:canbusd-report|canbusd report|candump2bench): [^\n]+\n", errors)
     )
 
 

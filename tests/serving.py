@@ -234,7 +234,7 @@ class Plain:
             self.socket.settimeout(WAIT)
             self.socket.connect(os.path.join(server.folder, server.address))
 
-    def tell(self, text):
+    def write(self, text):
         self.socket.sendall(text.encode())
 
     def text(self):
@@ -248,7 +248,7 @@ class Plain:
         return text + ">"
 
     def answer(self, command):
-        self.tell(command)
+        self.write(command)
         return self.text()
 
     def frame(self):
@@ -276,14 +276,14 @@ class Pair:
 
     def __init__(self, server, source="can0", target="can1"):
         self.source, self.target, self.count = plain(server, source), plain(server, target), 0
-        told = self.source.answer("< filter 0 >"), self.target.answer("< filter 1 80000000 DFFFFFFF >")
-        assert told == ("< ok >", "< ok >"), f"{told}"
+        replies = self.source.answer("< filter 0 >"), self.target.answer("< filter 1 80000000 DFFFFFFF >")
+        assert replies == ("< ok >", "< ok >"), f"{replies}"
 
     def go_on(self, after="what happened"):
         """The next frame from the one to the other."""
         self.count += 1
         data = self.count.to_bytes(4, "big")
-        self.source.tell(f"< send 00000000 4 {data.hex(' ')} >")
+        self.source.write(f"< send 00000000 4 {data.hex(' ')} >")
         try:
             got = self.target.frame()
         except TimeoutError:

@@ -115,9 +115,9 @@ def test_error_message_frames_are_no_refusals():
     """nor are notes"""
     masks = "< errmask 1FFFFFFF >< errdata 1 >"
     text = f"session 1\nfeed 1 < open can0 >< rawmode >{masks}< send 123 0 >\nattempt\ndrain 1\nfeed 1 x\n"
-    told = "note: session 1: bytes outside < and > were skipped\n"
+    errors = "note: session 1: bytes outside < and > were skipped\n"
     output = "1 < hi >\n1 < ok >< ok >< ok >< ok >\ntried can0 0 noack - -\n1 < error 0A0 0.000000 0000801900000000 >\n"
-    assert run_line("bench --strict --ack peers --report can0", text) == (0, output, told)
+    assert run_line("bench --strict --ack peers --report can0", text) == (0, output, errors)
 
 
 def test_nobody_acknowledges_without_a_receiver():
@@ -128,7 +128,7 @@ def test_nobody_acknowledges_without_a_receiver():
 
 
 @pytest.mark.parametrize(
-    "line, told, note",
+    "line, reply, note",
     [
         ("#" * 4096 + "\n", "", ""),
         ("#" * 4096, "", ""),
@@ -142,25 +142,25 @@ def test_nobody_acknowledges_without_a_receiver():
     ],
     ids=range(5),
 )
-def test_limits_of_lines_and_messages(line, told, note):
-    assert run_line("bench can0", f"session 1\n{line}") == (0, f"1 < hi >\n{told}", note)
+def test_limits_of_lines_and_messages(line, reply, note):
+    assert run_line("bench can0", f"session 1\n{line}") == (0, f"1 < hi >\n{reply}", note)
 
 
 @pytest.mark.parametrize("before, after, number", [("", "", 2), ("\n", "\n", 3)])
 def test_a_line_that_is_too_long(before, after, number):
     """72 bytes of it are shown"""
     text = f"session 1\n{before}{'#' * 4097}{after}"
-    told = (
+    errors = (
         f"canbusd: line {number}: bad line\n  standard input:{number}: {'#' * 72}..\n  a line has at most 4096 bytes\n"
     )
-    assert run_line("bench can0", text) == (1, "1 < hi >\n", told)
+    assert run_line("bench can0", text) == (1, "1 < hi >\n", errors)
 
 
 def test_limit_of_the_input():
     text = (4095 * "#" + "\n") * 4096
     assert run_line("bench can0", text) == (0, "", "")
-    told = "canbusd: input too long\n  the input has at most 16777216 bytes, and takes at most as many reads\n"
-    assert run_line("bench can0", f"{text}#") == (1, "", told)
+    errors = "canbusd: input too long\n  the input has at most 16777216 bytes, and takes at most as many reads\n"
+    assert run_line("bench can0", f"{text}#") == (1, "", errors)
 
 
 def test_a_message_sets_250_filters():

@@ -30,7 +30,7 @@ def client(server, name, **more):
 
 
 @contextlib.contextmanager
-def told():
+def logged():
     """The lines that python-can logs."""
     lines = []
     handler = logging.Handler()
@@ -88,7 +88,7 @@ def test_empty_frame():
 def test_identifiers_of_29_bits():
     """below 10000000, and the way round: bit 31 set in the identifier"""
     saw = []
-    with serving("can0,can1") as server, client(server, "can0") as can0, told() as lines:
+    with serving("can0,can1") as server, client(server, "can0") as can0, logged() as lines:
         socket1 = plain(server, "can1")
         for number, wanted in [(0x123, "123"), (0x12345, None)]:
             can0.send(message(number, is_extended_id=True))
@@ -105,9 +105,9 @@ def test_identifiers_of_29_bits():
             assert second == (f"{number:08X}", b"\x01"), f"{second}"
             saw.append(f"{number | 0x80000000:X} as {number:08X}")
         # Answers to can0 before this frame are read before it.
-        socket1.tell("< send 7FE 0 >")
+        socket1.write("< send 7FE 0 >")
         expect(can0, 0x7FE, b"")
-        assert any("< error bad id >" in line for line in lines) == OLD_CLIENT, f"told {lines}"
+        assert any("< error bad id >" in line for line in lines) == OLD_CLIENT, f"logged {lines}"
 
 
 def test_frames_received_have_no_format():
@@ -119,20 +119,20 @@ def test_frames_received_have_no_format():
 
 def test_remote_frames():
     """python-can 4.1 neither sends nor knows them"""
-    with serving("can0,can1") as server, client(server, "can0") as can0, told() as lines:
+    with serving("can0,can1") as server, client(server, "can0") as can0, logged() as lines:
         socket1 = plain(server, "can1")
-        socket1.tell("< sendrtr 123 3 >< send 124 1 5 >")
+        socket1.write("< sendrtr 123 3 >< send 124 1 5 >")
         expect(can0, 0x124, b"\x05")
         unknown = [line for line in lines if "< remote 123 " in line]
         can0.send(message(0x123, is_remote_frame=True, dlc=3))
         can0.send(message(0x125, is_remote_frame=True, dlc=0))
         got = socket1.text()
         if OLD_CLIENT:
-            assert unknown, f"told {lines}"
+            assert unknown, f"logged {lines}"
             assert re.fullmatch(r"< frame 125 \S+  >", got), got
-            socket1.tell("< send 7FE 0 >")
+            socket1.write("< send 7FE 0 >")
             expect(can0, 0x7FE, b"")
-            assert any("< error bad word count >" in line for line in lines), f"told {lines}"
+            assert any("< error bad word count >" in line for line in lines), f"logged {lines}"
         else:
             assert got.startswith("< remote 123 "), got
 
@@ -176,7 +176,7 @@ def test_connects_to_a_busy_bus():
 
         def send():
             while not over.is_set():
-                sender.tell("< send 123 4 11 22 33 44 >")
+                sender.write("< send 123 4 11 22 33 44 >")
                 time.sleep(0.0002)
 
         thread = threading.Thread(target=send)

@@ -202,17 +202,17 @@ def test_help(line, begins, tmp_path):
     assert (status, errors) == (0, "") and output.startswith(begins), output
 
 
-@pytest.mark.parametrize("line, told", NO_BUS + NO_SCRIPT)
-def test_buses_and_scripts_that_are_refused(line, told, tmp_path):
-    assert run_line(line, cwd=tmp_path) == (1, "", told)
+@pytest.mark.parametrize("line, errors", NO_BUS + NO_SCRIPT)
+def test_buses_and_scripts_that_are_refused(line, errors, tmp_path):
+    assert run_line(line, cwd=tmp_path) == (1, "", errors)
 
 
 def test_addresses_that_are_taken(tmp_path):
     """a port, which has a note, a file that is no socket, which stays, and a socket at which somebody listens"""
 
     def refused(address, note=""):
-        told = f"canbusd: cannot listen\n  {address}: Address already in use (os error 98)\n{note}"
-        return run_line(f"serve --listen {address} can0", cwd=tmp_path) == (1, "", told)
+        errors = f"canbusd: cannot listen\n  {address}: Address already in use (os error 98)\n{note}"
+        return run_line(f"serve --listen {address} can0", cwd=tmp_path) == (1, "", errors)
 
     with socket.create_server(("127.0.0.1", 0)) as taken:
         note = "  with port 0, as in --listen 127.0.0.1:0, the system picks a free one\n"
@@ -229,8 +229,8 @@ def test_addresses_that_are_taken(tmp_path):
 def test_a_log_that_is_a_folder(tmp_path):
     """it is reported at the end, and the record is there"""
     (tmp_path / "can0.log").mkdir()
-    told = "canbusd: cannot open ./can0.log\n  ./can0.log: Is a directory (os error 21)\n"
+    errors = "canbusd: cannot open ./can0.log\n  ./can0.log: Is a directory (os error 21)\n"
     listening = "listening ./lost\nbus can0 entries 0\n"
     line = "serve --until-eof --out . --listen ./lost can0"
-    assert run_line(line, cwd=tmp_path) == (1, listening, told)
+    assert run_line(line, cwd=tmp_path) == (1, listening, errors)
     assert run_line("audit can0.rec", cwd=tmp_path) == (0, "ok 0 entries\n", "")

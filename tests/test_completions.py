@@ -105,12 +105,12 @@ class Shell:
                 return found
         pytest.fail(f"no {pattern} in {text!r}")
 
-    def tell(self, text):
+    def write(self, text):
         os.write(self.terminal, text.encode())
 
     def completed(self, typed):
         """The line after the tab key."""
-        self.tell(typed + "\t\x14")
+        self.write(typed + "\t\x14")
         return self.until("LINE\\[(.*?)\\]")[1].replace("\r\n", "")
 
     def close(self):
@@ -130,8 +130,8 @@ def completes(words, sign, *commands):
         pytest.skip(f"{words[0]} is not installed")
     with folder_of_files() as folder, contextlib.closing(Shell(words, folder)) as shell:
         for command in commands:
-            shell.tell(command + "\n")
-        shell.tell("echo rea''dy\n")
+            shell.write(command + "\n")
+        shell.write("echo rea''dy\n")
         shell.until("ready\r?\n")
         lines = typed_with(sign)
         for typed, wanted in lines:
@@ -204,10 +204,10 @@ def test_completion_in_fish():
 @pytest.mark.parametrize("shell, spelling", [("bash", "--{}"), ("zsh", "--{}"), ("fish", "-l {} ")])
 def test_options_of_the_help(program, command, shell, spelling):
     """each option of the help is completed in each shell"""
-    told = subprocess.run([program, "help", command], capture_output=True, text=True, check=True).stdout
+    page = subprocess.run([program, "help", command], capture_output=True, text=True, check=True).stdout
     with open(os.path.join(COMPLETIONS, f"canbusd.{shell}"), encoding="utf-8") as file:
         completions = file.read()
-    options = re.findall(r"^ +(?:-h, )?--([a-z-]+)", told, re.M)
-    assert options, told
+    options = re.findall(r"^ +(?:-h, )?--([a-z-]+)", page, re.M)
+    assert options, page
     missing = [option for option in options if spelling.format(option) not in completions]
     assert not missing, f"--{missing} of {command} not in canbusd.{shell}"

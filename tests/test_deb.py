@@ -2,7 +2,7 @@
 what is left.
 
 Where glibc is too old apt has to refuse it. BASES names a folder with a debootstrap of each suite (debootstrap
---variant=minbase); without it they are made anew.
+--variant=minbase); without it they are made.
 """
 
 import os

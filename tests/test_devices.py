@@ -264,9 +264,9 @@ def test_logs_that_grow_to_a_limit():
     line = 43
     for most, count in [(line * 2 - 1, 1), (line, 1), (line - 1, 0)]:
         reader, writer = os.pipe()
-        with ended(preexec_fn=may_grow(most, writer)) as (server, status, _), open(reader, encoding="utf-8") as told:
+        with ended(preexec_fn=may_grow(most, writer)) as (server, status, _), open(reader, encoding="utf-8") as errors:
             os.close(writer)
-            faults = [text.rstrip() for text in told if text.startswith("canbusd: log of ")]
+            faults = [text.rstrip() for text in errors if text.startswith("canbusd: log of ")]
             assert (status, faults) == (
                 1,
                 [f"canbusd: log of can0: {count} whole lines"],

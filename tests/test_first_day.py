@@ -1,6 +1,6 @@
 """From the first line of README to a passing test, on a fresh minimal Debian 12: tests/first_day.sh, once by each route.
 
-BASES names a folder with a debootstrap of bookworm (debootstrap --variant=minbase); without it one is made anew. A network
+BASES names a folder with a debootstrap of bookworm (debootstrap --variant=minbase); without it one is made. A network
 is needed.
 """
 

@@ -165,7 +165,7 @@ def test_endless_messages():
     """a million `<`, and a message of a million bytes, which is reported once; then the next message is read"""
     with disturbed() as (server, pair):
         before = server.memory("VmRSS")
-        for text, told in [
+        for text, replies in [
             (b"<" * 10**6, []),
             (b"< " + b"x" * 10**6, ["< error message too long >"]),
             (b"x" * 10**6, []),
@@ -173,9 +173,9 @@ def test_endless_messages():
             (b"< >" * 10**3, ["< error empty message >"] * 10**3),
         ]:
             with contextlib.closing(Plain(server)) as client:
-                client.tell(text.decode() + "< echo >")
-                texts = [client.text() for _ in range(len(told) + 2)]
-                assert texts == ["< hi >", *told, "< echo >"], f"{text[:3]}..: {texts[:5]}"
+                client.write(text.decode() + "< echo >")
+                texts = [client.text() for _ in range(len(replies) + 2)]
+                assert texts == ["< hi >", *replies, "< echo >"], f"{text[:3]}..: {texts[:5]}"
             pair.go_on(f"{len(text)} bytes of {text[:3]}")
         grown = server.memory("VmRSS") - before
         assert grown < 4096, f"{grown} KB more"
@@ -203,14 +203,14 @@ def test_slow_readers():
         slow, sender = [plain(server, "can1") for _ in range(20)], plain(server, "can2")
         assert sender.answer("< filter 0 >") == "< ok >", "the sender"
         for number in range(3000):
-            sender.tell(f"< send 123 2 {number >> 8:x} {number & 255:x} >")
+            sender.write(f"< send 123 2 {number >> 8:x} {number & 255:x} >")
             if number % 100 == 0:
                 pair.go_on("frames that nobody reads")
         for one in slow[:10]:
             reset(one.socket)
         pair.go_on("resets of slow readers")
         for one in slow[10:]:
-            one.tell("< close >")
+            one.write("< close >")
             texts = list(iter(one.text, ""))
             numbers = [int(text.split()[4], 16) for text in texts if text.startswith("< frame 123 ")]
             is_in_order = numbers == sorted(set(numbers)) and texts[-1].startswith("< closed ")
@@ -225,8 +225,8 @@ def test_silent_connections(rng):
             silent = [Plain(server) for _ in range(62)]
             assert [one.text() for one in silent] == ["< hi >"] * 62, "not everybody came in"
             more = [Plain(server) for _ in range(40)]
-            told = {one.text() for one in more}
-            assert told == {"< error too many sessions >"}, f"{told}"
+            texts = {one.text() for one in more}
+            assert texts == {"< error too many sessions >"}, f"{texts}"
             pair.go_on("64 sessions")
             for one in silent + more:
                 rng.choice([reset, lambda client: client.close()])(one.socket)
@@ -288,17 +288,17 @@ def visit(server, count):
         for number in range(first, count, 8):
             try:
                 with contextlib.closing(Plain(server)) as client:
-                    told = [client.text()]
+                    texts = [client.text()]
                     if number % 2:
-                        told += [
+                        texts += [
                             client.answer("< open can1 >"),
                             client.answer("< rawmode >"),
                             client.answer("< stats >"),
                         ]
-                        client.tell("< send 124 0 >< close >")
+                        client.write("< send 124 0 >< close >")
                     client.socket.shutdown(socket.SHUT_WR)
-                    told += list(iter(client.text, ""))
-                    assert told[0] == "< hi >" and (len(told) == 1 or told[-1].startswith("< closed ")), f"{told}"
+                    texts += list(iter(client.text, ""))
+                    assert texts[0] == "< hi >" and (len(texts) == 1 or texts[-1].startswith("< closed ")), f"{texts}"
             except (OSError, AssertionError) as fault:
                 failed.append(fault)
 

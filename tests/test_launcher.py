@@ -224,7 +224,7 @@ def test_end_of_a_server(launchers, place, end):
         client = plain(server, "can0")
         ends(server.child, client)
         assert server.child.wait(WAIT) == wanted, server.said()
-        # After SIGKILL of its launcher the server comes to its end by itself.
+        # After SIGKILL of its launcher the server ends by itself.
         assert come_true(lambda: nobody_in(server.child.pid)) if end == "SIGKILL" else nobody_in(server.child.pid)
         if end != "Ctrl-\\":
             assert server.child.stdout.read() == "bus can0 entries 2\n"

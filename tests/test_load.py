@@ -4,8 +4,9 @@ On each bus of two interfaces 14 sessions send a quarter of the frames (--frames
 others, and two more break in the middle of what they say, or are reset or half closed, and come back. A script gives
 the attempts every kind of fault, and bursts that take an interface bus off, from which a session restarts it. Then:
 
-- each session got as many items as `stats` says that it took, those of one sender in order, twice only after a fault
-  of the last bit; what it did not get is dropped, and counted so;
+- each session got as many items as `stats` says that it took, twice only after a fault of the last bit: those of one
+  session in the order in which it sent them, those of one interface in the order in which the server took them; what
+  it did not get is dropped, and counted so;
 - each interface sent what is done or lost, as the sessions counted it, the record, and `stats`;
 - the server ends with status 0, and the audit of each record is ok.
 """
@@ -23,7 +24,7 @@ import time
 
 import pytest
 
-from serving import join, serving_alone, turns
+from serving import Plain, join, serving_alone, turns
 
 pytestmark = pytest.mark.slow
 BUSES, SESSIONS, BREAKING = 4, 16, 2
@@ -38,9 +39,10 @@ KINDS = [
     "local form {0},{1}",
     "local crc {0},{1}",
 ]
-# An answer; or a frame with its identifier and data, or an error message frame.
+# An answer; or a frame with its identifier and data, and maybe its origin, or an error message frame.
 TEXT = re.compile(
-    rb"< (?:(hi|ok|stats [\d ]+|closed \d+ \d+|error [a-z][a-z ]+)|frame (\w+) \S+ (\w*)|" rb"error \w{3,8} [\d.]+) >"
+    rb"< (?:(hi|ok|stats [\d ]+|closed \d+ \d+|error [a-z][a-z ]+)|"
+    rb"frame (\w+) \S+ (\w*)(?: (same|other) (\d+))?|error \w{3,8} [\d.]+) >"
 )
 
 
@@ -60,27 +62,33 @@ def write_script(path, names, attempts, rng):
 
 
 class Client:
-    """A session that sends frames of its own identifier and takes those of three others."""
+    """A session that sends frames of its own identifier and gets those of three others.
 
-    def __init__(self, server, place, names, first=0):
+    Where it took the place of others that broke, `earlier` is how many: what such a one sent last the server may read
+    after the first frames of the next, so the order is that within a session. Half of the sessions ask for the origin
+    of frames, and see the order within an interface too.
+    """
+
+    def __init__(self, server, place, names, earlier=0):
         self.socket = socket.create_connection((server.host, server.port), PATIENCE)
         self.socket.setsockopt(socket.IPPROTO_TCP, socket.TCP_NODELAY, 1)
-        self.place, self.first, self.rest, self.told = place, first, b"", []
+        self.place, self.earlier, self.rest, self.answers = place, earlier, b"", []
         self.sent = self.refused = self.items = self.copies = 0
         self.last = {}
         assert self.answer() == b"hi", "no greeting"
         filters = " ".join(f"{identifier(place - back):X} C00007FF" for back in (1, 2, 3))
-        for command in (f"< open {names[place % 2]} >", "< rawmode >", f"< filter 3 {filters} >", "< errmask 140 >"):
-            self.tell(command)
+        commands = [f"< open {names[place % 2]} >", "< rawmode >", f"< filter 3 {filters} >", "< errmask 140 >"]
+        for command in commands + ["< origin 1 >"] * (place % 4 < 2):
+            self.write(command)
             answer = self.answer()
             assert answer == b"ok", f"{command} {answer}"
 
-    def tell(self, text):
+    def write(self, text):
         self.socket.sendall(text.encode())
 
     def answer(self):
         """The next text that is no item. Items are counted, and looked at."""
-        while not self.told:
+        while not self.answers:
             piece = self.socket.recv(65536)
             assert piece, f"session {self.place} was ended"
             text = self.rest + piece
@@ -88,34 +96,40 @@ class Client:
             for found in TEXT.finditer(text):
                 end = found.end()
                 if found[1]:
-                    self.told.append(found[1])
+                    self.answers.append(found[1])
                 else:
-                    self.take(found[2], found[3])
+                    self.take(*found.group(2, 3, 4, 5))
             self.rest = text[end:]
-        return self.told.pop(0)
+        return self.answers.pop(0)
 
-    def take(self, sender, data):
-        """Counts an item; the frames of one sender have to come in order."""
+    def take(self, sender, data, side, number):
+        """Counts an item; the frames of one session have to come in order, and those of one interface."""
         self.items += 1
         if sender:
-            number, last = int(data[2:], 16), self.last.get(sender, -1)
-            assert number >= last, f"session {self.place}: frame {number} of {sender} after {last}"
-            self.copies += number == last
-            self.last[sender] = number
+            is_copy = self.comes_again((sender, data[:4]), int(data[4:], 16))
+            assert not side or self.comes_again(side, int(number)) == is_copy, f"session {self.place}: {side} {number}"
+            self.copies += is_copy
+
+    def comes_again(self, sender, number):
+        """Whether the last frame of this sender was this one too; it was none that was sent later."""
+        last = self.last.get(sender, -1)
+        assert number >= last, f"session {self.place}: frame {number} of {sender} after {last}"
+        self.last[sender] = number
+        return number == last
 
     def burst(self, count):
         """This many commands that send the next frames."""
-        first = self.first + self.sent + self.refused
+        first = self.sent + self.refused
         numbers = range(first, first + count)
-        start = f"< send {identifier(self.place):X} 5 {self.place:x} "
+        start = f"< send {identifier(self.place):X} 6 {self.earlier.to_bytes(2, 'big').hex(' ')} "
         return "".join(f"{start}{number.to_bytes(4, 'big').hex(' ')} >" for number in numbers)
 
     def stats(self):
         """QUEUED DROPPED TAKEN SENT DONE WAITING LOST REFUSED, as `stats` has them, after refusals of sends."""
-        self.tell("< stats >")
-        return self.stats_told()
+        self.write("< stats >")
+        return self.read_stats()
 
-    def stats_told(self):
+    def read_stats(self):
         """The numbers of `stats`; how many sends were refused before it, and whether for bus off."""
         self.were_off = False
         while not (answer := self.answer()).startswith(b"stats "):
@@ -130,10 +144,10 @@ class Client:
         """Sends a number of frames, but for those that are refused, and waits until few wait."""
         text = self.burst(count)
         self.sent += count
-        self.tell(text + "< stats >")
-        waiting = self.stats_told()[5]
+        self.write(text + "< stats >")
+        waiting = self.read_stats()[5]
         if self.were_off:
-            self.tell("< restart >")
+            self.write("< restart >")
         for _ in turns("the frames that wait go out", PATIENCE):
             if waiting <= MOST_WAITING:
                 break
@@ -144,15 +158,15 @@ class Client:
         """Waits until nothing waits and all items have come; what `stats` says then."""
         until = time.monotonic() + PATIENCE
         while True:
-            told = self.stats()
-            queued, _, taken, _, _, waiting, _, _ = told
+            counts = self.stats()
+            queued, _, taken, _, _, waiting, _, _ = counts
             if waiting == 0 and queued == taken == self.items:
-                return told
-            assert time.monotonic() < until, f"session {self.place}: {told}, {self.items} items"
+                return counts
+            assert time.monotonic() < until, f"session {self.place}: {counts}, {self.items} items"
             time.sleep(0.02)
 
     def close(self):
-        self.tell("< close >")
+        self.write("< close >")
         closed = self.answer()
         self.socket.close()
         return closed
@@ -167,11 +181,11 @@ def break_off(server, place, names, rng, is_over):
     count = 0
     while not is_over.is_set():
         with contextlib.suppress(OSError, AssertionError):
+            client = Client(server, place, names, count % 0x10000)
             count += 1
-            client = Client(server, place, names, count * 1000)
             for _ in range(rng.randrange(4)):
                 client.send(rng.randrange(1, BURST))
-            client.tell(client.burst(20)[: rng.randrange(400)])
+            client.write(client.burst(20)[: rng.randrange(400)])
             how = rng.randrange(3)
             if how == 0:
                 client.socket.setsockopt(socket.SOL_SOCKET, socket.SO_LINGER, struct.pack("ii", 1, 0))
@@ -182,49 +196,95 @@ def break_off(server, place, names, rng, is_over):
     return count
 
 
-def on_one_bus(server, bus, frames, seed):
-    """The sessions of a bus, each in a thread: what `stats` said in the end."""
-    names, rng = names_of(bus), random.Random(seed)
-    is_over, steady = threading.Event(), SESSIONS - BREAKING
-    all_sent = threading.Barrier(steady + 1)
-    ends, faults, broken = [], [], []
+def take_place(server):
+    """A connection of which nothing more is asked; the place of a session that broke may be free a moment later."""
+    for _ in turns("a place is free again", PATIENCE):
+        client = Plain(server)
+        if client.text() == "< hi >":
+            return client
+        client.close()
+        time.sleep(0.02)
 
-    def stay(place):
+
+class BusLoad:
+    """The sessions of a bus, each in a thread, and in the end what `stats` says to those that stay."""
+
+    # Where the processes of all buses wait for one another.
+    buses = None
+
+    def __init__(self, server, bus, frames, seed):
+        self.server, self.bus, self.names = server, bus, names_of(bus)
+        self.steady = SESSIONS - BREAKING
+        self.most, self.rng = frames // self.steady, random.Random(seed)
+        self.steps, self.is_over = threading.Barrier(self.steady + 1), threading.Event()
+        self.ends, self.faults, self.broken = [], [], []
+
+    def stay(self, place):
+        """A session that is there all the time."""
         try:
-            client = Client(server, place, names)
-            while client.sent < frames // steady and not all_sent.broken:
+            client = Client(self.server, place, self.names)
+            self.steps.wait(PATIENCE)
+            while client.sent < self.most and not self.steps.broken:
                 client.send(BURST)
-            all_sent.wait(PATIENCE)
-            all_sent.wait(PATIENCE)
-            told = client.drain()
-            all_sent.wait(PATIENCE)
+            self.steps.wait(PATIENCE)
+            self.steps.wait(10 * PATIENCE)
+            counts = client.drain()
+            self.steps.wait(PATIENCE)
             closed = client.close()
-            assert closed == f"closed 0 {told[1]}".encode(), f"{closed} after {told}"
-            ends.append((place, client.sent, client.items, client.copies, told))
+            assert closed == f"closed 0 {counts[1]}".encode(), f"{closed} after {counts}"
+            self.ends.append((place, client.sent, client.items, client.copies, counts))
         except (OSError, AssertionError, threading.BrokenBarrierError) as fault:
-            faults.append(f"bus {bus}, session {place}: {fault!r}")
-            all_sent.abort()
+            self.faults.append(f"bus {self.bus}, session {place}: {fault!r}")
+            self.steps.abort()
 
-    threads = [threading.Thread(target=stay, args=(place,)) for place in range(steady)]
-    breaking = [
-        threading.Thread(
-            target=lambda place=place: broken.append(
-                break_off(server, place, names, random.Random(rng.random()), is_over)
-            )
-        )
-        for place in range(steady, SESSIONS)
-    ]
-    for thread in threads + breaking:
-        thread.start()
-    with contextlib.suppress(threading.BrokenBarrierError):
-        all_sent.wait(10 * PATIENCE)
-        is_over.set()
+    def come_and_go(self, place, seed):
+        """Sessions that break, one after another."""
+        self.broken.append(break_off(self.server, place, self.names, random.Random(seed), self.is_over))
+
+    def go_through(self, breaking):
+        """The steps of all sessions. Those that stay are there before others come and go; once these have ended, and
+        others have all places on every bus, nothing is left of them that the server would read later.
+        """
+        self.steps.wait(PATIENCE)
+        self.buses.wait(PATIENCE)
+        for thread in breaking:
+            thread.start()
+        self.steps.wait(10 * PATIENCE)
+        self.is_over.set()
         join(breaking, PATIENCE)
-        all_sent.wait(PATIENCE)
-        all_sent.wait(PATIENCE)
-    is_over.set()
-    join(threads + breaking, 3 * PATIENCE)
-    return faults, ends, sum(broken)
+        self.buses.wait(10 * PATIENCE)
+        places = [take_place(self.server) for _ in breaking]
+        self.buses.wait(PATIENCE)
+        self.steps.wait(PATIENCE)
+        self.steps.wait(PATIENCE)
+        for place in places:
+            place.close()
+
+    def run(self):
+        """What went wrong, how the sessions that stayed ended, and how many broke."""
+        staying = [threading.Thread(target=self.stay, args=(place,)) for place in range(self.steady)]
+        breaking = [
+            threading.Thread(target=self.come_and_go, args=(place, self.rng.random()))
+            for place in range(self.steady, SESSIONS)
+        ]
+        for thread in staying:
+            thread.start()
+        try:
+            self.go_through(breaking)
+        except threading.BrokenBarrierError:
+            self.steps.abort()
+            self.buses.abort()
+        self.is_over.set()
+        join([thread for thread in staying + breaking if thread.ident], 3 * PATIENCE)
+        return self.faults, self.ends, sum(self.broken)
+
+
+def meet_at(barrier):
+    BusLoad.buses = barrier
+
+
+def on_one_bus(*load):
+    return BusLoad(*load).run()
 
 
 class Counted:
@@ -237,30 +297,30 @@ class Counted:
         with open(path, encoding="ascii") as file:
             for line in file:
                 event, _, reply = line.rstrip("\n").partition(" = ")
-                words, told = event.split(" "), reply.split(" ")
+                words, replied = event.split(" "), reply.split(" ")
                 self.entries += bool(reply)
-                if told[0] == "socket":
+                if replied[0] == "socket":
                     sockets.append(int(words[1]))
                     taken.append(0)
-                elif told[0] == "number":
+                elif replied[0] == "number":
                     self.sent[sockets[int(words[1])]] += 1
                     waiting[sockets[int(words[1])]] += 1
                 elif reply == "no-buffers":
                     self.refused[sockets[int(words[1])]] += 1
-                elif told[0] == "tried":
-                    winner = int(told[1])
-                    self.lasts += told[4] == "lastbit"
-                    if told[4] == "done":
+                elif replied[0] == "tried":
+                    winner = int(replied[1])
+                    self.lasts += replied[4] == "lastbit"
+                    if replied[4] == "done":
                         self.done[winner] += 1
                         waiting[winner] -= 1
-                    if told[6] != "0000":
+                    if replied[6] != "0000":
                         self.offs += 1
                         self.lost[winner] += waiting[winner]
                         waiting[winner] = 0
                 elif words[0] == "receive" and reply != "none":
                     taken[int(words[1])] += 1
-                elif told[0] == "closed":
-                    self.ends.append((taken[int(words[1])], int(told[2])))
+                elif replied[0] == "closed":
+                    self.ends.append((taken[int(words[1])], int(replied[2])))
 
 
 def test_load_with_faults(request, tmp_path):
@@ -275,22 +335,22 @@ def test_load_with_faults(request, tmp_path):
         "--pace", "0", "--txqueue", "1024", "--rxqueue", "1000", "--limit", "16777216", "--report", *buses
     ) as server:
         begin = time.monotonic()
-        where = argparse.Namespace(host=server.host, port=server.port)
-        with multiprocessing.get_context("fork").Pool(BUSES) as pool:
+        where = argparse.Namespace(address=server.address, host=server.host, port=server.port)
+        fork = multiprocessing.get_context("fork")
+        with fork.Pool(BUSES, meet_at, (fork.Barrier(BUSES),)) as pool:
             loads = [(where, bus, frames // BUSES, seed + bus) for bus in range(BUSES)]
-            all_told = pool.starmap(on_one_bus, loads)
+            results = pool.starmap(on_one_bus, loads)
         seconds = time.monotonic() - begin
         most, ticks = server.memory("VmHWM"), server.ticks()
-        faults = [fault for told in all_told for fault in told[0]]
+        faults = [fault for result in results for fault in result[0]]
         assert not faults, "; ".join(faults[:3])
         written = server.end(patience=10 * PATIENCE)
         records = [Counted(server.path(f"{names_of(bus)[0]}.rec")) for bus in range(BUSES)]
         for bus, record in enumerate(records):
-            compare(server, bus, record, all_told[bus][1])
+            compare(server, bus, record, results[bus][1])
         wanted = "".join(f"bus {names_of(bus)[0]} entries {one.entries}\n" for bus, one in enumerate(records))
         assert written == wanted, written
-    told = summary(records, all_told, seconds, most, ticks)
-    print(told)
+    print(summary(records, results, seconds, most, ticks))
 
 
 def compare(server, bus, record, ends):
@@ -300,25 +360,28 @@ def compare(server, bus, record, ends):
         assert (
             record.sent[side] == record.done[side] + record.lost[side]
         ), f"bus {bus}: sent, done, lost: {vars(record)}"
-        for place, *_, told in ends:
+        for place, *_, counts in ends:
             if place % 2 == side:
                 wanted = [record.sent[side], record.done[side], 0, record.lost[side], record.refused[side]]
-                assert told[3:] == wanted, f"bus {bus}, session {place}: {told}, and the record has {wanted}"
+                assert counts[3:] == wanted, f"bus {bus}, session {place}: {counts}, and the record has {wanted}"
         accepted = sum(sent for place, sent, *_ in ends if place % 2 == side)
         assert accepted <= record.sent[side], f"bus {bus}: {accepted} of {record.sent[side]}"
     closed = list(record.ends)
-    for place, _, items, _, told in ends:
-        assert (items, told[1]) in closed, f"bus {bus}, session {place} took {items}, {told[1]} dropped: no such socket"
-        closed.remove((items, told[1]))
+    for place, _, items, _, counts in ends:
+        assert (
+            items,
+            counts[1],
+        ) in closed, f"bus {bus}, session {place} took {items}, {counts[1]} dropped: no such socket"
+        closed.remove((items, counts[1]))
 
 
-def summary(records, all_told, seconds, most, ticks):
-    ends = [end for _, ends, _ in all_told for end in ends]
+def summary(records, results, seconds, most, ticks):
+    ends = [end for _, ends, _ in results for end in ends]
     items, copies = sum(end[2] for end in ends), sum(end[3] for end in ends)
     sent, done, lost = (sum(sum(getattr(record, what)) for record in records) for what in ("sent", "done", "lost"))
     dropped = sum(dropped for record in records for _, dropped in record.ends)
     entries = sum(record.entries for record in records)
-    offs, broken = sum(record.offs for record in records), sum(told[2] for told in all_told)
+    offs, broken = sum(record.offs for record in records), sum(result[2] for result in results)
     assert offs > 0 and sum(record.lasts for record in records) > 0, "too few faults"
     return (
         f"{sent} frames sent = {done} done + {lost} lost in {offs} times bus off; {items} items came, {copies} of them "

@@ -154,15 +154,15 @@ def test_logs_of_candump(tmp_path):
     path = os.path.join(tmp_path, "run.log")
     with open(path, "w", encoding="ascii") as file:
         file.write(LOG)
-    status, bench, told = call(LOG_READER, "--listen", "tester", path)
-    assert (status, told) == (0, ""), told
+    status, bench, errors = call(LOG_READER, "--listen", "tester", path)
+    assert (status, errors) == (0, ""), errors
     assert heard(bench, tmp_path) == HEARD, f"{heard(bench, tmp_path)}"
     with open(path, "a", encoding="ascii") as file:
         file.writelines(f"{line}\n" for line, _ in NOT_TAKEN)
-    status, same, told = call(LOG_READER, "--listen", "tester", path)
+    status, same, errors = call(LOG_READER, "--listen", "tester", path)
     assert status == 1 and same == bench, "the other lines are taken as before"
-    named = told.splitlines()
-    assert len(named) == len(NOT_TAKEN) and "\x1b" not in told, told
+    named = errors.splitlines()
+    assert len(named) == len(NOT_TAKEN) and "\x1b" not in errors, errors
     for number, (line, (_, word)) in enumerate(zip(named, NOT_TAKEN), 1 + LOG.count("\n")):
         assert line.startswith(f"candump2bench: {path}:{number}: ") and word in line, line
     with open(path, encoding="ascii") as file:
@@ -219,8 +219,8 @@ def test_log_of_many_frames(tmp_path):
     path = os.path.join(tmp_path, "run.log")
     with open(path, "w", encoding="ascii") as file:
         file.writelines(lines)
-    status, bench, told = call(LOG_READER, "--listen", "tester", path)
-    assert status == 0, told
+    status, bench, errors = call(LOG_READER, "--listen", "tester", path)
+    assert status == 0, errors
     assert heard(bench, tmp_path) == wanted, "other frames"
     with open(path, "w", encoding="ascii") as file:
         file.writelines(lines * 15)

@@ -1,8 +1,8 @@
 """Servers whose logs and records are written while they run, and those without a record.
 
 Servers under load are killed at random moments (10, with the slow tests 200): what they leave is audited by
-`audit --cut` and by the replay of the Python package, and has at least what clients were told twice `--flush` before.
-Disks fill, stand still, fail (failing_disk.c, compiled with cc and loaded with the program), or can't be written. After
+`audit --cut` and by the replay of the Python package, and has at least what clients knew twice `--flush` before.
+Disks fill, stop, fail (failing_disk.c, compiled with cc and loaded with the program), or can't be written. After
 20 million entries memory is what it was when both blocks of the bus were full, 100,000 sessions leave nothing, and a
 server under a steady load (--minutes) ends with a record that is right. What a record has is compared with that of
 the same dialogue with a server that writes it at its end.
@@ -52,8 +52,8 @@ def run(*words, **more):
 
 def cut_audit(path, is_replayed=True):
     """How many entries a record has that was cut off, by the audit, which the replay confirms; and whether it was."""
-    status, said, told = run("audit", "--cut", path)
-    assert status == 0, f"{said}{told}"
+    status, said, errors = run("audit", "--cut", path)
+    assert status == 0, f"{said}{errors}"
     if is_replayed:
         with open(path, "rb") as file:
             assert audit(file.read(), cut=True) == said.rstrip("\n")
@@ -80,8 +80,8 @@ def names_in(folder):
     ],
 )
 def test_words_that_are_refused(words, tmp_path):
-    status, said, told = run("serve", "--listen", "127.0.0.1:0", *words, "can0", cwd=tmp_path)
-    assert (status, said) == (2, "") and told, f"{words}: {status} {said} {told}"
+    status, said, errors = run("serve", "--listen", "127.0.0.1:0", *words, "can0", cwd=tmp_path)
+    assert (status, said) == (2, "") and errors, f"{words}: {status} {said} {errors}"
     assert os.listdir(tmp_path) == [], "a file was made"
 
 
@@ -91,28 +91,28 @@ def test_a_folder_that_cannot_be_written(record, tmp_path):
     (tmp_path / "file").touch()
     (tmp_path / "can0.log").mkdir()
     for folder in (tmp_path / "none", tmp_path / "file", "/sys", tmp_path):
-        status, said, told = run("serve", "--listen", "127.0.0.1:0", "--record", record, "--out", folder, "can0")
-        assert (status, said) == (1, ""), f"{folder}: {status} {said} {told}"
-        assert told.startswith(f"canbusd: cannot open {folder}\n  {folder}/can0."), f"{folder}: {told}"
+        status, said, errors = run("serve", "--listen", "127.0.0.1:0", "--record", record, "--out", folder, "can0")
+        assert (status, said) == (1, ""), f"{folder}: {status} {said} {errors}"
+        assert errors.startswith(f"canbusd: cannot open {folder}\n  {folder}/can0."), f"{folder}: {errors}"
 
 
 def dialogue(server, has_fd):
     """The same with each server: each reply and each frame is waited for."""
-    told = []
+    replies = []
     with contextlib.closing(plain(server, "can0")) as can0, contextlib.closing(plain(server, "can1")) as can1:
         for client in (can0, can1):
             commands = ["echo", "recvown 0", "errmask FFFFFFFF", *(["fdframes 1"] if has_fd else [])]
-            told += [client.answer(f"< {command} >") for command in commands]
-        told.append(can1.answer("< filter 1 123 700 >"))
+            replies += [client.answer(f"< {command} >") for command in commands]
+        replies.append(can1.answer("< filter 1 123 700 >"))
         for number in range(50):
-            can0.tell(f"< send {100 + number % 3} 2 {number:x} 5 >")
-            told.append(MOMENT.sub("T", can1.text()))
+            can0.write(f"< send {100 + number % 3} 2 {number:x} 5 >")
+            replies.append(MOMENT.sub("T", can1.text()))
             if has_fd:
-                can0.tell(f"< sendfd 1{number:02d} 12 {' '.join(['a5'] * 12)} >")
-                told.append(MOMENT.sub("T", can1.text()))
+                can0.write(f"< sendfd 1{number:02d} 12 {' '.join(['a5'] * 12)} >")
+                replies.append(MOMENT.sub("T", can1.text()))
         for command in ("stats", "close"):
-            told += [client.answer(f"< {command} >") for client in (can0, can1)]
-    return told
+            replies += [client.answer(f"< {command} >") for client in (can0, can1)]
+    return replies
 
 
 @pytest.mark.parametrize("has_fd", [False, True])
@@ -121,14 +121,14 @@ def test_the_record_of_the_same_dialogue(has_fd):
     runs = {}
     for record in ("end", "live", "none"):
         with serving_alone(*(() if record == "end" else ("--record", record)), "can0,can1") as server:
-            told = dialogue(server, has_fd)
+            replies = dialogue(server, has_fd)
             written = server.end()
             names = ["can0.log"] if record == "none" else ["can0.log", "can0.rec"]
             assert names_in(server.folder) == names
             texts = [MOMENT.sub("T", read(server.path(name))) for name in names]
             if record != "none":
                 assert written == f"bus can0 entries {server.audited('can0.rec')}\n"
-            runs[record] = told, written, *texts
+            runs[record] = replies, written, *texts
     assert runs["live"][:3] == runs["end"][:3] == runs["none"]
     first, bus, *live = runs["live"][3].splitlines()
     first_of_end, bus_of_end, *end = runs["end"][3].splitlines()
@@ -152,15 +152,15 @@ def test_each_front_of_a_record_that_a_server_wrote(tmp_path):
     for place in [*range(200), *(end + more for end in ends for more in (0, 1))]:
         front = text[:place]
         path.write_bytes(front)
-        status, said, told = run("audit", "--cut", path)
+        status, said, errors = run("audit", "--cut", path)
         entries = front.count(b"\n") - 2
         if front == text:
-            assert (status, said, told) == (0, f"ok {entries - 1} entries\n", "")
+            assert (status, said, errors) == (0, f"ok {entries - 1} entries\n", "")
         elif entries >= 0:
-            assert (status, said) == (0, f"ok {entries} entries, then cut off\n"), f"{place}: {said}{told}"
+            assert (status, said) == (0, f"ok {entries} entries, then cut off\n"), f"{place}: {said}{errors}"
         else:
             wanted = "bad version" if entries == -2 else "line 2: bad line"
-            assert (status, said) == (1, "") and told.startswith(f"canbusd: {wanted}\n"), f"{place}: {said}{told}"
+            assert (status, said) == (1, "") and errors.startswith(f"canbusd: {wanted}\n"), f"{place}: {said}{errors}"
 
 
 def test_the_files_of_a_run_that_goes_on():
@@ -243,8 +243,8 @@ def test_who_sets_aside_what_an_earlier_run_left(record, tmp_path):
     """who writes a record, also at the end; and a fault of the address comes before"""
     text = "of a run that was killed\n" * 10
     (tmp_path / "can0.rec.new").write_text(text)
-    status, said, told = run("serve", "--listen", "nowhere.invalid:1", "--record", record, "--out", tmp_path, "can0")
-    assert (status, said) == (1, "") and told.startswith("canbusd: cannot listen\n")
+    status, said, errors = run("serve", "--listen", "nowhere.invalid:1", "--record", record, "--out", tmp_path, "can0")
+    assert (status, said) == (1, "") and errors.startswith("canbusd: cannot listen\n")
     assert os.listdir(tmp_path) == ["can0.rec.new"]
     with serving_alone("--record", record, "can0", out=tmp_path) as server:
         status, _ = server.finish()
@@ -266,8 +266,8 @@ def test_a_second_server_by_mistake(first, second):
                 # It writes at its end only, and a record, of which the first has none.
                 continue
             words = "serve", "--listen", address, "--record", second, "--out", server.folder, "can0,can1"
-            status, said, told = run(*words)
-            assert (status, said) == (1, "") and told.startswith(f"canbusd: {fault}"), f"{address}: {said}{told}"
+            status, said, errors = run(*words)
+            assert (status, said) == (1, "") and errors.startswith(f"canbusd: {fault}"), f"{address}: {said}{errors}"
             left = names_in(server.folder)
             assert set(names) <= set(left) and "can0.rec.cut" not in left, left
             pair.go_on()
@@ -276,7 +276,7 @@ def test_a_second_server_by_mistake(first, second):
         assert first == "none" or server.audited("can0.rec") >= 3 * pair.count
 
 
-class Told:
+class Reader:
     """What a client got, and when: after how many seconds how many texts."""
 
     def __init__(self, client):
@@ -295,10 +295,10 @@ class Told:
 
 
 class Load:
-    """A session that sends frames with numbers, so many a second or as fast as it can, and one that receives them."""
+    """A session that sends frames with numbers, at a rate or as fast as it can, and one that receives them."""
 
     def __init__(self, server, many=50, rate=float("inf")):
-        self.sender, self.receiver = Told(plain(server, "can0")), Told(plain(server, "can1"))
+        self.sender, self.receiver = Reader(plain(server, "can0")), Reader(plain(server, "can1"))
         assert self.sender.client.answer("< filter 0 >") == "< ok >"
         assert self.sender.client.answer("< ack 1 >") == "< ok >"
         self.many, self.rate, self.sent, self.is_over = many, rate, 0, threading.Event()
@@ -314,7 +314,7 @@ class Load:
             while not self.is_over.is_set():
                 if self.under_way() <= self.many and self.sent <= self.rate * (time.monotonic() - begin):
                     numbers = range(self.sent, self.sent + self.many)
-                    self.sender.client.tell("".join(f"< send 123 3 {spelled(number)} >" for number in numbers))
+                    self.sender.client.write("".join(f"< send 123 3 {spelled(number)} >" for number in numbers))
                     self.sent += self.many
                 else:
                     time.sleep(0.0005)
@@ -326,14 +326,14 @@ class Load:
     def end(self):
         """Ends the sessions, or what is left of them."""
         self.is_over.set()
-        for told in (self.sender, self.receiver):
+        for one in (self.sender, self.receiver):
             with contextlib.suppress(OSError):
-                told.client.socket.shutdown(2)
+                one.client.socket.shutdown(2)
         for thread in self.threads:
             thread.join(WAIT)
             assert not thread.is_alive()
-        for told in (self.sender, self.receiver):
-            told.client.close()
+        for one in (self.sender, self.receiver):
+            one.client.close()
 
 
 def spelled(number):
@@ -342,7 +342,7 @@ def spelled(number):
 
 def kill_under_load(rng, rate):
     """A server is killed at a random moment. What it leaves is right, and the next server sets it aside. Returns how many
-    entries it has, and of how many sends and receives the clients had been told in time."""
+    entries it has, and how many sends and receives the clients knew of in time."""
     with serving_alone(*LIVE, *FAST, "--flush", str(round(1000 * FLUSH)), "can0,can1") as server:
         load = Load(server, rate=rate)
         # A moment, and not a wait for something.
@@ -351,7 +351,7 @@ def kill_under_load(rng, rate):
         server.child.kill()
         server.child.wait()
         load.end()
-        sent, received = (told.before(killed - 2 * FLUSH) for told in (load.sender, load.receiver))
+        sent, received = (one.before(killed - 2 * FLUSH) for one in (load.sender, load.receiver))
         assert names_in(server.folder) == ["can0.log", "can0.rec.new"]
         path = server.path("can0.rec.new")
         entries, is_cut = cut_audit(path, is_replayed=rate < float("inf"))
@@ -395,10 +395,10 @@ def compare_log(log, entries):
 @pytest.mark.parametrize("kills", [10, pytest.param(200, marks=pytest.mark.slow)])
 def test_kills_at_random_moments(rng, kills):
     """under a load that the server can carry, so that its files are not late: 15,000 entries a second"""
-    told = [kill_under_load(rng, 5000) for _ in range(kills)]
-    entries = [one[0] for one in told]
+    runs = [kill_under_load(rng, 5000) for _ in range(kills)]
+    entries = [one[0] for one in runs]
     print(f"{kills} kills, after {min(entries)} to {max(entries)} entries")
-    assert max(received for _, _, received in told) > 100, "no run was long enough"
+    assert max(received for _, _, received in runs) > 100, "no run was long enough"
 
 
 @pytest.mark.parametrize("kills", [2, pytest.param(20, marks=pytest.mark.slow)])
@@ -552,7 +552,7 @@ def test_a_log_on_a_full_device():
 
 
 class SmallDisk:
-    """A file system of so many kilobytes, which the user may mount in a name space of the user's own."""
+    """A file system of this size in kilobytes, which the user may mount in a name space of the user's own."""
 
     def __init__(self, kilobytes, folder):
         script = 'mount -t tmpfs -o size="$1"k none "$2" && echo mounted && exec cat'
@@ -699,8 +699,8 @@ def test_what_is_there_in_the_place_of_a_file(tmp_path):
             path.mkdir()
         else:
             os.symlink("/dev/full", path)
-        status, said, told = run("serve", "--listen", "127.0.0.1:0", *LIVE, "--out", folder, "can0")
-        assert (status, said) == (1, "") and told.startswith(f"canbusd: cannot open {folder}\n  {path}: "), told
+        status, said, errors = run("serve", "--listen", "127.0.0.1:0", *LIVE, "--out", folder, "can0")
+        assert (status, said) == (1, "") and errors.startswith(f"canbusd: cannot open {folder}\n  {path}: "), errors
 
 
 WRITE, SYNC, CUT = range(3)
@@ -727,7 +727,7 @@ class Disk:
         return struct.unpack_from("=Q", self.plan, 16 * call)[0]
 
     def allow(self, call, more):
-        """Lets it make this call so many times more."""
+        """Lets it make this call that many times more."""
         struct.pack_into("=Q", self.plan, 16 * call + 8, self.made(call) + more)
 
 
@@ -786,7 +786,7 @@ def test_a_disk_that_stands_still(pipe):
     log, folder = pipe
     with serving_alone("--record", "none", *FAST, "can0,can1", out=folder) as server:
         load = Load(server, many=400)
-        count = stands_still(load)
+        count = wait_for_stall(load)
         assert server.memory("VmRSS") < 64 * 1024
         lines = []
         thread = threading.Thread(target=lambda: lines.extend(log.pieces()), daemon=True)
@@ -802,15 +802,15 @@ def test_a_disk_that_stands_still(pipe):
     assert int(written.split()[-1]) >= 2 * len(numbers)
 
 
-def stands_still(load):
-    """Waits until nobody is told anything for a while, though there are sends; returns how many had their replies."""
+def wait_for_stall(load):
+    """Waits until no client gets anything for a while, though there are sends; returns how many had their replies."""
     before, looks = -1, 0
-    for _ in turns("it stands still", 6 * WAIT):
-        told = load.sender.count + load.receiver.count
-        looks = looks + 1 if told == before and load.under_way() > load.many else 0
+    for _ in turns("it makes no more calls", 6 * WAIT):
+        count = load.sender.count + load.receiver.count
+        looks = looks + 1 if count == before and load.under_way() > load.many else 0
         if looks == 3:
             return load.sender.count
-        before = told
+        before = count
         time.sleep(1)
 
 
@@ -823,16 +823,16 @@ def test_memory_of_a_run_without_a_record(pipe):
         load = Load(server, many=500)
         # The bus fills the one block while the log waits with the other. The bus goes on once they are exchanged, and the log
         # waits with what is full.
-        count = stands_still(load)
+        count = wait_for_stall(load)
         for _ in log.pieces():
             if load.sender.count > count:
                 break
-        stands_still(load)
+        wait_for_stall(load)
         first = server.memory("VmRSS")
         assert first < 30 * 1024, f"{first} kilobytes"
         thread = threading.Thread(target=lambda: collections.deque(log.pieces(), maxlen=0), daemon=True)
         thread.start()
-        for _ in turns("so many entries", 3600):
+        for _ in turns("that many entries", 3600):
             if load.sender.count + 2 * load.receiver.count >= 20_000_000:
                 break
             time.sleep(0.05)
@@ -868,7 +868,7 @@ def test_a_session_counts_once_it_is_raw(record):
         late = Plain(server)
         assert (late.text(), late.answer("< open can1 >")) == ("< hi >", "< ok >")
         only = plain(server, "can0")
-        late.tell("< rawmode >")
+        late.write("< rawmode >")
         assert [late.text() for _ in range(3)] == ["< ok >", "< error too many sessions >", ""]
         late.close()
         assert only.answer("< send 123 1 7 >< stats >").startswith("< stats ")
@@ -877,7 +877,7 @@ def test_a_session_counts_once_it_is_raw(record):
 
 
 def come_and_go(server, count):
-    """So many sessions, each of which opens an interface and closes it. Its place is free once its client sees the end,
+    """That many sessions, each of which opens an interface and closes it. Its place is free once its client sees the end,
     which takes some 20 milliseconds; meanwhile others come, of which no more are there than a server has at once."""
     leaving = collections.deque()
     for _ in range(count):

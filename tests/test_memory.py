@@ -34,9 +34,9 @@ CALLS = os.path.join(ROOT, "crates", "can_memory_tests", "out", "can_memory_test
 NO_MEMORY = "canbusd: no memory\n"
 # Standard error where memory was refused: its fault, and perhaps what helps.
 REFUSED = re.compile(r"canbusd: no memory\n(  [ -~]+\n)*")
-TELLS_NO_MEMORY = "< error no memory >"
+SAYS_NO_MEMORY = "< error no memory >"
 # A command that does nothing, in place of one that was refused memory.
-UNKNOWN, TELLS_UNKNOWN = "< nothing >", "< error unknown command >"
+UNKNOWN, SAYS_UNKNOWN = "< nothing >", "< error unknown command >"
 TAKES_MEMORY = re.compile(r"< *(?:open|rawmode|filter)\b[^<>]*>")
 
 
@@ -148,7 +148,7 @@ class Bench:
         """What it does where the command does nothing and the reply is the words of refused memory."""
         begin, end = command
         output, *others = self.runs(self.text[:begin] + UNKNOWN + self.text[end:])
-        return output.replace(TELLS_UNKNOWN, TELLS_NO_MEMORY), *others
+        return output.replace(SAYS_UNKNOWN, SAYS_NO_MEMORY), *others
 
     def written(self):
         """The record, or None where there is none."""
@@ -165,12 +165,12 @@ class Bench:
         if did == self.ample:
             return "unseen"
         if did in self.refused:
-            return "told to a session"
+            return "reported to a session"
         assert done.returncode == 1, f"at {first}: {did}"
-        is_told = REFUSED.fullmatch(done.stderr) or done.stderr == self.ample[3].splitlines(True)[0]
-        assert is_told, f"at {first}: {done.stderr}"
+        is_reported = REFUSED.fullmatch(done.stderr) or done.stderr == self.ample[3].splitlines(True)[0]
+        assert is_reported, f"at {first}: {done.stderr}"
         # After the first command that was refused for good, others depend on it.
-        output = done.stdout.split(TELLS_NO_MEMORY)[0] if last == FOREVER else done.stdout
+        output = done.stdout.split(SAYS_NO_MEMORY)[0] if last == FOREVER else done.stdout
         assert self.ample[0].startswith(output), f"at {first}: {done.stdout}"
         assert done.stdout == "" or done.stdout.endswith("\n"), f"a line is cut at {first}: {done.stdout}"
         # Where the record's own memory was refused, its file is a part of it.
@@ -182,18 +182,18 @@ class Bench:
 
 def try_everywhere(bench):
     """Refuses a bench memory at each place: how often it was reported where."""
-    told = {}
+    outcomes = {}
     for first, last in windows(bench.asked):
         how = bench.try_at(first, last)
-        told[how] = told.get(how, 0) + 1
-    return told
+        outcomes[how] = outcomes.get(how, 0) + 1
+    return outcomes
 
 
-def summed(tolds):
+def summed(runs):
     """The counts of several runs together."""
     sums = {}
-    for told in tolds:
-        for how, count in told.items():
+    for outcomes in runs:
+        for how, count in outcomes.items():
             sums[how] = sums.get(how, 0) + count
     return ", ".join(f"{count} {how}" for how, count in sorted(sums.items()))
 
@@ -240,8 +240,8 @@ def test_a_bench_without_memory(refusing):
     """each example, and an input with each command that takes memory"""
     inputs = [example(path) for path in sorted(glob.glob(os.path.join(ROOT, "examples", "*.bench")))]
     inputs += [(["can0,can1"], COMMANDS), (["--report", "--ack", "peers", "--limit", "12", "can0,can1"], COMMANDS)]
-    tolds = [try_everywhere(Bench(refusing, words, text)) for words, text in inputs]
-    print(summed(tolds))
+    runs = [try_everywhere(Bench(refusing, words, text)) for words, text in inputs]
+    print(summed(runs))
 
 
 @pytest.mark.slow
@@ -254,7 +254,7 @@ def test_faults_without_memory(refusing):
             file.write(text)
     words = [["can0"], ["can0,can0"], ["can0@none"], ["--limit", "0", "can0"], ["--limit", "x", "can0"], ["--help"], []]
     words += [[f"can0@{name}"] for name in scripts]
-    tolds = []
+    runs = []
     lines = [["bench", *more] for more in words] + [
         ["serve", "can0", "can0"],
         ["--version"],
@@ -263,7 +263,7 @@ def test_faults_without_memory(refusing):
     ]
     for line in lines:
         ample, asked = refusing.run(line, "session 1\nsession x\n")
-        told = {}
+        outcomes = {}
         for first, last in windows(asked):
             done, _ = refusing.run(line, "session 1\nsession x\n", first, last)
             if (done.returncode, done.stdout, done.stderr) == (ample.returncode, ample.stdout, ample.stderr):
@@ -276,9 +276,9 @@ def test_faults_without_memory(refusing):
                     done.returncode == ample.returncode == 1 and done.stderr == ample.stderr.splitlines(True)[0]
                 ), f"{line} at {first}: {done}"
                 how = "without what helps"
-            told[how] = told.get(how, 0) + 1
-        tolds.append(told)
-    print(summed(tolds))
+            outcomes[how] = outcomes.get(how, 0) + 1
+        runs.append(outcomes)
+    print(summed(runs))
 
 
 def test_an_audit_without_memory(refusing):
@@ -295,12 +295,12 @@ def test_an_audit_without_memory(refusing):
         legal[:-20],
         legal.replace("data 0 1 ", "data 0 2 "),
     ]
-    tolds = []
+    runs = []
     for record in records:
         with open(bench.record, "w", encoding="utf-8") as file:
             file.write(record)
         ample, asked = bench.refusing.run(["audit", "run.rec"])
-        told = {}
+        outcomes = {}
         for first, last in windows(asked):
             done, _ = bench.refusing.run(["audit", "run.rec"], "", first, last)
             if (done.returncode, done.stdout, done.stderr) == (ample.returncode, ample.stdout, ample.stderr):
@@ -314,16 +314,16 @@ def test_an_audit_without_memory(refusing):
                 assert (done.returncode, done.stdout, said[0]) == (1, "", fault), f"at {first}: {done}"
                 assert set(said[1:]) < set(helps), f"at {first}: {done}"
                 how = "without what helps"
-            told[how] = told.get(how, 0) + 1
-        tolds.append(told)
-    print(summed(tolds))
+            outcomes[how] = outcomes.get(how, 0) + 1
+        runs.append(outcomes)
+    print(summed(runs))
 
 
 def crosses(server, source, target):
     """Whether a frame crosses a bus. Its driver may have been refused memory."""
     with contextlib.closing(plain(server, source)) as sender, contextlib.closing(plain(server, target)) as receiver:
         receiver.socket.settimeout(1)
-        sender.tell("< send 7FF 0 >")
+        sender.write("< send 7FF 0 >")
         try:
             return receiver.frame() == ("7FF", b"")
         except TimeoutError:
@@ -366,16 +366,16 @@ def converse(server, refusing):
     with contextlib.closing(Plain(server)) as client:
         try:
             greeting = client.text()
-            if greeting == TELLS_NO_MEMORY:
+            if greeting == SAYS_NO_MEMORY:
                 assert client.text() == "", "a session that was refused goes on"
-                return "told at once"
+                return "reported at once"
             assert greeting in ("< hi >", "", "< error too many sessions >"), greeting
-            told = "as ever"
+            outcome = "as ever"
             for command, right in SAYS:
-                client.tell(command)
+                client.write(command)
                 answer = right and client.text()
-                if answer == TELLS_NO_MEMORY:
-                    told = "told to a session"
+                if answer == SAYS_NO_MEMORY:
+                    outcome = "reported to a session"
                     refusing.stop()
                     answer = client.answer(command)
                 if answer == "":
@@ -384,14 +384,14 @@ def converse(server, refusing):
             texts = list(iter(client.text, ""))
         except ConnectionError:
             return "ended a session"
-    if TELLS_NO_MEMORY in texts:
-        return "told to a session"
-    return told if any(text.startswith("< closed ") for text in texts) else "ended a session"
+    if SAYS_NO_MEMORY in texts:
+        return "reported to a session"
+    return outcome if any(text.startswith("< closed ") for text in texts) else "ended a session"
 
 
 def test_sessions_without_memory(refusing):
     """a session that is refused memory ends without the others, or hears of it"""
-    tolds, numbers, drivers, is_over = {}, places(), 0, False
+    outcomes, numbers, drivers, is_over = {}, places(), 0, False
     while not is_over:
         refusing.stop()
         with refused_server(refusing) as server:
@@ -400,10 +400,10 @@ def test_sessions_without_memory(refusing):
                 place = next(numbers)
                 for last in (FOREVER, place):
                     armed = refusing.refuse_soon(place, last)
-                    told = converse(server, refusing)
+                    outcome = converse(server, refusing)
                     is_over = last == place and refusing.settled() < armed
                     refusing.stop()
-                    tolds[told] = tolds.get(told, 0) + 1
+                    outcomes[outcome] = outcomes.get(outcome, 0) + 1
                     others.go_on(f"refusal {place}")
                     lives = crosses(server, "can2", "can3")
                     if not lives:
@@ -413,19 +413,19 @@ def test_sessions_without_memory(refusing):
             assert status == 0 and server.said() == "", f"status {status}: {server.said()}"
             entries = server.audited("can0.rec"), server.audited("can2.rec")
             assert written == "bus can0 entries {}\nbus can2 entries {}\n".format(*entries), written
-    print(f"{summed([tolds])}; {drivers} drivers ended")
+    print(f"{summed([outcomes])}; {drivers} drivers ended")
 
 
 def hears(sender, listener):
     """What becomes of a listener to which frames go, where one call may be refused memory."""
     listener.socket.settimeout(1)
-    told = "as ever"
+    outcome = "as ever"
     for number in range(40):
         answer = sender.answer(f"< send 123 1 {number:x} >< echo >")
         if answer == "":
             return "ended the sender"
-        if answer == TELLS_NO_MEMORY:
-            told, answer = "told to the sender", sender.text()
+        if answer == SAYS_NO_MEMORY:
+            outcome, answer = "reported to the sender", sender.text()
             assert answer == "< echo >", f"the sender: {answer}"
             continue
         assert answer == "< echo >", f"the sender: {answer}"
@@ -433,44 +433,44 @@ def hears(sender, listener):
             text = listener.text()
         except TimeoutError:
             return "ended a driver"
-        if text == TELLS_NO_MEMORY:
+        if text == SAYS_NO_MEMORY:
             assert listener.text() == "", "a session goes on after a receive that was refused"
             return "ended the listener"
         assert re.fullmatch(rf"< frame 123 \d+\.\d+ {number:02X} >", text), f"frame {number}: {text}"
-    return told
+    return outcome
 
 
 def test_deliveries_without_memory(refusing):
     """a receive takes no memory: a listener gets its frames whatever is refused to others"""
-    tolds = {}
+    outcomes = {}
     for place in places():
         refusing.stop()
         with refused_server(refusing) as server:
             sender, listener, others = plain(server, "can0"), plain(server, "can1"), Pair(server)
             armed = refusing.refuse_soon(place, place)
-            told = hears(sender, listener)
+            outcome = hears(sender, listener)
             is_over = refusing.settled() < armed
             refusing.stop()
-            tolds[told] = tolds.get(told, 0) + 1
-            if told == "ended a driver":
+            outcomes[outcome] = outcomes.get(outcome, 0) + 1
+            if outcome == "ended a driver":
                 status, written = server.finish()
                 assert (status, server.said()) == (1, "canbusd: bus can0: no memory"), server.said()
             else:
-                others.go_on(f"refusal {place}, {told}")
+                others.go_on(f"refusal {place}, {outcome}")
                 written = server.end()
             entries = server.audited("can0.rec"), server.audited("can2.rec")
             assert written == "bus can0 entries {}\nbus can2 entries {}\n".format(*entries), written
         if is_over:
             break
-    assert "ended the listener" not in tolds, f"a receive was refused: {summed([tolds])}"
-    print(summed([tolds]))
+    assert "ended the listener" not in outcomes, f"a receive was refused: {summed([outcomes])}"
+    print(summed([outcomes]))
 
 
 def why_not(fault, others=()):
     """Why a server does not listen, where it said so as it has to: these reasons are taken too."""
-    told = re.fullmatch(rf"canbusd: ({'|'.join(['no memory', 'cannot listen', *others])})(\n  [ -~]*)*", str(fault))
-    assert told, f"{fault}"
-    return told[1]
+    reported = re.fullmatch(rf"canbusd: ({'|'.join(['no memory', 'cannot listen', *others])})(\n  [ -~]*)*", str(fault))
+    assert reported, f"{fault}"
+    return reported[1]
 
 
 def greets(server):
@@ -484,14 +484,14 @@ def greets(server):
 def refused_at_each_place(tried):
     """What came of each try, of which memory is refused at one place or from there on, until nothing is asked for there. A
     try gets the place and the last that is refused, and returns what came of it, and whether it asked for less."""
-    told = {}
+    outcomes = {}
     for place in places():
         for last in (FOREVER, place):
             how, asks_for_less = tried(place, last)
-            told[how] = told.get(how, 0) + 1
+            outcomes[how] = outcomes.get(how, 0) + 1
         if asks_for_less:
             break
-    print(summed([told]))
+    print(summed([outcomes]))
 
 
 def start(refusing, place, last, ended, *words, reasons=()):
@@ -529,12 +529,12 @@ def test_an_end_without_memory(refusing):
             status, written = server.finish()
             asks_for_less = last == place and refusing.settled() < armed
             refusing.stop()
-            return told_at_the_end(server, status, written), asks_for_less
+            return files_at_the_end(server, status, written), asks_for_less
 
     refused_at_each_place(tried)
 
 
-def told_at_the_end(server, status, written):
+def files_at_the_end(server, status, written):
     """What became of the files of a server."""
     assert re.fullmatch(r"bus can0 entries \d+\nbus can2 entries 0\n", written), written
     lines = [line for line in server.said().splitlines() if not line.startswith("  ")]
@@ -629,18 +629,18 @@ def least(words):
 
 def test_a_bench_within_ever_more_memory(refusing):
     """RLIMIT_AS, from what `--version` needs on"""
-    bench, told = Bench(refusing, ["--limit", "200000", "can0,can1"], COMMANDS), {}
+    bench, outcomes = Bench(refusing, ["--limit", "200000", "can0,can1"], COMMANDS), {}
     for most in amounts(least(["--version"])):
         how = bench.try_at(1, 0, most)
-        told[how] = told.get(how, 0) + 1
-        if told.get("unseen", 0) == 3:
+        outcomes[how] = outcomes.get(how, 0) + 1
+        if outcomes.get("unseen", 0) == 3:
             break
-    print(f"{summed([told])}; as ever from {most >> 10} KB on")
+    print(f"{summed([outcomes])}; as ever from {most >> 10} KB on")
 
 
 def test_a_server_within_ever_more_memory():
     """RLIMIT_AS; each time ten sessions, of which some may be refused"""
-    told = {}
+    outcomes = {}
     for most in amounts(least(["--version"])):
         try:
             with serving_alone("--limit", "200000", "can0,can1", preexec_fn=within(most)) as server:
@@ -652,7 +652,7 @@ def test_a_server_within_ever_more_memory():
                 assert status != 0 or written == f"bus can0 entries {server.audited('can0.rec')}\n", written
         except NotListening as fault:
             how = why_not(fault)
-        told[how] = told.get(how, 0) + 1
-        if told.get("served all", 0) == 3:
+        outcomes[how] = outcomes.get(how, 0) + 1
+        if outcomes.get("served all", 0) == 3:
             break
-    print(f"{summed([told])}; as ever from {most >> 10} KB on")
+    print(f"{summed([outcomes])}; as ever from {most >> 10} KB on")

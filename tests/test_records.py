@@ -126,36 +126,36 @@ def test_a_log(tmp_path):
 
 @pytest.mark.parametrize("what", ["record", "log"])
 def test_a_file_that_cannot_be_opened(what, tmp_path):
-    told = "canbusd: cannot open none/run\n  none/run: No such file or directory (os error 2)\n"
-    assert run_line(f"bench --{what} none/run can0", cwd=tmp_path) == (1, "", told)
+    errors = "canbusd: cannot open none/run\n  none/run: No such file or directory (os error 2)\n"
+    assert run_line(f"bench --{what} none/run can0", cwd=tmp_path) == (1, "", errors)
 
 
 def test_files_of_a_run_that_ends_in_a_fault(tmp_path):
     """there are none, and old ones stay as they are"""
-    told = """canbusd: line 1: bad line
+    errors = """canbusd: line 1: bad line
   standard input:1: attempt 1
   nothing may follow attempt: each line makes one attempt
   no record was written to run.rec
   no log was written to run.log
 """
     line = "bench --record run.rec --log run.log can0"
-    assert run_line(line, "attempt 1\n", cwd=tmp_path) == (1, "", told)
+    assert run_line(line, "attempt 1\n", cwd=tmp_path) == (1, "", errors)
     assert not list(tmp_path.iterdir())
     (tmp_path / "run.rec").write_text("old")
-    told = """canbusd: cannot open none
+    errors = """canbusd: cannot open none
   none: No such file or directory (os error 2)
   no record was written to run.rec: the old file of this name stays as it is
 """
-    assert run_line("bench --record run.rec can0@none", cwd=tmp_path) == (1, "", told)
+    assert run_line("bench --record run.rec can0@none", cwd=tmp_path) == (1, "", errors)
     assert (tmp_path / "run.rec").read_text() == "old"
 
 
 def test_a_strict_bench_that_ends_in_a_refusal(tmp_path):
     """writes its record all the same"""
     output = "1 < hi >\n1 < error no such interface >\n"
-    told = "canbusd: message refused\n  standard output, byte 9: 1 < error no such interface >\n"
+    errors = "canbusd: message refused\n  standard output, byte 9: 1 < error no such interface >\n"
     line = "bench --strict --record run.rec can0"
-    assert run_line(line, "session 1\nfeed 1 < open can1 >\n", cwd=tmp_path) == (1, output, told)
+    assert run_line(line, "session 1\nfeed 1 < open can1 >\n", cwd=tmp_path) == (1, output, errors)
     assert run_line("audit run.rec", cwd=tmp_path) == (0, "ok 0 entries\n", "")
 
 
@@ -163,25 +163,25 @@ def test_a_log_in_the_place_of_the_record(tmp_path):
     """through a link: it is refused, and the record is whole"""
     (tmp_path / "run.rec").write_text("old")
     (tmp_path / "run.log").symlink_to("run.rec")
-    told = "canbusd: cannot open run.log\n  --record names this file too\n"
+    errors = "canbusd: cannot open run.log\n  --record names this file too\n"
     line = "bench --record run.rec --log run.log can0"
-    assert run_line(line, "attempt\n", cwd=tmp_path) == (1, "idle\n", told)
+    assert run_line(line, "attempt\n", cwd=tmp_path) == (1, "idle\n", errors)
     assert run_line("audit run.log", cwd=tmp_path) == (0, "ok 1 entries\n", "")
 
 
 @pytest.mark.parametrize("old, new, fault, place, note", DAMAGED)
 def test_damaged_records(old, new, fault, place, note, tmp_path):
     (tmp_path / "damaged.rec").write_bytes(RECORD.replace(old, new).encode())
-    told = f"canbusd: {fault}\n  damaged.rec:{place}\n  {note}\n"
-    assert run_line("audit damaged.rec", cwd=tmp_path) == (1, "", told)
+    errors = f"canbusd: {fault}\n  damaged.rec:{place}\n  {note}\n"
+    assert run_line("audit damaged.rec", cwd=tmp_path) == (1, "", errors)
 
 
 @pytest.mark.parametrize("damaged, number", [(b"canbus record 9\n\xff\n", 2), (b"\xff", 1)])
 def test_bytes_that_are_no_text(damaged, number, tmp_path):
     """they are reported before a line that can't be read, wherever they are"""
     (tmp_path / "damaged.rec").write_bytes(damaged)
-    told = f"canbusd: read fault\n  damaged.rec:{number}: ?\n  this line is no UTF-8 text\n"
-    assert run_line("audit damaged.rec", cwd=tmp_path) == (1, "", told)
+    errors = f"canbusd: read fault\n  damaged.rec:{number}: ?\n  this line is no UTF-8 text\n"
+    assert run_line("audit damaged.rec", cwd=tmp_path) == (1, "", errors)
 
 
 def test_the_record_of_a_restart(tmp_path):
@@ -199,8 +199,8 @@ def test_the_record_of_a_restart(tmp_path):
     # Two sockets, an option, a frame, 34 attempts, what is received and that there is no more, a frame and an attempt.
     assert run_line("audit run.rec", cwd=tmp_path) == (0, "ok 43 entries\n", "")
     record.write_text(record.read_text().replace(" restarted 0001", ""))
-    told = """canbusd: entry 37: wrong
+    errors = """canbusd: entry 37: wrong
   run.rec:40: attempt 0.000034 good = idle
   legal is: attempt 0.000034 good = idle restarted 0001
 """
-    assert run_line("audit run.rec", cwd=tmp_path) == (1, "", told)
+    assert run_line("audit run.rec", cwd=tmp_path) == (1, "", errors)

@@ -231,10 +231,10 @@ def test_a_rule_from_a_socket(verdict, copies):
         assert giver.answer("< faults >") == "< faults 1 >"
         other, car1 = plain(server, "car0"), plain(server, "car1")
         assert other.answer("< faults >") == "< faults 0 >"
-        other.tell("< send 123 0 >")
+        other.write("< send 123 0 >")
         assert car1.frame() == ("123", b"")
         for number in range(2):
-            sender.tell(f"< send 123 1 {number} >")
+            sender.write(f"< send 123 1 {number} >")
         for receiver, count in zip(receivers, copies):
             wanted = [("123", b"\0")] * count + [("123", b"\1")]
             assert [receiver.frame() for _ in wanted] == wanted

@@ -1,4 +1,4 @@
-"""canbusd-run, the command: it becomes the program, finds the server, and leaves nothing behind."""
+"""canbusd-run, the command: it becomes the program, finds the server, and leaves no file or process."""
 
 import contextlib
 import os
@@ -284,7 +284,7 @@ def test_kill():
         for _ in range(3):
             with started(server, "python3", "-c", WAITING_READER) as child:
                 assert child.stdout.readline() == "ready\n", child.stderr.read()
-                watcher.tell("< send 123 0 >")
+                watcher.write("< send 123 0 >")
                 assert child.stdout.readline() == "got\n"
                 child.kill()
             assert none_left(server)
@@ -356,7 +356,7 @@ def test_debug():
     text = SEND.replace("s.send(", "s.send(b'x' * 15) if 0 else s.send(")
     with serving("--limit", "3", "can0,can1") as server:
         client = plain(server, "can0")
-        client.tell("< send 1 0 >")
+        client.write("< send 1 0 >")
         ended = run(server, "/usr/bin/python3", "-c", text, env=environment(server, CANBUSD_RUN_DEBUG="1"))
         assert (
             ended.returncode == 1

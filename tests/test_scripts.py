@@ -150,11 +150,11 @@ def test_faults_are_reported_where_that_is_asked_for(tmp_path):
 def test_scripts_that_are_refused(script, fault, place, note, tmp_path):
     """before the limits of the bus are looked at"""
     (tmp_path / "faulty.script").write_bytes(script)
-    told = f"canbusd: {fault}\n  faulty.script:{place}\n  {note}\n"
-    assert run_line("bench --limit 0 can0,can1@faulty.script", "session 1\n", cwd=tmp_path) == (1, "", told)
+    errors = f"canbusd: {fault}\n  faulty.script:{place}\n  {note}\n"
+    assert run_line("bench --limit 0 can0,can1@faulty.script", "session 1\n", cwd=tmp_path) == (1, "", errors)
 
 
 def test_a_script_before_a_bad_bus(tmp_path):
     (tmp_path / "good.script").write_text("0 good")
-    told = "canbusd: bad bus\n  --limit 0: from 1 to 16777216\n"
-    assert run_line("bench --limit 0 can0@good.script", "session 1\n", cwd=tmp_path) == (1, "", told)
+    errors = "canbusd: bad bus\n  --limit 0: from 1 to 16777216\n"
+    assert run_line("bench --limit 0 can0@good.script", "session 1\n", cwd=tmp_path) == (1, "", errors)

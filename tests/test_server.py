@@ -20,11 +20,11 @@ def test_full_record():
     """it is reported once and to each call, and nothing spins"""
     with serving("--limit", "5", "can0,can1", "can2") as server:
         can0, can1 = plain(server, "can0"), plain(server, "can1")
-        can0.tell("< send 123 1 5 >")
+        can0.write("< send 123 1 5 >")
         assert can1.frame() == ("123", b"\x05"), "not the frame"
         for one in (can0, can1, can0):
-            told_by = one.answer("< send 123 0 >")
-            assert told_by == "< error record full >", told_by
+            text = one.answer("< send 123 0 >")
+            assert text == "< error record full >", text
         others = can0.answer("< echo >"), can0.answer("< stats >"), can0.answer("< status >")
         assert others == ("< echo >", "< stats 0 0 0 1 1 0 0 0 >", "< status active 0 0 >"), f"{others}"
         before = server.ticks()
@@ -42,7 +42,7 @@ def test_nearly_full_record():
     with serving("--limit", "50", "--pace", "0", "can0,can1") as server:
         can0, can1 = plain(server, "can0"), plain(server, "can1")
         for value in range(15):
-            can0.tell(f"< send 123 1 {value:X} >")
+            can0.write(f"< send 123 1 {value:X} >")
             assert can1.frame() == ("123", bytes([value])), "not the frame"
             assert value < 14 or come_true(lambda: server.said() == note), server.said()
             assert value > 13 or server.said() == "", server.said()
@@ -55,7 +55,7 @@ def test_verbose():
     with serving(*words) as server:
         can0 = plain(server, "can0")
         port = can0.socket.getsockname()[1]
-        can0.tell("< send 123 0 >")
+        can0.write("< send 123 0 >")
         assert come_true(lambda: "can0: restarted" in server.said()), server.said()
         refused = can0.answer("< sendfd 123 0 >")
         assert refused == "< error fd frames off >", refused
@@ -77,9 +77,9 @@ def test_record_that_a_delivery_finds_full():
     """where the first call that the record has no room for takes an item, it is reported, and both sessions go on"""
     with serving("--limit", "4", "--pace", "0", "can0,can1") as server:
         can0, can1 = plain(server, "can0"), plain(server, "can1")
-        can0.tell("< send 123 1 5 >")
-        told_by = can1.text()
-        assert told_by == "< error record full >", told_by
+        can0.write("< send 123 1 5 >")
+        text = can1.text()
+        assert text == "< error record full >", text
         assert come_true(lambda: "can0: record full" in server.said()), server.said()
         others = can0.answer("< echo >"), can1.answer("< echo >")
         assert others == ("< echo >", "< echo >"), f"{others}"
@@ -92,7 +92,7 @@ def test_each_of_64_sessions():
     with serving("--pace", "0", "can0,can1") as server:
         sender, *others = [plain(server, "can0")] + [plain(server, "can1") for _ in range(63)]
         for number in range(3):
-            sender.tell(f"< send 123 1 {number} >")
+            sender.write(f"< send 123 1 {number} >")
             for place, one in enumerate(others):
                 got = one.frame()
                 assert got == ("123", bytes([number])), f"socket {place + 1}: {got}"
@@ -104,7 +104,7 @@ def test_counts_of_verbose():
     words = ("--verbose", "--pace", "0", "--txqueue", "1024", "--rxqueue", "1")
     with serving(*words, f"can0,can1@{ROOT}/examples/bus_off_attack.script", "can2,can3") as server:
         off = plain(server, "can0")
-        off.tell("< send 123 0 >")
+        off.write("< send 123 0 >")
         assert come_true(lambda: "can0: bus off" in server.said()), server.said()
         refused = [off.answer("< send 123 0 >") for _ in range(100)]
         assert refused == ["< error bus off >"] * 100, refused[0]
@@ -112,10 +112,10 @@ def test_counts_of_verbose():
         assert come_true(lambda: "can0: restarted" in server.said()), server.said()
         sender, asleep = plain(server, "can2"), plain(server, "can3")
         for _ in range(40):
-            sender.tell("< send 7FF 8 1 2 3 4 5 6 7 8 >" * 1000 + "< echo >")
+            sender.write("< send 7FF 8 1 2 3 4 5 6 7 8 >" * 1000 + "< echo >")
             while sender.text() != "< echo >":
                 pass
-        asleep.tell("< close >")
+        asleep.write("< close >")
         closed = next(text for text in iter(asleep.text, "") if text.startswith("< closed "))
         dropped = int(closed.split()[3])
         assert dropped > 0, closed
@@ -165,7 +165,7 @@ def test_web_page(method, pieces):
         assert page.text() == "< hi >"
         with contextlib.suppress(ConnectionError):
             for piece in [request] if pieces == "whole" else request:
-                page.tell(piece)
+                page.write(piece)
         assert has_ended(page), "the connection goes on"
         assert come_true(lambda: "session 1: gone" in server.said()), server.said()
         status, written = server.finish()
@@ -188,11 +188,11 @@ def test_no_web_page(first):
     with serving("can0,can1") as server:
         near, other = Plain(server), plain(server, "can1")
         assert near.text() == "< hi >"
-        near.tell(first)
+        near.write(first)
         assert other.answer("< echo >") == "< echo >"
         answers = near.answer("< open can0 >"), near.answer("< rawmode >")
         assert answers == ("< ok >", "< ok >"), f"{answers}"
-        near.tell("< send 123 0 >")
+        near.write("< send 123 0 >")
         assert other.frame() == ("123", b""), "not the frame"
         server.end()
 
@@ -206,7 +206,7 @@ def test_slow_reader():
         asleep = plain(server, "can1")
         numbers = list(range(3000))
         for number in numbers:
-            sender.tell(f"< send 123 2 {number >> 8:x} {number & 255:x} >")
+            sender.write(f"< send 123 2 {number >> 8:x} {number & 255:x} >")
             got = int.from_bytes(quick.frame()[1], "big")
             assert got == number, f"{got} instead of {number}"
         got, taken, queued = [], 0, None
@@ -214,7 +214,7 @@ def test_slow_reader():
         for _ in turns("all that was queued is taken"):
             if taken == queued and len(got) >= taken:
                 break
-            slow.tell("< stats >")
+            slow.write("< stats >")
             for text in iter(slow.text, ""):
                 if text.startswith("< stats "):
                     queued, dropped, taken = map(int, text.split()[2:5])
@@ -233,7 +233,7 @@ def test_bytes_of_a_write(most):
         sender, reader = plain(server, "can0"), plain(server, "can1")
         for start in range(0, 5000, 500):
             numbers = range(start, start + 500)
-            sender.tell("".join(f"< send 123 2 {number >> 8:x} {number & 255:x} >" for number in numbers))
+            sender.write("".join(f"< send 123 2 {number >> 8:x} {number & 255:x} >" for number in numbers))
             got = [int.from_bytes(reader.frame()[1], "big") for _ in numbers]
             assert got == list(numbers), f"not the frames from {start} on"
         server.end()
@@ -244,11 +244,11 @@ def test_clients_that_go():
     with serving("can0,can1") as server:
         can0, can1 = plain(server, "can0"), plain(server, "can1")
         gone, half = plain(server, "can0"), plain(server, "can1")
-        gone.tell("< send 123 8 1")
+        gone.write("< send 123 8 1")
         gone.close()
         half.socket.shutdown(socket.SHUT_WR)
         assert half.text() == "", "a session went on without its client's input"
-        can0.tell("< send 124 0 >")
+        can0.write("< send 124 0 >")
         assert can1.frame() == ("124", b""), "not the frame"
         written = server.end()
         assert written == f"bus can0 entries {server.audited('can0.rec')}\n", written
@@ -290,7 +290,7 @@ def test_sessions_that_come_and_go():
         def visit(first):
             for number in range(first, first + 250):
                 with contextlib.suppress(OSError), contextlib.closing(Plain(server)) as visitor:
-                    visitor.tell(openings[number % len(openings)])
+                    visitor.write(openings[number % len(openings)])
                     if number % 4:
                         visitor.text()
 
@@ -314,7 +314,7 @@ def test_ends_while_busy():
             def send(place, one):
                 with contextlib.suppress(OSError):
                     while True:
-                        one.tell("< send 123 4 11 22 33 44 >< send 92345678 0 >")
+                        one.write("< send 123 4 11 22 33 44 >< send 92345678 0 >")
                         one.socket.recv(65536)
                         rounds[place] += 1
 
@@ -416,14 +416,14 @@ def test_attempts_in_vain_at_the_end(tmp_path):
     """a frame that nobody acknowledges, and an interface that waits for its restart, do not hold up the end"""
     most = 16777216
     with serving("--ack", "peers", "--pace", "0", "--limit", str(most), "can0") as server:
-        plain(server, "can0").tell("< send 123 0 >")
+        plain(server, "can0").write("< send 123 0 >")
         server.end()
         assert server.audited("can0.rec") < most
     script = tmp_path / "faults"
     script.write_text("".join(f"{number} global bit\n" for number in range(32)))
     with serving("--auto-restart", "1000000", f"can0,can1@{script}") as server:
         one = plain(server, "can0")
-        one.tell("< send 123 0 >")
+        one.write("< send 123 0 >")
         assert come_true(lambda: one.answer("< status >").startswith("< status off ")), "bus off"
         server.end()
         assert server.audited("can0.rec") < 1000000

@@ -133,8 +133,8 @@ def test_faults_of_records(tmp_path):
             assert is_clean(fault) and "\x1b" not in fault[2], f"{what}: {fault}"
         for other in (os.path.join(tmp_path, "none"), tmp_path):
             assert is_clean(call(*command, other)), other
-        status, _, told = call("sh", "-c", '"$@" | head -c 10; "$@" --help | head -n 1', "sh", *command, record)
-        assert (status, told) == (0, ""), told
+        status, _, errors = call("sh", "-c", '"$@" | head -c 10; "$@" --help | head -n 1', "sh", *command, record)
+        assert (status, errors) == (0, ""), errors
         with open("/dev/full", "w", encoding="ascii") as full:
             done = subprocess.run([*command, record], stdout=full, stderr=subprocess.PIPE, text=True, check=False)
         assert (
@@ -263,8 +263,8 @@ SHOWN = [
 def test_page(name, tmp_path):
     """a page of each example: one file without a link"""
     record, names = example(name, tmp_path)
-    status, page, told = call(REPORT, "--names", names, record)
-    assert (status, told) == (0, "") and page.endswith("</html>\n"), told
+    status, page, errors = call(REPORT, "--names", names, record)
+    assert (status, errors) == (0, "") and page.endswith("</html>\n"), errors
     assert not re.search(r"https?:|\bsrc=|\bhref=|@import|url\(", page), "a link"
 
 
@@ -299,8 +299,8 @@ def test_page_of_a_long_run(tmp_path):
         check=False,
     )
     assert done.returncode == 0, done.stderr
-    status, page, told = call(REPORT, record)
-    assert status == 0, told
+    status, page, errors = call(REPORT, record)
+    assert status == 0, errors
     with open(path, "w", encoding="utf-8") as file:
         file.write(page)
     if not BROWSER:

@@ -86,14 +86,14 @@ def visit(pages, folder):
         [BROWSER, *words, address], stdin=subprocess.DEVNULL, stdout=subprocess.DEVNULL, stderr=subprocess.DEVNULL
     )
     try:
-        assert pages.done.wait(PATIENCE), "the page's script did not come to its end"
+        assert pages.done.wait(PATIENCE), "the page's script did not end"
     finally:
         browser.terminate()
         browser.wait(WAIT)
 
 
 def sent(server):
-    """How many frames can0 has accepted, as a session on it is told."""
+    """How many frames can0 has accepted, as the server replies to a session on it."""
     client = plain(server, "can0")
     counts = client.answer("< stats >").split()
     client.close()

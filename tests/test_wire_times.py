@@ -431,7 +431,7 @@ def recorded(program: str, rates: Rates, maker: random.Random, path: str) -> lis
 
 
 def test_replay_of_moments(program: str, rng: random.Random, tmp_path: pathlib.Path) -> None:
-    """A bench that is never told to wait has attempts one right after another: the replay finds nothing there, but one that
+    """A bench whose input never waits has attempts one right after another: the replay finds nothing there, but one that
     is 2 microseconds too early, or that the bits are too slow.
     """
     path = str(tmp_path / "can0.rec")

@@ -34,7 +34,7 @@ struct task {
     unsigned at;          /* the frame that is sent next */
     uint64_t due;         /* the next frame, or the timeout; 0 for never */
     uint64_t held_until;  /* the throttle; 0 where it is off */
-    uint64_t told;        /* when the program got a frame last */
+    uint64_t reported;        /* when the program got a frame last */
     struct last *last;    /* one for each frame of an RX task */
     struct canfd_frame frames[];
 };
@@ -125,11 +125,11 @@ static void has_changed(struct task *task, struct last *last, const struct item 
     last->is_received = last->is_held = true;
     if (!pause) {
         hand_over(task, last, item->moment, index);
-    } else if (!task->held_until && task->told && now - task->told < pause) {
-        task->held_until = task->told + pause;
+    } else if (!task->held_until && task->reported && now - task->reported < pause) {
+        task->held_until = task->reported + pause;
     } else if (!task->held_until) {
         hand_over(task, last, item->moment, index);
-        task->told = now;
+        task->reported = now;
     }
 }
 
@@ -143,7 +143,7 @@ static void release(struct task *task, uint64_t now) {
         }
     }
     task->held_until = has_any ? now + nanoseconds(task->head.ival2) : 0;
-    task->told = has_any ? task->told : 0;
+    task->reported = has_any ? task->reported : 0;
 }
 
 /* Whether the frames differ where the mask has bits. */
@@ -380,7 +380,7 @@ static int set_up_rx(struct bcm_head *head, const char *data, int index) {
         task->frames[0].can_id = head->can_id & ~CAN_RTR_FLAG;
     }
     if (head->flags & SETTIMER) {
-        task->told = task->held_until = 0;
+        task->reported = task->held_until = 0;
     }
     if (head->flags & STARTTIMER && nanoseconds(task->head.ival1)) {
         task->due = clock_now() + nanoseconds(task->head.ival1);

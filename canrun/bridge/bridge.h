@@ -72,7 +72,7 @@ struct options {
 enum due { DUE_NOTHING, DUE_ECHO, DUE_VERDICT };
 
 struct session {
-    int fd;               /* -1: it has come to its end */
+    int fd;               /* -1: it has ended */
     int index;            /* of its interface */
     bool is_receiving;    /* for what the socket is bound to, and not only to send */
     bool is_counting;     /* a reply to session_ask_counts is due */
@@ -123,7 +123,7 @@ struct session *sessions_for(int index);
 /* Gives all sessions the options that there are now. */
 int sessions_apply(void);
 
-/* Whether one of them has come to its end. */
+/* Whether one of them has ended. */
 bool sessions_ended(void);
 
 /* ---- wait.c: waiting ---- */
@@ -131,7 +131,7 @@ bool sessions_ended(void);
 /* Nanoseconds of a clock that only goes forward. */
 uint64_t clock_now(void);
 
-/* Waits for the sessions, or the program where it may ask for something, so many nanoseconds or without end (-1); what
+/* Waits for the sessions, or the program where it may ask for something, at most these nanoseconds or without end (-1); what
  * the sessions bring is handled. Returns whether the program asks for something, or has closed its socket. */
 bool wait_for_input(int64_t nanoseconds, bool takes_requests);
 
@@ -143,7 +143,7 @@ bool program_is_gone(void);
 
 /* ---- outbox.c: what is on its way to the program ---- */
 
-/* Puts a message behind the others. Where there is no room it is lost, and counted. */
+/* Puts a message after the others. Where there is no room it is lost, and counted. */
 void outbox_put(const void *data, size_t length, uint64_t moment, int index, uint32_t message_flags);
 
 /* The same for an errno, which a read returns. */

@@ -22,7 +22,7 @@ extern struct isotp isotp;
 
 /* How many bytes of a frame the address takes: 0 or 1. */
 unsigned isotp_address_size(void);
-/* The length of a frame that has room for so many bytes, and is filled up. */
+/* The length of a frame that has room for these bytes, and is filled up. */
 unsigned isotp_padded(unsigned length);
 /* Whether the rest of a received frame, from this byte on, is filled up as the options ask for. */
 bool isotp_is_well_padded(const struct canfd_frame *frame, unsigned from);

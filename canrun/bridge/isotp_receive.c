@@ -1,4 +1,4 @@
-/* CAN_ISOTP: frames are put together to a message, and their sender is told how to go on. */
+/* CAN_ISOTP: frames are put together to a message, and their sender gets its flow control. */
 #include "isotp.h"
 
 #include <errno.h>

@@ -27,7 +27,7 @@ static void end(int error) {
     isotp_send_done(error);
 }
 
-/* Fills a frame with the next data, behind so many bytes of the protocol. */
+/* Fills a frame with the next data, after the bytes of the protocol. */
 static void fill(struct canfd_frame *frame, unsigned front) {
     size_t part = MIN(tx.length - tx.at, (size_t)isotp.link.tx_dl - front);
     bool pads = isotp.options.flags & CAN_ISOTP_TX_PADDING;

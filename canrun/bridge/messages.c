@@ -7,7 +7,7 @@ static const char DIGITS[] = "0123456789ABCDEF";
 /* The lengths that an FD frame may have past 8 (ISO 11898-1). */
 static const uint8_t FD_LENGTHS[] = {12, 16, 20, 24, 32, 48, 64};
 
-/* The least length of an FD frame that has room for so many bytes. */
+/* The least length of an FD frame that has room for these bytes. */
 static unsigned fd_length(unsigned length) {
     unsigned at = 0;
     if (length <= CAN_MAX_DLEN) {
@@ -63,7 +63,7 @@ static int digit(char one) {
                                       : -1;
 }
 
-/* Reads hexadecimal digits and the space behind them; returns how many digits there were. */
+/* Reads hexadecimal digits and the space after them; returns how many digits there were. */
 static int get_hex(const char **at, uint32_t *number) {
     int count = 0;
     for (*number = 0; digit(**at) >= 0 && count < 8; count++, (*at)++) {

@@ -17,14 +17,14 @@
 #define SMALL_ROOM 64
 /* Messages that are handed over by one call. */
 #define BATCH 32
-/* When the server is asked what it lost: after so many frames, and so many nanoseconds after the first of them. */
+/* When the server is asked what it lost: after a number of frames, and of nanoseconds after the first of them. */
 #define COUNT_FRAMES 256
 #define COUNT_PAUSE 20000000
 
-/* A message is its length, and behind HEAD its data. */
+/* A message is its length, and after HEAD its data. */
 #define HEAD 8
 static char ring[RING];
-/* Messages are from `first` on; where `end` is not behind it, they go on at 0 after `wrap`. */
+/* Messages are from `first` on; where `end` is not after it, they go on at 0 after `wrap`. */
 static size_t first, end, wrap;
 static unsigned count, room = USUAL_ROOM;
 static uint32_t dropped;
@@ -42,7 +42,7 @@ static uint32_t length_at(size_t at) {
     return length;
 }
 
-/* Takes a place for so many bytes; NULL where there is none. */
+/* Takes a place for these bytes; NULL where there is none. */
 static char *place_for(size_t length) {
     size_t size = size_of(length), at = end;
     if (count == 0) {

@@ -18,7 +18,7 @@
 #define EXPORT __attribute__((visibility("default")))
 #define MIN(a, b) ((a) < (b) ? (a) : (b))
 
-/* The functions of the C library that this one stands before. */
+/* The functions of the C library that are called by those of this one. */
 #define REAL_FUNCTIONS(X) \
     X(socket)             \
     X(socketpair)         \

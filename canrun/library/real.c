@@ -1,4 +1,4 @@
-/* The functions of the C library that this one stands before, what a descriptor is, and errors. */
+/* The functions of the C library that are called by those of this one, what a descriptor is, and errors. */
 #define _GNU_SOURCE
 #include "library.h"
 

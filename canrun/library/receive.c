@@ -32,7 +32,7 @@ static bool correct_stamps(struct msghdr *message, uint64_t nanoseconds) {
     return has_three;
 }
 
-/* Adds a control message behind those of the kernel. */
+/* Adds a control message after those of the kernel. */
 static void add_control(struct msghdr *message, size_t room, int type, const void *data, size_t length) {
     size_t used = CMSG_ALIGN(message->msg_controllen);
     if (used + CMSG_LEN(length) > room) {

@@ -1,7 +1,7 @@
 /* A node that sends a heartbeat each 20 milliseconds, as a C program for SocketCAN: it knows nothing of canbusd.
  *
  * Its controller goes bus off where too many of its frames are destroyed. Then it waits for the restart, and begins to
- * count anew, so that others see that it was away. After three heartbeats more it ends. */
+ * count from the start, so that others see that it was away. After three heartbeats more it ends. */
 #include <errno.h>
 #include <linux/can.h>
 #include <linux/can/error.h>

@@ -24,7 +24,7 @@ static ssize_t give(struct message message) {
     return write(manager, &message, size_of(message.head.nframes));
 }
 
-static struct message told(uint32_t opcode, canid_t id, uint32_t frames) {
+static struct message expect(uint32_t opcode, canid_t id, uint32_t frames) {
     struct message message;
     CHECK(comes(manager, PATIENCE));
     ssize_t length = read(manager, &message, sizeof message);
@@ -93,7 +93,7 @@ static void cyclic(void) {
         frame = got(raw);
     } while (number_of(&frame) < 3);
     CHECK(give((struct message){.head = {.opcode = TX_READ, .can_id = 77}}) == (ssize_t)size_of(0));
-    struct message status = told(TX_STATUS, 77, 2);
+    struct message status = expect(TX_STATUS, 77, 2);
     CHECK(number_of(&status.frames[0]) == 3 && number_of(&status.frames[1]) == 4 && status.head.ival2.tv_usec == 20000);
     changed.head.nframes = 3;
     FAILS(give(changed), E2BIG);
@@ -114,7 +114,7 @@ static void counted(void) {
                                     .ival1 = ms(10)},
                            .frames = {frame_of(0x7FF, 5)}};
     CHECK(give(task) > 0);
-    told(TX_EXPIRED, 0x155, 0);
+    expect(TX_EXPIRED, 0x155, 0);
     for (int i = 0; i < 3; i++) {
         get(raw, 0x155, 5); /* TX_CP_CAN_ID */
     }
@@ -136,12 +136,12 @@ static void filtered(void) {
     put(raw, 0x202, 9);
     struct message message;
     for (int i = 0; i < 2; i++) {
-        message = told(RX_CHANGED, 0x200, 1);
+        message = expect(RX_CHANGED, 0x200, 1);
         CHECK(message.frames[0].can_id == 0x200 && number_of(&message.frames[0]) == 1);
     }
-    message = told(RX_CHANGED, 0x201, 1);
+    message = expect(RX_CHANGED, 0x201, 1);
     CHECK(number_of(&message.frames[0]) == 0x101);
-    message = told(RX_CHANGED, 0x201, 1);
+    message = expect(RX_CHANGED, 0x201, 1);
     CHECK(number_of(&message.frames[0]) == 0x202);
     CHECK(give((struct message){.head = {.opcode = RX_DELETE, .can_id = 0x200}}) > 0);
     CHECK(give((struct message){.head = {.opcode = RX_DELETE, .can_id = 0x201}}) > 0);
@@ -157,13 +157,13 @@ static void limits(void) {
                                          .ival1 = ms(50)},
                                 .frames = {{.can_id = 0x210, .data = {0xFF}}}}) > 0);
     put(raw, 0x210, 1);
-    told(RX_CHANGED, 0x210, 1);
-    told(RX_TIMEOUT, 0x210, 0);
+    expect(RX_CHANGED, 0x210, 1);
+    expect(RX_TIMEOUT, 0x210, 0);
     put(raw, 0x210, 1); /* It has not changed, but comes back. */
-    told(RX_CHANGED, 0x210, 1);
+    expect(RX_CHANGED, 0x210, 1);
     CHECK(give((struct message){.head = {.opcode = RX_DELETE, .can_id = 0x210}}) > 0);
     while (comes(manager, 0)) {
-        told(RX_TIMEOUT, 0x210, 0); /* On a slow machine it was absent once more. */
+        expect(RX_TIMEOUT, 0x210, 0); /* On a slow machine it was absent once more. */
     }
     /* At most one message in two seconds. */
     double start = now();
@@ -172,7 +172,7 @@ static void limits(void) {
     for (unsigned i = 0; i < 5; i++) {
         put(raw, 0x211, i);
     }
-    struct message first = told(RX_CHANGED, 0x211, 1), last = told(RX_CHANGED, 0x211, 1);
+    struct message first = expect(RX_CHANGED, 0x211, 1), last = expect(RX_CHANGED, 0x211, 1);
     CHECK(number_of(&first.frames[0]) == 0 && number_of(&last.frames[0]) == 4 && now() - start >= 1999);
     CHECK(give((struct message){.head = {.opcode = RX_DELETE, .can_id = 0x211}}) > 0);
 }
