@@ -9,7 +9,7 @@ use Rattle.can_frame.specs.declared.item.Item.{Item}
 use Rattle.can_frame.specs.declared.item.Item.TheVariants as item
 use Rattle.can_frame.specs.FrameText.{IsPayload, IsItem}
 use Rattle.can_frame.specs.Numbers.{number_in}
-use Rattle.can_frame.specs.FrameGuess.{bytes_in, stands_at, request_in, data_in, fd_data_in, fd_in, payload_in, frame_in, error_in, standard_in, long_in, short_item_in, long_item_in, item_in}
+use Rattle.can_frame.specs.FrameGuess.{bytes_in, stands_at, request_in, data_in, fd_data_in, flags_in, fd_in, payload_in, frame_in, error_in, standard_in, long_in, short_item_in, long_item_in, item_in}
 
 -- What is guessed is an item that there is.
 
@@ -64,27 +64,28 @@ fd-data-good text bytes h =
     let all = bytes-good (length text / 2) text bytes fits.1 in
     (ap is_fd_length all.0 ∙ fits.0, all.1)
 
-fd-good : (text bytes : List ℕ) → fd_in text ≡ Some bytes → (is_fd_length (length bytes) ≡ true) × IsBytes bytes
+one-payload : (x y : Payload) → Some x ≡ Some y → x ≡ y
+one-payload x y e = cc
+
+fd-good : (text : List ℕ) (p : Payload) → fd_in text ≡ Some p → IsPayload p
 unfolding fd_in
-fd-good text bytes h = let marked = if_some (stands_at 48 0 text) _ bytes h in fd-data-good (drop 1 text) bytes marked.1
+fd-good text p h =
+    let flagged = then_some _ (flags_in text) p h in
+    let found = map_some (Fd flagged.0) (fd_data_in (drop 1 text)) p flagged.2 in
+    subst IsPayload (one-payload (Fd flagged.0 found.0) p found.2) (fd-data-good (drop 1 text) found.0 found.1)
 
 payload-good : (text : List ℕ) (p : Payload) → payload_in text ≡ Some p → IsPayload p
 unfolding payload_in
 payload-good text p h = by_mark (stands_at 82 0 text) (stands_at 35 0 text) h
   where
-    is_one : (x y : Payload) → Some x ≡ Some y → x ≡ y
-    is_one x y e = cc
-
-    by_mark : (remote fd : Bool) → cond remote (option_map Remote (request_in (drop 1 text))) (cond fd (option_map Fd (fd_in (drop 1 text))) (option_map Data (data_in text))) ≡ Some p → IsPayload p
+    by_mark : (remote fd : Bool) → cond remote (option_map Remote (request_in (drop 1 text))) (cond fd (fd_in (drop 1 text)) (option_map Data (data_in text))) ≡ Some p → IsPayload p
     by_mark true fd e =
         let found = map_some Remote (request_in (drop 1 text)) p e in
-        subst IsPayload (is_one (Remote found.0) p found.2) (request-good (drop 1 text) found.0 found.1)
-    by_mark false true e =
-        let found = map_some Fd (fd_in (drop 1 text)) p e in
-        subst IsPayload (is_one (Fd found.0) p found.2) (fd-good (drop 1 text) found.0 found.1)
+        subst IsPayload (one-payload (Remote found.0) p found.2) (request-good (drop 1 text) found.0 found.1)
+    by_mark false true e = fd-good (drop 1 text) p e
     by_mark false false e =
         let found = map_some Data (data_in text) p e in
-        subst IsPayload (is_one (Data found.0) p found.2) (data-good text found.0 found.1)
+        subst IsPayload (one-payload (Data found.0) p found.2) (data-good text found.0 found.1)
 
 is_one : (x y : Item) → Some x ≡ Some y → x ≡ y
 is_one x y e = cc

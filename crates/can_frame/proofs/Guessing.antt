@@ -1,14 +1,15 @@
-use Rattle.std.proofs.Common.{◌≡◌, inl, inr, ℕ, zero, suc, ◌+◌, ◌-◌, ◌*◌, ◌/◌, ◌%◌, ◌^◌, ◌<◌, ◌≤◌, Bool, true, false, eqb, ltb, leb, List, [], ◌∷◌, ◌++◌, length, Option, Some, None, refl, sym, ap, ◌∙◌, arith, append_assoc, length-append}
+use Rattle.std.proofs.Common.{◌≡◌, inl, inr, ℕ, zero, suc, ◌+◌, ◌-◌, ◌*◌, ◌/◌, ◌%◌, ◌^◌, ◌<◌, ◌≤◌, Bool, true, false, cond, eqb, ltb, leb, List, [], ◌∷◌, ◌++◌, length, Option, Some, None, refl, sym, ap, ◌∙◌, arith, append_assoc, length-append}
 use Rattle.std.specs.Option.{option_and_then}
 use Rattle.std.proofs.lemmas.List.{length_push}
 use Rattle.hex.specs.Hex.{IsBytes, encode_upper, upper_digits}
 use Rattle.hex.proofs.HexLemmas.{decode_sized-twice, decode_of-encode_upper, length-encode_with}
-use Rattle.can_frame.specs.Frames.{IsIdentifier, Payload, is_fd_length}
+use Rattle.can_frame.specs.Frames.{IsIdentifier, Payload, is_fd_length, flags_number, flags_of}
 use Rattle.can_frame.specs.Frames.Payload.{Data, Remote, Fd}
+use Rattle.can_frame.specs.declared.fd_flags.FdFlags.{FdFlags}
 use Rattle.can_frame.specs.declared.item.Item.{Item}
 use Rattle.can_frame.specs.declared.item.Item.TheVariants as item
 use Rattle.can_frame.specs.FrameText.{digit_of, digits, pairs, id_text, payload_text, frame_spelling, AsksForNothing, IsPayload, IsItem, IsSpelling}
-use Rattle.can_frame.specs.FrameGuess.{bytes_in, stands_at, request_in, data_in, fd_data_in, fd_in, payload_in, frame_in, error_in, standard_in, long_in, short_item_in, long_item_in, item_in}
+use Rattle.can_frame.specs.FrameGuess.{bytes_in, stands_at, request_in, data_in, fd_data_in, flags_in, fd_in, payload_in, frame_in, error_in, standard_in, long_in, short_item_in, long_item_in, item_in}
 use Rattle.can_frame.specs.Numbers.{number_in}
 use Rattle.can_frame.proofs.Digits.{pairs-upper, request-text}
 use Rattle.can_frame.proofs.Numerals.{value-digits}
@@ -115,15 +116,33 @@ fd-data-again bytes h fits =
     let half : length (pairs bytes) / 2 ≡ length bytes = omega (arith, len) in
     rw (half, h) (bytes_again (length bytes) bytes refl fits)
 
-fd-again : (bytes : List ℕ) → is_fd_length (length bytes) ≡ true → IsBytes bytes → fd_in (48 ∷ pairs bytes) ≡ Some bytes
+-- a digit of flags
+flags-again : (flags : FdFlags) (rest : List ℕ) → flags_in ((48 + flags_number flags) ∷ rest) ≡ Some flags
+unfolding flags_in
+flags-again flags rest =
+    let low : leb 48 (48 + flags_number flags) ≡ true = le-true 48 (48 + flags_number flags) (omega arith) in
+    let back : 48 + flags_number flags - 48 ≡ flags_number flags = omega arith in
+    let some : eqb (length ((48 + flags_number flags) ∷ rest)) 0 ≡ false = not-empty (length rest) in
+    rw (some, low, back) (numbered flags.brs flags.esi)
+  where
+    not-empty : (n : ℕ) → eqb (suc n) 0 ≡ false
+    not-empty n = grind arith
+
+    numbered : (brs esi : Bool) → flags_of (cond brs 1 0 + cond esi 2 0) ≡ Some (record { brs = brs; esi = esi })
+    numbered true true = refl
+    numbered true false = refl
+    numbered false true = refl
+    numbered false false = refl
+
+fd-again : (flags : FdFlags) (bytes : List ℕ) → is_fd_length (length bytes) ≡ true → IsBytes bytes → fd_in ((48 + flags_number flags) ∷ pairs bytes) ≡ Some (Fd flags bytes)
 unfolding fd_in
-fd-again bytes h fits = rw (lt-true 0 (length (48 ∷ pairs bytes)) (omega arith)) (fd-data-again bytes h fits)
+fd-again flags bytes h fits = rw (flags-again flags (pairs bytes), fd-data-again bytes h fits) refl
 
 payload-again : (p : Payload) → IsPayload p → payload_in (payload_text p) ≡ Some p
 unfolding payload_in
 payload-again (Data bytes) h = rw (no-request-in bytes h.1, no-mark-in bytes h.1, data-again bytes h.0 h.1) refl
 payload-again (Remote len) h = request-again len h
-payload-again (Fd bytes) h = rw (lt-true 0 (length (35 ∷ 48 ∷ pairs bytes)) (omega arith), fd-again bytes h.0 h.1) refl
+payload-again (Fd flags bytes) h = rw (lt-true 0 (length (35 ∷ (48 + flags_number flags) ∷ pairs bytes)) (omega arith), fd-again flags bytes h.0 h.1) refl
 
 error-again : (class : ℕ) (bytes : List ℕ) → class < 2 ^ 29 → length bytes ≡ 8 → IsBytes bytes → long_in (2 ^ 29 + class) (pairs bytes) ≡ Some (item.Error (record { class = class; bytes = bytes }))
 unfolding long_in error_in
@@ -177,7 +196,7 @@ at_most_64 n h = grind arith
 length-payload : (p : Payload) → IsPayload p → length (payload_text p) ≤ 130
 length-payload (Data bytes) h = omega (arith, h.0, length-pairs bytes)
 length-payload (Remote len) h = omega (arith, length-request len h)
-length-payload (Fd bytes) h = omega (arith, at_most_64 (length bytes) h.0, length-pairs bytes)
+length-payload (Fd flags bytes) h = omega (arith, at_most_64 (length bytes) h.0, length-pairs bytes)
 
 length-spelling : (i : Item) → IsItem i → length (frame_spelling i) ≤ 139
 unfolding frame_spelling

@@ -9,7 +9,7 @@ use Rattle.can_frame.proofs.Bits.{IsBits, IsBits-append, IsBits-low_bits, length
 pub rtr-below : (p : Payload) → rtr_of p < 2
 rtr-below (Data bytes) = omega arith
 rtr-below (Remote len) = omega arith
-rtr-below (Fd bytes) = omega arith
+rtr-below (Fd flags bytes) = omega arith
 
 -- ---- the key's number
 

@@ -1,8 +1,9 @@
-use Rattle.std.proofs.Common.{◌≡◌, ℕ, zero, suc, ◌+◌, ◌/◌, ◌%◌, ◌^◌, ◌<◌, ◌≤◌, Bool, true, false, List, [], ◌∷◌, ◌++◌, inl, sym, ap, refl, ◌∙◌, arith}
+use Rattle.std.proofs.Common.{◌≡◌, ℕ, zero, suc, ◌+◌, ◌/◌, ◌%◌, ◌^◌, ◌<◌, ◌≤◌, Bool, true, false, cond, List, [], ◌∷◌, ◌++◌, inl, sym, ap, refl, ◌∙◌, arith}
 use Rattle.std.specs.Char.{to_ascii_uppercase}
 use Rattle.std.proofs.lemmas.List.{map-append}
-use Rattle.can_frame.specs.Frames.{Payload}
+use Rattle.can_frame.specs.Frames.{Payload, flags_number}
 use Rattle.can_frame.specs.Frames.Payload.{Data, Remote, Fd}
+use Rattle.can_frame.specs.declared.fd_flags.FdFlags.{FdFlags}
 use Rattle.can_frame.specs.declared.item.Item.{Item}
 use Rattle.can_frame.specs.declared.item.Item.TheVariants as item
 use Rattle.can_frame.specs.FrameText.{digit_of, digits, pairs, id_text, payload_text, frame_spelling, upper, IsPayload, IsItem, Spells}
@@ -32,10 +33,19 @@ upper-request (suc k) h =
     decimal_stays : (d : ℕ) → d < 97 → to_ascii_uppercase d ≡ d
     decimal_stays d h = grind arith
 
+upper-flags : (flags : FdFlags) → to_ascii_uppercase (48 + flags_number flags) ≡ 48 + flags_number flags
+upper-flags flags = by flags.brs flags.esi
+  where
+    by : (brs esi : Bool) → to_ascii_uppercase (48 + (cond brs 1 0 + cond esi 2 0)) ≡ 48 + (cond brs 1 0 + cond esi 2 0)
+    by true true = refl
+    by true false = refl
+    by false true = refl
+    by false false = refl
+
 upper-payload : (p : Payload) → IsPayload p → upper (payload_text p) ≡ payload_text p
 upper-payload (Data bytes) h = upper-pairs bytes
 upper-payload (Remote len) h = upper-request len h
-upper-payload (Fd bytes) h = ap (λ (t : List ℕ). 35 ∷ 48 ∷ t) (upper-pairs bytes)
+upper-payload (Fd flags bytes) h = rw (upper-flags flags, upper-pairs bytes) refl
 
 upper-id : (extended : Bool) (n : ℕ) → upper (id_text (record { extended = extended; number = n })) ≡ id_text (record { extended = extended; number = n })
 upper-id false n = upper-digits 3 n

@@ -3,6 +3,7 @@ use Rattle.std.proofs.lemmas.Bool.{cases_Bool, cases_lt, cases_order, cases_eq}
 use Rattle.std.proofs.lemmas.List.{get_or_default}
 use Rattle.can_frame.specs.Frames.{Identifier, Payload, CanFrame, is_remote, IsIdentifier}
 use Rattle.can_frame.specs.Frames.Payload.{Data, Remote, Fd}
+use Rattle.can_frame.specs.declared.fd_flags.FdFlags.{FdFlags}
 use Rattle.can_frame.specs.Arbitration.{rtr_of, arbitration_bits, GoesBefore, key_of, Wins, DifferInBits}
 use Rattle.can_frame.proofs.Bits.{GoesBefore-goes_before, goes_before-GoesBefore, goes_before-front, front-goes_before}
 use Rattle.can_frame.proofs.Keys.{AreCompared-frames, key_of-before, key_of-same, goes_before-key_of, bits-from_key, key_of-standard, key_of-extended, rtr-below}
@@ -106,12 +107,12 @@ marked_first id p len unmarked =
 pub data_first : (id : Identifier) (bytes : List ℕ) (len : ℕ) → GoesBefore (arbitration_bits (record { id = id; payload = Data bytes })) (arbitration_bits (record { id = id; payload = Remote len }))
 data_first id bytes len = marked_first id (Data bytes) len refl
 
-pub fd_first : (id : Identifier) (bytes : List ℕ) (len : ℕ) → GoesBefore (arbitration_bits (record { id = id; payload = Fd bytes })) (arbitration_bits (record { id = id; payload = Remote len }))
-fd_first id bytes len = marked_first id (Fd bytes) len refl
+pub fd_first : (id : Identifier) (flags : FdFlags) (bytes : List ℕ) (len : ℕ) → GoesBefore (arbitration_bits (record { id = id; payload = Fd flags bytes })) (arbitration_bits (record { id = id; payload = Remote len }))
+fd_first id flags bytes len = marked_first id (Fd flags bytes) len refl
 
-pub fd_bits : (id : Identifier) (bytes others : List ℕ) → arbitration_bits (record { id = id; payload = Fd bytes }) ≡ arbitration_bits (record { id = id; payload = Data others })
+pub fd_bits : (id : Identifier) (flags : FdFlags) (bytes others : List ℕ) → arbitration_bits (record { id = id; payload = Fd flags bytes }) ≡ arbitration_bits (record { id = id; payload = Data others })
 unfolding arbitration_bits
-fd_bits id bytes others = refl
+fd_bits id flags bytes others = refl
 
 pub standard_first : (a b : CanFrame) → a.id.extended ≡ false → b.id.extended ≡ true → b.id.number / 2 ^ 18 ≡ a.id.number → GoesBefore (arbitration_bits a) (arbitration_bits b)
 standard_first a b standard extended begins =
@@ -120,13 +121,13 @@ standard_first a b standard extended begins =
 same_mark : (p q : Payload) → rtr_of p ≡ rtr_of q → is_remote p ≡ is_remote q
 same_mark (Remote n) (Remote m) e = refl
 same_mark (Remote n) (Data c) e = absurd (omega arith)
-same_mark (Remote n) (Fd c) e = absurd (omega arith)
+same_mark (Remote n) (Fd g c) e = absurd (omega arith)
 same_mark (Data b) (Remote m) e = absurd (omega arith)
 same_mark (Data b) (Data c) e = refl
-same_mark (Data b) (Fd c) e = refl
-same_mark (Fd b) (Remote m) e = absurd (omega arith)
-same_mark (Fd b) (Data c) e = refl
-same_mark (Fd b) (Fd c) e = refl
+same_mark (Data b) (Fd g c) e = refl
+same_mark (Fd f b) (Remote m) e = absurd (omega arith)
+same_mark (Fd f b) (Data c) e = refl
+same_mark (Fd f b) (Fd g c) e = refl
 
 same_identifier : (i j : Identifier) → i.extended ≡ j.extended → i.number ≡ j.number → i ≡ j
 same_identifier i j e n =

@@ -11,7 +11,7 @@ use Rattle.can_frame.specs.declared.frame.Kind.TheVariants as kind
 abbrev pub payload_of : Kind → ℕ → List ℕ → Payload
 payload_of kind.Data len bytes = Data (take len bytes)
 payload_of kind.Remote len bytes = Remote len
-payload_of kind.Fd len bytes = Fd (take len bytes)
+payload_of (kind.Fd flags) len bytes = Fd flags (take len bytes)
 
 -- the frame that the fields spell
 abbrev pub frame_of : Inside → CanFrame
@@ -21,13 +21,13 @@ frame_of f = record { id = f.id; payload = payload_of f.kind f.len f.bytes }
 abbrev pub used : Kind → ℕ → ℕ
 used kind.Data len = len
 used kind.Remote len = 0
-used kind.Fd len = len
+used (kind.Fd flags) len = len
 
 -- a length that frames of this kind have
 abbrev pub is_length : Kind → ℕ → Bool
 is_length kind.Data len = nat_le len 8
 is_length kind.Remote len = nat_le len 8
-is_length kind.Fd len = is_fd_length len
+is_length (kind.Fd flags) len = is_fd_length len
 
 -- unused bytes are 0
 pub record IsFrame (f : Inside) : Type 0 where
@@ -39,12 +39,12 @@ pub record IsFrame (f : Inside) : Type 0 where
 abbrev pub kind_of : Payload → Kind
 kind_of (Data bytes) = kind.Data
 kind_of (Remote len) = kind.Remote
-kind_of (Fd bytes) = kind.Fd
+kind_of (Fd flags bytes) = kind.Fd flags
 
 abbrev pub padded : Payload → List ℕ
 padded (Data bytes) = bytes ++ replicate (64 - length bytes) 0
 padded (Remote len) = replicate 64 0
-padded (Fd bytes) = bytes ++ replicate (64 - length bytes) 0
+padded (Fd flags bytes) = bytes ++ replicate (64 - length bytes) 0
 
 -- the fields that a frame is kept in
 abbrev pub fields_of : CanFrame → Inside
@@ -63,7 +63,7 @@ filled k id len bytes short rest whole =
 with_bytes : (id : Identifier) (k : Kind) (len : ℕ) (bytes : List ℕ) → len ≤ 64 → drop (used k len) bytes ≡ replicate (64 - used k len) 0 → length bytes ≡ 64 → fields_of (frame_of (inside id k len bytes)) ≡ inside id k len bytes
 with_bytes id kind.Remote len bytes short rest whole = ap (inside id kind.Remote len) (sym rest)
 with_bytes id kind.Data len bytes short rest whole = filled kind.Data id len bytes short rest whole
-with_bytes id kind.Fd len bytes short rest whole = filled kind.Fd id len bytes short rest whole
+with_bytes id (kind.Fd flags) len bytes short rest whole = filled (kind.Fd flags) id len bytes short rest whole
 
 pub fields-frame_of : (f : Inside) → IsFrame f → fields_of (frame_of f) ≡ f
 fields-frame_of f h = with_bytes f.id f.kind f.len f.bytes h.short h.rest h.whole

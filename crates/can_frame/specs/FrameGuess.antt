@@ -3,8 +3,9 @@ use Rattle.std.specs.Result.{result_ok}
 use Rattle.std.specs.Option.{option_map, option_and_then}
 use Rattle.hex.specs.Hex.{decode_sized}
 use Rattle.can_frame.specs.Numbers.{number_in}
-use Rattle.can_frame.specs.Frames.{Identifier, Payload, is_fd_length}
+use Rattle.can_frame.specs.Frames.{Identifier, Payload, is_fd_length, flags_of}
 use Rattle.can_frame.specs.Frames.Payload.{Data, Remote, Fd}
+use Rattle.can_frame.specs.declared.fd_flags.FdFlags.{FdFlags}
 use Rattle.can_frame.specs.declared.item.Item.{Item}
 use Rattle.can_frame.specs.declared.item.Item.TheVariants as item
 
@@ -30,13 +31,17 @@ data_in text = if nat_le (length text / 2) 8 then bytes_in (length text / 2) tex
 unfoldable pub fd_data_in : List ℕ → Option (List ℕ)
 fd_data_in text = if is_fd_length (length text / 2) then bytes_in (length text / 2) text else None
 
--- what follows the second mark of an FD frame: no flags (48), and data
-unfoldable pub fd_in : List ℕ → Option (List ℕ)
-fd_in text = if stands_at 48 0 text then fd_data_in (drop 1 text) else None
+-- its flags: a digit from 0 (48) on
+unfoldable pub flags_in : List ℕ → Option FdFlags
+flags_in text = if length text == 0 then None else if nat_le 48 (slice_index text 0) then flags_of (slice_index text 0 - 48) else None
+
+-- what follows the second mark of an FD frame: flags, and data
+unfoldable pub fd_in : List ℕ → Option Payload
+fd_in text = option_and_then (λ flags. option_map (Fd flags) (fd_data_in (drop 1 text))) (flags_in text)
 
 -- what follows the mark of a frame: `R` (82) and a length, a second `#` (35) and an FD frame's data, or data
 unfoldable pub payload_in : List ℕ → Option Payload
-payload_in text = if stands_at 82 0 text then option_map Remote (request_in (drop 1 text)) else if stands_at 35 0 text then option_map Fd (fd_in (drop 1 text)) else option_map Data (data_in text)
+payload_in text = if stands_at 82 0 text then option_map Remote (request_in (drop 1 text)) else if stands_at 35 0 text then fd_in (drop 1 text) else option_map Data (data_in text)
 
 -- a frame with this identifier
 unfoldable pub frame_in : Identifier → List ℕ → Option Item

@@ -1,8 +1,8 @@
-use Rattle.std.specs.Prelude.{IsTrue, ◌≡◌, ◌<◌, ◌≤◌, ◌⊎◌, ℕ, zero, suc, ◌+◌, ◌/◌, ◌%◌, ◌^◌, ◌==◌, nat_lt, if◌then◌else◌, List, [], ◌∷◌, ◌++◌, length, map}
+use Rattle.std.specs.Prelude.{IsTrue, ◌≡◌, ◌<◌, ◌≤◌, ◌⊎◌, ℕ, zero, suc, ◌+◌, ◌/◌, ◌%◌, ◌^◌, ◌==◌, nat_lt, Bool, true, not, if◌then◌else◌, List, [], ◌∷◌, ◌++◌, length, map}
 use Rattle.std.specs.Char.{to_ascii_uppercase}
 use Rattle.std.specs.Fmt.{decimal}
 use Rattle.hex.specs.Hex.{IsBytes}
-use Rattle.can_frame.specs.Frames.{Identifier, IsIdentifier, Payload, is_fd_length}
+use Rattle.can_frame.specs.Frames.{Identifier, IsIdentifier, Payload, is_fd_length, flags_number, is_flagged}
 use Rattle.can_frame.specs.Frames.Payload.{Data, Remote, Fd}
 use Rattle.can_frame.specs.declared.item.Item.{Item}
 use Rattle.can_frame.specs.declared.item.Item.TheVariants as item
@@ -28,11 +28,11 @@ abbrev pub id_text : Identifier → List ℕ
 id_text id = digits 16 (if id.extended then 8 else 3) id.number
 
 -- the data; of a remote frame `R` (82), and the length that it asks for where this is not 0; of an FD frame a second `#`
--- (35), its flags, of which there are none (48), and the data
+-- (35), a digit of its flags from 0 (48) on, and the data
 abbrev pub payload_text : Payload → List ℕ
 payload_text (Data bytes) = pairs bytes
 payload_text (Remote len) = 82 ∷ (if len == 0 then [] else decimal len)
-payload_text (Fd bytes) = 35 ∷ 48 ∷ pairs bytes
+payload_text (Fd flags bytes) = 35 ∷ (48 + flags_number flags) ∷ pairs bytes
 
 -- the written spelling of an item: what comes before the `#` (35) says what it is. An error message frame has
 -- its class there, with bit 29 set (CAN_ERR_FLAG of linux/can.h)
@@ -53,7 +53,12 @@ AsksForNothing (item.Error e) = ⊥
 abbrev pub IsPayload : Payload → Type 0
 IsPayload (Data bytes) = (length bytes ≤ 8) × IsBytes bytes
 IsPayload (Remote len) = len ≤ 8
-IsPayload (Fd bytes) = IsTrue (is_fd_length (length bytes)) × IsBytes bytes
+IsPayload (Fd flags bytes) = IsTrue (is_fd_length (length bytes)) × IsBytes bytes
+
+-- a frame without a flag, or an error message frame
+abbrev pub is_plain : Item → Bool
+is_plain (item.Data f) = not (is_flagged f.payload)
+is_plain (item.Error e) = true
 
 -- an item that there is
 abbrev pub IsItem : Item → Type 0

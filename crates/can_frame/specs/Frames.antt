@@ -1,4 +1,5 @@
-use Rattle.std.specs.Prelude.{ℕ, Bool, true, false, ◌||◌, ◌==◌, nat_le, List, [], length, ◌+◌, ◌^◌, ◌<◌, if◌then◌else◌}
+use Rattle.std.specs.Prelude.{ℕ, Bool, true, false, not, ◌||◌, ◌&&◌, ◌==◌, nat_le, List, [], length, ◌+◌, ◌^◌, ◌<◌, Option, Some, None, if◌then◌else◌}
+use Rattle.can_frame.specs.declared.fd_flags.FdFlags.{FdFlags}
 
 -- Frames as linux/can.h and the Bosch CAN Specification 2.0 know them.
 
@@ -11,12 +12,28 @@ pub record Identifier : Type 0 where
 abbrev pub IsIdentifier : Identifier → Type 0
 IsIdentifier id = id.number < (if id.extended then 2 ^ 29 else 2 ^ 11)
 
--- what a frame carries: bytes, in a remote frame how many it asks for, or the bytes of an FD frame (struct canfd_frame
--- of linux/can.h)
+-- no flag of an FD frame
+abbrev pub no_flags : FdFlags
+no_flags = record { brs = false; esi = false }
+
+-- neither flag is set
+abbrev pub has_no_flags : FdFlags → Bool
+has_no_flags flags = not flags.brs && not flags.esi
+
+-- the flags as a number: CANFD_BRS is 1, CANFD_ESI 2 (linux/can.h)
+abbrev pub flags_number : FdFlags → ℕ
+flags_number flags = (if flags.brs then 1 else 0) + (if flags.esi then 2 else 0)
+
+-- the flags with this number
+abbrev pub flags_of : ℕ → Option FdFlags
+flags_of n = if n == 0 then Some no_flags else if n == 1 then Some (record { brs = true; esi = false }) else if n == 2 then Some (record { brs = false; esi = true }) else if n == 3 then Some (record { brs = true; esi = true }) else None
+
+-- what a frame carries: bytes, in a remote frame how many it asks for, or the flags and the bytes of an FD frame
+-- (struct canfd_frame of linux/can.h)
 pub data Payload : Type 0 where
   Data : List ℕ → Payload
   Remote : ℕ → Payload
-  Fd : List ℕ → Payload
+  Fd : FdFlags → List ℕ → Payload
 
 -- a data frame, a remote frame or an FD frame
 pub record CanFrame : Type 0 where
@@ -32,13 +49,13 @@ pub record ErrorMessage : Type 0 where
 abbrev pub is_remote : Payload → Bool
 is_remote (Data bytes) = false
 is_remote (Remote len) = true
-is_remote (Fd bytes) = false
+is_remote (Fd flags bytes) = false
 
--- the bytes of an FD frame
+-- an FD frame
 abbrev pub is_fd : Payload → Bool
 is_fd (Data bytes) = false
 is_fd (Remote len) = false
-is_fd (Fd bytes) = true
+is_fd (Fd flags bytes) = true
 
 -- the lengths of the 16 data length codes of FD frames, up to CANFD_MAX_DLEN (ISO 11898-1; linux/can.h)
 abbrev pub is_fd_length : ℕ → Bool
@@ -48,13 +65,23 @@ is_fd_length n = nat_le n 8 || (n == 12 || (n == 16 || (n == 20 || (n == 24 || (
 abbrev pub payload_len : Payload → ℕ
 payload_len (Data bytes) = length bytes
 payload_len (Remote len) = len
-payload_len (Fd bytes) = length bytes
+payload_len (Fd flags bytes) = length bytes
 
 -- the bytes carried
 abbrev pub payload_bytes : Payload → List ℕ
 payload_bytes (Data bytes) = bytes
 payload_bytes (Remote len) = []
-payload_bytes (Fd bytes) = bytes
+payload_bytes (Fd flags bytes) = bytes
+
+-- the flags of an FD frame; classic frames have none
+abbrev pub payload_flags : Payload → FdFlags
+payload_flags (Data bytes) = no_flags
+payload_flags (Remote len) = no_flags
+payload_flags (Fd flags bytes) = flags
+
+-- an FD frame with a flag
+abbrev pub is_flagged : Payload → Bool
+is_flagged payload = not (has_no_flags (payload_flags payload))
 
 -- the identifier word: bit 31 marks 29-bit identifiers, bit 30 remote requests (linux/can.h); that of an FD frame is
 -- a data frame's

@@ -1,8 +1,9 @@
 ghost use Rattle.std.specs.Prelude.{◌≡◌, ◌<◌, ◌≤◌, ◌^◌, ℕ, Bool, true, false, List, IsTrue, OkIff, length, replicate, take, drop, ◌-◌};
-ghost use Rattle.can_frame.specs.Frames.{Identifier, Payload, CanFrame, word_of, is_remote, is_fd, is_fd_length, payload_len, payload_bytes};
+ghost use Rattle.can_frame.specs.Frames.{Identifier, Payload, CanFrame, word_of, is_remote, is_fd, is_fd_length, payload_len, payload_bytes, no_flags, payload_flags, is_flagged};
 ghost use Rattle.can_frame.specs.Frames.Payload.{Data, Remote, Fd};
 
 use crate::can_id::CanId;
+use crate::fd_flags::FdFlags;
 use std::marker::Model;
 use thiserror::Error;
 
@@ -21,7 +22,7 @@ pub struct BadFdLength;
 enum Kind {
     Data,
     Remote,
-    Fd,
+    Fd(FdFlags),
 }
 
 /// A data frame of 0 to 8 bytes, a remote frame that asks for 0 to 8 bytes, or an FD frame of 0 to 8, 12, 16, 20, 24, 32,
@@ -81,16 +82,25 @@ impl Frame {
         })
     }
 
-    /// An FD frame of 0 to 8, 12, 16, 20, 24, 32, 48 or 64 bytes.
+    /// An FD frame without flags, of 0 to 8, 12, 16, 20, 24, 32, 48 or 64 bytes.
     pub fn fd(id: CanId, bytes: &[u8]) -> Result<Frame, BadFdLength>
-        ensures { OkIff result (IsTrue (is_fd_length (length bytes.now))) (record { id = id; payload = Fd bytes.now }) }
+        ensures { OkIff result (IsTrue (is_fd_length (length bytes.now)))
+            (record { id = id; payload = Fd no_flags bytes.now }) }
+    {
+        Frame::fd_with(id, FdFlags::none(), bytes)
+    }
+
+    /// An FD frame with these flags, of as many bytes as one may have.
+    pub fn fd_with(id: CanId, flags: FdFlags, bytes: &[u8]) -> Result<Frame, BadFdLength>
+        ensures { OkIff result (IsTrue (is_fd_length (length bytes.now)))
+            (record { id = id; payload = Fd flags bytes.now }) }
     {
         if !is_fd_length(bytes.len()) {
             return Err(BadFdLength);
         }
         Ok(Frame {
             id,
-            kind: Kind::Fd,
+            kind: Kind::Fd(flags),
             len: bytes.len() as u8,
             bytes: padded(bytes),
         })
@@ -118,7 +128,7 @@ impl Frame {
         ensures { result.now ≡ payload_bytes self.now.payload }
     {
         match self.kind {
-            Kind::Data | Kind::Fd => &self.bytes[..self.len as usize],
+            Kind::Data | Kind::Fd(_) => &self.bytes[..self.len as usize],
             Kind::Remote => &[],
         }
     }
@@ -129,7 +139,7 @@ impl Frame {
     {
         match self.kind {
             Kind::Remote => true,
-            Kind::Data | Kind::Fd => false,
+            Kind::Data | Kind::Fd(_) => false,
         }
     }
 
@@ -138,9 +148,26 @@ impl Frame {
         ensures { result ≡ is_fd self.payload }
     {
         match self.kind {
-            Kind::Fd => true,
+            Kind::Fd(_) => true,
             Kind::Data | Kind::Remote => false,
         }
+    }
+
+    /// The flags of an FD frame; other frames have none.
+    pub fn flags(self) -> FdFlags
+        ensures { result ≡ payload_flags self.payload }
+    {
+        match self.kind {
+            Kind::Fd(flags) => flags,
+            Kind::Data | Kind::Remote => FdFlags::none(),
+        }
+    }
+
+    /// Whether it is an FD frame with a flag.
+    pub fn is_flagged(self) -> bool
+        ensures { result ≡ is_flagged self.payload }
+    {
+        !self.flags().is_none()
     }
 
     /// The identifier word of linux/can.h: the number, with bit 31 at 29-bit identifiers and bit 30 at

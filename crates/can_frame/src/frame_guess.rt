@@ -1,12 +1,13 @@
 ghost use Rattle.std.specs.Prelude.{◌≡◌, ◌<◌, ◌≤◌, length, IsTrue, IfSome, Some};
 ghost use Rattle.std.specs.Option.{option_map};
 ghost use Rattle.can_frame.specs.Frames.Payload.{Data, Remote, Fd};
-ghost use Rattle.can_frame.specs.FrameGuess.{stands_at, request_in, data_in, fd_data_in, fd_in, payload_in, frame_in, error_in, standard_in, long_in, short_item_in, long_item_in, item_in};
+ghost use Rattle.can_frame.specs.FrameGuess.{stands_at, request_in, data_in, fd_data_in, flags_in, fd_in, payload_in, frame_in, error_in, standard_in, long_in, short_item_in, long_item_in, item_in};
 ghost use Rattle.can_frame.specs.FrameText.{IsItem, IsSpelling};
 ghost use Rattle.can_frame.specs.declared.item.Item.{Item as AnItem};
 
 use crate::can_id::CanId;
 use crate::error_frame::ErrorFrame;
+use crate::fd_flags::FdFlags;
 use crate::frame::{Frame, is_fd_length};
 use crate::item::Item;
 use crate::numbers::read_hexadecimal;
@@ -140,20 +141,32 @@ fn data_frame(id: CanId, text: &[u8]) -> Option<Frame>
     Frame::data(id, bytes).ok()
 }
 
-/// What follows the second mark: no flags, and data.
+/// What follows the second mark: flags, and data.
 #[tactic(auto, unfolding(crate::specs::FrameGuess::fd_in))]
 fn fd_frame(id: CanId, text: &[u8]) -> Option<Frame>
-    ensures { result ≡ option_map (λ bytes. record { id = id; payload = Fd bytes }) (fd_in text.now) }
+    ensures { result ≡ option_map (λ payload. record { id = id; payload = payload })
+        (fd_in text.now) }
 {
-    if !stands_at(b'0', 0, text) {
+    let flags = flags(text)?;
+    fd_of_data(id, flags, &text[1..])
+}
+
+/// The flags of an FD frame: a digit.
+#[tactic(auto, unfolding(crate::specs::FrameGuess::flags_in))]
+fn flags(text: &[u8]) -> Option<FdFlags>
+    ensures value { result ≡ flags_in text.now }
+    ensures some { IfSome result (λ flags. 0 < length text.now) }
+{
+    if text.is_empty() || text[0] < b'0' {
         return None;
     }
-    fd_of_data(id, &text[1..])
+    FdFlags::from_number(text[0] - b'0')
 }
 
 #[tactic(auto, unfolding(crate::specs::FrameGuess::fd_data_in, crate::specs::FrameGuess::bytes_in))]
-fn fd_of_data(id: CanId, text: &[u8]) -> Option<Frame>
-    ensures { result ≡ option_map (λ bytes. record { id = id; payload = Fd bytes }) (fd_data_in text.now) }
+fn fd_of_data(id: CanId, flags: FdFlags, text: &[u8]) -> Option<Frame>
+    ensures { result ≡ option_map (λ bytes. record { id = id; payload = Fd flags bytes })
+        (fd_data_in text.now) }
 {
     let len = text.len() / 2;
     if !is_fd_length(len) {
@@ -162,7 +175,7 @@ fn fd_of_data(id: CanId, text: &[u8]) -> Option<Frame>
     let mut all = [0; 64];
     let bytes = &mut all[..len];
     decode_to_slice(text, bytes).ok()?;
-    Frame::fd(id, bytes).ok()
+    Frame::fd_with(id, flags, bytes).ok()
 }
 
 #[tactic(auto, unfolding(crate::specs::FrameGuess::error_in, crate::specs::FrameGuess::bytes_in))]

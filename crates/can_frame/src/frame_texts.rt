@@ -1,5 +1,5 @@
-ghost use Rattle.std.specs.Prelude.{◌≡◌, ◌≤◌, ◌+◌, ◌++◌, ◌↔◌, length, IsTrue, IsErr, IfOk, IfSome, Ok, Err, Some};
-ghost use Rattle.can_frame.specs.FrameText.{payload_text, frame_spelling, AsksForNothing, IsItem, IsSpelling, Spells};
+ghost use Rattle.std.specs.Prelude.{◌≡◌, ◌≤◌, ◌+◌, ◌++◌, ◌↔◌, length, IsTrue, IsErr, IfOk, IfSome, Ok, Err, Some, true};
+ghost use Rattle.can_frame.specs.FrameText.{payload_text, frame_spelling, AsksForNothing, is_plain, IsItem, IsSpelling, Spells};
 ghost use Rattle.can_frame.specs.declared.item.Item.{Item as AnItem};
 
 use crate::frame::Frame;
@@ -16,8 +16,9 @@ pub struct BadText;
 /// The written form of an item. The longest has 139 bytes: 8 digits, `##0` and 128 digits.
 pub type FrameText = Text<144>;
 
-/// An item in the shape of candump's logs, upper case: `123#1122`, `12345678#`, `123#R4`, `123##01122` for an FD frame, and
-/// `20000080#0000000000000000` for an error message frame of class 0x80. It takes no memory.
+/// An item in the shape of candump's logs, upper case: `123#1122`, `12345678#`, `123#R4`, `123##01122` for an FD frame,
+/// where the digit after the second mark has its flags (BRS is 1, ESI 2), and `20000080#0000000000000000` for an error
+/// message frame of class 0x80. It takes no memory.
 #[tactic(auto, unfolding(crate::specs::FrameText::frame_spelling))]
 pub fn frame_text(item: &Item) -> FrameText
     ensures text { result ≡ frame_spelling item.now }
@@ -54,16 +55,48 @@ fn push_payload(text: &mut FrameText, frame: Frame)
         return;
     }
     if frame.is_fd() {
-        text.push_all(b"#0");
+        text.push(b'#');
+        text.push(b'0' + frame.flags().number());
     }
     text.push_pairs(frame.bytes());
 }
 
-/// The item that a text spells, in either case; `BadText` where it spells none. `ID#R0` is read as `ID#R`.
+/// The item without flags that a text spells, in either case; `BadText` where it spells none. `ID#R0` is read as
+/// `ID#R`.
+///
+/// It is for those who know no flags: FD frames are `ID##0DATA`, and another digit is refused.
+/// `read_flagged_frame_text` reads all items.
+pub fn read_frame_text(text: &str) -> Result<Item, BadText>
+    ensures found { IfOk result (λ item. IsItem item × Spells text.now item) }
+    ensures plain { IfOk result (λ item. is_plain item ≡ true) }
+    ensures only { (i : AnItem) → IsItem i → is_plain i ≡ true → Spells text.now i → result ≡ Ok i }
+    ensures bad { IsErr result ↔
+        ((i : AnItem) → IsItem i → is_plain i ≡ true → Spells text.now i → ⊥) }
+{
+    let item = read_flagged_frame_text(text)?;
+    if is_plain(&item) {
+        Ok(item)
+    } else {
+        Err(BadText)
+    }
+}
+
+/// Whether an item is no FD frame with a flag.
+fn is_plain(item: &Item) -> bool
+    ensures { result ≡ is_plain item.now }
+{
+    match item {
+        Item::Data(frame) => !frame.is_flagged(),
+        Item::Error(_) => true,
+    }
+}
+
+/// The item that a text spells, in either case, as `123##1` an FD frame with BRS; `BadText` where it spells none.
+/// `ID#R0` is read as `ID#R`.
 ///
 /// What the text seems to be is written again and compared with it. A text of more than 144 bytes is refused
 /// unread, so the cost has a bound. It takes no memory.
-pub fn read_frame_text(text: &str) -> Result<Item, BadText>
+pub fn read_flagged_frame_text(text: &str) -> Result<Item, BadText>
     ensures found { IfOk result (λ item. IsItem item × Spells text.now item) }
     ensures only { (i : AnItem) → IsItem i → Spells text.now i → result ≡ Ok i }
     ensures bad { IsErr result ↔ ((i : AnItem) → IsItem i → Spells text.now i → ⊥) }

@@ -3,6 +3,7 @@ ghost use Rattle.can_frame.specs.Frames.{CanFrame, Identifier, IsIdentifier, is_
 ghost use Rattle.can_frame.specs.Frames.Payload.{Data, Remote, Fd};
 ghost use Rattle.can_frame.specs.Arbitration.{arbitration_bits, GoesBefore, goes_before, Outranks, key_of, Wins, DifferInBits};
 ghost use Rattle.can_frame.specs.FrameText.{frame_spelling, IsItem, Spells};
+ghost use Rattle.can_frame.specs.declared.fd_flags.FdFlags.{FdFlags};
 ghost use Rattle.can_frame.specs.declared.item.Item.{Item as AnItem};
 
 /// The frame with the lesser key outranks the other, and frames have one key exactly where their
@@ -47,19 +48,19 @@ pub fn data_outranks_remote()
         Outranks
         (record { id = id; payload = Data bytes })
         (record { id = id; payload = Remote len }) }
-    ensures fd { (id : Identifier) (bytes : List ℕ) (len : ℕ) →
+    ensures fd { (id : Identifier) (flags : FdFlags) (bytes : List ℕ) (len : ℕ) →
         Outranks
-        (record { id = id; payload = Fd bytes })
+        (record { id = id; payload = Fd flags bytes })
         (record { id = id; payload = Remote len }) }
 {}
 
-/// An FD frame competes with the bits of the data frame of its identifier.
+/// An FD frame, whatever its flags, competes with the bits of the data frame of its identifier.
 pub fn fd_frames_compete_as_data_frames()
-    ensures bits { (id : Identifier) (bytes others : List ℕ) →
-        arbitration_bits (record { id = id; payload = Fd bytes })
+    ensures bits { (id : Identifier) (flags : FdFlags) (bytes others : List ℕ) →
+        arbitration_bits (record { id = id; payload = Fd flags bytes })
         ≡ arbitration_bits (record { id = id; payload = Data others }) }
-    ensures word { (id : Identifier) (bytes others : List ℕ) →
-        word_of (record { id = id; payload = Fd bytes })
+    ensures word { (id : Identifier) (flags : FdFlags) (bytes others : List ℕ) →
+        word_of (record { id = id; payload = Fd flags bytes })
         ≡ word_of (record { id = id; payload = Data others }) }
 {}
 
@@ -72,7 +73,7 @@ pub fn standard_outranks_extended()
 {}
 
 /// Frames with equal bits have one identifier, and both or neither are remote: beside that they differ in length and
-/// bytes, and in whether they are FD frames.
+/// bytes, in whether they are FD frames, and in the flags of these.
 pub fn equal_bits_mean_one_identifier()
     ensures { (a b : CanFrame) →
         IsIdentifier a.id → IsIdentifier b.id → arbitration_bits a ≡ arbitration_bits b →

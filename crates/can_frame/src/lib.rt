@@ -9,8 +9,9 @@
 //! bus. The laws say what this order is: who wins, that exactly one does where all bits differ, and that only
 //! frames of one identifier and kind can have equal bits.
 //!
-//! `frame_text` writes an item in the shape of candump's logs, and `read_frame_text` reads it in either case:
-//! it answers an item exactly where the text spells one, and no text spells two. A `Text` is a text kept in place, to
+//! `frame_text` writes an item in the shape of candump's logs, and `read_flagged_frame_text` reads it in either case:
+//! it answers an item exactly where the text spells one, and no text spells two; `read_frame_text` reads items without
+//! flags alone. A `Text` is a text kept in place, to
 //! which identifiers, moments, numbers and data are added; `read_decimal` and `read_hexadecimal` read words of digits, and
 //! `read_moment` a moment.
 #![tactic(auto)]
@@ -20,6 +21,7 @@ pub mod byte_count;
 pub mod can_id;
 mod digit_writing;
 pub mod error_frame;
+pub mod fd_flags;
 pub mod frame;
 pub mod frame_guess;
 pub mod frame_texts;
@@ -34,9 +36,10 @@ pub mod text;
 pub use byte_count::count_of;
 pub use can_id::{CanId, IdTooLarge};
 pub use error_frame::{ClassTooLarge, ErrorFrame};
+pub use fd_flags::FdFlags;
 pub use frame::{BadFdLength, Frame, TooLong, is_fd_length};
 pub use frame_guess::guess_item;
-pub use frame_texts::{BadText, FrameText, frame_text, read_frame_text};
+pub use frame_texts::{BadText, FrameText, frame_text, read_flagged_frame_text, read_frame_text};
 pub use iface::{Iface, IfaceSet};
 pub use item::Item;
 pub use moment::{Moment, MomentTooLarge, read_moment};

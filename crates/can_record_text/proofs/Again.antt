@@ -360,6 +360,7 @@ auto_restart_again version.One c rest h = ap (λ (n : ℕ). Some (n, rest)) (sym
 auto_restart_again version.Two c rest h = number_field (2 ^ 32) c.auto_restart 10 rest (omega (arith, h.proper.few_attempts)) (omega arith) refl
 auto_restart_again version.Three c rest h = number_field (2 ^ 32) c.auto_restart 10 rest (omega (arith, h.proper.few_attempts)) (omega arith) refl
 auto_restart_again version.Four c rest h = number_field (2 ^ 32) c.auto_restart 10 rest (omega (arith, h.proper.few_attempts)) (omega arith) refl
+auto_restart_again version.Five c rest h = number_field (2 ^ 32) c.auto_restart 10 rest (omega (arith, h.proper.few_attempts)) (omega arith) refl
 
 -- the configuration of a bus's line
 pub config_again : (v : Version) (c : BusConfig) (rest : List ℕ) → HasBusLine v c → config_at v (spell (bus_words v c) rest) ≡ Some c

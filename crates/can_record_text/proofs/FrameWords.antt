@@ -1,5 +1,5 @@
 -- Frame text as a word of a line.
-use Rattle.std.proofs.Common.{◌≡◌, inl, ℕ, ◌+◌, ◌^◌, ◌≤◌, true, false, cond, eqb, List, [], ◌∷◌, Some, refl, arith}
+use Rattle.std.proofs.Common.{◌≡◌, inl, ℕ, ◌+◌, ◌^◌, ◌≤◌, Bool, true, false, cond, eqb, List, [], ◌∷◌, Some, refl, arith}
 use Rattle.std.specs.Prelude.{decimal}
 use Rattle.can_frame.specs.Frames.{Payload}
 use Rattle.can_frame.specs.Frames.Payload.{Data, Remote, Fd}
@@ -30,7 +30,13 @@ word-request len h = elim (eqb len 0) as (λ t. is_word (35 ∷ 82 ∷ cond t []
 word-payload : (p : Payload) → IsPayload p → is_word (35 ∷ payload_text p) ≡ true
 word-payload (Data bytes) h = word-pairs bytes
 word-payload (Remote len) h = word-request len h
-word-payload (Fd bytes) h = word-pairs bytes
+word-payload (Fd flags bytes) h = by flags.brs flags.esi
+  where
+    by : (brs esi : Bool) → is_word (35 ∷ payload_text (Fd (record { brs = brs; esi = esi }) bytes)) ≡ true
+    by true true = word-pairs bytes
+    by true false = word-pairs bytes
+    by false true = word-pairs bytes
+    by false false = word-pairs bytes
 
 pub is_word-item : (i : Item) → IsItem i → is_word (frame_spelling i) ≡ true
 unfolding frame_spelling

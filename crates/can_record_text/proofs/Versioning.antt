@@ -1,54 +1,68 @@
 -- The version of a record's text.
-use Rattle.std.proofs.Common.{◌≡◌, ◌%◌, ◌^◌, ◌<◌, ◌≤◌, nat_le, nat_lt, ◌==◌, ◌||◌, cond, if◌then◌else◌, ℕ, ◌+◌, Bool, true, false, List, [], ◌∷◌, Some, take, get_or, refl, sym, ap, subst, ◌∙◌, arith}
+use Rattle.std.proofs.Common.{◌≡◌, ◌%◌, ◌^◌, ◌<◌, ◌≤◌, nat_le, nat_lt, ◌==◌, ◌||◌, ◌&&◌, cond, if◌then◌else◌, ℕ, zero, suc, ◌+◌, Bool, true, false, not, List, [], ◌∷◌, ◌++◌, length, Some, take, get_or, refl, sym, ap, subst, ◌∙◌, arith}
 use Rattle.std.specs.Prelude.{All, slice_get}
-use Rattle.std.specs.List.{list_any}
-use Rattle.std.proofs.lemmas.Bool.{eqb-true, eqb-false, ne_eqb, or_left, or_right}
-use Rattle.std.proofs.lemmas.List.Folds.{list_any_at, list_any_more}
+use Rattle.std.proofs.lemmas.Bool.{and_parts, eqb-true, eqb-false, ne_eqb}
 use Rattle.std.proofs.lemmas.Option.{slice_get_within, get_or_from_slice_get}
 use Rattle.std.proofs.lemmas.List.Elements.{All-cons, All-head, All-nil, All-tail}
-use Rattle.can_frame.specs.Frames.{is_fd}
-use Rattle.can_record.specs.FrameWords.{payload_in}
+use Rattle.can_record.specs.FrameWords.{frame_in}
 use Rattle.can_event.specs.declared.bus_config.BusConfig.{BusConfig}
 use Rattle.can_event.specs.declared.entry.Entry.{Entry}
 use Rattle.can_event.specs.Events.{max_limit}
+use Rattle.can_record_text.specs.declared.needs.Needs.{Needs}
 use Rattle.can_record_text.specs.declared.version.Version.{Version}
 use Rattle.can_record_text.specs.declared.version.Version.TheVariants as version
-use Rattle.can_record_text.specs.Spelling.{has_fd, takes_fd, version_for, version_of}
+use Rattle.can_record_text.specs.Spelling.{all_needs, both_needs, frame_needs, is_needless, needs_of, no_needs, takes, takes_fd, takes_flags, version_for, version_of}
 use Rattle.can_record_text.specs.Values.{HasLine, HasBusLine, HasLines, HasText}
 
+-- ---- what lines need
+
+needs_are : (a b c d : Bool) → a ≡ b → c ≡ d → ◌≡◌ {A = Needs} (record { fd = a; flags = c }) (record { fd = b; flags = d })
+needs_are a b c d e f = ap (λ (x : Bool). let n : Needs = record { fd = x; flags = c } in n) e ∙ ap (λ (x : Bool). let n : Needs = record { fd = b; flags = x } in n) f
+
+or_assoc : (a b c : Bool) → (a || (b || c)) ≡ ((a || b) || c)
+or_assoc true b c = refl
+or_assoc false b c = refl
+
+or_none : (a : Bool) → (a || false) ≡ (false || a)
+or_none true = refl
+or_none false = refl
+
+both_assoc : (a b c : Needs) → both_needs a (both_needs b c) ≡ both_needs (both_needs a b) c
+both_assoc a b c = needs_are _ _ _ _ (or_assoc a.fd b.fd c.fd) (or_assoc a.flags b.flags c.flags)
+
+both_none : (a : Needs) → both_needs a no_needs ≡ both_needs no_needs a
+both_none a = needs_are _ _ _ _ (or_none a.fd) (or_none a.flags)
+
+-- one entry more at the end
+pub needs_push : (es : List Entry) (e : Entry) → all_needs (es ++ e ∷ []) ≡ both_needs (all_needs es) (needs_of e)
+needs_push [] e = both_none (needs_of e)
+needs_push (x ∷ es) e = ap (both_needs (needs_of x)) (needs_push es e) ∙ both_assoc (needs_of x) (all_needs es) (needs_of e)
+
+-- one entry more of those at the front
+needs_next : (es : List Entry) (k : ℕ) (d : Entry) → k < length es → all_needs (take (suc k) es) ≡ both_needs (all_needs (take k es)) (needs_of (get_or es k d))
+needs_next [] k d lt = absurd (omega arith)
+needs_next (x ∷ es) zero d lt = both_none (needs_of x)
+needs_next (x ∷ es) (suc k) d lt = ap (both_needs (needs_of x)) (needs_next es k d (omega arith)) ∙ both_assoc (needs_of x) (all_needs (take k es)) (needs_of (get_or es k d))
+
+pub needs_at : (es : List Entry) (k : ℕ) (d : Entry) → k < length es → all_needs (take (k + 1) es) ≡ both_needs (all_needs (take k es)) (needs_of (get_or es k d))
+needs_at es k d lt =
+    let next : k + 1 ≡ suc k = omega arith in
+    ap (λ (n : ℕ). all_needs (take n es)) next ∙ needs_next es k d lt
+
+pub needs_more : (es : List Entry) (k : ℕ) (e : Entry) → slice_get es k ≡ Some e → all_needs (take (k + 1) es) ≡ both_needs (all_needs (take k es)) (needs_of e)
+needs_more es k e there =
+    needs_at es k e (slice_get_within es k e there)
+    ∙ ap (λ (x : Entry). both_needs (all_needs (take k es)) (needs_of x)) (get_or_from_slice_get es k e e there)
+
 -- a frame of a word, a length and eight bytes is no FD frame
-pub classic : (word len : ℕ) (bytes : List ℕ) → is_fd (payload_in word len bytes) ≡ false
+pub classic : (word len : ℕ) (bytes : List ℕ) → frame_needs (frame_in word len bytes) ≡ no_needs
 classic word len bytes = when (nat_le (2 ^ 30) (word % 2 ^ 31)) refl
   where
-    when : (b : Bool) → nat_le (2 ^ 30) (word % 2 ^ 31) ≡ b → is_fd (payload_in word len bytes) ≡ false
+    when : (b : Bool) → nat_le (2 ^ 30) (word % 2 ^ 31) ≡ b → frame_needs (frame_in word len bytes) ≡ no_needs
     when true is = rw is refl
     when false is = rw is refl
 
--- an entry with FD settles it
-pub fd_here : (es : List Entry) (k : ℕ) (e : Entry) → slice_get es k ≡ Some e → has_fd e ≡ true → list_any has_fd es ≡ true
-fd_here es k e there is = list_any_at has_fd es k e (slice_get_within es k e there) (ap has_fd (get_or_from_slice_get es k e e there) ∙ is)
-
--- one entry more, without FD
-pub none_more : (es : List Entry) (k : ℕ) (e : Entry) → slice_get es k ≡ Some e → has_fd e ≡ false → list_any has_fd (take k es) ≡ false → list_any has_fd (take (k + 1) es) ≡ false
-none_more es k e there is none =
-    list_any_more has_fd es k e (slice_get_within es k e there)
-    ∙ ap (λ (b : Bool). b || has_fd (get_or es k e)) none
-    ∙ ap has_fd (get_or_from_slice_get es k e e there) ∙ is
-
-no_three : version.One ≡ version.Three → ⊥
-no_three e = absurd cc
-
-no_three_of_two : version.Two ≡ version.Three → ⊥
-no_three_of_two e = absurd cc
-
-no_three_of_four : version.Four ≡ version.Three → ⊥
-no_three_of_four e = absurd cc
-
 -- ---- the limit that the version is of
-
-not_both : (b : Bool) → b ≡ false → b ≡ true → ⊥
-not_both true e h = absurd cc
-not_both false e h = absurd cc
 
 -- a limit of version 4 is that of no other
 pub is_long : (c : BusConfig) → max_limit < c.limit → nat_lt max_limit c.limit ≡ true
@@ -57,58 +71,153 @@ is_long c h = grind (arith, h)
 pub is_short : (c : BusConfig) → c.limit ≤ max_limit → nat_lt max_limit c.limit ≡ false
 is_short c h = grind (arith, h)
 
-pub of_long : (c : BusConfig) (fd : Bool) → max_limit < c.limit → version_for c fd ≡ version.Four
-of_long c fd h = rw (is_long c h) refl
+pub of_long : (c : BusConfig) (needs : Needs) → max_limit < c.limit → version_for c needs ≡ version.Four
+of_long c needs h = rw (is_long c h) refl
 
-of_short : (c : BusConfig) (fd : Bool) → c.limit ≤ max_limit → version_for c fd ≡ (if fd then version.Three else if c.auto_restart == 0 then version.One else version.Two)
-of_short c fd h = rw (is_short c h) refl
+short_version : BusConfig → Needs → Version
+short_version c needs = if needs.flags then version.Five else if needs.fd then version.Three else if c.auto_restart == 0 then version.One else version.Two
 
--- without a line that takes such a version, there is no FD frame
-none_has_fd : (v : Version) (c : BusConfig) (es : List Entry) → takes_fd v ≡ false → All (HasLine v c) es → list_any has_fd es ≡ false
-none_has_fd v c [] other lines = refl
-none_has_fd v c (e ∷ es) other lines = when (has_fd e) refl (none_has_fd v c es other (All-tail (HasLine v c) e es lines))
+of_short : (c : BusConfig) (needs : Needs) → c.limit ≤ max_limit → version_for c needs ≡ short_version c needs
+unfolding short_version
+of_short c needs h = rw (is_short c h) refl
+
+-- ---- what a version takes
+
+not_both : (b : Bool) → b ≡ false → b ≡ true → ⊥
+not_both true e h = absurd cc
+not_both false e h = absurd cc
+
+one_takes : (x z p : Bool) → (not x || p) ≡ true → (not z || p) ≡ true → (not (x || z) || p) ≡ true
+one_takes true z true h k = refl
+one_takes true z false h k = absurd cc
+one_takes false z p h k = k
+
+one_left : (x z p : Bool) → (not (x || z) || p) ≡ true → (not x || p) ≡ true
+one_left true z p h = h
+one_left false z p h = refl
+
+one_right : (x z p : Bool) → (not (x || z) || p) ≡ true → (not z || p) ≡ true
+one_right true true p h = h
+one_right true false p h = refl
+one_right false z p h = h
+
+and_true : (x y : Bool) → x ≡ true → y ≡ true → (x && y) ≡ true
+and_true true y h k = k
+and_true false y h k = absurd cc
+
+-- what takes some lines and others takes both
+takes_both : (v : Version) (a b : Needs) → takes v a ≡ true → takes v b ≡ true → takes v (both_needs a b) ≡ true
+takes_both v a b h k =
+    let one = and_parts (not a.fd || takes_fd v) (not a.flags || takes_flags v) h in
+    let other = and_parts (not b.fd || takes_fd v) (not b.flags || takes_flags v) k in
+    and_true (not (a.fd || b.fd) || takes_fd v) (not (a.flags || b.flags) || takes_flags v) (one_takes a.fd b.fd (takes_fd v) one.0 other.0) (one_takes a.flags b.flags (takes_flags v) one.1 other.1)
+
+takes_left : (v : Version) (a b : Needs) → takes v (both_needs a b) ≡ true → takes v a ≡ true
+takes_left v a b h =
+    let both = and_parts (not (a.fd || b.fd) || takes_fd v) (not (a.flags || b.flags) || takes_flags v) h in
+    and_true (not a.fd || takes_fd v) (not a.flags || takes_flags v) (one_left a.fd b.fd (takes_fd v) both.0) (one_left a.flags b.flags (takes_flags v) both.1)
+
+takes_right : (v : Version) (a b : Needs) → takes v (both_needs a b) ≡ true → takes v b ≡ true
+takes_right v a b h =
+    let both = and_parts (not (a.fd || b.fd) || takes_fd v) (not (a.flags || b.flags) || takes_flags v) h in
+    and_true (not b.fd || takes_fd v) (not b.flags || takes_flags v) (one_right a.fd b.fd (takes_fd v) both.0) (one_right a.flags b.flags (takes_flags v) both.1)
+
+-- version 5 takes anything
+pub five_takes : (n : Needs) → takes version.Five n ≡ true
+five_takes n = when n.fd n.flags
   where
-    when : (b : Bool) → has_fd e ≡ b → list_any has_fd es ≡ false → (has_fd e || list_any has_fd es) ≡ false
-    when true is later = absurd (not_both (takes_fd v) other ((All-head (HasLine v c) e es lines).version is))
-    when false is later = rw is later
+    when : (fd flags : Bool) → takes version.Five (record { fd = fd; flags = flags }) ≡ true
+    when true true = refl
+    when true false = refl
+    when false true = refl
+    when false false = refl
 
--- what is right line by line in version 3, and has nothing that takes this version, is of another
-pub not_three : (c : BusConfig) (fd : Bool) → fd ≡ false → version_for c fd ≡ version.Three → ⊥
-not_three c fd none is = when (nat_lt max_limit c.limit) (c.auto_restart == 0) (sym (ap (version_for c) none) ∙ is)
-  where
-    when : (long b : Bool) → cond long version.Four (cond b version.One version.Two) ≡ version.Three → ⊥
-    when true b e = no_three_of_four e
-    when false true e = no_three e
-    when false false e = no_three_of_two e
+-- what has lines in a version, it takes
+all_taken : (v : Version) (c : BusConfig) (es : List Entry) → All (HasLine v c) es → takes v (all_needs es) ≡ true
+all_taken v c [] lines = refl
+all_taken v c (e ∷ es) lines = takes_both v (needs_of e) (all_needs es) (All-head (HasLine v c) e es lines).version (all_taken v c es (All-tail (HasLine v c) e es lines))
+
+-- a version without lines for something has none
+has_none : (x : Bool) → (not x || false) ≡ true → x ≡ false
+has_none true h = absurd cc
+has_none false h = refl
+
+no_fd : (v : Version) (n : Needs) → takes_fd v ≡ false → takes v n ≡ true → n.fd ≡ false
+no_fd v n none h = let parts = and_parts (not n.fd || takes_fd v) (not n.flags || takes_flags v) h in has_none n.fd (ap (λ (p : Bool). not n.fd || p) (sym none) ∙ parts.0)
+
+no_flags_in : (v : Version) (n : Needs) → takes_flags v ≡ false → takes v n ≡ true → n.flags ≡ false
+no_flags_in v n none h = let parts = and_parts (not n.fd || takes_fd v) (not n.flags || takes_flags v) h in has_none n.flags (ap (λ (p : Bool). not n.flags || p) (sym none) ∙ parts.1)
+
+-- what is there where it is not missing
+there_is : (x : Bool) → not x ≡ false → x ≡ true
+there_is true h = refl
+there_is false h = absurd cc
 
 -- the version of lines that need it
-pub version_is : (v : Version) (c : BusConfig) (es : List Entry) → HasLines v c es → (v ≡ version.Three → list_any has_fd es ≡ true) → v ≡ version_of c es
-version_is version.One c es whole needed = rw (is_short c whole.bus.limit, none_has_fd version.One c es refl whole.lines, whole.bus.restarts) refl
-version_is version.Two c es whole needed = rw (is_short c whole.bus.limit, none_has_fd version.Two c es refl whole.lines, ne_eqb c.auto_restart 0 whole.bus.restarts) refl
-version_is version.Three c es whole needed = rw (is_short c whole.bus.limit, needed refl) refl
+pub version_is : (v : Version) (c : BusConfig) (es : List Entry) → HasLines v c es → is_needless v (all_needs es) ≡ false → v ≡ version_of c es
+version_is version.One c es whole needed =
+    let taken = all_taken version.One c es whole.lines in
+    rw (is_short c whole.bus.limit, no_flags_in version.One (all_needs es) refl taken, no_fd version.One (all_needs es) refl taken, whole.bus.restarts) refl
+version_is version.Two c es whole needed =
+    let taken = all_taken version.Two c es whole.lines in
+    rw (is_short c whole.bus.limit, no_flags_in version.Two (all_needs es) refl taken, no_fd version.Two (all_needs es) refl taken, ne_eqb c.auto_restart 0 whole.bus.restarts) refl
+version_is version.Three c es whole needed =
+    let taken = all_taken version.Three c es whole.lines in
+    rw (is_short c whole.bus.limit, no_flags_in version.Three (all_needs es) refl taken, there_is (all_needs es).fd needed) refl
 version_is version.Four c es whole needed = rw (is_long c whole.bus.limit) refl
+version_is version.Five c es whole needed = rw (is_short c whole.bus.limit, there_is (all_needs es).flags needed) refl
 
--- an entry that has a line in version 3 has one in each version, if it has no FD
-pub line_in : (v : Version) (c : BusConfig) (e : Entry) → HasLine version.Three c e → (has_fd e ≡ true → takes_fd v ≡ true) → HasLine v c e
-line_in v c e h needed = record { spelled = h.spelled; version = needed; event = h.event; reply = h.reply }
-
-lines_in : (v : Version) (c : BusConfig) (es : List Entry) → All (HasLine version.Three c) es → (list_any has_fd es ≡ true → takes_fd v ≡ true) → All (HasLine v c) es
-lines_in v c [] lines needed = All-nil (HasLine v c)
-lines_in v c (e ∷ es) lines needed =
-    All-cons (HasLine v c) e es (line_in v c e (All-head (HasLine version.Three c) e es lines) (λ is. needed (or_left (has_fd e) (list_any has_fd es) is)))
-    (lines_in v c es (All-tail (HasLine version.Three c) e es lines) (λ is. needed (or_right (has_fd e) (list_any has_fd es) is)))
-
-bus_in : (c : BusConfig) (fd : Bool) → HasBusLine version.Three c → HasBusLine (version_for c fd) c
-bus_in c true h = subst (λ (v : Version). HasBusLine v c) (sym (of_short c true h.limit)) h
-bus_in c false h = subst (λ (v : Version). HasBusLine v c) (sym (of_short c false h.limit)) (when (c.auto_restart == 0) refl)
+-- no record is in a version that it does not need
+never_needless : (c : BusConfig) (n : Needs) → is_needless (version_for c n) n ≡ false
+never_needless c n = when (nat_lt max_limit c.limit) n.fd n.flags (c.auto_restart == 0)
   where
-    when : (b : Bool) → (c.auto_restart == 0) ≡ b → HasBusLine (cond b version.One version.Two) c
-    when true is = record { proper = h.proper; limit = h.limit; reporting = h.reporting; restarts = eqb-true c.auto_restart 0 is }
-    when false is = record { proper = h.proper; limit = h.limit; reporting = h.reporting; restarts = eqb-false c.auto_restart 0 is }
+    when : (long fd flags b : Bool) → is_needless (cond long version.Four (cond flags version.Five (cond fd version.Three (cond b version.One version.Two)))) (record { fd = fd; flags = flags }) ≡ false
+    when true fd flags b = refl
+    when false fd true b = refl
+    when false true false b = refl
+    when false false false true = refl
+    when false false false false = refl
 
--- lines that are right in version 3 are right in the version of their record
-pub has_text : (c : BusConfig) (es : List Entry) → HasBusLine version.Three c → All (HasLine version.Three c) es → HasText c es
+pub not_needless : (v : Version) (c : BusConfig) (es ds : List Entry) → v ≡ version_of c es → ds ≡ es → is_needless v (all_needs ds) ≡ true → ⊥
+not_needless v c es ds is same none =
+    not_both (is_needless (version_of c es) (all_needs es)) (never_needless c (all_needs es))
+    (subst (λ (u : Version). is_needless u (all_needs es) ≡ true) is (subst (λ (xs : List Entry). is_needless v (all_needs xs) ≡ true) same none))
+
+-- an entry that has a line in version 5 has one in each version that takes what it needs
+pub line_in : (v : Version) (c : BusConfig) (e : Entry) → HasLine version.Five c e → takes v (needs_of e) ≡ true → HasLine v c e
+line_in v c e h taken = record { spelled = h.spelled; version = taken; event = h.event; reply = h.reply }
+
+lines_in : (v : Version) (c : BusConfig) (es : List Entry) → All (HasLine version.Five c) es → takes v (all_needs es) ≡ true → All (HasLine v c) es
+lines_in v c [] lines taken = All-nil (HasLine v c)
+lines_in v c (e ∷ es) lines taken =
+    All-cons (HasLine v c) e es (line_in v c e (All-head (HasLine version.Five c) e es lines) (takes_left v (needs_of e) (all_needs es) taken))
+    (lines_in v c es (All-tail (HasLine version.Five c) e es lines) (takes_right v (needs_of e) (all_needs es) taken))
+
+bus_in : (c : BusConfig) (n : Needs) → HasBusLine version.Five c → HasBusLine (version_for c n) c
+unfolding short_version
+bus_in c n h = subst (λ (v : Version). HasBusLine v c) (sym (of_short c n h.limit)) (when n.flags n.fd (c.auto_restart == 0) refl)
+  where
+    when : (flags fd b : Bool) → (c.auto_restart == 0) ≡ b → HasBusLine (cond flags version.Five (cond fd version.Three (cond b version.One version.Two))) c
+    when true fd b is = h
+    when false true b is = record { proper = h.proper; limit = h.limit; reporting = h.reporting; restarts = tt }
+    when false false true is = record { proper = h.proper; limit = h.limit; reporting = h.reporting; restarts = eqb-true c.auto_restart 0 is }
+    when false false false is = record { proper = h.proper; limit = h.limit; reporting = h.reporting; restarts = eqb-false c.auto_restart 0 is }
+
+-- a record's own version takes what it needs
+own_version : (c : BusConfig) (n : Needs) → c.limit ≤ max_limit → takes (version_for c n) n ≡ true
+unfolding short_version
+own_version c n short = ap (λ (v : Version). takes v n) (of_short c n short) ∙ when n.flags n.fd (c.auto_restart == 0)
+  where
+    when : (flags fd b : Bool) → takes (cond flags version.Five (cond fd version.Three (cond b version.One version.Two))) (record { fd = fd; flags = flags }) ≡ true
+    when true true b = refl
+    when true false b = refl
+    when false true b = refl
+    when false false true = refl
+    when false false false = refl
+
+-- lines that are right in version 5 are right in the version of their record
+pub has_text : (c : BusConfig) (es : List Entry) → HasBusLine version.Five c → All (HasLine version.Five c) es → HasText c es
 has_text c es bus lines = record {
-  bus = bus_in c (list_any has_fd es) bus;
-  lines = lines_in (version_of c es) c es lines (λ is. ap takes_fd (ap (version_for c) is ∙ of_short c true bus.limit));
+  bus = bus_in c (all_needs es) bus;
+  lines = lines_in (version_of c es) c es lines (own_version c (all_needs es) bus.limit);
 }

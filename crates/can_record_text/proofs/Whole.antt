@@ -1,7 +1,6 @@
 -- The text of a record.
 use Rattle.std.proofs.Common.{◌≡◌, ◌≢◌, ◌≤◌, inl, inr, ℕ, ◌+◌, true, false, List, [], ◌∷◌, ◌++◌, length, drop, get_or, Result, Ok, Err, append_assoc, refl, sym, ap, subst, ◌∙◌, arith}
 use Rattle.std.specs.Prelude.{All, reverse}
-use Rattle.std.specs.List.{list_any}
 use Rattle.std.proofs.lemmas.List.{append_cancel_left, length-reverse, reverse-reverse}
 use Rattle.std.proofs.lemmas.List.Elements.{All-head, All-tail}
 use Rattle.std.proofs.lemmas.Option.{none-some, same_Some}
@@ -13,13 +12,13 @@ use Rattle.can_record_text.specs.declared.fault.ReadFault.{ReadFault}
 use Rattle.can_record_text.specs.declared.fault.ReadFault.TheVariants as fault
 use Rattle.can_record_text.specs.declared.version.Version.{Version}
 use Rattle.can_record_text.specs.declared.version.Version.TheVariants as version
-use Rattle.can_record_text.specs.Spelling.{gap_before, spell, has_fd, version_of, first_line, bus_words, front_lines, end_words, entry_words, entry_line, entry_lines, text_in, record_spelling}
+use Rattle.can_record_text.specs.Spelling.{gap_before, spell, all_needs, is_needless, version_of, first_line, bus_words, front_lines, end_words, entry_words, entry_line, entry_lines, text_in, record_spelling}
 use Rattle.can_record_text.specs.Values.{HasLine, HasBusLine, HasLines}
 use Rattle.can_record_text.specs.inner.Reading.{entry_at, config_at}
-use Rattle.can_record_text.specs.RecordFaults.{NeedsNoThree, IsOfLongRun, IsOfNoVersion, IsTextOf, LacksBus, LacksEntry, BusIsWrong, LineIsWrong, GoesOn, IsFirstWrong, Ends, Reads, ReadsBack, ReadsRecord}
+use Rattle.can_record_text.specs.RecordFaults.{IsNeedless, IsOfLongRun, IsOfNoVersion, IsTextOf, LacksBus, LacksEntry, BusIsWrong, LineIsWrong, GoesOn, IsFirstWrong, Ends, Reads, ReadsBack, ReadsRecord}
 use Rattle.can_record_text.proofs.Again.{spell-rest, entry_again, config_again, end_is_none}
 use Rattle.can_record_text.proofs.LineLists.{lines-rest}
-use Rattle.can_record_text.proofs.Versioning.{not_three, version_is}
+use Rattle.can_record_text.proofs.Versioning.{not_needless, version_is}
 
 -- ---- what follows
 
@@ -86,36 +85,48 @@ version_digit version.One = 49
 version_digit version.Two = 50
 version_digit version.Three = 51
 version_digit version.Four = 52
+version_digit version.Five = 53
 
 digit_of : (v : Version) (a : List ℕ) → get_or (first_line v ++ a) 14 0 ≡ version_digit v
 digit_of version.One a = refl
 digit_of version.Two a = refl
 digit_of version.Three a = refl
 digit_of version.Four a = refl
+digit_of version.Five a = refl
 
 same_digit : (v w : Version) → version_digit v ≡ version_digit w → v ≡ w
 same_digit version.One version.One e = refl
 same_digit version.One version.Two e = absurd (omega (arith, e))
 same_digit version.One version.Three e = absurd (omega (arith, e))
 same_digit version.One version.Four e = absurd (omega (arith, e))
+same_digit version.One version.Five e = absurd (omega (arith, e))
 same_digit version.Two version.One e = absurd (omega (arith, e))
 same_digit version.Two version.Two e = refl
 same_digit version.Two version.Three e = absurd (omega (arith, e))
 same_digit version.Two version.Four e = absurd (omega (arith, e))
+same_digit version.Two version.Five e = absurd (omega (arith, e))
 same_digit version.Three version.One e = absurd (omega (arith, e))
 same_digit version.Three version.Two e = absurd (omega (arith, e))
 same_digit version.Three version.Three e = refl
 same_digit version.Three version.Four e = absurd (omega (arith, e))
+same_digit version.Three version.Five e = absurd (omega (arith, e))
 same_digit version.Four version.One e = absurd (omega (arith, e))
 same_digit version.Four version.Two e = absurd (omega (arith, e))
 same_digit version.Four version.Three e = absurd (omega (arith, e))
 same_digit version.Four version.Four e = refl
+same_digit version.Four version.Five e = absurd (omega (arith, e))
+same_digit version.Five version.One e = absurd (omega (arith, e))
+same_digit version.Five version.Two e = absurd (omega (arith, e))
+same_digit version.Five version.Three e = absurd (omega (arith, e))
+same_digit version.Five version.Four e = absurd (omega (arith, e))
+same_digit version.Five version.Five e = refl
 
 behind_first : (v : Version) (a : List ℕ) → drop 16 (first_line v ++ a) ≡ a
 behind_first version.One a = refl
 behind_first version.Two a = refl
 behind_first version.Three a = refl
 behind_first version.Four a = refl
+behind_first version.Five a = refl
 
 -- one text is of one version
 one_version : (v w : Version) (a b : List ℕ) → first_line v ++ a ≡ first_line w ++ b → (v ≡ w) × (a ≡ b)
@@ -216,8 +227,8 @@ nothing_wrong text n c es is h = right_text text n (version_of c es) c es is.0 i
 pub has_version : (text : List ℕ) (c : BusConfig) (es : List Entry) → IsTextOf text c es → IsOfNoVersion text → ⊥
 has_version text c es is (inl lacks) = lacks (version_of c es) _ is.1
 has_version text c es is (inr h) =
-    let met = whole_texts_meet version.Three (version_of c es) h.config c h.entries es h.whole is.0 (sym h.is_text ∙ is.1) in
-    not_three c (list_any has_fd es) (ap (list_any has_fd) (sym met.2) ∙ h.none) (sym met.0)
+    let met = whole_texts_meet h.version (version_of c es) h.config c h.entries es h.whole is.0 (sym h.is_text ∙ is.1) in
+    not_needless h.version c es h.entries met.0 met.2 h.none
 
 -- ---- a record, which is that of no long run
 
@@ -236,6 +247,7 @@ short_config version.One c other h = h.limit
 short_config version.Two c other h = h.limit
 short_config version.Three c other h = h.limit
 short_config version.Four c other h = absurd (other refl)
+short_config version.Five c other h = h.limit
 
 pub proper_config : (v : Version) (c : BusConfig) → v ≢ version.Four → HasBusLine v c → IsConfig c
 proper_config v c other h = record {
@@ -281,7 +293,7 @@ text_written t0 t1 t2 new v c d es hs n h0 h1 h2 h3 hv hc he hn =
     ∙ ap (λ (xs : List Entry). record_spelling d xs) he)
 
 pub made_text : (text : List ℕ) (v : Version) (c d : BusConfig) (es hs : List Entry) → d ≡ c → hs ≡ reverse es → HasLines v c es → text ≡ text_in v c es
-    → (v ≡ version.Three → list_any has_fd es ≡ true) → IsTextOf text d (reverse hs)
+    → is_needless v (all_needs es) ≡ false → IsTextOf text d (reverse hs)
 made_text text v c d es hs hd hh whole is needed =
     let right = version_is v c es whole needed in
     rw (hh, reverse-reverse es, hd) (subst (λ (u : Version). HasLines u c es) right whole, is ∙ ap (λ (u : Version). text_in u c es) right)
@@ -334,14 +346,8 @@ pub not_both : (text : List ℕ) (n : ℕ) → IsOfNoVersion text → IsFirstWro
 not_both text n (inl lacks) (inl h) = lacks h.version h.rest h.begins
 not_both text n (inl lacks) (inr (inl h)) = lacks h.version _ h.begins
 not_both text n (inl lacks) (inr (inr h)) = lacks h.version _ (goes text n h)
-not_both text n (inr k) h = right_text text n version.Three k.config k.entries k.whole k.is_text h
+not_both text n (inr k) h = right_text text n k.version k.config k.entries k.whole k.is_text h
 
--- a text that is right line by line, and takes version 3 for nothing
-pub needs_no_three : (text : List ℕ) (v : Version) (c : BusConfig) (es : List Entry) → HasLines v c es → text ≡ text_in v c es → v ≡ version.Three → list_any has_fd es ≡ false → NeedsNoThree text
-needs_no_three text v c es whole is three none = record {
-  config = c;
-  entries = es;
-  whole = subst (λ (u : Version). HasLines u c es) three whole;
-  none = none;
-  is_text = is ∙ ap (λ (u : Version). text_in u c es) three;
-}
+-- a text that is right line by line, in a version that it does not need
+pub needless_text : (text : List ℕ) (v : Version) (c : BusConfig) (es : List Entry) → HasLines v c es → text ≡ text_in v c es → is_needless v (all_needs es) ≡ true → IsNeedless text
+needless_text text v c es whole is none = record { version = v; config = c; entries = es; whole = whole; none = none; is_text = is }

@@ -1,5 +1,4 @@
-use Rattle.std.specs.Prelude.{◌≡◌, ◌≢◌, false, ℕ, ◌+◌, ◌⊎◌, List, [], ◌++◌, length, reverse, Result, Ok, Err}
-use Rattle.std.specs.List.{list_any}
+use Rattle.std.specs.Prelude.{◌≡◌, ◌≢◌, true, ℕ, ◌+◌, ◌⊎◌, List, [], ◌++◌, length, reverse, Result, Ok, Err}
 use Rattle.can_event.specs.declared.bus_config.BusConfig.{BusConfig}
 use Rattle.can_event.specs.declared.entry.Entry.{Entry}
 use Rattle.can_event.specs.Events.{IsConfig}
@@ -8,7 +7,7 @@ use Rattle.can_record_text.specs.declared.fault.ReadFault.{ReadFault}
 use Rattle.can_record_text.specs.declared.fault.ReadFault.TheVariants as fault
 use Rattle.can_record_text.specs.declared.version.Version.{Version}
 use Rattle.can_record_text.specs.declared.version.Version.TheVariants as version
-use Rattle.can_record_text.specs.Spelling.{spell, first_line, bus_words, end_words, entry_line, entry_lines, front_lines, text_in, has_fd, record_spelling}
+use Rattle.can_record_text.specs.Spelling.{spell, first_line, bus_words, end_words, entry_line, entry_lines, front_lines, text_in, all_needs, is_needless, record_spelling}
 use Rattle.can_record_text.specs.Values.{HasLine, HasBusLine, HasLines, HasText}
 
 -- What is wrong with a text that is no record's (own choice).
@@ -25,17 +24,18 @@ IsRecordText text = (c : BusConfig) × (entries : List Entry) × IsTextOf text c
 abbrev pub LacksFirst : List ℕ → Type 0
 LacksFirst text = (v : Version) (rest : List ℕ) → text ≢ first_line v ++ rest
 
--- the text is right line by line in version 3, and has nothing that takes this version
-pub record NeedsNoThree (text : List ℕ) : Type 0 where
+-- the text is right line by line in a version, 3 or 5, and has nothing that takes this version
+pub record IsNeedless (text : List ℕ) : Type 0 where
+  pub version : Version
   pub config : BusConfig
   pub entries : List Entry
-  pub whole : HasLines version.Three config entries
-  pub none : list_any has_fd entries ≡ false
-  pub is_text : text ≡ text_in version.Three config entries
+  pub whole : HasLines version config entries
+  pub none : is_needless version (all_needs entries) ≡ true
+  pub is_text : text ≡ text_in version config entries
 
 -- the text is of no version
 abbrev pub IsOfNoVersion : List ℕ → Type 0
-IsOfNoVersion text = LacksFirst text ⊎ NeedsNoThree text
+IsOfNoVersion text = LacksFirst text ⊎ IsNeedless text
 
 -- no line of a bus stands here, in this version
 abbrev pub LacksBus : Version → List ℕ → Type 0

@@ -1,6 +1,5 @@
-use Rattle.std.specs.Prelude.{ℕ, ◌==◌, ◌||◌, nat_lt, Bool, true, false, List, [], ◌∷◌, ◌++◌, length, codes, decimal, Some, None, if◌then◌else◌}
-use Rattle.std.specs.List.{list_any}
-use Rattle.can_frame.specs.Frames.{is_fd}
+use Rattle.std.specs.Prelude.{ℕ, ◌==◌, ◌||◌, ◌&&◌, not, nat_lt, Bool, true, false, List, [], ◌∷◌, ◌++◌, length, codes, decimal, Some, None, if◌then◌else◌}
+use Rattle.can_frame.specs.Frames.{CanFrame, is_fd, is_flagged}
 use Rattle.can_frame.specs.declared.iface.IfaceSet.{IfaceSet}
 use Rattle.can_frame.specs.declared.item.Item.{Item}
 use Rattle.can_frame.specs.declared.item.Item.TheVariants as item
@@ -29,6 +28,7 @@ use Rattle.can_event.specs.declared.entry.Entry.{Entry}
 use Rattle.can_event.specs.declared.socket_id.SocketId.{SocketId}
 use Rattle.can_event.specs.Events.{max_limit}
 use Rattle.can_event.specs.Replies.{entry_of}
+use Rattle.can_record_text.specs.declared.needs.Needs.{Needs}
 use Rattle.can_record_text.specs.declared.version.Version.{Version}
 use Rattle.can_record_text.specs.declared.version.Version.TheVariants as version
 
@@ -166,42 +166,84 @@ receive_line id r = answered_line (Receive id) r []
 abbrev pub attempt_line : ℕ → Verdict → Reply → List ℕ
 attempt_line moment verdict r = answered_line (Attempt moment verdict) r []
 
--- an FD frame that was received
-abbrev pub is_fd_item : Item → Bool
-is_fd_item (item.Data f) = is_fd f.payload
-is_fd_item (item.Error e) = false
+-- nothing of the later versions
+abbrev pub no_needs : Needs
+no_needs = record { fd = false; flags = false }
 
--- an event that asks to send an FD frame, or sets the option for such
-abbrev pub asks_for_fd : Event → Bool
-asks_for_fd (SetOption s (opt.FdFrames on)) = true
-asks_for_fd (Send s frame) = is_fd frame.payload
-asks_for_fd _ = false
+-- what these and others need
+abbrev pub both_needs : Needs → Needs → Needs
+both_needs a b = record { fd = a.fd || b.fd; flags = a.flags || b.flags }
 
--- a reply with an FD frame
-abbrev pub answers_with_fd : Reply → Bool
-answers_with_fd (reply.Received (Some r)) = is_fd_item r.item
-answers_with_fd (reply.Tried t) = is_fd t.frame.payload
-answers_with_fd _ = false
+-- what the option for FD frames needs
+abbrev pub option_needs : Needs
+option_needs = record { fd = true; flags = false }
 
--- an entry that only versions 3 and 4 have a line for
-abbrev pub has_fd : Entry → Bool
-has_fd e = asks_for_fd e.event || answers_with_fd e.reply
+-- what a frame needs
+abbrev pub frame_needs : CanFrame → Needs
+frame_needs f = record { fd = is_fd f.payload; flags = is_flagged f.payload }
 
--- a version that has lines for such entries
+-- what an item needs
+abbrev pub item_needs : Item → Needs
+item_needs (item.Data f) = frame_needs f
+item_needs (item.Error e) = no_needs
+
+-- what an event needs: the frame that is to be sent, or the option for FD frames
+abbrev pub event_needs : Event → Needs
+event_needs (SetOption s (opt.FdFrames on)) = option_needs
+event_needs (Send s frame) = frame_needs frame
+event_needs _ = no_needs
+
+-- what a reply needs: the frame in it
+abbrev pub reply_needs : Reply → Needs
+reply_needs (reply.Received (Some r)) = item_needs r.item
+reply_needs (reply.Tried t) = frame_needs t.frame
+reply_needs _ = no_needs
+
+-- what an entry needs
+abbrev pub needs_of : Entry → Needs
+needs_of e = both_needs (event_needs e.event) (reply_needs e.reply)
+
+-- what entries need
+abbrev pub all_needs : List Entry → Needs
+all_needs [] = no_needs
+all_needs (e ∷ es) = both_needs (needs_of e) (all_needs es)
+
+-- a version that has lines with FD frames, or with the option for such
 abbrev pub takes_fd : Version → Bool
 takes_fd version.One = false
 takes_fd version.Two = false
 takes_fd version.Three = true
 takes_fd version.Four = true
+takes_fd version.Five = true
 
--- the version for a bus: 4 for a limit that only a long run has; else 3 where an FD frame or the option for such stands in its
--- record, and else 2 exactly where interfaces are restarted automatically
-abbrev pub version_for : BusConfig → Bool → Version
-version_for c fd = if nat_lt max_limit c.limit then version.Four else if fd then version.Three else if c.auto_restart == 0 then version.One else version.Two
+-- a version that has lines with flags of FD frames
+abbrev pub takes_flags : Version → Bool
+takes_flags version.One = false
+takes_flags version.Two = false
+takes_flags version.Three = false
+takes_flags version.Four = true
+takes_flags version.Five = true
+
+-- a version that has lines with so much
+abbrev pub takes : Version → Needs → Bool
+takes v needs = (not needs.fd || takes_fd v) && (not needs.flags || takes_flags v)
+
+-- a version that is for more than this: 3 is for an FD frame or the option for such, and 5 for a flag of an FD frame
+abbrev pub is_needless : Version → Needs → Bool
+is_needless version.One needs = false
+is_needless version.Two needs = false
+is_needless version.Three needs = not needs.fd
+is_needless version.Four needs = false
+is_needless version.Five needs = not needs.flags
+
+-- the version for a bus: 4 for a limit that only a long run has; else 5 where a flag of an FD frame stands in its record;
+-- else 3 where an FD frame or the option for such does, and else 2 exactly where interfaces are restarted automatically
+abbrev pub version_for : BusConfig → Needs → Version
+version_for c needs = if nat_lt max_limit c.limit then version.Four else if needs.flags then version.Five else if needs.fd then version.Three else if c.auto_restart == 0 then version.One else version.Two
 
 -- the version of a record's text
 abbrev pub version_of : BusConfig → List Entry → Version
-version_of c entries = version_for c (list_any has_fd entries)
+version_of c entries = version_for c (all_needs entries)
 
 -- the first line: the version
 abbrev pub first_line : Version → List ℕ
@@ -209,6 +251,7 @@ first_line version.One = codes "canbus record 1" ++ 10 ∷ []
 first_line version.Two = codes "canbus record 2" ++ 10 ∷ []
 first_line version.Three = codes "canbus record 3" ++ 10 ∷ []
 first_line version.Four = codes "canbus record 4" ++ 10 ∷ []
+first_line version.Five = codes "canbus record 5" ++ 10 ∷ []
 
 -- from version 2 on: how many attempts after it went off an interface is restarted; from version 3 on this may be 0
 abbrev pub auto_restart_words : Version → BusConfig → List (List ℕ)
@@ -216,6 +259,7 @@ auto_restart_words version.One c = []
 auto_restart_words version.Two c = decimal c.auto_restart ∷ []
 auto_restart_words version.Three c = decimal c.auto_restart ∷ []
 auto_restart_words version.Four c = decimal c.auto_restart ∷ []
+auto_restart_words version.Five c = decimal c.auto_restart ∷ []
 
 -- the bus: how many interfaces, who acknowledges, the interfaces with reporting on, the room of a transmit queue, the limit
 abbrev pub bus_words : Version → BusConfig → List (List ℕ)

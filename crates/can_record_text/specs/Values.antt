@@ -18,7 +18,7 @@ use Rattle.can_event.specs.Events.{IsLongConfig, max_limit}
 use Rattle.can_event.specs.Spelled.{IsSpelled}
 use Rattle.can_record_text.specs.declared.version.Version.{Version}
 use Rattle.can_record_text.specs.declared.version.Version.TheVariants as version
-use Rattle.can_record_text.specs.Spelling.{has_fd, takes_fd, version_of}
+use Rattle.can_record_text.specs.Spelling.{needs_of, takes, version_of}
 
 -- The values that the types of an entry hold: a clause that ranges over all entries has to say so.
 
@@ -83,7 +83,7 @@ HoldsReply (reply.Refused why) = Unit {0}
 -- an entry that has a line in the record of this bus in this version, of such values
 pub record HasLine (v : Version) (c : BusConfig) (e : Entry) : Type 0 where
   pub spelled : IsSpelled c e
-  pub version : has_fd e ≡ true → takes_fd v ≡ true
+  pub version : takes v (needs_of e) ≡ true
   pub event : HoldsEvent e.event
   pub reply : HoldsReply e.reply
 
@@ -92,12 +92,13 @@ abbrev pub HasLimit : Version → BusConfig → Type 0
 HasLimit version.Four c = max_limit < c.limit
 HasLimit v c = c.limit ≤ max_limit
 
--- interfaces are restarted automatically in version 2, in version 1 by a call alone, and in versions 3 and 4 either way
+-- interfaces are restarted automatically in version 2, in version 1 by a call alone, and in the others either way
 abbrev pub Restarts : Version → BusConfig → Type 0
 Restarts version.One c = c.auto_restart ≡ 0
 Restarts version.Two c = c.auto_restart ≢ 0
 Restarts version.Three c = Unit {0}
 Restarts version.Four c = Unit {0}
+Restarts version.Five c = Unit {0}
 
 -- a configuration that has a line in this version
 pub record HasBusLine (v : Version) (c : BusConfig) : Type 0 where

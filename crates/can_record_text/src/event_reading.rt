@@ -4,10 +4,10 @@ ghost use Rattle.can_event.specs.declared.event.Event.TheVariants as event;
 
 use crate::fault::Unread;
 use crate::fields::{
-    begins_with, count_field, flag_field, frame_field, iface_field, mask_field, moment_field,
-    set_behind, short_field, socket_field,
+    count_field, flag_field, frame_field, iface_field, mask_field, moment_field, set_behind,
+    short_field, socket_field,
 };
-use crate::words::{next_word, same_word};
+use crate::words::{begins, next_word, same_word};
 use can_event::{Event, Opt, SocketId};
 use can_fault::{GlobalKind, LocalKind, Verdict};
 use can_filter::{Filter, FilterError, FilterSet};
@@ -254,15 +254,15 @@ fn verdict_field(text: &[u8]) -> Option<(Verdict, &[u8])>
     if same_word(word, b"lastbit") {
         return Some((Verdict::LastBit, rest));
     }
-    if begins_with(b"local-stuff:", text) {
+    if begins(text, b"local-stuff:") {
         let (set, rest) = set_behind(12, text)?;
         return Some((Verdict::Local(set, LocalKind::Stuff), rest));
     }
-    if begins_with(b"local-crc:", text) {
+    if begins(text, b"local-crc:") {
         let (set, rest) = set_behind(10, text)?;
         return Some((Verdict::Local(set, LocalKind::Crc), rest));
     }
-    if begins_with(b"local-form:", text) {
+    if begins(text, b"local-form:") {
         let (set, rest) = set_behind(11, text)?;
         return Some((Verdict::Local(set, LocalKind::Form), rest));
     }

@@ -3,8 +3,8 @@ use thiserror::Error;
 /// Why a text was not read as a record.
 #[derive(Debug, Clone, Copy, PartialEq, Eq, Error)]
 pub enum ReadFault {
-    /// The text does not begin with the first line of a version that the reader knows, or it is right line by line in version 3, and nothing in it
-    /// takes this version.
+    /// The text does not begin with the first line of a version that the reader knows, or it is right line by line in
+    /// version 3 or 5, and nothing in it takes this version.
     #[error("bad version")]
     BadVersion,
     /// The first line that is wrong or missing, from 1.

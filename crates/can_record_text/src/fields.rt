@@ -1,5 +1,5 @@
-ghost use Rattle.std.specs.Prelude.{IfSome, IsTrue, ◌≡◌, ◌^◌, ◌≤◌, ◌<◌, length};
-ghost use Rattle.can_record_text.specs.inner.Reading.{with_rest, number_at, long_at, mask_at, moment_at, socket_at, set_at, set_behind, flag_at, item_at, frame_at, begins_with};
+ghost use Rattle.std.specs.Prelude.{IfSome, ◌≡◌, ◌^◌, ◌≤◌, ◌<◌, length};
+ghost use Rattle.can_record_text.specs.inner.Reading.{with_rest, number_at, long_at, mask_at, moment_at, socket_at, set_at, set_behind, flag_at, item_at, frame_at};
 
 use crate::numbers::long_number;
 use crate::words::{next_word, same_word};
@@ -140,12 +140,4 @@ pub fn set_behind(front: usize, text: &[u8]) -> Option<(IfaceSet, &[u8])>
     ensures { with_rest result ≡ set_behind front text.now }
 {
     set_field(&text[front..])
-}
-
-/// Whether a text begins with these bytes.
-pub fn begins_with(front: &[u8], text: &[u8]) -> bool
-    ensures value { result ≡ begins_with front.now text.now }
-    ensures within { IsTrue result → length front.now ≤ length text.now }
-{
-    text.len() >= front.len() && &text[..front.len()] == front
 }

@@ -4,25 +4,24 @@
 //! The readers and writers of single lines are public for can_replay, which reads a text line by line.
 #![tactic(auto)]
 
+mod entry_lines;
 pub mod event_reading;
-mod event_writing;
 pub mod fault;
 mod fields;
+mod filter_lines;
+mod line_words;
 pub mod lines;
 pub mod long_writing;
+pub mod needs;
 mod numbers;
 mod packed_lines;
 pub mod record_reading;
 pub mod record_writing;
 mod reply_reading;
-mod reply_writing;
-mod short_lines;
-mod short_words;
 pub mod text_laws;
 pub mod values;
 pub mod version;
 mod words;
-mod writing;
 
 pub use fault::ReadFault;
 pub use long_writing::{Torn, write_block, write_end, write_front};

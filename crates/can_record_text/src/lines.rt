@@ -1,36 +1,28 @@
-ghost use Rattle.std.specs.Prelude.{◌≡◌, ◌≤◌, ◌++◌, ◌∷◌, [], IfOk, IfErr, IfSome, IsNone, IsTrue, OnOk, drop, length, List, ℕ};
+ghost use Rattle.std.specs.Prelude.{◌≡◌, ◌≤◌, ◌+◌, ◌++◌, ◌∷◌, [], IfOk, IfErr, IfSome, IsNone, IsTrue, OnOk, decimal, drop, length};
 ghost use Rattle.can_event.specs.Spelled.{FitsReply};
 ghost use Rattle.can_record_text.specs.declared.fault.Unread.TheVariants as unread;
-ghost use Rattle.can_record_text.specs.Spelling.{spell, ack_word, answered_line, bus_words, end_words, entry_line, first_line};
+ghost use Rattle.can_record_text.specs.Spelling.{spell, answered_line, auto_restart_words, bus_words, end_words, first_line};
 ghost use Rattle.can_record_text.specs.Texts.{DecidesLine, StartsWith, StartsWithBus, StartsWithEntry};
 ghost use Rattle.can_record_text.specs.Values.{HasLine, HasBusLine};
 ghost use Rattle.can_record_text.specs.RecordFaults.{LacksBus, LacksEntry, LacksFirst};
-ghost use Rattle.can_record_text.specs.inner.StoredLines.{HasFittingReply};
 ghost use Rattle.can_record_text.specs.inner.Reading.{Gives, with_rest, ack_at, auto_restart_at, config_at, entry_at, moment_of};
 
+use crate::entry_lines::push_answered;
 use crate::event_reading::guess_event;
-use crate::event_writing::put_event;
 use crate::fault::Unread;
 use crate::fields::{byte_field, set_field, short_field};
+use crate::filter_lines::put_filter_line;
+use crate::line_words::{LineText, push_ack, push_number, push_set};
+use crate::needs::Needs;
 use crate::reply_reading::reply_field;
-use crate::reply_writing::put_reply;
-use crate::short_lines::push_answered;
 use crate::values::{hold_event, hold_reply};
-use crate::version::{Version, has_fd};
+use crate::version::Version;
+pub use crate::words::begins;
 use crate::words::{next_word, same_word};
-use crate::writing::{put_count, put_set, put_word};
 use can_attempt::AckMode;
 use can_event::{BusConfig, Entry, Event, Reply, is_spelled};
 use can_frame::{Moment, Text};
 use std::alloc::{AllocError, Global};
-
-/// The line of an entry.
-pub(crate) fn put_line(out: &mut Vec<u8>, entry: &Entry) -> Result<(), AllocError>
-    requires { HasFittingReply entry.now }
-    ensures { OnOk result (out.new.items ≡ out.old.items ++ entry_line entry.now []) }
-{
-    put_answered(out, &entry.event, &entry.reply)
-}
 
 /// The line of an event with this reply.
 pub fn put_answered(out: &mut Vec<u8>, event: &Event, reply: &Reply) -> Result<(), AllocError>
@@ -41,19 +33,7 @@ pub fn put_answered(out: &mut Vec<u8>, event: &Event, reply: &Reply) -> Result<(
     if push_answered(&mut line, event, reply) {
         return out.extend_from_slice(line.as_bytes());
     }
-    put_words(out, event, reply)
-}
-
-/// The same, word by word.
-#[inline(never)]
-#[tactic(auto, using(crate::proofs::Written::line_of))]
-fn put_words(out: &mut Vec<u8>, event: &Event, reply: &Reply) -> Result<(), AllocError>
-    requires { FitsReply event.now reply.now }
-    ensures { OnOk result (out.new.items ≡ out.old.items ++ answered_line event.now reply.now []) }
-{
-    put_event(out, event)?;
-    put_word(out, b"=", b' ')?;
-    put_reply(out, reply)
+    put_filter_line(out, event, reply)
 }
 
 /// Whether a text begins with the line of an event with this reply.
@@ -70,22 +50,21 @@ pub fn is_line_of(
     if push_answered(&mut line, event, reply) {
         return Ok(begins(text, line.as_bytes()));
     }
-    has_words_of(buffer, event, reply, text)
+    is_filter_line_of(buffer, event, reply, text)
 }
 
-/// The same of a line that is written word by word.
+/// The same of an event that sets filters.
 #[inline(never)]
-fn has_words_of(
+fn is_filter_line_of(
     buffer: &mut Vec<u8>,
     event: &Event,
     reply: &Reply,
     text: &[u8],
 ) -> Result<bool, AllocError>
-    requires { FitsReply event.now reply.now }
     ensures { DecidesLine event.now reply.now text.now result }
 {
     buffer.clear();
-    put_words(buffer, event, reply)?;
+    put_filter_line(buffer, event, reply)?;
     Ok(begins(text, buffer))
 }
 
@@ -97,28 +76,28 @@ pub(crate) fn put_bus(
 ) -> Result<(), AllocError>
     ensures { OnOk result (out.new.items ≡ out.old.items ++ spell (bus_words version config) []) }
 {
-    put_word(out, b"bus", b' ')?;
-    put_count(out, u64::from(config.ifaces), b' ')?;
-    put_ack(out, config.ack)?;
-    put_set(out, config.reporting, b' ')?;
-    put_count(out, u64::from(config.tx_capacity), b' ')?;
-    match version {
-        Version::One => put_count(out, u64::from(config.limit), b'\n')?,
-        Version::Two | Version::Three | Version::Four => {
-            put_count(out, u64::from(config.limit), b' ')?;
-            put_count(out, u64::from(config.auto_restart), b'\n')?;
-        }
-    }
-    Ok(())
+    let mut line = Text::new();
+    line.push_all(b"bus ");
+    push_number(&mut line, u64::from(config.ifaces), b' ');
+    push_ack(&mut line, config.ack);
+    push_set(&mut line, config.reporting, b' ');
+    push_number(&mut line, u64::from(config.tx_capacity), b' ');
+    push_limit(&mut line, version, config);
+    out.extend_from_slice(line.as_bytes())
 }
 
-/// Who acknowledges, and a space.
-fn put_ack(out: &mut Vec<u8>, ack: AckMode) -> Result<(), AllocError>
-    ensures { OnOk result (out.new.items ≡ out.old.items ++ (ack_word ack ++ 32 ∷ [])) }
+/// The limit, in all but version 1 after how many attempts an interface is restarted, and the line's end.
+fn push_limit(line: &mut LineText, version: Version, config: BusConfig)
+    requires { length line.old + 42 ≤ 392 }
+    ensures { line.new ≡ line.old ++
+        spell (decimal config.limit ∷ auto_restart_words version config) [] }
 {
-    match ack {
-        AckMode::Always => put_word(out, b"always", b' '),
-        AckMode::Peers => put_word(out, b"peers", b' '),
+    match version {
+        Version::One => push_number(line, u64::from(config.limit), b'\n'),
+        Version::Two | Version::Three | Version::Four | Version::Five => {
+            push_number(line, u64::from(config.limit), b' ');
+            push_number(line, u64::from(config.auto_restart), b'\n');
+        }
     }
 }
 
@@ -126,17 +105,10 @@ fn put_ack(out: &mut Vec<u8>, ack: AckMode) -> Result<(), AllocError>
 pub fn put_end(out: &mut Vec<u8>, count: u64) -> Result<(), AllocError>
     ensures { OnOk result (out.new.items ≡ out.old.items ++ spell (end_words count) []) }
 {
-    put_word(out, b"end", b' ')?;
-    put_count(out, count, b'\n')?;
-    Ok(())
-}
-
-/// Whether a text begins with another.
-pub fn begins(text: &[u8], front: &[u8]) -> bool
-    ensures yes { IsTrue result → StartsWith front.now text.now }
-    ensures no { (rest : List ℕ) → text.now ≡ front.now ++ rest → IsTrue result }
-{
-    text.starts_with(front)
+    let mut line = Text::new();
+    line.push_all(b"end ");
+    push_number(&mut line, count, b'\n');
+    out.extend_from_slice(line.as_bytes())
 }
 
 /// What follows this many bytes.
@@ -155,7 +127,7 @@ fn has_line(version: Version, config: BusConfig, entry: &Entry) -> bool
 {
     hold_event(&entry.event);
     hold_reply(&entry.reply);
-    is_spelled(config, entry) && (version.takes_fd() || !has_fd(&entry.event, &entry.reply))
+    is_spelled(config, entry) && version.takes(Needs::of(&entry.event, &entry.reply))
 }
 
 /// The version whose first line the text begins with.
@@ -174,6 +146,9 @@ pub fn read_version(text: &[u8]) -> Option<Version>
     }
     if begins(text, Version::Four.first_line()) {
         return Some(Version::Four);
+    }
+    if begins(text, Version::Five.first_line()) {
+        return Some(Version::Five);
     }
     None
 }
@@ -197,7 +172,7 @@ pub fn read_line(
         return Err(Unread::Bad);
     }
     buffer.clear();
-    match put_line(buffer, &read) {
+    match put_answered(buffer, &read.event, &read.reply) {
         Ok(()) => {}
         Err(_) => return Err(Unread::NoMemory),
     }
@@ -292,7 +267,7 @@ fn auto_restart_field(version: Version, text: &[u8]) -> Option<(u32, &[u8])>
 {
     match version {
         Version::One => Some((0, text)),
-        Version::Two | Version::Three | Version::Four => short_field(text),
+        Version::Two | Version::Three | Version::Four | Version::Five => short_field(text),
     }
 }
 

@@ -2,24 +2,25 @@ ghost use Rattle.std.specs.Prelude.{◌≡◌, ◌%◌, ◌^◌, [], IsTrue, nat
 ghost use Rattle.can_record.specs.PackedEntry.{stamp_off};
 ghost use Rattle.can_record_text.specs.inner.StoredLines.{IsPackedLine};
 
-use crate::short_lines::{
-    push_attempt, push_data, push_error_from, push_idle, push_nothing, push_outcome, push_receive,
-    push_send, push_sent, push_winner,
+use crate::entry_lines::{
+    push_attempt, push_data, push_error_from, push_idle, push_outcome, push_receive, push_send,
+    push_sent, push_winner,
 };
-use crate::short_words::{ShortLine, push_error, push_moment, push_packed};
+use crate::line_words::{LineText, push_error, push_moment, push_packed};
 use can_frame::IfaceSet;
 use can_record::verdicts::class_in;
 use can_record::{PackedEntry, stamp_moment, verdict_in};
 
 /// The line of a packed entry, if it is of a usual kind; else what is in the room means nothing. It is written from
 /// the packed fields: no frame, event or reply is made, which would take longer than the line.
-pub(crate) fn push_entry(line: &mut ShortLine, kept: &PackedEntry) -> bool
+pub(crate) fn push_entry(line: &mut LineText, kept: &PackedEntry) -> bool
     requires { line.old ≡ [] }
     ensures { IsTrue result → IsPackedLine line.new kept.now }
 {
     match kept {
         PackedEntry::NothingReceived { socket } => {
-            push_nothing(line, *socket);
+            push_receive(line, *socket);
+            line.push_all(b"= none\n");
             true
         }
         PackedEntry::FrameReceived {
@@ -73,7 +74,7 @@ pub(crate) fn push_entry(line: &mut ShortLine, kept: &PackedEntry) -> bool
 }
 
 /// The same of an attempt.
-fn push_entry_attempt(line: &mut ShortLine, kept: &PackedEntry) -> bool
+fn push_entry_attempt(line: &mut LineText, kept: &PackedEntry) -> bool
     requires { line.old ≡ [] }
     ensures { IsTrue result → IsPackedLine line.new kept.now }
 {
@@ -83,10 +84,8 @@ fn push_entry_attempt(line: &mut ShortLine, kept: &PackedEntry) -> bool
             verdict,
             moment,
         } => {
-            if !restarted.is_empty() {
-                return false;
-            }
-            push_idle(line, *moment, *verdict, *restarted);
+            push_attempt(line, *moment, *verdict);
+            push_idle(line, *restarted);
             true
         }
         PackedEntry::Tried {
@@ -99,13 +98,14 @@ fn push_entry_attempt(line: &mut ShortLine, kept: &PackedEntry) -> bool
             bytes,
             stamp,
         } => {
-            if asks(*word) || !restarted.is_empty() {
+            if asks(*word) {
                 return false;
             }
             push_attempt(line, stamp_moment(*stamp), verdict_in(*end / 4, *named));
             push_winner(line, *stamp / 32 % 16, u64::from(*number));
             push_packed(line, *word, (*stamp / 2 % 16) as u8, bytes);
-            push_outcome(line, class_in(*end % 4), *accepted, off_in(*stamp));
+            let class = class_in(*end % 4);
+            push_outcome(line, class, *accepted, off_in(*stamp), *restarted);
             true
         }
         _ => false,

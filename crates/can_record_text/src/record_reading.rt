@@ -8,6 +8,7 @@ ghost use Rattle.can_record_text.specs.inner.Fronts.{HasFront};
 
 use crate::fault::{ReadFault, Unread};
 use crate::lines::{begins, behind, put_end, read_bus, read_line, read_version};
+use crate::needs::Needs;
 use crate::version::Version;
 use can_event::{BusConfig, Entry, Received};
 use can_frame::Item;
@@ -16,10 +17,10 @@ use std::alloc::{AllocError, Global};
 
 /// The record of a text, as `record_text` writes it: no other text is taken.
 ///
-/// `BadVersion` where the text does not begin with the first line of version 1, 2 or 3 (4 is that of a run longer than a
-/// `Record`), and otherwise `BadLine` with the first
-/// line that is wrong or missing, from 1; where the text goes on after its end, that is the line after the end. Last,
-/// `BadVersion` where a text of version 3 has neither an FD frame nor the option for such.
+/// `BadVersion` where the text does not begin with the first line of version 1, 2, 3 or 5 (4 is that of a run longer than
+/// a `Record`), and otherwise `BadLine` with the first line that is wrong or missing, from 1; where the text goes on
+/// after its end, that is the line after the end. Last, `BadVersion` where a text of version 3 has neither an FD frame
+/// nor the option for such, or one of version 5 no flag.
 /// The time is linear in the text, and nothing is allocated for a line but the filters that it sets.
 pub fn read_record(alloc: Global, text: &str) -> Result<Record, ReadFault>
     ensures reads { ReadsRecord text.now result }
@@ -52,7 +53,7 @@ fn read_text(alloc: Global, text: &[u8]) -> Result<Record, ReadFault>
         Ok(()) => {}
         Err(why) => return Err(why),
     }
-    if !version.is_needed(&entries) {
+    if version.is_needless(Needs::of_entries(&entries)) {
         return Err(ReadFault::BadVersion);
     }
     Ok(Record::from_spelled(config, entries))

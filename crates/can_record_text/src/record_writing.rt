@@ -7,10 +7,11 @@ ghost use Rattle.can_record_text.specs.Spelling.{answered_line, entry_line, fron
 ghost use Rattle.can_record_text.specs.Texts.{lines_of, text_of};
 ghost use Rattle.can_record_text.specs.inner.StoredLines.{HasFittingReply, stored_line};
 
-use crate::lines::{put_answered, put_bus, put_end, put_line};
+use crate::line_words::LineText;
+use crate::lines::{put_answered, put_bus, put_end};
+use crate::needs::Needs;
 use crate::packed_lines::push_entry;
-use crate::short_words::ShortLine;
-use crate::version::{Version, record_has_fd};
+use crate::version::Version;
 use can_event::{BusConfig, Event, Reply};
 use can_frame::{Frame, Text};
 use can_record::{PackedEntry, Record, StoredEntry, event_in, reply_in};
@@ -20,8 +21,8 @@ use std::io::Write;
 
 /// The text of a record: a first line that names its version, a line of the bus, one for each entry, the
 /// oldest first, and one that says how many entries there were. Each ends with LF, and the bytes are ASCII.
-/// The version is 3 where the record has an FD frame or the option for such; else 2 where interfaces are restarted
-/// automatically, and else 1.
+/// The version is 5 where the record has a flag of an FD frame; else 3 where it has an FD frame or the option for such;
+/// else 2 where interfaces are restarted automatically, and else 1.
 ///
 /// One record has one text, and one text has one record. The text takes some 40 bytes an entry; it grows in
 /// place, and the time is linear in it.
@@ -55,7 +56,7 @@ pub fn write_record<W: Write>(alloc: Global, record: &Record, writer: &mut W) ->
 {
     let mut line = Vec::new(alloc);
     let config = record.config();
-    let version = Version::of(config, record_has_fd(record));
+    let version = Version::of(config, Needs::of_record(record));
     put_front(&mut line, version, config)?;
     writer.write_all(&line)?;
     write_lines(&mut line, record, writer)?;
@@ -92,7 +93,7 @@ fn write_lines<W: Write>(line: &mut Vec<u8>, record: &Record, writer: &mut W) ->
 
 /// The line of an entry as it is stored, in one of the two rooms.
 pub(crate) fn spell_stored<'a>(
-    short: &'a mut ShortLine,
+    short: &'a mut LineText,
     long: &'a mut Vec<u8>,
     stored: &StoredEntry<'_>,
 ) -> Result<&'a [u8], AllocError>
@@ -110,7 +111,7 @@ pub(crate) fn spell_stored<'a>(
 }
 
 /// The line of an entry as it is stored, if it is packed and of a usual kind; else what is in the room means nothing.
-fn push_stored(line: &mut ShortLine, stored: &StoredEntry<'_>) -> bool
+fn push_stored(line: &mut LineText, stored: &StoredEntry<'_>) -> bool
     requires { line.old ≡ [] }
     ensures { IsTrue result → line.new ≡ stored_line stored.now }
 {
@@ -129,7 +130,7 @@ fn put_stored(out: &mut Vec<u8>, stored: &StoredEntry<'_>) -> Result<(), AllocEr
 {
     match stored {
         StoredEntry::Packed(frames, kept) => put_entry(out, frames, kept),
-        StoredEntry::Whole(entry) => put_line(out, entry),
+        StoredEntry::Whole(entry) => put_answered(out, &entry.event, &entry.reply),
     }
 }
 

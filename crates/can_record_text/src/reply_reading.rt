@@ -2,10 +2,10 @@ ghost use Rattle.std.specs.Prelude.{◌≡◌};
 ghost use Rattle.can_record_text.specs.inner.Reading.{with_rest, class_at, refusal_in, closed_at, data_at, error_at, restarted_at, tried_at, fixed_in, reply_at};
 
 use crate::fields::{
-    begins_with, frame_field, iface_field, item_field, long_field, moment_field, set_behind,
-    set_field, socket_field,
+    frame_field, iface_field, item_field, long_field, moment_field, set_behind, set_field,
+    socket_field,
 };
-use crate::words::{next_word, same_word};
+use crate::words::{begins, next_word, same_word};
 use can_attempt::Class;
 use can_event::{Closed, Received, Refusal, Reply, Tried};
 use can_frame::{IfaceSet, Item, Moment};
@@ -152,7 +152,7 @@ fn restarted_field(text: &[u8]) -> Option<(IfaceSet, &[u8])>
 {
     let (word, rest) = next_word(text);
     let behind = &text[word.len()..];
-    if begins_with(b" restarted ", behind) {
+    if begins(behind, b" restarted ") {
         return set_behind(11, behind);
     }
     Some((IfaceSet::empty(), rest))
@@ -164,16 +164,16 @@ fn class_field(text: &[u8]) -> Option<(Class, &[u8])>
     ensures { with_rest result ≡ class_at text.now }
 {
     let (word, rest) = next_word(text);
-    if same_word(word, b"done") {
+    if same_word(word, Class::Done.word()) {
         return Some((Class::Done, rest));
     }
-    if same_word(word, b"lastbit") {
+    if same_word(word, Class::LastBit.word()) {
         return Some((Class::LastBit, rest));
     }
-    if same_word(word, b"destroyed") {
+    if same_word(word, Class::Destroyed.word()) {
         return Some((Class::Destroyed, rest));
     }
-    if same_word(word, b"noack") {
+    if same_word(word, Class::NoAck.word()) {
         return Some((Class::NoAck, rest));
     }
     None

@@ -8,16 +8,16 @@ use Rattle.can_event.specs.declared.entry.Entry.{Entry}
 use Rattle.can_bus.specs.Lean.{Lean, Stands}
 use Rattle.can_record_text.specs.declared.fault.ReadFault.{ReadFault}
 use Rattle.can_record_text.specs.declared.fault.ReadFault.TheVariants as fault
+use Rattle.can_record_text.specs.declared.needs.Needs.{Needs}
 use Rattle.can_record_text.specs.declared.version.Version.{Version}
-use Rattle.can_record_text.specs.declared.version.Version.TheVariants as version
 use Rattle.can_record_text.specs.inner.Reading.{entry_at}
-use Rattle.can_record_text.specs.Spelling.{bus_words, end_words, entry_lines, first_line, front_lines, spell, text_in}
+use Rattle.can_record_text.specs.Spelling.{bus_words, end_words, entry_lines, first_line, front_lines, is_needless, no_needs, spell, text_in}
 use Rattle.can_record_text.specs.Values.{HasBusLine, HasLine, HasLines}
 use Rattle.can_record_text.specs.RecordFaults.{IsFirstWrong, IsOfNoVersion, IsTextOf, LacksBus, LacksEnd, LacksEntry, Reads}
 use Rattle.can_record_text.proofs.Again.{entry_again, nothing_is_none}
 use Rattle.can_record_text.proofs.LineLists.{lines-rest}
 use Rattle.can_record_text.proofs.Versioning.{version_is}
-use Rattle.can_record_text.proofs.Whole.{first_is_wrong, front-then, needs_no_three}
+use Rattle.can_record_text.proofs.Whole.{first_is_wrong, front-then, needless_text}
 use Rattle.can_replay.specs.declared.entry_audit.EntryAudit.{EntryAudit}
 use Rattle.can_replay.specs.declared.text_fault.TextFault.{TextFault}
 use Rattle.can_replay.specs.declared.text_fault.TextFault.TheVariants as found
@@ -33,15 +33,15 @@ front_alone : (v : Version) (c : BusConfig) → front_lines v c (entry_lines [] 
 unfolding entry_lines
 front_alone v c = refl
 
-pub begun : (v : Version) (c : BusConfig) (line rest : List ℕ) (bus : Lean) → HasBusLine v c → line ≡ spell (bus_words v c) [] ++ rest → Stands bus [] → bus.config ≡ c → IsLine line
-    → IsGoing (first_line v ++ line) (record { version = v; config = c; bus = bus; count = 0; fd = false; wrong = None; is_ended = false })
-begun v c line rest bus good stands new config is = record {
+pub begun : (v : Version) (c : BusConfig) (line rest : List ℕ) (bus : Lean) (needs : Needs) → HasBusLine v c → line ≡ spell (bus_words v c) [] ++ rest → Stands bus [] → bus.config ≡ c → needs ≡ no_needs → IsLine line
+    → IsGoing (first_line v ++ line) (record { version = v; config = c; bus = bus; count = 0; needs = needs; wrong = None; is_ended = false })
+begun v c line rest bus needs good stands new config nothing is = record {
   read = record {
     entries = [];
     good = record { bus = good; lines = All-nil (HasLine v c) };
     begins = ap (λ (x : List ℕ). first_line v ++ x) (cut_bus v c line rest is good stands) ∙ sym (front_alone v c);
     counted = refl;
-    is_fd = refl;
+    needs = nothing;
     settled = tt;
   };
   config = λ going. config;
@@ -110,7 +110,7 @@ ended text line b bus g going few is stands =
         good = g.read.good;
         begins = ap (λ (x : List ℕ). x ++ line) g.read.begins ∙ open_text b.is_ended b.version b.config es line going ∙ ap (λ (x : List ℕ). front_lines b.version b.config (entry_lines es x)) last;
         counted = g.read.counted;
-        is_fd = g.read.is_fd;
+        needs = g.read.needs;
         settled = g.read.settled;
       };
       config = λ no. absurd cc;
@@ -156,18 +156,18 @@ unfinished text b g going =
       open_end = nothing_ends (length es);
     }))
 
-pub needless : (text : List ℕ) (b : EntryAudit) → IsGoing text b → b.is_ended ≡ true → b.version ≡ version.Three → b.fd ≡ false → IsOfNoVersion text
-needless text b g end three none =
+pub needless : (text : List ℕ) (b : EntryAudit) → IsGoing text b → b.is_ended ≡ true → is_needless b.version b.needs ≡ true → IsOfNoVersion text
+needless text b g end none =
     let es = g.read.entries in
-    inr (needs_no_three text b.version b.config es g.read.good (g.read.begins ∙ ended_text b.is_ended b.version b.config es end) three (sym g.read.is_fd ∙ none))
+    inr (needless_text text b.version b.config es g.read.good (g.read.begins ∙ ended_text b.is_ended b.version b.config es end) (ap (is_needless b.version) (sym g.read.needs) ∙ none))
 
-is_text : (text : List ℕ) (b : EntryAudit) (g : IsGoing text b) → b.is_ended ≡ true → (b.version ≡ version.Three → b.fd ≡ true) → IsTextOf text b.config g.read.entries
+is_text : (text : List ℕ) (b : EntryAudit) (g : IsGoing text b) → b.is_ended ≡ true → is_needless b.version b.needs ≡ false → IsTextOf text b.config g.read.entries
 is_text text b g end needed =
     let es = g.read.entries in
-    let right = version_is b.version b.config es g.read.good (λ three. sym g.read.is_fd ∙ needed three) in
+    let right = version_is b.version b.config es g.read.good (ap (is_needless b.version) (sym g.read.needs) ∙ needed) in
     (subst (λ (u : Version). HasLines u b.config es) right g.read.good, g.read.begins ∙ ended_text b.is_ended b.version b.config es end ∙ ap (λ (u : Version). text_in u b.config es) right)
 
-pub all_legal : (text : List ℕ) (b : EntryAudit) (g : IsGoing text b) → b.is_ended ≡ true → (b.version ≡ version.Three → b.fd ≡ true) → b.wrong ≡ None → IsLegalText text b.count
+pub all_legal : (text : List ℕ) (b : EntryAudit) (g : IsGoing text b) → b.is_ended ≡ true → is_needless b.version b.needs ≡ false → b.wrong ≡ None → IsLegalText text b.count
 all_legal text b g end needed none = record {
   config = b.config;
   entries = g.read.entries;
@@ -176,7 +176,7 @@ all_legal text b g end needed none = record {
   counted = g.read.counted;
 }
 
-pub one_wrong : (text : List ℕ) (b : EntryAudit) (w : WrongLine) (g : IsGoing text b) → b.is_ended ≡ true → (b.version ≡ version.Three → b.fd ≡ true) → b.wrong ≡ Some w → IsWrongText text w
+pub one_wrong : (text : List ℕ) (b : EntryAudit) (w : WrongLine) (g : IsGoing text b) → b.is_ended ≡ true → is_needless b.version b.needs ≡ false → b.wrong ≡ Some w → IsWrongText text w
 one_wrong text b w g end needed some = record {
   config = b.config;
   entries = g.read.entries;

@@ -39,6 +39,7 @@ first_through version.One rest = refl
 first_through version.Two rest = refl
 first_through version.Three rest = refl
 first_through version.Four rest = refl
+first_through version.Five rest = refl
 
 spell_some : (w : List ℕ) (ws : List (List ℕ)) (rest : List ℕ) → spell (w ∷ ws) rest ≡ [] → ⊥
 spell_some [] ws rest e = absurd cc
@@ -136,6 +137,7 @@ first_ends version.One rest h = line_ends (codes "canbus record 1") rest h
 first_ends version.Two rest h = line_ends (codes "canbus record 2") rest h
 first_ends version.Three rest h = line_ends (codes "canbus record 3") rest h
 first_ends version.Four rest h = line_ends (codes "canbus record 4") rest h
+first_ends version.Five rest h = line_ends (codes "canbus record 5") rest h
 
 -- no line of theirs stands there
 pub torn_first : (torn : List ℕ) → EndsNoLine torn → LacksFirst torn

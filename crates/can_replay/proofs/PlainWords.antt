@@ -137,6 +137,7 @@ restarts version.One c h = tt
 restarts version.Two c h = (is_word-decimal c.auto_restart (omega (arith, h.proper.few_attempts)), tt)
 restarts version.Three c h = (is_word-decimal c.auto_restart (omega (arith, h.proper.few_attempts)), tt)
 restarts version.Four c h = (is_word-decimal c.auto_restart (omega (arith, h.proper.few_attempts)), tt)
+restarts version.Five c h = (is_word-decimal c.auto_restart (omega (arith, h.proper.few_attempts)), tt)
 
 pub bus_are_words : (v : Version) (c : BusConfig) → HasBusLine v c → AreWords (bus_words v c)
 bus_are_words v c h = (refl, (is_word-decimal c.ifaces (omega (arith, h.proper.few_ifaces)), (ack_is c.ack, (set-plain c.reporting, (is_word-decimal c.tx_capacity (omega (arith, h.proper.few_frames)), (is_word-decimal c.limit (omega (arith, h.proper.few_entries)), restarts v c h))))))

@@ -1,27 +1,25 @@
 -- One more line is taken.
-use Rattle.std.proofs.Common.{◌≡◌, ◌≢◌, ◌≤◌, ◌+◌, ◌⊎◌, ◌||◌, nat_le, cond, ℕ, Bool, true, false, List, [], ◌∷◌, ◌++◌, length, take, Option, Some, None, Result, Ok, Err, length-append, refl, sym, ap, subst, ◌∙◌, arith}
+use Rattle.std.proofs.Common.{◌≡◌, ◌≢◌, ◌≤◌, ◌+◌, ◌⊎◌, nat_le, cond, ℕ, Bool, true, false, List, [], ◌∷◌, ◌++◌, length, take, Option, Some, None, Result, Ok, Err, length-append, refl, sym, ap, subst, ◌∙◌, arith}
 use Rattle.std.specs.Prelude.{get_or, reverse, slice_get}
-use Rattle.std.specs.List.{list_any}
-use Rattle.std.proofs.Math.Bool.{or-false}
 use Rattle.std.proofs.Math.Seq.{get_or-append_seam, take-append_seam}
 use Rattle.std.proofs.lemmas.List.{get_or_append_left, length_push, length-reverse, reverse-append, take-append-le}
 use Rattle.std.proofs.lemmas.List.Elements.{All-push}
-use Rattle.std.proofs.lemmas.List.Folds.{list_any-append}
 use Rattle.std.proofs.lemmas.Option.{get_or_from_slice_get, slice_get-get_or, slice_get_within}
 use Rattle.can_event.specs.declared.bus_config.BusConfig.{BusConfig}
 use Rattle.can_event.specs.declared.entry.Entry.{Entry}
 use Rattle.can_event.specs.declared.reply.Reply.{Reply}
 use Rattle.can_bus.specs.Lean.{Lean, Stands}
 use Rattle.can_bus.specs.Legal.{IsLegal, legal_reply}
+use Rattle.can_record_text.specs.declared.needs.Needs.{Needs}
 use Rattle.can_record_text.specs.declared.version.Version.{Version}
 use Rattle.can_record_text.specs.declared.version.Version.TheVariants as version
-use Rattle.can_record_text.specs.Spelling.{entry_line, entry_lines, front_lines, has_fd, takes_fd}
+use Rattle.can_record_text.specs.Spelling.{entry_line, entry_lines, front_lines, all_needs, both_needs, needs_of, takes}
 use Rattle.can_record_text.specs.Values.{HasLine}
 use Rattle.can_record_text.specs.inner.Reading.{entry_at}
 use Rattle.can_record_text.specs.RecordFaults.{LacksEntry}
 use Rattle.can_record_text.proofs.Again.{entry_again}
 use Rattle.can_record_text.proofs.LineLists.{lines-more}
-use Rattle.can_record_text.proofs.Versioning.{line_in}
+use Rattle.can_record_text.proofs.Versioning.{line_in, needs_push}
 use Rattle.can_record_text.proofs.Whole.{front-then}
 use Rattle.can_replay.specs.Audits.{IsToldWrong}
 use Rattle.can_replay.specs.Histories.{before}
@@ -86,24 +84,21 @@ told_here c es e k legal at lawful h =
 
 -- ---- the text with one more line
 
-fd_push : (es : List Entry) (e : Entry) → list_any has_fd (es ++ e ∷ []) ≡ (list_any has_fd es || has_fd e)
-fd_push es e = list_any-append has_fd es (e ∷ []) ∙ ap (λ (b : Bool). list_any has_fd es || b) (or-false (has_fd e))
-
 text_more : (b : Bool) (v : Version) (c : BusConfig) (es : List Entry) (e : Entry) → b ≡ false → so_far b v c es ++ entry_line e [] ≡ so_far b v c (es ++ e ∷ [])
 text_more true v c es e is = absurd cc
 text_more false v c es e is = front-then v c (entry_lines es []) (entry_line e []) ∙ ap (front_lines v c) (lines-more es e)
 
 -- an entry's line more, with this one to be blamed from then on
-pub read_more : (text line : List ℕ) (b : EntryAudit) (bus : Lean) (fd : Bool) (w : Option WrongLine) (e : Entry) (read : IsRead text b) → b.is_ended ≡ false → HasLine b.version b.config e → line ≡ entry_line e [] → fd ≡ has_fd e
-    → IsSettled b.config (read.entries ++ e ∷ []) w → IsRead (text ++ line) (record b { bus = bus; count = b.count + 1; fd = b.fd || fd; wrong = w })
-read_more text line b bus fd w e read going good is here settled =
+pub read_more : (text line : List ℕ) (b : EntryAudit) (bus : Lean) (needs : Needs) (w : Option WrongLine) (e : Entry) (read : IsRead text b) → b.is_ended ≡ false → HasLine b.version b.config e → line ≡ entry_line e [] → needs ≡ needs_of e
+    → IsSettled b.config (read.entries ++ e ∷ []) w → IsRead (text ++ line) (record b { bus = bus; count = b.count + 1; needs = both_needs b.needs needs; wrong = w })
+read_more text line b bus needs w e read going good is here settled =
     let es = read.entries in
     record {
       entries = es ++ e ∷ [];
       good = record { bus = read.good.bus; lines = All-push (HasLine b.version b.config) es e read.good.lines good };
       begins = ap (λ (x : List ℕ). x ++ line) read.begins ∙ ap (λ (x : List ℕ). so_far b.is_ended b.version b.config es ++ x) is ∙ text_more b.is_ended b.version b.config es e going;
       counted = ap (λ (n : ℕ). n + 1) read.counted ∙ sym (length_push es e);
-      is_fd = ap (λ (x : Bool). x || fd) read.is_fd ∙ ap (λ (x : Bool). list_any has_fd es || x) here ∙ sym (fd_push es e);
+      needs = ap (λ (n : Needs). both_needs n needs) read.needs ∙ ap (both_needs (all_needs es)) here ∙ sym (needs_push es e);
       settled = settled;
     }
 
@@ -116,43 +111,43 @@ settled_none c es None is h = h
 settled_none c es (Some w) is h = absurd cc
 
 -- the line of one more legal entry
-pub legal_more : (text line : List ℕ) (b : EntryAudit) (bus : Lean) (fd : Bool) → IsGoing text b → b.wrong ≡ None → b.is_ended ≡ false → IsLine line → bus.config ≡ b.bus.config
-    → ((past : List Entry) → Stands b.bus past → IsNext b.bus.config past line fd bus) → (fd ≡ true → takes_fd b.version ≡ true) → IsGoing (text ++ line) (record b { bus = bus; count = b.count + 1; fd = b.fd || fd })
+pub legal_more : (text line : List ℕ) (b : EntryAudit) (bus : Lean) (needs : Needs) → IsGoing text b → b.wrong ≡ None → b.is_ended ≡ false → IsLine line → bus.config ≡ b.bus.config
+    → ((past : List Entry) → Stands b.bus past → IsNext b.bus.config past line needs bus) → takes b.version needs ≡ true → IsGoing (text ++ line) (record b { bus = bus; count = b.count + 1; needs = both_needs b.needs needs })
 unfolding read_more
-legal_more text line b bus fd g none going is config step may =
+legal_more text line b bus needs g none going is config step may =
     let es = g.read.entries in
     let one = step (reverse es) (g.stands going none) in
     let e = one.entry in
-    let three : HasLine version.Three b.config e = subst (λ (d : BusConfig). HasLine version.Three d e) (g.config going) one.good in
-    let good : HasLine b.version b.config e = line_in b.version b.config e three (λ fdh. may (one.is_fd ∙ fdh)) in
+    let five : HasLine version.Five b.config e = subst (λ (d : BusConfig). HasLine version.Five d e) (g.config going) one.good in
+    let good : HasLine b.version b.config e = line_in b.version b.config e five (ap (takes b.version) (sym one.needed) ∙ may) in
     let after : Stands bus (reverse (es ++ e ∷ [])) = subst (Stands bus) (sym (reverse-append es (e ∷ []))) one.after in
     let legal : IsLegal b.config (reverse (es ++ e ∷ [])) = subst (λ (d : BusConfig). IsLegal d (reverse (es ++ e ∷ []))) (config ∙ g.config going) after.kept.legal in
     record {
-      read = read_more text line b bus fd b.wrong e g.read going good (cut_entry b.version b.config line one.rest e is good one.stands) one.is_fd (settled_none b.config (es ++ e ∷ []) b.wrong none legal);
+      read = read_more text line b bus needs b.wrong e g.read going good (cut_entry b.version b.config line one.rest e is good one.stands) one.needed (settled_none b.config (es ++ e ∷ []) b.wrong none legal);
       config = λ still. config ∙ g.config going;
       stands = λ still legal_too. after;
     }
 
 -- a line behind a wrong one
-pub behind_more : (text line rest : List ℕ) (b : EntryAudit) (fd : Bool) (e : Entry) → IsGoing text b → (b.wrong ≡ None → ⊥) → b.is_ended ≡ false → IsLine line → HasLine b.version b.config e → line ≡ entry_line e rest → fd ≡ has_fd e
-    → IsGoing (text ++ line) (record b { count = b.count + 1; fd = b.fd || fd })
-behind_more text line rest b fd e g some going is good stands here = record {
-  read = read_more text line b b.bus fd b.wrong e g.read going good (cut_entry b.version b.config line rest e is good stands) here (settled_more b.config g.read.entries e b.wrong some g.read.settled);
+pub behind_more : (text line rest : List ℕ) (b : EntryAudit) (needs : Needs) (e : Entry) → IsGoing text b → (b.wrong ≡ None → ⊥) → b.is_ended ≡ false → IsLine line → HasLine b.version b.config e → line ≡ entry_line e rest → needs ≡ needs_of e
+    → IsGoing (text ++ line) (record b { count = b.count + 1; needs = both_needs b.needs needs })
+behind_more text line rest b needs e g some going is good stands here = record {
+  read = read_more text line b b.bus needs b.wrong e g.read going good (cut_entry b.version b.config line rest e is good stands) here (settled_more b.config g.read.entries e b.wrong some g.read.settled);
   config = g.config;
   stands = λ still none. absurd (some none);
 }
 
 -- the first wrong line
-pub wrong_here : (text line rest : List ℕ) (b : EntryAudit) (fd : Bool) (e d : Entry) (legal : Option Reply) (limit : ℕ) (read : IsRead text b) → b.wrong ≡ None → b.is_ended ≡ false → b.bus.config ≡ b.config → IsLine line
-    → IsOther b.config (reverse read.entries) line legal → HasLine b.version b.config e → line ≡ entry_line e rest → fd ≡ has_fd e → d ≡ e → limit ≡ b.config.limit
-    → IsGoing (text ++ line) (record b { count = b.count + 1; fd = b.fd || fd; wrong = Some (record { place = b.count; entry = d; legal = legal; limit = limit }) })
+pub wrong_here : (text line rest : List ℕ) (b : EntryAudit) (needs : Needs) (e d : Entry) (legal : Option Reply) (limit : ℕ) (read : IsRead text b) → b.wrong ≡ None → b.is_ended ≡ false → b.bus.config ≡ b.config → IsLine line
+    → IsOther b.config (reverse read.entries) line legal → HasLine b.version b.config e → line ≡ entry_line e rest → needs ≡ needs_of e → d ≡ e → limit ≡ b.config.limit
+    → IsGoing (text ++ line) (record b { count = b.count + 1; needs = both_needs b.needs needs; wrong = Some (record { place = b.count; entry = d; legal = legal; limit = limit }) })
 unfolding told_here
-wrong_here text line rest b fd e d legal limit read none going config is other good stands here same allowed =
+wrong_here text line rest b needs e d legal limit read none going config is other good stands here same allowed =
     let es = read.entries in
     let told = told_here b.config es e b.count legal read.counted (legal_so_far b.config es b.wrong none read.settled) (other b.version e rest good stands) in
     let w : WrongLine = record { place = b.count; entry = d; legal = legal; limit = limit } in
     record {
-      read = read_more text line b b.bus fd (Some w) e read going good (cut_entry b.version b.config line rest e is good stands) here (record { told = told; entry = same; limit = allowed });
+      read = read_more text line b b.bus needs (Some w) e read going good (cut_entry b.version b.config line rest e is good stands) here (record { told = told; entry = same; limit = allowed });
       config = λ still. config;
       stands = λ still none_too. absurd (none-some w (sym none_too));
     }
@@ -162,11 +157,11 @@ wrong_here text line rest b fd e d legal limit read none going config is other g
 pub spells_none : (v : Version) (c : BusConfig) (line : List ℕ) → entry_at line ≡ None → LacksEntry v c line
 spells_none v c line none e more good is = none-some e (sym none ∙ ap entry_at is ∙ entry_again v c e more good)
 
--- a line with FD stands only in a version that takes it
-pub of_fd : (v : Version) (c : BusConfig) (past : List Entry) (line : List ℕ) (fd : Bool) (bus : Lean) → IsNext c past line fd bus → fd ≡ true → takes_fd v ≡ false → LacksEntry v c line
-of_fd v c past line fd bus one has other e more good is =
-    let same : e ≡ one.entry = same_Some e one.entry (sym (entry_again v c e more good) ∙ ap entry_at (sym is ∙ one.stands) ∙ entry_again version.Three c one.entry one.rest one.good) in
-    never (takes_fd v) other (good.version (ap has_fd same ∙ sym one.is_fd ∙ has))
+-- a line stands only in a version that takes what it needs
+pub not_taken : (v : Version) (c : BusConfig) (past : List Entry) (line : List ℕ) (needs : Needs) (bus : Lean) → IsNext c past line needs bus → takes v needs ≡ false → LacksEntry v c line
+not_taken v c past line needs bus one other e more good is =
+    let same : e ≡ one.entry = same_Some e one.entry (sym (entry_again v c e more good) ∙ ap entry_at (sym is ∙ one.stands) ∙ entry_again version.Five c one.entry one.rest one.good) in
+    never (takes v needs) other (ap (takes v) (one.needed ∙ ap needs_of (sym same)) ∙ good.version)
   where
     never : (b : Bool) → b ≡ false → b ≡ true → ⊥
     never true e h = absurd cc
@@ -176,7 +171,7 @@ of_fd v c past line fd bus one has other e more good is =
 
 -- what is known of the lines that were read does not speak of the bus
 pub reread : (text : List ℕ) (b : EntryAudit) (bus : Lean) (read : IsRead text b) → IsRead text (record b { bus = bus })
-reread text b bus read = record { entries = read.entries; good = read.good; begins = read.begins; counted = read.counted; is_fd = read.is_fd; settled = read.settled }
+reread text b bus read = record { entries = read.entries; good = read.good; begins = read.begins; counted = read.counted; needs = read.needs; settled = read.settled }
 
 pub takes_unread : (old : EntryAudit) (bus : Lean) (line : List ℕ) (why : Unread) → (why ≡ unread.Bad → entry_at line ≡ None) → Takes {A = Unit {0}} old (record old { bus = bus }) line (Err why)
 takes_unread old bus line unread.Bad h = (refl, λ text g going. spells_none old.version old.config line (h refl))
@@ -185,7 +180,7 @@ takes_unread old bus line unread.NoMemory h = tt
 pub takes_blamed : (old new : EntryAudit) (bus : Lean) (line : List ℕ) (legal : Option Reply) (r : Result (Unit {0}) Unread) → old.wrong ≡ None → bus.config ≡ old.bus.config
     → ((past : List Entry) → Stands old.bus past → IsOther old.bus.config past line legal) → ReportsWrong (record old { bus = bus }) new line legal r → Takes old new line r
 takes_blamed old new bus line legal (Ok u) none config other h = λ text g going is.
-    let read : IsRead text (record old { bus = bus }) = record { entries = g.read.entries; good = g.read.good; begins = g.read.begins; counted = g.read.counted; is_fd = g.read.is_fd; settled = g.read.settled } in
+    let read : IsRead text (record old { bus = bus }) = record { entries = g.read.entries; good = g.read.good; begins = g.read.begins; counted = g.read.counted; needs = g.read.needs; settled = g.read.settled } in
     let past = reverse g.read.entries in
     h text read going (config ∙ g.config going) is (subst (λ (d : BusConfig). IsOther d past line legal) (g.config going) (other past (g.stands going none)))
 takes_blamed old new bus line legal (Err unread.Bad) none config other h = (subst (λ (n : EntryAudit). n ≡ record old { bus = n.bus }) (sym h.0) refl, λ text g going. h.1)

@@ -1,5 +1,5 @@
 -- A line against what a bus answers.
-use Rattle.std.proofs.Common.{◌≡◌, ◌≤◌, nat_le, ℕ, Bool, List, [], drop, length, Option, Some, None, Err, inl, inr, refl, sym, subst, ap, ◌∙◌}
+use Rattle.std.proofs.Common.{◌≡◌, ◌≤◌, nat_le, ℕ, List, [], drop, length, Option, Some, None, Err, inl, inr, refl, sym, subst, ap, ◌∙◌}
 use Rattle.std.proofs.lemmas.Bool.{cond-false, le-leb, lt-leb}
 use Rattle.std.proofs.lemmas.Option.{none-some, same_Some}
 use Rattle.can_event.specs.declared.bus_config.BusConfig.{BusConfig}
@@ -19,7 +19,9 @@ use Rattle.can_record_text.specs.declared.fault.Unread.TheVariants as unread
 use Rattle.can_record_text.specs.declared.version.Version.{Version}
 use Rattle.can_record_text.specs.inner.Words.{after}
 use Rattle.can_record_text.specs.inner.Reading.{Gives, entry_at, event_at, moment_of, reply_at, ◌>>=◌}
-use Rattle.can_record_text.specs.Spelling.{answered_line, entry_line, has_fd}
+use Rattle.can_record_text.specs.declared.needs.Needs.{Needs}
+use Rattle.can_record_text.proofs.Versioning.{five_takes}
+use Rattle.can_record_text.specs.Spelling.{answered_line, entry_line, needs_of}
 use Rattle.can_record_text.specs.Values.{HasLine, HoldsEvent, HoldsReply}
 use Rattle.can_record_text.proofs.Again.{entry_again}
 use Rattle.can_replay.specs.inner.Carried.{IsNext, IsOther, IsWrongNext}
@@ -59,13 +61,13 @@ other_past c past line ev r is answer v e rest good stands =
     record { wrong = inl full; is_allowed = rw (le-leb c.limit (length past) full) refl }
 
 -- the line of an event with the reply of a bus is that of the next entry
-pub next_is : (c : BusConfig) (past : List Entry) (line : List ℕ) (ev : Event) (r : Reply) (fd : Bool) (bus : Lean) → Enters r → IsSpelled c (record { event = ev; reply = r }) → HoldsEvent ev → HoldsReply r
-    → fd ≡ has_fd (record { event = ev; reply = r }) → line ≡ answered_line ev r (drop (length (answered_line ev r [])) line) → Stands bus (history_after ev r past) → IsNext c past line fd bus
-next_is c past line ev r fd bus enters spelled event reply is_fd stands after = record {
+pub next_is : (c : BusConfig) (past : List Entry) (line : List ℕ) (ev : Event) (r : Reply) (needs : Needs) (bus : Lean) → Enters r → IsSpelled c (record { event = ev; reply = r }) → HoldsEvent ev → HoldsReply r
+    → needs ≡ needs_of (record { event = ev; reply = r }) → line ≡ answered_line ev r (drop (length (answered_line ev r [])) line) → Stands bus (history_after ev r past) → IsNext c past line needs bus
+next_is c past line ev r needs bus enters spelled event reply needed stands after = record {
   entry = record { event = ev; reply = r };
   rest = drop (length (answered_line ev r [])) line;
-  good = record { spelled = spelled; version = λ has. refl; event = event; reply = reply };
-  is_fd = is_fd;
+  good = record { spelled = spelled; version = five_takes (needs_of (record { event = ev; reply = r })); event = event; reply = reply };
+  needed = needed;
   stands = stands;
   after = subst (Stands bus) (history-entered ev r past enters) after;
 }

@@ -112,6 +112,12 @@ AreTaken text audit = HasCome text audit.phase
 abbrev pub HasFailed : ReadFault → TextAudit → Type 0
 HasFailed why audit = audit.phase ≡ phase.Failed why
 
+-- the first line, where it was taken and no line was at fault
+abbrev pub first_taken : Phase → List ℕ
+first_taken (phase.Front v) = first_line v
+first_taken (phase.Entries b) = first_line b.version
+first_taken _ = []
+
 -- the line of the end was taken
 abbrev pub has_ended : Phase → Bool
 has_ended (phase.Entries b) = b.is_ended

@@ -1,5 +1,5 @@
-ghost use Rattle.std.specs.Prelude.{◌≡◌, ◌↔◌, ◌+◌, ◌-◌, ◌^◌, ◌<◌, ◌||◌, ◌++◌, Err, IfErr, IfOk, IsSome, IsTrue, List, None, OnOk, Some, false, true, ℕ};
-ghost use Rattle.can_record_text.specs.Spelling.{first_line, takes_fd};
+ghost use Rattle.std.specs.Prelude.{◌≡◌, ◌↔◌, ◌+◌, ◌-◌, ◌^◌, ◌<◌, ◌++◌, Err, IfErr, IfOk, IsSome, IsTrue, List, None, OnOk, Some, false, true, ℕ};
+ghost use Rattle.can_record_text.specs.Spelling.{first_line, both_needs};
 ghost use Rattle.can_record_text.specs.inner.Reading.{SeemsToBe};
 ghost use Rattle.can_replay.specs.TextAudits.{EndsNoLine, FailsAfter, FailsNext, IsLine, TakesOn, Tells, TellsCut};
 ghost use Rattle.can_replay.specs.inner.EntryAudits.{IsGoing};
@@ -11,8 +11,9 @@ use can_record_text::ReadFault;
 use can_record_text::event_reading::{attempt_front, guess_event, receive_front, send_front};
 use can_record_text::fault::Unread;
 use can_record_text::lines::{begins, is_line_of, put_end, read_bus, read_line};
+use can_record_text::needs::Needs;
 use can_record_text::values::{hold_event, hold_reply};
-use can_record_text::version::{Version, has_fd};
+use can_record_text::version::Version;
 use std::alloc::Global;
 
 /// The lines after the first: what is known of those that were taken.
@@ -23,8 +24,8 @@ pub struct EntryAudit {
     /// It was given the entries as long as they were legal.
     bus: LeanRingBus,
     count: u32,
-    /// Whether an entry has an FD frame or the option for such.
-    fd: bool,
+    /// What the entries need of the text's later versions.
+    needs: Needs,
     wrong: Option<WrongLine>,
     is_ended: bool,
 }
@@ -54,7 +55,7 @@ impl EntryAudit {
             config,
             bus,
             count: 0,
-            fd: false,
+            needs: Needs::nothing(),
             wrong: None,
             is_ended: false,
         })
@@ -191,11 +192,11 @@ impl EntryAudit {
         }
         hold_event(event);
         hold_reply(&reply);
-        let fd = has_fd(event, &reply);
-        if !may_stand(self.version, fd) {
+        let needs = Needs::of(event, &reply);
+        if !self.version.takes(needs) {
             return Err(Unread::Bad);
         }
-        self.add(fd);
+        self.add(needs);
         Ok(())
     }
 
@@ -243,9 +244,9 @@ impl EntryAudit {
         ensures { ReportsWrong self.old self.new line.now legal result }
     {
         let entry = read_line(buffer, alloc, self.version, self.config, line)?;
-        let fd = has_fd(&entry.event, &entry.reply);
+        let needs = Needs::of(&entry.event, &entry.reply);
         let place = self.count as usize;
-        self.add(fd);
+        self.add(needs);
         self.wrong = Some(WrongLine {
             place,
             entry,
@@ -263,18 +264,21 @@ impl EntryAudit {
         ensures { Takes self.old self.new line.now result }
     {
         let entry = read_line(buffer, alloc, self.version, self.config, line)?;
-        self.add(has_fd(&entry.event, &entry.reply));
+        self.add(Needs::of(&entry.event, &entry.reply));
         Ok(())
     }
 
     // One entry more.
-    fn add(&mut self, fd: bool)
+    fn add(&mut self, needs: Needs)
         requires { self.old.count < 2 ^ 32 - 1 }
         ensures { self.new
-            ≡ record self.old { count = self.old.count + 1; fd = self.old.fd || fd } }
+            ≡ record self.old {
+              count = self.old.count + 1;
+              needs = both_needs self.old.needs needs;
+            } }
     {
         self.count += 1;
-        self.fd |= fd;
+        self.needs = self.needs.and(needs);
     }
 
     // The line of the end.
@@ -296,6 +300,13 @@ impl EntryAudit {
         Ok(())
     }
 
+    /// The first line, which names the version.
+    pub fn first_line(&self) -> &'static [u8]
+        ensures { result.now ≡ first_line self.now.version }
+    {
+        self.version.first_line()
+    }
+
     /// Whether the line of the end was taken.
     pub fn has_ended(&self) -> bool
         ensures { result ≡ self.now.is_ended }
@@ -310,7 +321,7 @@ impl EntryAudit {
         let EntryAudit {
             version,
             count,
-            fd,
+            needs,
             wrong,
             is_ended,
             ..
@@ -318,7 +329,7 @@ impl EntryAudit {
         if !is_ended {
             return Err(TextFault::Read(ReadFault::BadLine(u64::from(count) + 3)));
         }
-        if is_needless(version, fd) {
+        if version.is_needless(needs) {
             return Err(TextFault::Read(ReadFault::BadVersion));
         }
         match wrong {
@@ -365,22 +376,6 @@ impl EntryAudit {
             Some(first) => Err(TextFault::Wrong(first)),
         }
     }
-}
-
-/// Whether a line with an FD frame or the option for such, or one without, is allowed in this version.
-fn may_stand(version: Version, fd: bool) -> bool
-    ensures yes { IsTrue result → fd ≡ true → takes_fd version ≡ true }
-    ensures no { result ≡ false → (fd ≡ true) × (takes_fd version ≡ false) }
-{
-    !fd || version.takes_fd()
-}
-
-/// Whether a text of this version, with an FD frame or the option for such, or without, has nothing that takes it.
-fn is_needless(version: Version, fd: bool) -> bool
-    ensures yes { IsTrue result → (version ≡ Version.Three) × (fd ≡ false) }
-    ensures no { result ≡ false → version ≡ Version.Three → fd ≡ true }
-{
-    version == Version::Three && !fd
 }
 
 /// Whether the record was full.

@@ -3,7 +3,7 @@ ghost use Rattle.can_record_text.specs.declared.fault.ReadFault.{ReadFault as AF
 ghost use Rattle.can_record_text.specs.RecordFaults.{LacksFirst};
 ghost use Rattle.can_record_text.specs.Spelling.{first_line};
 ghost use Rattle.can_record_text.specs.Texts.{StartsWith};
-ghost use Rattle.can_replay.specs.TextAudits.{AreTaken, EndsNoLine, FailsAfter, FailsNext, HasFailed, IsLine, TakesOn, Tells, TellsCut, has_ended};
+ghost use Rattle.can_replay.specs.TextAudits.{AreTaken, EndsNoLine, FailsAfter, FailsNext, HasFailed, IsLine, TakesOn, Tells, TellsCut, first_taken, has_ended};
 
 use crate::entry_audit::EntryAudit;
 use crate::text_fault::{Cut, TextFault};
@@ -139,6 +139,17 @@ impl TextAudit {
             Phase::Front(_) => Err(TextFault::Read(ReadFault::BadLine(2))),
             Phase::Entries(audit) => audit.finish_cut(torn),
             Phase::Failed(why) => Err(TextFault::Read(why)),
+        }
+    }
+
+    /// The first line, where it was taken and no line was at fault; else no bytes.
+    pub fn first_line(&self) -> &'static [u8]
+        ensures { result.now ≡ first_taken self.now.phase }
+    {
+        match &self.phase {
+            Phase::Front(version) => version.first_line(),
+            Phase::Entries(audit) => audit.first_line(),
+            Phase::Start | Phase::Failed(_) => b"",
         }
     }
 

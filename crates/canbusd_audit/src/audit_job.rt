@@ -86,8 +86,9 @@ pub fn audit_lines<'a, R: BufRead, W: Write>(
     let mut audit = TextAudit::new(alloc);
     let mut torn = Vec::new(alloc);
     let lines = take_lines(alloc, path, input, &mut audit, &mut torn)?;
-    let lines = take_last(alloc, path, lines, &mut audit, &torn)?;
-    tell_end(alloc, path, lines, audit.finish(), output)
+    take_last(alloc, path, lines, &mut audit, &torn)?;
+    let first = audit.first_line();
+    tell_end(alloc, path, first, audit.finish(), output)
 }
 
 /// The same of a text that may be cut off, as a run that was killed leaves it: writes how many entries it has, and
@@ -105,7 +106,8 @@ pub fn audit_cut_lines<'a, R: BufRead, W: Write, E: Write>(
 {
     let mut audit = TextAudit::new(alloc);
     let mut torn = Vec::new(alloc);
-    let lines = take_lines(alloc, path, input, &mut audit, &mut torn)?;
+    take_lines(alloc, path, input, &mut audit, &mut torn)?;
+    let first = audit.first_line();
     let found = audit.finish_cut(&torn);
-    tell_cut(alloc, path, lines, found, &torn, output, errors)
+    tell_cut(alloc, path, first, found, &torn, output, errors)
 }

@@ -11,11 +11,12 @@ use canbusd_io::{OUTPUT, ProgramError, Report, write_failure};
 use std::alloc::Global;
 use std::io::Write;
 
-/// Reports what was found of a text of this many lines that has ended: writes how many entries a legal record has.
+/// Reports what was found of a text that has ended and begins with this line: writes how many entries a legal record
+/// has.
 pub fn tell_end<'a, W: Write>(
     alloc: Global,
     path: &str,
-    lines: u64,
+    first: &[u8],
     found: Result<usize, TextFault>,
     output: &mut W,
 ) -> Result<(), Report<'a>>
@@ -28,7 +29,7 @@ pub fn tell_end<'a, W: Write>(
             alloc, OUTPUT, &error,
         )),
         Err(TextFault::Read(fault)) => {
-            let failure = text_failure(alloc, path, lines, b"", fault);
+            let failure = text_failure(alloc, path, first, b"", fault);
             Err(with_cut_note(alloc, failure, fault))
         }
         Err(TextFault::Wrong(wrong)) => Err(wrong_failure(alloc, path, &wrong)),
@@ -39,7 +40,7 @@ pub fn tell_end<'a, W: Write>(
 pub fn tell_cut<'a, W: Write, E: Write>(
     alloc: Global,
     path: &str,
-    lines: u64,
+    first: &[u8],
     found: Result<Cut, TextFault>,
     torn: &[u8],
     output: &mut W,
@@ -51,9 +52,9 @@ pub fn tell_cut<'a, W: Write, E: Write>(
     ensures fault { IfErr result (λ failure. IsTold found failure.error) }
 {
     match found {
-        Ok(Cut::Whole(count)) => tell_end(alloc, path, lines, Ok(count), output),
+        Ok(Cut::Whole(count)) => tell_end(alloc, path, first, Ok(count), output),
         Ok(Cut::Off(count)) => tell_off(alloc, count, torn, output, errors),
-        Err(TextFault::Read(fault)) => Err(text_failure(alloc, path, lines, torn, fault)),
+        Err(TextFault::Read(fault)) => Err(text_failure(alloc, path, first, torn, fault)),
         Err(TextFault::Wrong(wrong)) => Err(wrong_failure(alloc, path, &wrong)),
     }
 }
@@ -86,13 +87,13 @@ fn tell_off<'a, W: Write, E: Write>(
 fn text_failure<'a>(
     alloc: Global,
     path: &str,
-    lines: u64,
+    first: &[u8],
     torn: &[u8],
     fault: ReadFault,
 ) -> Report<'a>
     ensures { result.error ≡ told.Record fault }
 {
-    let note = record_note(alloc, path, last_shown(lines, torn, fault), fault);
+    let note = record_note(alloc, path, last_shown(first, torn, fault), fault);
     Report::with(alloc, ProgramError::Record(fault), note)
 }
 
@@ -106,10 +107,10 @@ fn wrong_failure<'a>(alloc: Global, path: &str, wrong: &WrongLine) -> Report<'a>
 }
 
 // The line of the text that a fault of the whole text is about: its last bytes, which there are none of where a line is
-// missing; of a text that is right line by line it is the first, that of version 3.
-fn last_shown(lines: u64, torn: &[u8], fault: ReadFault) -> &[u8] {
+// missing; of a text that is right line by line it is the first, that of a version that it does not need.
+fn last_shown<'a>(first: &'a [u8], torn: &'a [u8], fault: ReadFault) -> &'a [u8] {
     match fault {
-        ReadFault::BadVersion if lines > 0 => b"canbus record 3",
+        ReadFault::BadVersion if !first.is_empty() => first,
         _ => torn,
     }
 }

@@ -56,25 +56,25 @@ pub fn take_lines<'a, R: BufRead>(
     Err(Report::new(alloc, ProgramError::Read))
 }
 
-/// Takes the bytes after the last LF as the last line, if there are any: how many lines there are then.
+/// Takes the bytes after the last LF as the last line, if there are any. So many lines come before it.
 pub fn take_last<'a>(
     alloc: Global,
     path: &str,
     lines: u64,
     audit: &mut TextAudit,
     torn: &[u8],
-) -> Result<u64, Report<'a>>
+) -> Result<(), Report<'a>>
     requires { EndsNoLine torn.now }
     ensures taken { OnOk result (TakesLast audit.old torn.now audit.new) }
     ensures fault { IfErr result (λ failure. FaultsLast audit.old torn.now failure.error) }
 {
     if torn.is_empty() {
-        return Ok(lines);
+        return Ok(());
     }
     let has_ended = audit.has_ended();
     let lines = lines.saturating_add(1);
     match audit.carry(alloc, torn) {
-        Ok(()) => Ok(lines),
+        Ok(()) => Ok(()),
         Err(fault) => {
             let failure = torn_failure(alloc, path, lines, torn, fault);
             if has_ended {

@@ -307,6 +307,7 @@ auto_restart_at version.One t = Some (0, t)
 auto_restart_at version.Two t = number_at (2 ^ 32) t
 auto_restart_at version.Three t = number_at (2 ^ 32) t
 auto_restart_at version.Four t = number_at (2 ^ 32) t
+auto_restart_at version.Five t = number_at (2 ^ 32) t
 
 -- the configuration of a bus
 unfoldable pub config_at : Version → List ℕ → Option BusConfig

@@ -1,23 +1,24 @@
-use Rattle.std.specs.Prelude.{◌≡◌, ◌≢◌, ◌≤◌, ℕ, ◌⊎◌, Bool, List, ◌∷◌, length, Option}
+use Rattle.std.specs.Prelude.{◌≡◌, ◌≢◌, ◌≤◌, ℕ, ◌⊎◌, List, ◌∷◌, length, Option}
 use Rattle.can_event.specs.declared.bus_config.BusConfig.{BusConfig}
 use Rattle.can_event.specs.declared.entry.Entry.{Entry}
 use Rattle.can_event.specs.declared.reply.Reply.{Reply}
 use Rattle.can_bus.specs.Lean.{Lean, Stands}
 use Rattle.can_bus.specs.Legal.{legal_reply}
 use Rattle.can_replay.specs.Audits.{allowed_after}
+use Rattle.can_record_text.specs.declared.needs.Needs.{Needs}
 use Rattle.can_record_text.specs.declared.version.Version.{Version}
 use Rattle.can_record_text.specs.declared.version.Version.TheVariants as version
-use Rattle.can_record_text.specs.Spelling.{entry_line, has_fd}
+use Rattle.can_record_text.specs.Spelling.{entry_line, needs_of}
 use Rattle.can_record_text.specs.Values.{HasLine}
 
 -- One entry's line against what a bus answers.
 
--- the line of the next legal entry stands here, of one with FD or without, and the bus carried its event out
-pub record IsNext (c : BusConfig) (past : List Entry) (line : List ℕ) (fd : Bool) (bus : Lean) : Type 0 where
+-- the line of the next legal entry stands here, of one that needs so much, and the bus carried its event out
+pub record IsNext (c : BusConfig) (past : List Entry) (line : List ℕ) (needs : Needs) (bus : Lean) : Type 0 where
   pub entry : Entry
   pub rest : List ℕ
-  pub good : HasLine version.Three c entry
-  pub is_fd : fd ≡ has_fd entry
+  pub good : HasLine version.Five c entry
+  pub needed : needs ≡ needs_of entry
   pub stands : line ≡ entry_line entry rest
   pub after : Stands bus (entry ∷ past)
 

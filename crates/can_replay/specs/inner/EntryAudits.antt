@@ -1,11 +1,10 @@
 use Rattle.std.specs.Prelude.{◌≡◌, ℕ, Bool, true, false, List, [], length, reverse, Option, Some, None}
-use Rattle.std.specs.List.{list_any}
 use Rattle.can_event.specs.declared.bus_config.BusConfig.{BusConfig}
 use Rattle.can_event.specs.declared.entry.Entry.{Entry}
 use Rattle.can_bus.specs.Lean.{Stands}
 use Rattle.can_bus.specs.Legal.{IsLegal}
 use Rattle.can_record_text.specs.declared.version.Version.{Version}
-use Rattle.can_record_text.specs.Spelling.{entry_lines, front_lines, has_fd, text_in}
+use Rattle.can_record_text.specs.Spelling.{entry_lines, front_lines, all_needs, text_in}
 use Rattle.can_record_text.specs.Values.{HasLines}
 use Rattle.can_replay.specs.Audits.{IsToldWrong}
 use Rattle.can_replay.specs.declared.entry_audit.EntryAudit.{EntryAudit}
@@ -35,7 +34,7 @@ pub record IsRead (text : List ℕ) (b : EntryAudit) : Type 0 where
   pub good : HasLines b.version b.config entries
   pub begins : text ≡ so_far b.is_ended b.version b.config entries
   pub counted : b.count ≡ length entries
-  pub is_fd : b.fd ≡ list_any has_fd entries
+  pub needs : b.needs ≡ all_needs entries
   pub settled : IsSettled b.config entries b.wrong
 
 -- and while all were legal, the bus carried them out

@@ -13,5 +13,5 @@ returns-then-len-gt0-clause-text c =
   where
     asked : (p : Payload) (len : ℕ) → len ≡ payload_len p → (is_fd p ≡ false → len ≤ 8) → 0 < len → is_remote p ≡ true → 82 ∷ (48 + len) ∷ [] ≡ payload_text p
     asked (Data bytes) len e h pos r = absurd cc
-    asked (Fd bytes) len e h pos r = absurd cc
+    asked (Fd flags bytes) len e h pos r = absurd cc
     asked (Remote n) len e h pos r = let few = h refl in rw e (sym (request-text n (omega (arith, e)) (omega (arith, e, few))))

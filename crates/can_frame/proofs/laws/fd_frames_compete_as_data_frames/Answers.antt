@@ -6,4 +6,4 @@ pub returns-clause-bits : goal.returns-clause-bits
 returns-clause-bits c = fd_bits
 
 pub returns-clause-word : goal.returns-clause-word
-returns-clause-word c = λ id bytes others. refl
+returns-clause-word c = λ id flags bytes others. refl

@@ -19,6 +19,6 @@ returns-then-not-has_line-clause-bad c = λ bad e rest s is.
 pub returns-then-not-begins-clause-bad : goal.returns-then-not-begins-clause-bad
 returns-then-not-begins-clause-bad c = λ bad e rest s is.
     let same : e ≡ c.in-Ok.read = same_entry c.in-Ok.read c.args.text.now c.in-Ok.ensures c.args.version c.args.config e rest s is in
-    let written : c.deref.result.now ≡ entry_line e [] = c.deref.ensures.value ∙ kept c.clear.new.self.items c.put_line.new.out.items (entry_line c.in-Ok.read []) c.clear.ensures.items c.in-Ok-put_line.ensures ∙ ap (λ (x : Entry). entry_line x []) (sym same) in
+    let written : c.deref.result.now ≡ entry_line e [] = c.deref.ensures.value ∙ kept c.clear.new.self.items c.put_answered.new.out.items (entry_line c.in-Ok.read []) c.clear.ensures.items c.in-Ok-put_answered.ensures ∙ ap (λ (x : Entry). entry_line x []) (sym same) in
     let h : IsTrue c.begins.result = c.begins.ensures.no rest (is ∙ sym (spell-rest (entry_words e) rest) ∙ ap (λ (x : List ℕ). x ++ rest) (sym written)) in
     grind (arith, h, c.if-not-begins.true)

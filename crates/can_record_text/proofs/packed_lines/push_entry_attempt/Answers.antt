@@ -1,16 +1,15 @@
-use Rattle.std.proofs.Common.{◌∙◌, ◌/◌, refl, arith}
+use Rattle.std.proofs.Common.{◌∙◌, ◌/◌, refl}
 use Rattle.can_record.specs.PackedEntry.{tried_in, stamp_moment}
 use Rattle.can_record.specs.Verdicts.{verdict_in}
 use Rattle.can_record_text.proofs.TriedLines.{tried_line}
 use Rattle.can_record_text.proofs.packed_lines.push_entry_attempt.Goals as goal
 
-pub returns-else-not-is_empty-2 : goal.returns-else-not-is_empty-2
-returns-else-not-is_empty-2 c =
+pub returns-else-asks : goal.returns-else-asks
+returns-else-asks c =
     let k = c.in-Tried in
     λ frames yes. rw k.is (tried_line (stamp_moment k.stamp) (verdict_in (k.end / 4) k.named) (tried_in k.end k.word k.number k.accepted k.restarted k.bytes k.stamp)
-    c.push_attempt.new.line c.push_winner.new.line c.push_packed.new.line c.push_outcome.new.line
-    (c.push_attempt.ensures.text ∙ rw (c.stamp_moment.ensures, c.verdict_in.ensures) refl)
+    c.push_attempt-in-Tried.new.line c.push_winner.new.line c.push_packed.new.line c.push_outcome.new.line
+    (c.push_attempt-in-Tried.ensures.text ∙ rw (c.stamp_moment.ensures, c.verdict_in.ensures) refl)
     (c.push_winner.ensures.text ∙ rw c.from.ensures refl)
     c.push_packed.ensures.text
-    (c.push_outcome.ensures ∙ rw (c.class_in.ensures, c.off_in.ensures) refl)
-    (grind (arith, c.is_empty-else-asks.ensures, c.if-not-is_empty-2.false)))
+    (c.push_outcome.ensures ∙ rw (c.class_in-class.ensures, c.off_in.ensures) refl))

@@ -7,7 +7,7 @@ use Rattle.can_record_text.proofs.values.hold_frame.Goals as goal
 holds : (p : Payload) (len : ℕ) → len ≡ payload_len p → (is_fd p ≡ false → len ≤ 8) → (is_fd p ≡ true → IsTrue (is_fd_length len)) → ((i : ℕ) → slice_index (payload_bytes p) i < 256) → IsPayload p
 holds (Data bytes) len is short fd fit = (rw is at (short refl), fit)
 holds (Remote n) len is short fd fit = rw is at (short refl)
-holds (Fd bytes) len is short fd fit = (rw is at (fd refl), fit)
+holds (Fd flags bytes) len is short fd fit = (rw is at (fd refl), fit)
 
 pub returns : goal.returns
 returns c =

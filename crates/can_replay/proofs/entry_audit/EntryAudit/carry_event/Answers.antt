@@ -1,11 +1,11 @@
-use Rattle.std.proofs.Common.{◌≡◌, ◌++◌, IsTrue, Bool, Some, None, refl, reverse, subst, sym, true, false, arith}
+use Rattle.std.proofs.Common.{◌≡◌, ◌++◌, ◌∙◌, IsTrue, Bool, Some, None, refl, reverse, subst, sym, true, false, arith}
 use Rattle.can_event.specs.declared.bus_config.BusConfig.{BusConfig}
 use Rattle.can_event.specs.Replies.{Enters}
 use Rattle.can_record_text.proofs.Again.{starts-with-line}
 use Rattle.can_replay.specs.inner.EntryAudits.{IsGoing}
 use Rattle.can_replay.specs.inner.Carried.{IsNext}
 use Rattle.can_replay.proofs.TextAnswering.{next_is, other_past, other_reply}
-use Rattle.can_replay.proofs.Taking.{legal_more, of_fd, takes_blamed}
+use Rattle.can_replay.proofs.Taking.{legal_more, not_taken, takes_blamed}
 use Rattle.can_replay.proofs.entry_audit.EntryAudit.carry_event.Goals as goal
 
 never : (b : Bool) → IsTrue b → b ≡ false → ⊥
@@ -26,8 +26,8 @@ returns-in-Ok-false c =
     other_reply v c.args.self.now.bus.config past c.args.line.now rest c.requires.seems.0 e c.args.event.now c.answer-reply.result good is c.requires.seems.1 enters (c.answer-reply.ensures.answer past stands)
     (λ same. never c.in-Ok-false.field-0 (c.in-Ok-false.ensures.1 (starts-with-line c.args.event.now c.answer-reply.result c.args.line.now rest same)) c.in-Ok-false.field-0-test)) c.report_wrong_reply.ensures
 
-pub returns-then-not-may_stand : goal.returns-then-not-may_stand
-returns-then-not-may_stand c = (
+pub returns-then-not-takes : goal.returns-then-not-takes
+returns-then-not-takes c = (
   refl,
   λ text g going.
       let old = c.args.self.now in
@@ -35,11 +35,10 @@ returns-then-not-may_stand c = (
       let past = reverse g.read.entries in
       let test : IsTrue c.enters.result = grind (arith, c.if-not-enters.false) in
       let enters : Enters c.answer-reply.result = subst IsTrue c.enters.ensures test in
-      let one : IsNext old.bus.config past line c.has_fd-fd.result c.answer-reply.new.self =
-      next_is old.bus.config past line c.args.event.now c.answer-reply.result c.has_fd-fd.result c.answer-reply.new.self enters (c.answer-reply.ensures.spelled enters) c.hold_event.ensures c.hold_reply.ensures c.has_fd-fd.ensures
+      let one : IsNext old.bus.config past line c.of-needs.result c.answer-reply.new.self =
+      next_is old.bus.config past line c.args.event.now c.answer-reply.result c.of-needs.result c.answer-reply.new.self enters (c.answer-reply.ensures.spelled enters) c.hold_event.ensures c.hold_reply.ensures c.of-needs.ensures
       (c.in-Ok-true.ensures.0 c.in-Ok-true.field-0-test) (c.answer-reply.ensures.after past (g.stands going c.requires.legal)) in
-      let no = c.may_stand.ensures.no c.if-not-may_stand.true in
-      of_fd old.version old.config past line c.has_fd-fd.result c.answer-reply.new.self (subst (λ (d : BusConfig). IsNext d past line c.has_fd-fd.result c.answer-reply.new.self) (g.config going) one) no.0 no.1,
+      not_taken old.version old.config past line c.of-needs.result c.answer-reply.new.self (subst (λ (d : BusConfig). IsNext d past line c.of-needs.result c.answer-reply.new.self) (g.config going) one) (sym c.takes.ensures ∙ c.if-not-takes.true),
 )
 
 pub returns : goal.returns
@@ -49,8 +48,8 @@ returns c = λ text g going is.
     let test : IsTrue c.enters.result = grind (arith, c.if-not-enters.false) in
     let enters : Enters c.answer-reply.result = subst IsTrue c.enters.ensures test in
     subst (IsGoing (text ++ line)) (sym c.add.ensures)
-    (legal_more text line old c.answer-reply.new.self c.has_fd-fd.result g c.requires.legal going is c.answer-reply.ensures.config
+    (legal_more text line old c.answer-reply.new.self c.of-needs.result g c.requires.legal going is c.answer-reply.ensures.config
     (λ past stands.
-    next_is old.bus.config past line c.args.event.now c.answer-reply.result c.has_fd-fd.result c.answer-reply.new.self enters (c.answer-reply.ensures.spelled enters) c.hold_event.ensures c.hold_reply.ensures c.has_fd-fd.ensures
+    next_is old.bus.config past line c.args.event.now c.answer-reply.result c.of-needs.result c.answer-reply.new.self enters (c.answer-reply.ensures.spelled enters) c.hold_event.ensures c.hold_reply.ensures c.of-needs.ensures
     (c.in-Ok-true.ensures.0 c.in-Ok-true.field-0-test) (c.answer-reply.ensures.after past stands))
-    (c.may_stand.ensures.yes c.if-not-may_stand.false))
+    (sym c.takes.ensures ∙ c.if-not-takes.false))

@@ -19,4 +19,4 @@ returns c = λ text g going is.
     let rest = drop (length (entry_line e [])) line in
     let found = c.in_ok-entry.ensures.found in
     subst (IsGoing (text ++ line)) (sym c.add.ensures)
-    (behind_more text line rest old c.has_fd.result e g (not_none old.wrong c.requires.wrong) going is found.good (found.begins ∙ spell-rest (entry_words e) rest) c.has_fd.ensures)
+    (behind_more text line rest old c.of.result e g (not_none old.wrong c.requires.wrong) going is found.good (found.begins ∙ spell-rest (entry_words e) rest) c.of.ensures)

@@ -14,4 +14,4 @@ returns c = λ text read going config is other.
     let rest = drop (length (entry_line e [])) line in
     let found = c.in_ok-entry.ensures.found in
     subst (λ (n : EntryAudit). IsGoing (text ++ line) (record n { wrong = Some (record { place = old.count; entry = e; legal = c.args.legal; limit = n.config.limit }) })) (sym c.add.ensures)
-    (wrong_here text line rest old c.has_fd-fd.result e e c.args.legal old.config.limit read c.requires.legal going config is other found.good (found.begins ∙ spell-rest (entry_words e) rest) c.has_fd-fd.ensures refl refl)
+    (wrong_here text line rest old c.of-needs.result e e c.args.legal old.config.limit read c.requires.legal going config is other found.good (found.begins ∙ spell-rest (entry_words e) rest) c.of-needs.ensures refl refl)

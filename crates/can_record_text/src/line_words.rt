@@ -1,22 +1,21 @@
-ghost use Rattle.std.specs.Prelude.{◌≡◌, ◌≤◌, ◌+◌, ◌%◌, ◌^◌, ◌++◌, ◌∷◌, [], false, length, decimal, nat_le};
+ghost use Rattle.std.specs.Prelude.{◌≡◌, ◌≤◌, ◌+◌, ◌%◌, ◌^◌, ◌++◌, ◌∷◌, [], IsTrue, false, length, decimal, nat_le};
 ghost use Rattle.can_frame.specs.Frames.{is_remote, is_fd, payload_len};
 ghost use Rattle.can_frame.specs.FrameText.{frame_spelling, id_text, pairs};
 ghost use Rattle.can_frame.specs.declared.item.Item.TheVariants as item;
 ghost use Rattle.can_attempt.specs.Words.{class_word};
 ghost use Rattle.can_record.specs.FrameWords.{frame_in, identifier_in};
-ghost use Rattle.can_record_text.specs.Spelling.{local_front, moment_word, set_word, verdict_word};
+ghost use Rattle.can_record_text.specs.Spelling.{ack_word, flag_word, local_front, mask_word, moment_word, set_word, verdict_word};
 
-use can_attempt::Class;
+use can_attempt::{AckMode, Class};
 use can_fault::{GlobalKind, LocalKind, Verdict};
-use can_frame::{CanId, ErrorFrame, Frame, IfaceSet, Moment, Text};
+use can_frame::{ErrorFrame, Frame, IfaceSet, Item, Moment, Text, frame_text};
 
-/// Room for the line of a usual entry: no filters, and no frame but a data frame of at most 8 bytes. The longest has at
-/// most 139 bytes.
-pub(crate) type ShortLine = Text<192>;
+/// Room for a line without filters: the words of an event have at most 166 bytes, and those of a reply 225.
+pub(crate) type LineText = Text<392>;
 
 /// A decimal number, and the byte that ends it.
-pub(crate) fn push_number(line: &mut ShortLine, n: u64, gap: u8)
-    requires { length line.old + 21 ≤ 192 }
+pub(crate) fn push_number(line: &mut LineText, n: u64, gap: u8)
+    requires { length line.old + 21 ≤ 392 }
     ensures text { line.new ≡ line.old ++ (decimal n ++ gap ∷ []) }
     ensures len { length line.new ≤ length line.old + 21 }
 {
@@ -26,8 +25,8 @@ pub(crate) fn push_number(line: &mut ShortLine, n: u64, gap: u8)
 
 /// A decimal number. Most have one digit.
 #[tactic(auto, using(std::proofs::lemmas::Fmt::decimal_digit))]
-fn push_decimal(line: &mut ShortLine, n: u64)
-    requires { length line.old + 20 ≤ 192 }
+fn push_decimal(line: &mut LineText, n: u64)
+    requires { length line.old + 20 ≤ 392 }
     ensures text { line.new ≡ line.old ++ decimal n }
     ensures len { length line.new ≤ length line.old + 20 }
 {
@@ -40,8 +39,8 @@ fn push_decimal(line: &mut ShortLine, n: u64)
 
 /// A set of interfaces, and the byte that ends it.
 #[tactic(auto, unfolding(crate::specs::Spelling::set_word))]
-pub(crate) fn push_set(line: &mut ShortLine, set: IfaceSet, gap: u8)
-    requires { length line.old + 5 ≤ 192 }
+pub(crate) fn push_set(line: &mut LineText, set: IfaceSet, gap: u8)
+    requires { length line.old + 5 ≤ 392 }
     ensures text { line.new ≡ line.old ++ (set_word set ++ gap ∷ []) }
     ensures len { length line.new ≡ length line.old + 5 }
 {
@@ -49,10 +48,21 @@ pub(crate) fn push_set(line: &mut ShortLine, set: IfaceSet, gap: u8)
     line.push(gap);
 }
 
+/// A word of 32 bits in hexadecimal, and a space.
+#[tactic(auto, unfolding(crate::specs::Spelling::mask_word))]
+pub(crate) fn push_mask(line: &mut LineText, mask: u32)
+    requires { length line.old + 9 ≤ 392 }
+    ensures text { line.new ≡ line.old ++ (mask_word mask ++ 32 ∷ []) }
+    ensures len { length line.new ≡ length line.old + 9 }
+{
+    line.push_hex(8, u64::from(mask));
+    line.push(b' ');
+}
+
 /// Seconds, a point and six digits of microseconds, and the byte that ends it.
 #[tactic(auto, unfolding(crate::specs::Spelling::moment_word))]
-pub(crate) fn push_moment(line: &mut ShortLine, moment: Moment, gap: u8)
-    requires { length line.old + 18 ≤ 192 }
+pub(crate) fn push_moment(line: &mut LineText, moment: Moment, gap: u8)
+    requires { length line.old + 18 ≤ 392 }
     ensures text { line.new ≡ line.old ++ (moment_word moment ++ gap ∷ []) }
     ensures len { length line.new ≤ length line.old + 18 }
 {
@@ -60,24 +70,44 @@ pub(crate) fn push_moment(line: &mut ShortLine, moment: Moment, gap: u8)
     line.push(gap);
 }
 
-/// A data frame of at most 8 bytes, and a space.
+/// A frame, and a space.
 #[tactic(auto, unfolding(can_frame::specs::FrameText::frame_spelling), using(crate::proofs::Short::data_text, crate::proofs::Short::data_short))]
-pub(crate) fn push_frame(line: &mut ShortLine, frame: &Frame)
-    requires room { length line.old + 26 ≤ 192 }
-    requires remote { is_remote frame.now.payload ≡ false }
-    requires fd { is_fd frame.now.payload ≡ false }
-    requires short { payload_len frame.now.payload ≤ 8 }
+pub(crate) fn push_frame(line: &mut LineText, frame: &Frame)
+    requires { length line.old + 140 ≤ 392 }
     ensures text { line.new ≡ line.old ++ (frame_spelling (item.Data frame.now) ++ 32 ∷ []) }
-    ensures len { length line.new ≤ length line.old + 26 }
+    ensures len { length line.new ≤ length line.old + 140 }
 {
+    if !is_short(frame) {
+        return push_frame_text(line, frame);
+    }
     line.push_id(frame.id());
     push_bytes(line, frame.bytes());
 }
 
+/// Whether it is a data frame of at most 8 bytes that is no FD frame.
+fn is_short(frame: &Frame) -> bool
+    ensures remote { IsTrue result → is_remote frame.now.payload ≡ false }
+    ensures fd { IsTrue result → is_fd frame.now.payload ≡ false }
+    ensures short { IsTrue result → payload_len frame.now.payload ≤ 8 }
+{
+    frame.len() <= 8 && !frame.is_remote() && !frame.is_fd()
+}
+
+/// The same of a frame of any kind.
+#[inline(never)]
+fn push_frame_text(line: &mut LineText, frame: &Frame)
+    requires { length line.old + 140 ≤ 392 }
+    ensures text { line.new ≡ line.old ++ (frame_spelling (item.Data frame.now) ++ 32 ∷ []) }
+    ensures len { length line.new ≤ length line.old + 140 }
+{
+    line.push_all(frame_text(&Item::Data(*frame)).as_bytes());
+    line.push(b' ');
+}
+
 /// A packed data frame of at most 8 bytes, and a space.
 #[tactic(auto, unfolding(can_frame::specs::FrameText::frame_spelling))]
-pub(crate) fn push_packed(line: &mut ShortLine, word: u32, len: u8, bytes: &[u8; 8])
-    requires room { length line.old + 26 ≤ 192 }
+pub(crate) fn push_packed(line: &mut LineText, word: u32, len: u8, bytes: &[u8; 8])
+    requires room { length line.old + 26 ≤ 392 }
     requires data { nat_le (2 ^ 30) (word % 2 ^ 31) ≡ false }
     ensures text { line.new ≡ line.old ++
         (frame_spelling (item.Data (frame_in word len bytes.now)) ++ 32 ∷ []) }
@@ -89,8 +119,8 @@ pub(crate) fn push_packed(line: &mut ShortLine, word: u32, len: u8, bytes: &[u8;
 }
 
 /// The identifier of a word.
-fn push_id(line: &mut ShortLine, word: u32)
-    requires { length line.old + 8 ≤ 192 }
+fn push_id(line: &mut LineText, word: u32)
+    requires { length line.old + 8 ≤ 392 }
     ensures text { line.new ≡ line.old ++ id_text (identifier_in word) }
     ensures len { length line.new ≤ length line.old + 8 }
 {
@@ -103,8 +133,8 @@ fn push_id(line: &mut ShortLine, word: u32)
 
 /// An error message frame, and a space.
 #[tactic(auto, unfolding(can_frame::specs::FrameText::frame_spelling))]
-pub(crate) fn push_error(line: &mut ShortLine, error: ErrorFrame)
-    requires { length line.old + 26 ≤ 192 }
+pub(crate) fn push_error(line: &mut LineText, error: ErrorFrame)
+    requires { length line.old + 26 ≤ 392 }
     ensures text { line.new ≡ line.old ++ (frame_spelling (item.Error error) ++ 32 ∷ []) }
     ensures len { length line.new ≤ length line.old + 26 }
 {
@@ -113,8 +143,8 @@ pub(crate) fn push_error(line: &mut ShortLine, error: ErrorFrame)
 }
 
 /// A `#`, bytes as hexadecimal digits, and a space.
-fn push_bytes(line: &mut ShortLine, bytes: &[u8])
-    requires room { length line.old + 18 ≤ 192 }
+fn push_bytes(line: &mut LineText, bytes: &[u8])
+    requires room { length line.old + 18 ≤ 392 }
     requires short { length bytes.now ≤ 8 }
     ensures text { line.new ≡ line.old ++ 35 ∷ (pairs bytes.now ++ 32 ∷ []) }
     ensures len { length line.new ≤ length line.old + 18 }
@@ -125,22 +155,40 @@ fn push_bytes(line: &mut ShortLine, bytes: &[u8])
 }
 
 /// The word for how an attempt ended, and a space.
-pub(crate) fn push_class(line: &mut ShortLine, class: Class)
-    requires { length line.old + 10 ≤ 192 }
+#[tactic(auto, using(crate::proofs::Short::class_short))]
+pub(crate) fn push_class(line: &mut LineText, class: Class)
+    requires { length line.old + 10 ≤ 392 }
     ensures text { line.new ≡ line.old ++ (class_word class ++ 32 ∷ []) }
     ensures len { length line.new ≤ length line.old + 10 }
 {
-    match class {
-        Class::Done => line.push_all(b"done "),
-        Class::LastBit => line.push_all(b"lastbit "),
-        Class::Destroyed => line.push_all(b"destroyed "),
-        Class::NoAck => line.push_all(b"noack "),
+    line.push_all(class.word());
+    line.push(b' ');
+}
+
+/// A switch, and a space.
+pub(crate) fn push_flag(line: &mut LineText, on: bool)
+    requires { length line.old + 2 ≤ 392 }
+    ensures text { line.new ≡ line.old ++ (flag_word on ++ 32 ∷ []) }
+    ensures len { length line.new ≡ length line.old + 2 }
+{
+    line.push_all(if on { b"1 " } else { b"0 " });
+}
+
+/// Who acknowledges, and a space.
+pub(crate) fn push_ack(line: &mut LineText, ack: AckMode)
+    requires { length line.old + 7 ≤ 392 }
+    ensures text { line.new ≡ line.old ++ (ack_word ack ++ 32 ∷ []) }
+    ensures len { length line.new ≤ length line.old + 7 }
+{
+    match ack {
+        AckMode::Always => line.push_all(b"always "),
+        AckMode::Peers => line.push_all(b"peers "),
     }
 }
 
 /// A verdict, and a space.
-pub(crate) fn push_verdict(line: &mut ShortLine, verdict: Verdict)
-    requires { length line.old + 17 ≤ 192 }
+pub(crate) fn push_verdict(line: &mut LineText, verdict: Verdict)
+    requires { length line.old + 17 ≤ 392 }
     ensures text { line.new ≡ line.old ++ (verdict_word verdict ++ 32 ∷ []) }
     ensures len { length line.new ≤ length line.old + 17 }
 {
@@ -157,8 +205,8 @@ pub(crate) fn push_verdict(line: &mut ShortLine, verdict: Verdict)
 }
 
 /// A local fault and a colon.
-fn push_local(line: &mut ShortLine, kind: LocalKind)
-    requires { length line.old + 12 ≤ 192 }
+fn push_local(line: &mut LineText, kind: LocalKind)
+    requires { length line.old + 12 ≤ 392 }
     ensures text { line.new ≡ line.old ++ local_front kind }
     ensures len { length line.new ≤ length line.old + 12 }
 {

@@ -3,7 +3,7 @@ use Rattle.std.proofs.lemmas.List.{length-map}
 use Rattle.std.specs.Char.{to_ascii_uppercase}
 use Rattle.can_frame.specs.FrameText.{upper}
 use Rattle.can_frame.proofs.Guessing.{short}
-use Rattle.can_frame.proofs.frame_texts.read_frame_text.Goals as goal
+use Rattle.can_frame.proofs.frame_texts.read_flagged_frame_text.Goals as goal
 
 pub returns-then-text-gt144-clause-only : goal.returns-then-text-gt144-clause-only
 returns-then-text-gt144-clause-only c i good spells =

@@ -1,0 +1,156 @@
+ghost use Rattle.std.specs.Prelude.{◌≡◌, ◌≤◌, length, reverse};
+ghost use Rattle.can_event.specs.Replies.{entry_of};
+ghost use Rattle.can_record.specs.PackedEntry.{entry_in, frames_needed, IsSmall};
+ghost use Rattle.can_record.specs.StoredEntry.{entry_stored, IsStored};
+ghost use Rattle.can_record_text.specs.Spelling.{all_needs, both_needs, event_needs, frame_needs, item_needs, needs_of, no_needs, option_needs, reply_needs};
+
+use can_event::{Entry, Event, Opt, Reply};
+use can_frame::{Frame, Item};
+use can_record::{PackedEntry, Record, StoredEntry};
+
+/// What lines of a record need of the later versions of its text.
+#[derive(Debug, Clone, Copy, PartialEq, Eq)]
+pub struct Needs {
+    /// FD frames, or the option for such.
+    pub fd: bool,
+    /// Flags of FD frames.
+    pub flags: bool,
+}
+
+impl Needs {
+    /// Nothing.
+    pub fn nothing() -> Needs
+        ensures { result ≡ no_needs }
+    {
+        Needs {
+            fd: false,
+            flags: false,
+        }
+    }
+
+    /// What these lines and others need.
+    pub fn and(self, others: Needs) -> Needs
+        ensures { result ≡ both_needs self others }
+    {
+        Needs {
+            fd: self.fd || others.fd,
+            flags: self.flags || others.flags,
+        }
+    }
+
+    /// What the line of an event with this reply needs.
+    pub fn of(event: &Event, reply: &Reply) -> Needs
+        ensures { result ≡ needs_of (entry_of event.now reply.now) }
+    {
+        Needs::of_event(event).and(Needs::of_reply(reply))
+    }
+
+    /// What the words of an event need.
+    fn of_event(event: &Event) -> Needs
+        ensures { result ≡ event_needs event.now }
+    {
+        match event {
+            Event::SetOption(_, Opt::FdFrames(_)) => Needs::of_option(),
+            Event::Send(_, frame) => Needs::of_frame(frame),
+            _ => Needs::nothing(),
+        }
+    }
+
+    /// What those of a reply need.
+    fn of_reply(reply: &Reply) -> Needs
+        ensures { result ≡ reply_needs reply.now }
+    {
+        match reply {
+            Reply::Received(Some(received)) => Needs::of_item(&received.item),
+            Reply::Tried(tried) => Needs::of_frame(&tried.frame),
+            _ => Needs::nothing(),
+        }
+    }
+
+    /// What an item needs.
+    fn of_item(item: &Item) -> Needs
+        ensures { result ≡ item_needs item.now }
+    {
+        match item {
+            Item::Data(frame) => Needs::of_frame(frame),
+            Item::Error(_) => Needs::nothing(),
+        }
+    }
+
+    /// What a frame needs.
+    fn of_frame(frame: &Frame) -> Needs
+        ensures { result ≡ frame_needs frame.now }
+    {
+        Needs {
+            fd: frame.is_fd(),
+            flags: frame.is_flagged(),
+        }
+    }
+
+    /// What the option for FD frames needs.
+    fn of_option() -> Needs
+        ensures { result ≡ option_needs }
+    {
+        Needs {
+            fd: true,
+            flags: false,
+        }
+    }
+
+    /// What the lines of a record need.
+    pub(crate) fn of_record(record: &Record) -> Needs
+        ensures { result ≡ all_needs (reverse «record».now.history) }
+    {
+        let mut needs = Needs::nothing();
+        for place in 0..record.len() {
+            let stored = record.stored(place).unwrap();
+            needs = needs.and(Needs::of_stored(&stored));
+        }
+        needs
+    }
+
+    /// What the line of an entry needs, as it is stored.
+    fn of_stored(stored: &StoredEntry<'_>) -> Needs
+        requires { IsStored stored.now }
+        ensures { result ≡ needs_of (entry_stored stored.now) }
+    {
+        match stored {
+            StoredEntry::Packed(frames, kept) => Needs::of_kept(frames, kept),
+            StoredEntry::Whole(entry) => Needs::of(&entry.event, &entry.reply),
+        }
+    }
+
+    /// The same of a packed entry.
+    fn of_kept(frames: &[Frame], kept: &PackedEntry) -> Needs
+        requires small { IsSmall kept.now }
+        requires within { frames_needed kept.now ≤ length frames.now }
+        ensures { result ≡ needs_of (entry_in frames.now kept.now) }
+    {
+        match kept {
+            PackedEntry::FdSent { place, .. } => Needs::of_frame(&frames[*place]),
+            PackedEntry::FdSendRefused { place, .. } => Needs::of_frame(&frames[*place]),
+            PackedEntry::FdReceived { place, .. } => Needs::of_frame(&frames[*place]),
+            PackedEntry::FdTried { place, .. } => Needs::of_frame(&frames[*place]),
+            PackedEntry::OptionSet {
+                option: Opt::FdFrames(_),
+                ..
+            } => Needs::of_option(),
+            PackedEntry::OptionRefused {
+                option: Opt::FdFrames(_),
+                ..
+            } => Needs::of_option(),
+            _ => Needs::nothing(),
+        }
+    }
+
+    /// What the lines of entries need.
+    pub(crate) fn of_entries(entries: &[Entry]) -> Needs
+        ensures { result ≡ all_needs entries.now }
+    {
+        let mut needs = Needs::nothing();
+        for entry in entries {
+            needs = needs.and(Needs::of(&entry.event, &entry.reply));
+        }
+        needs
+    }
+}
