@@ -18,6 +18,7 @@ use Rattle.can_event.specs.declared.stats.SocketStats.{SocketStats}
 use Rattle.can_event.specs.declared.stats.IfaceStats.{IfaceStats}
 use Rattle.can_rules.specs.declared.rules.RuleRefusal.{RuleRefusal}
 use Rattle.can_rules.specs.declared.rules.RuleRefusal.TheVariants as rule
+use Rattle.can_proto.specs.declared.answer.BusLoad.{BusLoad}
 use Rattle.can_proto.specs.declared.answer.Cause.{Cause}
 use Rattle.can_proto.specs.declared.answer.Cause.TheVariants as cause
 use Rattle.can_proto.specs.Causes.{cause_of_refusal}
@@ -42,6 +43,7 @@ pub data Call : Type 0 where
   CountsOfSocket : SocketId → Call
   CountsOfIface : ℕ → Call
   CountersOfIface : ℕ → Call
+  LoadAt : ℕ → Call
   Inject : List ℕ → Call
   CountsRules : Call
   EndsRules : Call
@@ -61,6 +63,7 @@ Reply (Attempt moment verdict) = Result AnAttempt PortRefusal
 Reply (CountsOfSocket socket) = Option SocketStats
 Reply (CountsOfIface iface) = Option IfaceStats
 Reply (CountersOfIface iface) = ErrorCounts
+Reply (LoadAt moment) = BusLoad
 Reply (Inject rule) = Result (Unit {0}) PortRefusal
 Reply CountsRules = ℕ
 Reply EndsRules = Unit {0}

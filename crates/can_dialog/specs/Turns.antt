@@ -17,6 +17,7 @@ use Rattle.can_proto.specs.declared.fault.ProtoFault.{ProtoFault}
 use Rattle.can_proto.specs.declared.fault.ProtoFault.TheVariants as fault
 use Rattle.can_proto.specs.declared.answer.Answer.{Answer}
 use Rattle.can_proto.specs.declared.answer.Answer.TheVariants as answer
+use Rattle.can_proto.specs.declared.answer.BusLoad.{BusLoad}
 use Rattle.can_proto.specs.declared.answer.Origin.{Origin}
 use Rattle.can_proto.specs.declared.answer.Origin.TheVariants as origin
 use Rattle.can_proto.specs.declared.answer.Cause.TheVariants as cause
@@ -31,7 +32,7 @@ use Rattle.can_dialog.specs.declared.stage.Stage.TheVariants.{NoBus, Opened, Raw
 use Rattle.can_dialog.specs.declared.stage.RawSocket.{RawSocket}
 use Rattle.can_dialog.specs.declared.stage.Dialog.{Dialog}
 use Rattle.can_dialog.specs.Calls.{cause_of_port}
-use Rattle.can_dialog.specs.Calls.Call.{Names, Attach, Open, Close, SetFilters, SetOption, Send, Receive, Restart, CountsOfSocket, CountsOfIface, CountersOfIface, Inject, CountsRules, EndsRules}
+use Rattle.can_dialog.specs.Calls.Call.{Names, Attach, Open, Close, SetFilters, SetOption, Send, Receive, Restart, CountsOfSocket, CountsOfIface, CountersOfIface, LoadAt, Inject, CountsRules, EndsRules}
 use Rattle.can_dialog.specs.Plans.{Plan}
 use Rattle.can_dialog.specs.Plans.Plan.{Tell, Ask}
 
@@ -117,6 +118,10 @@ looking_up d raw = Ask (CountsOfSocket raw.socket) (looked_up d raw.iface)
 abbrev pub metered : Dialog → ErrorCounts → Plan Dialog
 metered d counters = tells (answer.Status counters) d
 
+-- after the port was asked how busy the bus was
+abbrev pub loaded : Dialog → BusLoad → Plan Dialog
+loaded d load = tells (answer.Load load) d
+
 -- after the client had the socket closed: then the session is over
 abbrev pub closed : Dialog → Result Closed PortRefusal → Plan Dialog
 closed d (Ok c) = tells (answer.Closing c) (at_stage Ended d)
@@ -175,6 +180,7 @@ doing_raw moment d raw (command.Ack on) = tells answer.Done (at_stage (Raw (reco
 doing_raw moment d raw (command.Origin on) = tells answer.Done (at_stage (Raw (record raw { origins = on })) d)
 doing_raw moment d raw command.Stats = looking_up d raw
 doing_raw moment d raw command.Status = Ask (CountersOfIface raw.iface) (metered d)
+doing_raw moment d raw command.Load = Ask (LoadAt moment) (loaded d)
 doing_raw moment d raw command.Restart = Ask (Restart raw.iface moment) (done d)
 doing_raw moment d raw (command.Fault rule) = injecting d rule
 doing_raw moment d raw command.Faults = counting_rules d

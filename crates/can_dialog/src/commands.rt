@@ -153,6 +153,7 @@ fn do_raw<P: Port>(
         }
         Command::Stats => look_up(*dialog, raw, port),
         Command::Status => Some(Answer::Status(port.status(raw.iface))),
+        Command::Load => Some(Answer::Load(port.load(moment))),
         Command::Restart => told(port.restart(raw.iface, moment)),
         Command::Fault(rule) => told(port.inject(rule.bytes())),
         Command::Faults => Some(Answer::Faults(port.rules())),

@@ -5,7 +5,7 @@ use can_confine::Counters;
 use can_event::{Closed, Event, IfaceStats, Opt, Received, Refusal, Reply, SocketId, SocketStats};
 use can_filter::FilterSet;
 use can_frame::{Frame, Iface, Moment};
-use can_proto::Cause;
+use can_proto::{BusLoad, Cause};
 use can_rules::RuleRefusal;
 use std::alloc::AllocError;
 use thiserror::Error;
@@ -75,14 +75,14 @@ pub fn rule_reply(outcome: Result<(), RuleRefusal>) -> Result<(), PortRefusal>
 ///
 /// A port states by `step` how its state before a call, the call, its reply and the state after it belong
 /// together; each call is one such step. A port may take memory. An implementation writes `call`, `put_names`, `attach`,
-/// the two counts, the status and the three calls of the rules of faults; the calls that are named for an event make it by
-/// `call`.
+/// the two counts, the status, the load and the three calls of the rules of faults; the calls that are named for an
+/// event make it by `call`.
 pub trait Port {
     ghost use Rattle.can_event.specs.Replies.{received_into};
     ghost use Rattle.can_dialog.specs.Calls.{Call, Reply, Steps};
     ghost use Rattle.std.specs.Prelude.{◌≡◌, ◌++◌, ℕ, List, OnOk};
     ghost use Rattle.can_proto.specs.Spelling.{spaced};
-    ghost use Rattle.can_dialog.specs.Calls.Call.{Names, Attach, Open, Close, SetFilters, SetOption, Send, Receive, Restart, CountsOfSocket, CountsOfIface, CountersOfIface, Inject, CountsRules, EndsRules};
+    ghost use Rattle.can_dialog.specs.Calls.Call.{Names, Attach, Open, Close, SetFilters, SetOption, Send, Receive, Restart, CountsOfSocket, CountsOfIface, CountersOfIface, LoadAt, Inject, CountsRules, EndsRules};
 
     /// The state before, a call, its reply and the state after.
     ghost step: { Self → (call : Call) → Reply call → Self → Type 0 };
@@ -203,6 +203,10 @@ pub trait Port {
     /// The error counters of an interface, as far as the port knows them: 0/0 where it knows of none.
     fn status(&mut self, iface: Iface) -> Counters
         ensures { step self.old (CountersOfIface iface) result self.new };
+
+    /// How busy the bus was at a moment, as far as the port knows. What it returns is for the port to say.
+    fn load(&mut self, moment: Moment) -> BusLoad
+        ensures { step self.old (LoadAt moment) result self.new };
 
     /// Gives the bus a rule of faults, after those that it has.
     ///

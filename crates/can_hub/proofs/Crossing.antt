@@ -32,12 +32,14 @@ use Rattle.can_roll.specs.declared.roll_name.RollName as roll
 use Rattle.can_station.proofs.station.Station.TheSendSync as station
 use Rattle.can_station.proofs.pass.Pass.TheSendSync as pass
 use Rattle.can_dialog.proofs.session.Session.TheSendSync as session
+use Rattle.can_wire.proofs.timing.Timing.TheSendSync as timing
 use Rattle.can_hub.specs.contracts.hub_bus.AnyBus as any
 use Rattle.can_hub.specs.contracts.hub_bus.HubBus as hub
 use Rattle.can_hub.specs.contracts.hub_bus.HubBus.TheInside as hub_inside
 use Rattle.can_hub.specs.contracts.hub_bus.HubBusJournaled.TheImpl as journaled
 use Rattle.can_hub.specs.contracts.hub_bus.HubEnd as hub_end
 use Rattle.can_hub.proofs.returned.ReturnedPasses.TheSendSync as returned
+use Rattle.can_hub.proofs.shown_load.ShownLoad.TheSendSync as shown
 use Rattle.can_hub.proofs.tally.Tally.TheSendSync as tally
 use Rattle.can_hub.specs.contracts.buses.Network as network
 use Rattle.can_hub.specs.contracts.buses.Network.TheInside as network_inside
@@ -79,7 +81,7 @@ module _ (N F G : RattleType) (g : roll.Ghosts N.Denot) (g' : meter.Ghosts N.Den
   -- a bus with its names
   pub network_sync : IsSync (network.the_row N F G g g' g'')
   network_sync =
-      let inside : IsSync (network_inside.the_row N F G g g' g'') = declared_sync (network_inside.the_type N F G g g' g'') (names.the_sync, (station.the_sync N F G hub.the_row hub_end.the_row g g' g'' journaled.ghosts f bus_send s, (search (sendable, as_row_sync) depth 20, (search (sendable, as_row_sync) depth 20, tt)))) in
+      let inside : IsSync (network_inside.the_row N F G g g' g'') = declared_sync (network_inside.the_type N F G g g' g'') (names.the_sync, (station.the_sync N F G hub.the_row hub_end.the_row g g' g'' journaled.ghosts f bus_send s, (search (sendable, as_row_sync, timing.the_sync) depth 20, (search (sendable, as_row_sync) depth 20, (search (sendable, as_row_sync) depth 20, (shown.the_sync, tt)))))) in
       view_sync _ _ _ _ _ inside
 
   -- the buses of a hub

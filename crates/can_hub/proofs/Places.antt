@@ -30,6 +30,10 @@ index_default (x ∷ xs) (suc k) d e lt = index_default xs k d e (omega (arith, 
 pub named_at : (buses : List BusSeen) (k : ℕ) (d e : BusSeen) (name : List ℕ) → k < length buses → place_of (slice_index_or buses k d).names name ≡ place_of (slice_index_or buses k e).names name
 named_at buses k d e name lt = ap (λ (b : BusSeen). place_of b.names name) (index_default buses k d e lt)
 
+-- the bit rates of a bus, whatever replaces a missing bus
+pub timing_at : (buses : List BusSeen) (k : ℕ) (d e : BusSeen) → k < length buses → (slice_index_or buses k d).timing ≡ (slice_index_or buses k e).timing
+timing_at buses k d e lt = ap (λ (b : BusSeen). b.timing) (index_default buses k d e lt)
+
 -- how long a bus's driver sleeps, whatever replaces a missing bus
 pub pace_at : (buses : List BusSeen) (k : ℕ) (d e : BusSeen) → k < length buses → (slice_index_or buses k d).pace_ms ≡ (slice_index_or buses k e).pace_ms
 pace_at buses k d e lt = ap (λ (b : BusSeen). b.pace_ms) (index_default buses k d e lt)

@@ -51,7 +51,7 @@ module _ {F G : Type 0} where
 
   -- the bus that is made under a number
   abbrev pub bus_of : ℕ → Bench F G → BusSeen
-  bus_of n b = record { number = n; config = b.config; names = b.names; pace_ms = b.pace_ms; rx_capacity = b.rx_capacity }
+  bus_of n b = record { number = n; config = b.config; names = b.names; timing = b.timing; pace_ms = b.pace_ms; rx_capacity = b.rx_capacity }
 
   -- the buses that are made, the first of them under the number n
   abbrev pub buses_from : ℕ → List (Bench F G) → List BusSeen

@@ -2,15 +2,17 @@ use Rattle.std.specs.Prelude.{◌≡◌, ◌<◌, ℕ, suc, List, [], ◌∷◌,
 use Rattle.can_event.specs.declared.bus_config.BusConfig.{BusConfig}
 use Rattle.can_frame.specs.Names.{place_of}
 use Rattle.can_station.specs.Held.{StationSeen}
+use Rattle.can_wire.specs.Timings.{BusTiming}
 
 -- The buses of a hub, and their names.
 
--- a bus: its number, its configuration, the names of its interfaces, how many milliseconds its driver sleeps after each
--- step, and how many items a socket of its holds
+-- a bus: its number, its configuration, the names of its interfaces, its bit rates, if it has any, how many milliseconds
+-- its driver sleeps after each step where it has none, and how many items a socket of its holds
 pub record BusSeen : Type 0 where
   pub number : ℕ
   pub config : BusConfig
   pub names : List (List ℕ)
+  pub timing : Option BusTiming
   pub pace_ms : ℕ
   pub rx_capacity : ℕ
 

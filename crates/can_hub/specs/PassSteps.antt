@@ -16,7 +16,7 @@ use Rattle.can_dialog.specs.declared.port.PortRefusal.{PortRefusal}
 use Rattle.can_dialog.specs.declared.port.PortRefusal.TheVariants as port
 use Rattle.can_dialog.specs.Calls.{Call, reply_to_rule}
 use Rattle.can_dialog.specs.Calls.{Reply as CallReply}
-use Rattle.can_dialog.specs.Calls.Call.{Names, Attach, Open, Close, SetFilters, SetOption, Send, Receive, Restart, Attempt, CountsOfSocket, CountsOfIface, CountersOfIface, Inject, CountsRules, EndsRules}
+use Rattle.can_dialog.specs.Calls.Call.{Names, Attach, Open, Close, SetFilters, SetOption, Send, Receive, Restart, Attempt, CountsOfSocket, CountsOfIface, CountersOfIface, LoadAt, Inject, CountsRules, EndsRules}
 use Rattle.can_rules.specs.declared.rules.RuleRefusal.{RuleRefusal}
 use Rattle.can_station.specs.Held.{StationSeen}
 use Rattle.can_station.specs.Passes.{PassSeen, Called, HadNoPassLeft, InSome, InjectsIn}
@@ -154,6 +154,7 @@ PassStep F old (Attempt moment verdict) answer new = OnPort told_attempt old (ev
 PassStep F old (CountsOfSocket socket) answer new = CountsSocket F old.entered socket.0 answer × (new ≡ old)
 PassStep F old (CountsOfIface iface) answer new = CountsIface F old.entered iface answer × (new ≡ old)
 PassStep F old (CountersOfIface iface) answer new = TellsCounters old.entered iface answer new.entered × (new.buses ≡ old.buses)
+PassStep F old (LoadAt moment) answer new = new ≡ old
 PassStep F old (Inject rule) answer new = Injects F old.buses old.entered rule answer × (new ≡ old)
 PassStep F old CountsRules answer new = RulesLeft F old.entered answer × (new ≡ old)
 PassStep F old EndsRules answer new = new ≡ old

@@ -9,6 +9,7 @@ use can_fault::FaultSource;
 use can_frame::{Iface, Names};
 use can_rules::Plan;
 use can_station::{Blanks, Gate};
+use can_wire::Timing;
 
 /// What a bus of a hub is made of.
 #[derive(Drop)]
@@ -24,7 +25,9 @@ pub struct Bench<F: FaultSource + Drop, G: Gate + Drop> {
     pub plan: Plan,
     /// Where a test may hold a thread.
     pub gate: G,
-    /// How many milliseconds its driver sleeps after each step.
+    /// The bit rates of the bus, if it has any: then its driver makes each attempt when the network is free.
+    pub timing: Option<Timing>,
+    /// How many milliseconds its driver sleeps after each step, where the bus has no bit rates.
     pub pace_ms: u32,
     /// How many items a socket holds, 1 to 65,536.
     pub rx_capacity: u32,

@@ -9,13 +9,16 @@ ghost use Rattle.can_roll.specs.Seen.{scroll_seen};
 
 use crate::bench::Bench;
 use crate::hub_bus::{HubBus, Leaves};
+use crate::shown_load::ShownLoad;
 use can_bus::BusFault;
 use can_dialog::put_names;
 use can_fault::FaultSource;
-use can_frame::{Iface, Names};
+use can_frame::{Iface, Moment, Names};
 use can_meter::{Gauge, MeterName};
+use can_proto::BusLoad;
 use can_roll::RollName;
 use can_station::{Gate, Scroll, Station};
+use can_wire::{Load, Timing};
 use std::alloc::{AllocError, Global};
 use std::marker::Model;
 use std::sync::Wait;
@@ -25,8 +28,10 @@ use std::sync::Wait;
 pub struct Network<N: RollName + MeterName, F: FaultSource + Drop, G: Gate + Drop> {
     names: Names,
     pub(crate) station: Station<N, F, G, HubBus>,
+    timing: Option<Timing>,
     pace_ms: u32,
     rx_capacity: u32,
+    load: ShownLoad,
 }
 
 impl<N: RollName + MeterName, F: FaultSource + Drop, G: Gate + Drop> Model for Network<N, F, G> {
@@ -38,6 +43,7 @@ impl<N: RollName + MeterName, F: FaultSource + Drop, G: Gate + Drop> Model for N
       number = w.station.number;
       config = w.station.config;
       names = w.names;
+      timing = w.timing;
       pace_ms = w.pace_ms;
       rx_capacity = w.rx_capacity;
     } };
@@ -66,6 +72,7 @@ impl<N: RollName + MeterName, F: FaultSource + Drop, G: Gate + Drop> Network<N, 
             source,
             plan,
             gate,
+            timing,
             pace_ms,
             rx_capacity,
         } = bench;
@@ -76,8 +83,10 @@ impl<N: RollName + MeterName, F: FaultSource + Drop, G: Gate + Drop> Network<N, 
         let network = Network {
             names,
             station,
+            timing,
             pace_ms,
             rx_capacity,
+            load: ShownLoad::none(),
         };
         Ok((network, scroll))
     }
@@ -150,7 +159,16 @@ impl<N: RollName + MeterName, F: FaultSource + Drop, G: Gate + Drop> Buses<N, F,
         &self.networks[bus].station
     }
 
-    /// How many milliseconds the driver of a bus sleeps after each step.
+    /// The bit rates of a bus, if it has any.
+    #[tactic(auto, using(crate::proofs::Places::timing_at))]
+    pub fn timing(&self, bus: usize) -> Option<Timing>
+        requires { bus < length self.now }
+        ensures { (d : BusSeen) → result ≡ (slice_index_or self.now bus d).timing }
+    {
+        self.networks[bus].timing
+    }
+
+    /// How many milliseconds the driver of a bus sleeps after each step, where the bus has no bit rates.
     #[tactic(auto, using(crate::proofs::Places::pace_at))]
     pub fn pace_ms(&self, bus: usize) -> u32
         requires { bus < length self.now }
@@ -168,6 +186,22 @@ impl<N: RollName + MeterName, F: FaultSource + Drop, G: Gate + Drop> Buses<N, F,
             self.networks[bus].rx_capacity
         } else {
             0
+        }
+    }
+
+    /// Shows how busy a bus is, if there is one with this number.
+    pub fn show_load(&self, bus: usize, load: Load) {
+        if let Some(network) = self.networks.get(bus) {
+            network.load.show(load);
+        }
+    }
+
+    /// How busy a bus was at a moment, as it was shown last: 0 and 0 where nothing was, or there is no such bus. It takes
+    /// no lock.
+    pub fn load_at(&self, bus: usize, moment: Moment) -> BusLoad {
+        match self.networks.get(bus) {
+            Some(network) => network.load.at(moment),
+            None => BusLoad::none(),
         }
     }
 

@@ -8,8 +8,9 @@ use can_bus::{Event, IfaceStats, Received, Refusal, Reply, SocketId, SocketStats
 use can_confine::Counters;
 use can_dialog::{Port, PortRefusal};
 use can_fault::FaultSource;
-use can_frame::Iface;
+use can_frame::{Iface, Moment};
 use can_meter::MeterName;
+use can_proto::BusLoad;
 use can_roll::RollName;
 use can_station::{Gate, Hold, Station};
 use std::alloc::AllocError;
@@ -137,6 +138,11 @@ impl<'p, 'a, N: RollName + MeterName, F: FaultSource + Drop, G: Gate + Drop, R: 
     fn status(&mut self, iface: Iface) -> Counters {
         self.hold = None;
         self.port.status(iface)
+    }
+
+    // No lock is needed for it.
+    fn load(&mut self, moment: Moment) -> BusLoad {
+        self.port.load(moment)
     }
 
     fn inject(&mut self, rule: &[u8]) -> Result<(), PortRefusal> {

@@ -11,8 +11,9 @@ use can_bus::{Event, IfaceStats, Refusal, Reply, SocketId, SocketStats};
 use can_confine::Counters;
 use can_dialog::{Port, PortRefusal, rule_reply};
 use can_fault::FaultSource;
-use can_frame::Iface;
+use can_frame::{Iface, Moment};
 use can_meter::{Gauge, MeterName};
+use can_proto::BusLoad;
 use can_roll::RollName;
 use can_station::{Gate, Pass, Station, StationRefusal, TooManyPasses};
 use std::alloc::{AllocError, Global};
@@ -45,7 +46,8 @@ impl<'a, N: RollName + MeterName, F: FaultSource + Drop, G: Gate + Drop> Model
 /// was entered there is no socket, and no rule.
 ///
 /// `status` returns the error counters that were published last, as the gauge reads them: it takes no lock and waits
-/// for nobody. They are 0/0 where no station was entered, or where its bus has no such interface.
+/// for nobody. They are 0/0 where no station was entered, or where its bus has no such interface. `load` takes no lock
+/// either.
 #[derive(Drop)]
 pub struct PassPort<'a, N: RollName + MeterName, F: FaultSource + Drop, G: Gate + Drop, R: Wait> {
     pub(crate) rt: &'a R,
@@ -245,6 +247,15 @@ impl<'a, N: RollName + MeterName, F: FaultSource + Drop, G: Gate + Drop, R: Wait
             return Counters::zero();
         };
         read_gauge(&mut entered.gauge, iface)
+    }
+
+    fn load(&mut self, moment: Moment) -> BusLoad {
+        match &self.entered {
+            Some(entered) => self
+                .buses
+                .load_at(usize::from(entered.station.number()), moment),
+            None => BusLoad::none(),
+        }
     }
 
     fn inject(&mut self, rule: &[u8]) -> Result<(), PortRefusal> {

@@ -4,15 +4,16 @@ use Rattle.std.specs.List.{All, flat_map, join_with_byte}
 use Rattle.std.proofs.lemmas.Fmt.{decimal_digit, decimal_nonempty, length-decimal-le}
 use Rattle.std.proofs.lemmas.List.{length-map}
 use Rattle.std.proofs.lemmas.Bool.{cases_lt}
-use Rattle.can_frame.specs.Frames.{Identifier, IsIdentifier, Payload, is_fd_length}
+use Rattle.can_frame.specs.Frames.{Identifier, IsIdentifier, Payload, is_fd_length, flags_number}
 use Rattle.can_frame.specs.Frames.Payload.{Data, Remote, Fd}
+use Rattle.can_frame.specs.declared.fd_flags.FdFlags.{FdFlags}
 use Rattle.can_frame.specs.FrameText.{digits, id_text, IsPayload}
 use Rattle.can_filter.specs.Filters.{CanFilter}
 use Rattle.can_event.specs.declared.opt.Opt.{Opt}
 use Rattle.can_event.specs.declared.opt.Opt.TheVariants as opt
 use Rattle.can_proto.specs.declared.command.Mode.{Mode}
 use Rattle.can_proto.specs.declared.command.Command.{Command}
-use Rattle.can_proto.specs.declared.command.Command.TheVariants.{Echo, Interfaces, Open, Rawmode, Send, SetFilters, SetOption, ErrData, Ack, Origin, Stats, Status, Restart, Fault, Faults, NoFaults, Close}
+use Rattle.can_proto.specs.declared.command.Command.TheVariants.{Echo, Interfaces, Open, Rawmode, Send, SetFilters, SetOption, ErrData, Ack, Origin, Stats, Status, Load, Restart, Fault, Faults, NoFaults, Close}
 use Rattle.can_proto.specs.declared.fault.ProtoFault.{ProtoFault}
 use Rattle.can_proto.specs.declared.fault.ProtoFault.TheVariants.{BadByte}
 use Rattle.can_proto.specs.declared.verb.Verb.{Verb}
@@ -20,7 +21,7 @@ use Rattle.can_proto.specs.declared.verb.Verb.TheVariants as verb
 use Rattle.can_proto.specs.Words.{is_blank, front, words_after, words_of}
 use Rattle.can_proto.specs.Verbs.{stands_in, mode_has}
 use Rattle.can_frame.specs.Numbers.{hex_digit, in_base, one_more, number_after, number_in}
-use Rattle.can_proto.specs.Commands.{◌>>=◌, or_fault, short_id, long_id, id_of, length_of, fd_length_of, bytes_of, send_of, send_fd_of, remote_of, filter_of, filters_of, set_of, mask_of, switch_of, open_of, fault_of, arguments_of, command_of, reading}
+use Rattle.can_proto.specs.Commands.{◌>>=◌, or_fault, short_id, long_id, id_of, length_of, fd_length_of, bytes_of, send_of, send_fd_of, flags_of_word, send_flagged_of, remote_of, filter_of, filters_of, set_of, mask_of, switch_of, open_of, fault_of, arguments_of, command_of, reading}
 use Rattle.can_proto.specs.CommandSpelling.{flag_text, frame_words, filter_words, option_words, command_words, command_spelling, IsFilter, IsOption, IsCommand}
 use Rattle.can_proto.proofs.Cuts.{clear, clear_parts}
 use Rattle.can_proto.proofs.Numerals.{IsMark, clear-digits, clear-decimal}
@@ -127,7 +128,19 @@ at_most_64 n h = grind arith
 
 words-frame : (id : Identifier) (p : Payload) → IsPayload p → AreWords (frame_words id p)
 words-frame id (Data bytes) h = let few = h.0 in (refl, omega arith, words-count id (length bytes) (map (digits 16 2) bytes) (omega arith) (words-bytes bytes))
-words-frame id (Fd bytes) h = let few = at_most_64 (length bytes) h.0 in (refl, omega arith, words-count id (length bytes) (map (digits 16 2) bytes) (omega arith) (words-bytes bytes))
+words-frame id (Fd flags bytes) h = by flags.brs flags.esi
+  where
+    few : length bytes ≤ 64
+    few = at_most_64 (length bytes) h.0
+
+    counted : AreWords (id_text id ∷ decimal (length bytes) ∷ map (digits 16 2) bytes)
+    counted = words-count id (length bytes) (map (digits 16 2) bytes) (omega (arith, few)) (words-bytes bytes)
+
+    by : (brs esi : Bool) → AreWords (frame_words id (Fd (record { brs = brs; esi = esi }) bytes))
+    by true true = (refl, omega arith, (refl, omega arith, counted))
+    by true false = (refl, omega arith, (refl, omega arith, counted))
+    by false true = (refl, omega arith, (refl, omega arith, counted))
+    by false false = (refl, omega arith, counted)
 words-frame id (Remote len) h = (refl, omega arith, words-count id len [] (omega arith) tt)
 
 words-flag : (on : Bool) → AreWords (flag_text on ∷ [])
@@ -156,6 +169,7 @@ words-command (Ack on) h = (refl, omega arith, words-flag on)
 words-command (Origin on) h = (refl, omega arith, words-flag on)
 words-command Stats h = (refl, omega arith, tt)
 words-command Status h = (refl, omega arith, tt)
+words-command Load h = (refl, omega arith, tt)
 words-command Restart h = (refl, omega arith, tt)
 words-command (Fault rule) h = (refl, omega arith, words-after true rule)
 words-command Faults h = (refl, omega arith, tt)
@@ -247,9 +261,21 @@ send-again : (id_word len_word : List ℕ) (words : List (List ℕ)) (id : Ident
 unfolding send_of
 send-again id_word len_word words id len bytes is_id is_len count is_bytes = rw (is_id, is_len, eq-true (length words) len count, is_bytes) refl
 
-send-fd-again : (id_word len_word : List ℕ) (words : List (List ℕ)) (id : Identifier) (len : ℕ) (bytes : List ℕ) → id_of id_word ≡ Ok id → fd_length_of len_word ≡ Ok len → length words ≡ len → bytes_of words ≡ Ok bytes → send_fd_of (id_word ∷ len_word ∷ words) ≡ Ok (Send (record { id = id; payload = Fd bytes }))
+send-fd-again : (flags : FdFlags) (id_word len_word : List ℕ) (words : List (List ℕ)) (id : Identifier) (len : ℕ) (bytes : List ℕ) → id_of id_word ≡ Ok id → fd_length_of len_word ≡ Ok len → length words ≡ len → bytes_of words ≡ Ok bytes → send_fd_of flags (id_word ∷ len_word ∷ words) ≡ Ok (Send (record { id = id; payload = Fd flags bytes }))
 unfolding send_fd_of
-send-fd-again id_word len_word words id len bytes is_id is_len count is_bytes = rw (is_id, is_len, eq-true (length words) len count, is_bytes) refl
+send-fd-again flags id_word len_word words id len bytes is_id is_len count is_bytes = rw (is_id, is_len, eq-true (length words) len count, is_bytes) refl
+
+-- a digit of flags, and what follows it
+send-flagged-again : (word : List ℕ) (flags : FdFlags) (words : List (List ℕ)) (c : Command) → flags_of_word word ≡ Ok flags → send_fd_of flags words ≡ Ok c → send_flagged_of (word ∷ words) ≡ Ok c
+unfolding send_flagged_of
+send-flagged-again word flags words c is_flags sends = rw (is_flags, sends) refl
+
+digit-again : (brs esi : Bool) → flags_of_word ((48 + flags_number (record { brs = brs; esi = esi })) ∷ []) ≡ Ok (record { brs = brs; esi = esi })
+unfolding flags_of_word
+digit-again true true = refl
+digit-again true false = refl
+digit-again false true = refl
+digit-again false false = refl
 
 remote-again : (id_word len_word : List ℕ) (id : Identifier) (len : ℕ) → id_of id_word ≡ Ok id → length_of len_word ≡ Ok len → remote_of (id_word ∷ len_word ∷ []) ≡ Ok (Send (record { id = id; payload = Remote len }))
 unfolding remote_of
@@ -306,8 +332,19 @@ frame-again : (mode : Mode) (id : Identifier) (p : Payload) → IsIdentifier id 
 unfolding arguments_of
 frame-again mode id (Data bytes) is_id h may =
     said mode verb.Send _ _ may (send-again (id_text id) (decimal (length bytes)) (map (digits 16 2) bytes) id (length bytes) bytes (id-again id.extended id.number is_id) (length-again (length bytes) h.0) (length-map bytes (digits 16 2)) (bytes-again bytes h.1))
-frame-again mode id (Fd bytes) is_id h may =
-    said mode verb.SendFd _ _ may (send-fd-again (id_text id) (decimal (length bytes)) (map (digits 16 2) bytes) id (length bytes) bytes (id-again id.extended id.number is_id) (fd-length-again (length bytes) h.0) (length-map bytes (digits 16 2)) (bytes-again bytes h.1))
+frame-again mode id (Fd flags bytes) is_id h may = by flags.brs flags.esi may
+  where
+    sends : (f : FdFlags) → send_fd_of f (id_text id ∷ decimal (length bytes) ∷ map (digits 16 2) bytes) ≡ Ok (Send (record { id = id; payload = Fd f bytes }))
+    sends f = send-fd-again f (id_text id) (decimal (length bytes)) (map (digits 16 2) bytes) id (length bytes) bytes (id-again id.extended id.number is_id) (fd-length-again (length bytes) h.0) (length-map bytes (digits 16 2)) (bytes-again bytes h.1)
+
+    flagged : (brs esi : Bool) → send_flagged_of (((48 + flags_number (record { brs = brs; esi = esi })) ∷ []) ∷ id_text id ∷ decimal (length bytes) ∷ map (digits 16 2) bytes) ≡ Ok (Send (record { id = id; payload = Fd (record { brs = brs; esi = esi }) bytes }))
+    flagged brs esi = send-flagged-again _ (record { brs = brs; esi = esi }) _ _ (digit-again brs esi) (sends (record { brs = brs; esi = esi }))
+
+    by : (brs esi : Bool) → IsTrue (mode_has mode (frame_words id (Fd (record { brs = brs; esi = esi }) bytes))) → reading mode (frame_words id (Fd (record { brs = brs; esi = esi }) bytes)) ≡ Ok (Send (record { id = id; payload = Fd (record { brs = brs; esi = esi }) bytes }))
+    by true true allowed = said mode verb.SendFlagged _ _ allowed (flagged true true)
+    by true false allowed = said mode verb.SendFlagged _ _ allowed (flagged true false)
+    by false true allowed = said mode verb.SendFlagged _ _ allowed (flagged false true)
+    by false false allowed = said mode verb.SendFd _ _ allowed (sends (record { brs = false; esi = false }))
 frame-again mode id (Remote len) is_id h may =
     said mode verb.SendRtr _ _ may (remote-again (id_text id) (decimal len) id len (id-again id.extended id.number is_id) (length-again len h))
 
@@ -333,6 +370,7 @@ command-again mode (Ack on) h may = said mode verb.Ack _ _ may (ap (λ (r : Resu
 command-again mode (Origin on) h may = said mode verb.Origin _ _ may (ap (λ (r : Result Bool ProtoFault). r >>= λ x. Ok (Origin x)) (flag-again on))
 command-again mode Stats h may = said mode verb.Stats [] Stats may refl
 command-again mode Status h may = said mode verb.Status [] Status may refl
+command-again mode Load h may = said mode verb.Load [] Load may refl
 command-again mode Restart h may = said mode verb.Restart [] Restart may refl
 command-again mode (Fault rule) h may = said mode verb.Fault (words_of rule) (Fault rule) may (spaced-rule (words_of rule) rule h.0 h.1)
 command-again mode Faults h may = said mode verb.Faults [] Faults may refl

@@ -14,13 +14,14 @@ use Rattle.can_confine.specs.declared.state.State.TheVariants.{Active, Warning, 
 use Rattle.can_event.specs.declared.stats.SocketStats.{SocketStats}
 use Rattle.can_event.specs.declared.stats.IfaceStats.{IfaceStats}
 use Rattle.can_proto.specs.declared.answer.Answer.{Answer}
-use Rattle.can_proto.specs.declared.answer.Answer.TheVariants.{Greeting, Done, Echo, Sent, Stats, Status, Faults, Closing, Refused}
+use Rattle.can_proto.specs.declared.answer.BusLoad.{BusLoad}
+use Rattle.can_proto.specs.declared.answer.Answer.TheVariants.{Greeting, Done, Echo, Sent, Stats, Status, Load, Faults, Closing, Refused}
 use Rattle.can_proto.specs.declared.answer.Origin.{Origin}
 use Rattle.can_proto.specs.declared.answer.Cause.{Cause}
 use Rattle.can_proto.specs.declared.answer.Cause.TheVariants as cause
 use Rattle.can_proto.specs.Causes.{cause_text}
 use Rattle.can_frame.specs.Moments.{moment_text}
-use Rattle.can_proto.specs.Spelling.{class_text, body_text, frame_front, error_text, item_text, origin_text, item_text_from, stats_text, state_word, status_text, reply_text, told_counts, IsAnswer, AreAlike}
+use Rattle.can_proto.specs.Spelling.{class_text, body_text, frame_front, error_text, item_text, origin_text, item_text_from, stats_text, state_word, status_text, load_text, reply_text, told_counts, IsAnswer, AreAlike}
 use Rattle.can_proto.proofs.Cuts.{clear, clear-append, marked-left, marked-right, cut}
 use Rattle.can_proto.proofs.Numerals.{clear-decimal}
 use Rattle.can_proto.proofs.Telling.{one-cause}
@@ -81,6 +82,7 @@ mark_of Echo = 131
 mark_of (Sent number) = 0
 mark_of (Stats s i) = 231
 mark_of (Status c) = 233
+mark_of (Load l) = 143
 mark_of (Faults left) = 213
 mark_of (Closing c) = 209
 mark_of (Refused why) = 228
@@ -92,6 +94,7 @@ marked Echo = refl
 marked (Sent number) = refl
 marked (Stats s i) = refl
 marked (Status c) = refl
+marked (Load l) = refl
 marked (Faults left) = refl
 marked (Closing c) = refl
 marked (Refused why) = refl
@@ -111,6 +114,11 @@ same-status c d hc hd e =
     let parts = cut is_space 32 one other (row (c.tec ∷ c.rec ∷ [])) (row (d.tec ∷ d.rec ∷ [])) refl (clear-state (state_of c)).0 (clear-state (state_of d)).0 rows in
     ap (λ (l : List ℕ). record { tec = get_or l 0 0; rec = get_or l 1 0 }) (same-row (c.tec ∷ c.rec ∷ []) (d.tec ∷ d.rec ∷ []) hc hd refl parts.1)
 
+same-load : (l m : BusLoad) → AreSmall (l.permille ∷ l.micros ∷ []) → AreSmall (m.permille ∷ m.micros ∷ []) → load_text l ≡ load_text m → l ≡ m
+same-load l m hl hm e =
+    let h = same-behind l.permille m.permille (l.micros ∷ []) (m.micros ∷ []) hl hm refl (ap (drop 7) e) in
+    ap (λ (ns : List ℕ). record { permille = get_or ns 0 0; micros = get_or ns 1 0 }) h
+
 pub one-answer : (one other : Answer) → IsAnswer one → IsAnswer other → reply_text one ≡ reply_text other → AreAlike one other
 one-answer Greeting Greeting ha hb e = refl
 one-answer Done Done ha hb e = refl
@@ -118,6 +126,7 @@ one-answer Echo Echo ha hb e = refl
 one-answer (Sent m) (Sent n) ha hb e = ap (λ (l : List ℕ). Sent (get_or l 0 0)) (same-behind m n [] [] ha hb refl (ap (drop 6) e))
 one-answer (Stats s i) (Stats t j) ha hb e = same-stats s t i j ha hb e
 one-answer (Status c) (Status d) ha hb e = ap Status (same-status c d ha hb e)
+one-answer (Load l) (Load m) ha hb e = ap Load (same-load l m ha hb e)
 one-answer (Faults m) (Faults n) ha hb e = ap (λ (l : List ℕ). Faults (get_or l 0 0)) (same-behind m n [] [] ha hb refl (ap (drop 9) e))
 one-answer (Closing c) (Closing d) ha hb e =
     let h = same-behind c.unread d.unread (c.dropped ∷ []) (d.dropped ∷ []) ha hb refl (ap (drop 9) e) in
@@ -147,6 +156,7 @@ clear-answer (Stats s i) h = clear-behind s.queued (s.dropped ∷ s.taken ∷ i.
 clear-answer (Status c) h =
     let word = state_word (state_of c) in
     ap (clear is_point) (row-behind word (c.tec ∷ c.rec ∷ [])) ∙ clear-append is_point word (32 ∷ row (c.tec ∷ c.rec ∷ [])) (clear-state (state_of c)).1 (clear-row (c.tec ∷ c.rec ∷ []) h)
+clear-answer (Load l) h = clear-behind l.permille (l.micros ∷ []) h
 clear-answer (Faults left) h = clear-behind left [] h
 clear-answer (Closing c) h = clear-behind c.unread (c.dropped ∷ []) h
 clear-answer (Refused why) h = clear-cause why
@@ -164,7 +174,16 @@ pointed-more front m word = marked-left is_point ((front ++ moment_text m) ++ 32
 
 pointed-front : (id : Identifier) (p : Payload) (m : ℕ) (rest : List ℕ) → clear is_point (frame_front (record { id = id; payload = p }) m ++ rest) ≡ false
 pointed-front id (Data bytes) m rest = marked-left is_point (body_text (record { id = id; payload = Data bytes }) m) rest (pointed-more (id_text id ++ 32 ∷ []) m (pairs bytes))
-pointed-front id (Fd bytes) m rest = marked-left is_point (body_text (record { id = id; payload = Fd bytes }) m) rest (pointed-more (id_text id ++ 32 ∷ []) m (pairs bytes))
+pointed-front id (Fd flags bytes) m rest = by flags.brs flags.esi
+  where
+    body : clear is_point (body_text (record { id = id; payload = Fd flags bytes }) m ++ rest) ≡ false
+    body = marked-left is_point (body_text (record { id = id; payload = Fd flags bytes }) m) rest (pointed-more (id_text id ++ 32 ∷ []) m (pairs bytes))
+
+    by : (brs esi : Bool) → clear is_point (frame_front (record { id = id; payload = Fd (record { brs = brs; esi = esi }) bytes }) m ++ rest) ≡ false
+    by true true = body
+    by true false = body
+    by false true = body
+    by false false = body
 pointed-front id (Remote len) m rest = marked-left is_point ((((id_text id ++ 32 ∷ []) ++ moment_text m) ++ 32 ∷ []) ++ decimal len) rest (pointed-more (id_text id ++ 32 ∷ []) m (decimal len))
 
 pointed-error : (errdata : Bool) (e : ErrorMessage) (m : ℕ) → clear is_point (error_text errdata e m) ≡ false

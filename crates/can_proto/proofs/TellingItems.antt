@@ -3,13 +3,14 @@ use Rattle.std.specs.Fmt.{decimal}
 use Rattle.std.proofs.lemmas.Fmt.{decimal_injective}
 use Rattle.can_frame.specs.Frames.{Identifier, IsIdentifier, Payload, CanFrame, ErrorMessage}
 use Rattle.can_frame.specs.Frames.Payload.{Data, Remote, Fd}
+use Rattle.can_frame.specs.declared.fd_flags.FdFlags.{FdFlags}
 use Rattle.can_frame.specs.declared.item.Item.{Item}
 use Rattle.can_frame.specs.declared.item.Item.TheVariants as item
 use Rattle.can_frame.specs.FrameText.{digits, pairs, id_text, IsPayload, IsItem}
 use Rattle.can_frame.specs.Moments.{moment_text}
 use Rattle.can_proto.specs.declared.answer.Origin.{Origin}
 use Rattle.can_proto.specs.declared.answer.Origin.TheVariants.{Same, Other}
-use Rattle.can_proto.specs.Spelling.{class_width, class_text, frame_front, error_text, item_text, origin_text, item_text_from, without_data, shown_origin, IsOrigin}
+use Rattle.can_proto.specs.Spelling.{class_width, class_text, body_text, fd_word, frame_front, error_text, item_text, origin_text, item_text_from, without_data, shown_origin, IsOrigin}
 use Rattle.can_frame.specs.Numbers.{number_after}
 use Rattle.can_proto.proofs.Cuts.{clear, clear-append, cut}
 use Rattle.can_proto.proofs.Numerals.{IsMark, clear-digits, clear-pairs, clear-decimal}
@@ -120,6 +121,64 @@ third text = get_or text 2 0
 fourth : List ℕ → ℕ
 fourth text = get_or text 3 0
 
+-- the byte after `fdframe`, and the flags after `fdframex`
+after_word : List ℕ → ℕ
+after_word text = get_or text 9 0
+
+flag_digit : List ℕ → ℕ
+flag_digit text = get_or text 11 0
+
+-- what two FD frames' texts begin with is the same, and so is what follows
+same-word : (f g : FdFlags) (xs ys : List ℕ) → fd_word f ++ xs ≡ fd_word g ++ ys → (f ≡ g) × (xs ≡ ys)
+unfolding after_word flag_digit
+same-word f g xs ys e = by f.brs f.esi g.brs g.esi e
+  where
+    flags : Bool → Bool → FdFlags
+    flags brs esi = record { brs = brs; esi = esi }
+
+    by : (a b c d : Bool) → fd_word (flags a b) ++ xs ≡ fd_word (flags c d) ++ ys → (flags a b ≡ flags c d) × (xs ≡ ys)
+    by false false false false h = (refl, ap (drop 10) h)
+    by true false true false h = (refl, ap (drop 13) h)
+    by false true false true h = (refl, ap (drop 13) h)
+    by true true true true h = (refl, ap (drop 13) h)
+    by false false true false h = let k : 32 ≡ 120 = ap after_word h in absurd (omega (arith, k))
+    by false false false true h = let k : 32 ≡ 120 = ap after_word h in absurd (omega (arith, k))
+    by false false true true h = let k : 32 ≡ 120 = ap after_word h in absurd (omega (arith, k))
+    by true false false false h = let k : 120 ≡ 32 = ap after_word h in absurd (omega (arith, k))
+    by false true false false h = let k : 120 ≡ 32 = ap after_word h in absurd (omega (arith, k))
+    by true true false false h = let k : 120 ≡ 32 = ap after_word h in absurd (omega (arith, k))
+    by true false false true h = let k : 49 ≡ 50 = ap flag_digit h in absurd (omega (arith, k))
+    by true false true true h = let k : 49 ≡ 51 = ap flag_digit h in absurd (omega (arith, k))
+    by false true true false h = let k : 50 ≡ 49 = ap flag_digit h in absurd (omega (arith, k))
+    by false true true true h = let k : 50 ≡ 51 = ap flag_digit h in absurd (omega (arith, k))
+    by true true true false h = let k : 51 ≡ 49 = ap flag_digit h in absurd (omega (arith, k))
+    by true true false true h = let k : 51 ≡ 50 = ap flag_digit h in absurd (omega (arith, k))
+
+-- the third and fourth bytes of an FD frame's text
+third-fd : (f : FdFlags) (xs : List ℕ) → third (fd_word f ++ xs) ≡ 102
+unfolding third
+third-fd f xs = by f.brs f.esi
+  where
+    by : (brs esi : Bool) → third (fd_word (record { brs = brs; esi = esi }) ++ xs) ≡ 102
+    by true true = refl
+    by true false = refl
+    by false true = refl
+    by false false = refl
+
+fourth-fd : (f : FdFlags) (xs : List ℕ) → fourth (fd_word f ++ xs) ≡ 100
+unfolding fourth
+fourth-fd f xs = by f.brs f.esi
+  where
+    by : (brs esi : Bool) → fourth (fd_word (record { brs = brs; esi = esi }) ++ xs) ≡ 100
+    by true true = refl
+    by true false = refl
+    by false true = refl
+    by false false = refl
+
+-- an FD frame's text, and what follows it
+fd-then : (f : FdFlags) (body rest : List ℕ) → (fd_word f ++ body) ++ rest ≡ fd_word f ++ (body ++ rest)
+fd-then f body rest = append_assoc (fd_word f) body rest
+
 -- two frames whose texts are followed by a space and more
 one-front : (a b : Identifier) (p q : Payload) (m n : ℕ) (rest last : List ℕ) → IsIdentifier a → IsIdentifier b → IsPayload p → IsPayload q → m < 10 ^ 16 → n < 10 ^ 16 →
     frame_front (record { id = a; payload = p }) m ++ 32 ∷ rest ≡ frame_front (record { id = b; payload = q }) n ++ 32 ∷ last →
@@ -135,15 +194,16 @@ one-front a b (Remote k) (Remote l) m n rest last ha hb hp hq hm hn e =
     (between _ _ _ _ (regroup-all (id_text a) (moment_text m) (decimal k) (32 ∷ rest)) (regroup-all (id_text b) (moment_text n) (decimal l) (32 ∷ last)) (ap (drop 9) e)) in
     let ends = cut is_space 32 (decimal k) (decimal l) rest last refl (clear-decimal is_space no-space k (omega arith)) (clear-decimal is_space no-space l (omega arith)) parts.2 in
     (same-identifier a b ha hb parts.0, ap (λ (len : ℕ). Remote len) (decimal_injective k l (omega arith) (omega arith) ends.0), parts.1, ends.1)
-one-front a b (Fd xs) (Fd ys) m n rest last ha hb hp hq hm hn e =
+one-front a b (Fd f xs) (Fd g ys) m n rest last ha hb hp hq hm hn e =
+    let words = same-word f g _ _ (between _ _ _ _ (fd-then f (body_text (record { id = a; payload = Fd f xs }) m) (32 ∷ rest)) (fd-then g (body_text (record { id = b; payload = Fd g ys }) n) (32 ∷ last)) e) in
     let parts = same-parts (id_text a) (id_text b) (pairs xs ++ 32 ∷ rest) (pairs ys ++ 32 ∷ last) m n (clear-id a) (clear-id b) hm hn
-    (between _ _ _ _ (regroup-all (id_text a) (moment_text m) (pairs xs) (32 ∷ rest)) (regroup-all (id_text b) (moment_text n) (pairs ys) (32 ∷ last)) (ap (drop 10) e)) in
+    (between _ _ _ _ (regroup-all (id_text a) (moment_text m) (pairs xs) (32 ∷ rest)) (regroup-all (id_text b) (moment_text n) (pairs ys) (32 ∷ last)) words.1) in
     let ends = cut is_space 32 (pairs xs) (pairs ys) rest last refl (clear-pairs is_space no-space xs) (clear-pairs is_space no-space ys) parts.2 in
-    (same-identifier a b ha hb parts.0, ap (λ (bytes : List ℕ). Fd bytes) (same-bytes xs ys hp.1 hq.1 ends.0), parts.1, ends.1)
-one-front a b (Data xs) (Fd ys) m n rest last ha hb hp hq hm hn e = let k : 114 ≡ 100 = ap fourth e in absurd (omega (arith, k))
-one-front a b (Fd xs) (Data ys) m n rest last ha hb hp hq hm hn e = let k : 100 ≡ 114 = ap fourth e in absurd (omega (arith, k))
-one-front a b (Fd xs) (Remote l) m n rest last ha hb hp hq hm hn e = let k : 102 ≡ 114 = ap third e in absurd (omega (arith, k))
-one-front a b (Remote k) (Fd ys) m n rest last ha hb hp hq hm hn e = let k : 114 ≡ 102 = ap third e in absurd (omega (arith, k))
+    (same-identifier a b ha hb parts.0, ap (λ (h : FdFlags). Fd h xs) words.0 ∙ ap (λ (bytes : List ℕ). Fd g bytes) (same-bytes xs ys hp.1 hq.1 ends.0), parts.1, ends.1)
+one-front a b (Data xs) (Fd g ys) m n rest last ha hb hp hq hm hn e = let k : 114 ≡ 100 = ap fourth (e ∙ fd-then g _ (32 ∷ last)) ∙ fourth-fd g _ in absurd (omega (arith, k))
+one-front a b (Fd f xs) (Data ys) m n rest last ha hb hp hq hm hn e = let k : 100 ≡ 114 = sym (fourth-fd f _) ∙ ap fourth (sym (fd-then f _ (32 ∷ rest)) ∙ e) in absurd (omega (arith, k))
+one-front a b (Fd f xs) (Remote l) m n rest last ha hb hp hq hm hn e = let k : 102 ≡ 114 = sym (third-fd f _) ∙ ap third (sym (fd-then f _ (32 ∷ rest)) ∙ e) in absurd (omega (arith, k))
+one-front a b (Remote k) (Fd g ys) m n rest last ha hb hp hq hm hn e = let k : 114 ≡ 102 = ap third (e ∙ fd-then g _ (32 ∷ last)) ∙ third-fd g _ in absurd (omega (arith, k))
 one-front a b (Data xs) (Remote l) m n rest last ha hb hp hq hm hn e = let k : 102 ≡ 114 = ap third e in absurd (omega (arith, k))
 one-front a b (Remote k) (Data ys) m n rest last ha hb hp hq hm hn e = let k : 114 ≡ 102 = ap third e in absurd (omega (arith, k))
 
@@ -151,13 +211,13 @@ one-front a b (Remote k) (Data ys) m n rest last ha hb hp hq hm hn e = let k : 1
 frame-no-error : (id : Identifier) (p : Payload) (rest : List ℕ) (error : ErrorMessage) (m n : ℕ) → frame_front (record { id = id; payload = p }) m ++ rest ≡ error_text true error n → ⊥
 unfolding third
 frame-no-error id (Data xs) rest error m n e = let k : 102 ≡ 101 = ap third e in omega (arith, k)
-frame-no-error id (Fd xs) rest error m n e = let k : 102 ≡ 101 = ap third e in omega (arith, k)
+frame-no-error id (Fd f xs) rest error m n e = let k : 102 ≡ 101 = sym (third-fd f _) ∙ ap third (sym (fd-then f _ rest) ∙ e) in omega (arith, k)
 frame-no-error id (Remote len) rest error m n e = let k : 114 ≡ 101 = ap third e in omega (arith, k)
 
 frame-no-class : (id : Identifier) (p : Payload) (rest : List ℕ) (error : ErrorMessage) (m n : ℕ) → frame_front (record { id = id; payload = p }) m ++ rest ≡ error_text false error n → ⊥
 unfolding third
 frame-no-class id (Data xs) rest error m n e = let k : 102 ≡ 101 = ap third e in omega (arith, k)
-frame-no-class id (Fd xs) rest error m n e = let k : 102 ≡ 101 = ap third e in omega (arith, k)
+frame-no-class id (Fd f xs) rest error m n e = let k : 102 ≡ 101 = sym (third-fd f _) ∙ ap third (sym (fd-then f _ rest) ∙ e) in omega (arith, k)
 frame-no-class id (Remote len) rest error m n e = let k : 114 ≡ 101 = ap third e in omega (arith, k)
 
 one-error : (a b : ℕ) (xs ys : List ℕ) (m n : ℕ) → a < 2 ^ 29 → b < 2 ^ 29 → AreBytes xs → AreBytes ys → m < 10 ^ 16 → n < 10 ^ 16 → item_text true (item.Error (record { class = a; bytes = xs })) m ≡ item_text true (item.Error (record { class = b; bytes = ys })) n → (a ≡ b) × (xs ≡ ys) × (m ≡ n)

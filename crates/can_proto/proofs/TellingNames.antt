@@ -6,7 +6,7 @@ use Rattle.can_frame.specs.Frames.Payload.{Data, Remote, Fd}
 use Rattle.can_frame.specs.declared.item.Item.{Item}
 use Rattle.can_frame.specs.declared.item.Item.TheVariants as item
 use Rattle.can_proto.specs.declared.answer.Answer.{Answer}
-use Rattle.can_proto.specs.declared.answer.Answer.TheVariants.{Greeting, Done, Echo, Sent, Stats, Status, Faults, Closing, Refused}
+use Rattle.can_proto.specs.declared.answer.Answer.TheVariants.{Greeting, Done, Echo, Sent, Stats, Status, Load, Faults, Closing, Refused}
 use Rattle.can_proto.specs.declared.answer.Origin.{Origin}
 use Rattle.can_proto.specs.Words.{words_of}
 use Rattle.can_proto.specs.CommandSpelling.{IsWord}
@@ -55,6 +55,7 @@ no-answer Echo names e = let k : 101 ≡ 105 = ap third e in omega (arith, k)
 no-answer (Sent number) names e = let k : 97 ≡ 105 = ap third e in omega (arith, k)
 no-answer (Stats s i) names e = let k : 115 ≡ 105 = ap third e in omega (arith, k)
 no-answer (Status c) names e = let k : 115 ≡ 105 = ap third e in omega (arith, k)
+no-answer (Load l) names e = let k : 108 ≡ 105 = ap third e in omega (arith, k)
 no-answer (Faults left) names e = let k : 102 ≡ 105 = ap third e in omega (arith, k)
 no-answer (Closing c) names e = let k : 99 ≡ 105 = ap third e in omega (arith, k)
 no-answer (Refused why) names e = let k : 101 ≡ 105 = ap third e in omega (arith, k)
@@ -62,7 +63,13 @@ no-answer (Refused why) names e = let k : 101 ≡ 105 = ap third e in omega (ari
 no-frame : (id : Identifier) (p : Payload) (m : ℕ) (rest : List ℕ) (names : List (List ℕ)) → frame_front (record { id = id; payload = p }) m ++ rest ≡ interfaces_text names → ⊥
 unfolding third
 no-frame id (Data bytes) m rest names e = let k : 102 ≡ 105 = ap third e in omega (arith, k)
-no-frame id (Fd bytes) m rest names e = let k : 102 ≡ 105 = ap third e in omega (arith, k)
+no-frame id (Fd flags bytes) m rest names e = by flags.brs flags.esi e
+  where
+    by : (brs esi : Bool) → frame_front (record { id = id; payload = Fd (record { brs = brs; esi = esi }) bytes }) m ++ rest ≡ interfaces_text names → ⊥
+    by true true h = let k : 102 ≡ 105 = ap third h in omega (arith, k)
+    by true false h = let k : 102 ≡ 105 = ap third h in omega (arith, k)
+    by false true h = let k : 102 ≡ 105 = ap third h in omega (arith, k)
+    by false false h = let k : 102 ≡ 105 = ap third h in omega (arith, k)
 no-frame id (Remote len) m rest names e = let k : 114 ≡ 105 = ap third e in omega (arith, k)
 
 pub no-item : (errdata : Bool) (i : Item) (m : ℕ) (names : List (List ℕ)) → item_text errdata i m ≡ interfaces_text names → ⊥

@@ -1,14 +1,15 @@
-use Rattle.std.specs.Prelude.{◌≡◌, ◌<◌, ◌≤◌, ℕ, ◌^◌, Bool, true, false, List, [], ◌∷◌, length, map, codes, bit_and}
+use Rattle.std.specs.Prelude.{◌≡◌, ◌<◌, ◌≤◌, ℕ, ◌+◌, ◌^◌, Bool, true, false, if◌then◌else◌, List, [], ◌∷◌, ◌++◌, length, map, codes, bit_and}
 use Rattle.std.specs.Fmt.{decimal}
 use Rattle.std.specs.List.{All, flat_map, join_with_byte}
-use Rattle.can_frame.specs.Frames.{Identifier, IsIdentifier, Payload}
+use Rattle.can_frame.specs.Frames.{Identifier, IsIdentifier, Payload, has_no_flags, flags_number}
 use Rattle.can_frame.specs.Frames.Payload.{Data, Remote, Fd}
 use Rattle.can_frame.specs.FrameText.{digits, id_text, IsPayload}
+use Rattle.can_frame.specs.declared.fd_flags.FdFlags.{FdFlags}
 use Rattle.can_filter.specs.Filters.{CanFilter}
 use Rattle.can_event.specs.declared.opt.Opt.{Opt}
 use Rattle.can_event.specs.declared.opt.Opt.TheVariants as opt
 use Rattle.can_proto.specs.declared.command.Command.{Command}
-use Rattle.can_proto.specs.declared.command.Command.TheVariants.{Echo, Interfaces, Open, Rawmode, Send, SetFilters, SetOption, ErrData, Ack, Origin, Stats, Status, Restart, Fault, Faults, NoFaults, Close}
+use Rattle.can_proto.specs.declared.command.Command.TheVariants.{Echo, Interfaces, Open, Rawmode, Send, SetFilters, SetOption, ErrData, Ack, Origin, Stats, Status, Load, Restart, Fault, Faults, NoFaults, Close}
 use Rattle.can_proto.specs.Words.{front, words_of}
 
 -- How a client may write a command (socketcand's raw mode; filter and the options are own choice). Other spellings of it
@@ -19,11 +20,15 @@ abbrev pub flag_text : Bool → List ℕ
 flag_text false = 48 ∷ []
 flag_text true = 49 ∷ []
 
+-- what asks for an FD frame to be sent, with its flags where it has some
+abbrev pub fd_verb_words : FdFlags → List (List ℕ)
+fd_verb_words flags = if has_no_flags flags then codes "sendfd" ∷ [] else codes "sendfdx" ∷ ((48 + flags_number flags) ∷ []) ∷ []
+
 -- a data frame or an FD frame with its length and each byte in two digits, or a remote frame with what it asks for
 abbrev pub frame_words : Identifier → Payload → List (List ℕ)
 frame_words id (Data bytes) = codes "send" ∷ id_text id ∷ decimal (length bytes) ∷ map (digits 16 2) bytes
 frame_words id (Remote len) = codes "sendrtr" ∷ id_text id ∷ decimal len ∷ []
-frame_words id (Fd bytes) = codes "sendfd" ∷ id_text id ∷ decimal (length bytes) ∷ map (digits 16 2) bytes
+frame_words id (Fd flags bytes) = fd_verb_words flags ++ id_text id ∷ decimal (length bytes) ∷ map (digits 16 2) bytes
 
 -- a filter: identifier word and mask in 8 digits each
 abbrev pub filter_words : CanFilter → List (List ℕ)
@@ -51,6 +56,7 @@ command_words (Ack on) = codes "ack" ∷ flag_text on ∷ []
 command_words (Origin on) = codes "origin" ∷ flag_text on ∷ []
 command_words Stats = codes "stats" ∷ []
 command_words Status = codes "status" ∷ []
+command_words Load = codes "load" ∷ []
 command_words Restart = codes "restart" ∷ []
 command_words (Fault rule) = codes "fault" ∷ words_of rule
 command_words Faults = codes "faults" ∷ []

@@ -1,14 +1,15 @@
 use Rattle.std.specs.Prelude.{◌≡◌, ◌⊎◌, ℕ, ◌-◌, ◌*◌, ◌^◌, Bool, true, false, IsTrue, ◌&&◌, ◌==◌, nat_lt, nat_le, bit_and, if◌then◌else◌, List, [], ◌∷◌, ◌++◌, length, Option, Some, None, Result, Ok, Err}
 use Rattle.std.specs.List.{join_with_byte}
-use Rattle.can_frame.specs.Frames.{Identifier, CanFrame, is_fd_length}
+use Rattle.can_frame.specs.Frames.{Identifier, CanFrame, is_fd_length, no_flags, flags_of}
 use Rattle.can_frame.specs.Frames.Payload.{Data, Remote, Fd}
+use Rattle.can_frame.specs.declared.fd_flags.FdFlags.{FdFlags}
 use Rattle.can_filter.specs.Filters.{CanFilter}
 use Rattle.can_event.specs.declared.opt.Opt.TheVariants as opt
 use Rattle.can_proto.specs.declared.message.Incoming.TheVariants.{Message}
 use Rattle.can_proto.specs.declared.command.Mode.{Mode}
 use Rattle.can_proto.specs.declared.command.Mode.TheVariants.{Raw}
 use Rattle.can_proto.specs.declared.command.Command.{Command}
-use Rattle.can_proto.specs.declared.command.Command.TheVariants.{Echo, Interfaces, Open, Rawmode, Send, SetFilters, SetOption, ErrData, Ack, Origin, Stats, Status, Restart, Fault, Faults, NoFaults, Close}
+use Rattle.can_proto.specs.declared.command.Command.TheVariants.{Echo, Interfaces, Open, Rawmode, Send, SetFilters, SetOption, ErrData, Ack, Origin, Stats, Status, Load, Restart, Fault, Faults, NoFaults, Close}
 use Rattle.can_proto.specs.declared.fault.ProtoFault.{ProtoFault}
 use Rattle.can_proto.specs.declared.fault.ProtoFault.TheVariants.{NoMemory, InvalidFilter, TooManyFilters, EmptyMessage, UnknownCommand, WrongState, ModeNotSupported, BadCount, BadId, BadLength, BadByte, BadNumber}
 use Rattle.can_proto.specs.declared.verb.Verb.{Verb}
@@ -104,13 +105,23 @@ abbrev pub asked : Result CanFrame ProtoFault → Result Command ProtoFault
 asked (Ok frame) = Ok (Send frame)
 asked (Err e) = Err e
 
--- `sendfd ID LEN b ..`
-unfoldable pub send_fd_of : List (List ℕ) → Result Command ProtoFault
-send_fd_of (id_word ∷ len_word ∷ words) = do
+-- `sendfd ID LEN b ..`, for a frame with these flags
+unfoldable pub send_fd_of : FdFlags → List (List ℕ) → Result Command ProtoFault
+send_fd_of flags (id_word ∷ len_word ∷ words) = do
   id ← id_of id_word
   len ← fd_length_of len_word
-  if length words == len then bytes_of words >>= (λ bytes. Ok (Send (record { id = id; payload = Fd bytes }))) else Err BadCount
-send_fd_of _ = Err BadCount
+  if length words == len then bytes_of words >>= (λ bytes. Ok (Send (record { id = id; payload = Fd flags bytes }))) else Err BadCount
+send_fd_of flags _ = Err BadCount
+
+-- the flags of an FD frame: one digit, 0 to 3 (CANFD_BRS and CANFD_ESI of linux/can.h)
+unfoldable pub flags_of_word : List ℕ → Result FdFlags ProtoFault
+flags_of_word (d ∷ []) = if nat_le 48 d then or_fault BadNumber (flags_of (d - 48)) else Err BadNumber
+flags_of_word _ = Err BadNumber
+
+-- `sendfdx FLAGS ID LEN b ..`: flags, and what follows `sendfd`
+unfoldable pub send_flagged_of : List (List ℕ) → Result Command ProtoFault
+send_flagged_of (word ∷ words) = flags_of_word word >>= λ flags. send_fd_of flags words
+send_flagged_of [] = Err BadCount
 
 -- `sendrtr ID LEN`
 unfoldable pub remote_of : List (List ℕ) → Result Command ProtoFault
@@ -191,7 +202,8 @@ arguments_of verb.Rawmode words = alone Rawmode words
 arguments_of verb.OtherMode words = Err ModeNotSupported
 arguments_of verb.Send words = send_of words
 arguments_of verb.SendRtr words = remote_of words
-arguments_of verb.SendFd words = send_fd_of words
+arguments_of verb.SendFd words = send_fd_of no_flags words
+arguments_of verb.SendFlagged words = send_flagged_of words
 arguments_of verb.Filter words = set_of words
 arguments_of verb.Join words = switch_of words >>= λ on. Ok (SetOption (opt.Join on))
 arguments_of verb.Loopback words = switch_of words >>= λ on. Ok (SetOption (opt.Loopback on))
@@ -203,6 +215,7 @@ arguments_of verb.Ack words = switch_of words >>= λ on. Ok (Ack on)
 arguments_of verb.Origin words = switch_of words >>= λ on. Ok (Origin on)
 arguments_of verb.Stats words = alone Stats words
 arguments_of verb.Status words = alone Status words
+arguments_of verb.Load words = alone Load words
 arguments_of verb.Restart words = alone Restart words
 arguments_of verb.Fault words = fault_of words
 arguments_of verb.Faults words = alone Faults words

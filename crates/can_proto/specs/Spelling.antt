@@ -1,9 +1,10 @@
-use Rattle.std.specs.Prelude.{◌≡◌, ◌<◌, ℕ, ◌^◌, nat_lt, Bool, true, false, if◌then◌else◌, List, [], ◌∷◌, ◌++◌, Option, Some, None, codes}
+use Rattle.std.specs.Prelude.{◌≡◌, ◌<◌, ℕ, ◌+◌, ◌^◌, nat_lt, Bool, true, false, if◌then◌else◌, List, [], ◌∷◌, ◌++◌, Option, Some, None, codes}
 use Rattle.std.specs.Fmt.{decimal}
 use Rattle.std.specs.List.{All, flat_map}
-use Rattle.can_frame.specs.Frames.{CanFrame, ErrorMessage, is_remote, is_fd, payload_len, payload_bytes}
+use Rattle.can_frame.specs.Frames.{CanFrame, ErrorMessage, is_remote, is_fd, payload_len, payload_bytes, payload_flags, has_no_flags, flags_number}
 use Rattle.can_frame.specs.FrameText.{digits, pairs, id_text}
 use Rattle.can_frame.specs.Moments.{moment_text}
+use Rattle.can_frame.specs.declared.fd_flags.FdFlags.{FdFlags}
 use Rattle.can_frame.specs.declared.item.Item.{Item}
 use Rattle.can_frame.specs.declared.item.Item.TheVariants as item
 use Rattle.can_confine.specs.Confinement.{ErrorCounts, state_of}
@@ -12,7 +13,8 @@ use Rattle.can_confine.specs.declared.state.State.TheVariants.{Active, Warning, 
 use Rattle.can_event.specs.declared.stats.SocketStats.{SocketStats}
 use Rattle.can_event.specs.declared.stats.IfaceStats.{IfaceStats}
 use Rattle.can_proto.specs.declared.answer.Answer.{Answer}
-use Rattle.can_proto.specs.declared.answer.Answer.TheVariants.{Greeting, Done, Echo, Sent, Stats, Status, Faults, Closing, Refused}
+use Rattle.can_proto.specs.declared.answer.BusLoad.{BusLoad}
+use Rattle.can_proto.specs.declared.answer.Answer.TheVariants.{Greeting, Done, Echo, Sent, Stats, Status, Load, Faults, Closing, Refused}
 use Rattle.can_proto.specs.declared.answer.Origin.{Origin}
 use Rattle.can_proto.specs.declared.answer.Origin.TheVariants.{Same, Other}
 use Rattle.can_proto.specs.Causes.{cause_text}
@@ -40,9 +42,13 @@ body_text frame micros = id_text frame.id ++ codes " " ++ moment_text micros ++ 
 abbrev pub data_front : CanFrame → ℕ → List ℕ
 data_front frame micros = codes "< frame " ++ body_text frame micros
 
+-- what the text of an FD frame begins with: one with flags has another word, and these as a digit (own choice)
+abbrev pub fd_word : FdFlags → List ℕ
+fd_word flags = if has_no_flags flags then codes "< fdframe " else codes "< fdframex " ++ (48 + flags_number flags) ∷ codes " "
+
 -- an FD frame, in the same way
 abbrev pub fd_front : CanFrame → ℕ → List ℕ
-fd_front frame micros = codes "< fdframe " ++ body_text frame micros
+fd_front frame micros = fd_word (payload_flags frame.payload) ++ body_text frame micros
 
 -- a remote frame with its moment and the length that it asks for
 abbrev pub remote_front : CanFrame → ℕ → List ℕ
@@ -102,6 +108,14 @@ state_word Off = codes "off"
 abbrev pub status_text : ErrorCounts → List ℕ
 status_text c = codes "< status " ++ state_word (state_of c) ++ codes " " ++ decimal c.tec ++ codes " " ++ decimal c.rec ++ codes " >"
 
+-- the load of a bus without bit rates
+abbrev pub no_load : BusLoad
+no_load = record { permille = 0; micros = 0 }
+
+-- for how many thousandths of the last whole second the bus was busy, and for how many microseconds since it started
+abbrev pub load_text : BusLoad → List ℕ
+load_text l = codes "< load " ++ decimal l.permille ++ codes " " ++ decimal l.micros ++ codes " >"
+
 -- the reply to a client
 abbrev pub reply_text : Answer → List ℕ
 reply_text Greeting = codes "< hi >"
@@ -110,6 +124,7 @@ reply_text Echo = codes "< echo >"
 reply_text (Sent number) = codes "< ack " ++ decimal number ++ codes " >"
 reply_text (Stats s i) = stats_text s i
 reply_text (Status c) = status_text c
+reply_text (Load l) = load_text l
 reply_text (Faults left) = codes "< faults " ++ decimal left ++ codes " >"
 reply_text (Closing c) = codes "< closed " ++ decimal c.unread ++ codes " " ++ decimal c.dropped ++ codes " >"
 reply_text (Refused why) = codes "< error " ++ cause_text why ++ codes " >"
@@ -131,6 +146,7 @@ abbrev pub IsAnswer : Answer → Type 0
 IsAnswer (Sent number) = All (λ n. n < 2 ^ 64) (number ∷ [])
 IsAnswer (Stats s i) = All (λ n. n < 2 ^ 64) (told_counts s i)
 IsAnswer (Status c) = All (λ n. n < 2 ^ 64) (c.tec ∷ c.rec ∷ [])
+IsAnswer (Load l) = All (λ n. n < 2 ^ 64) (l.permille ∷ l.micros ∷ [])
 IsAnswer (Faults left) = All (λ n. n < 2 ^ 64) (left ∷ [])
 IsAnswer (Closing c) = All (λ n. n < 2 ^ 64) (c.unread ∷ c.dropped ∷ [])
 IsAnswer _ = Unit {0}

@@ -2,9 +2,10 @@ use Rattle.std.specs.Prelude.{ℕ, Bool, true, false, ◌&&◌, ◌||◌, ◌==�
 use Rattle.can_proto.specs.declared.command.Mode.{Mode}
 use Rattle.can_proto.specs.declared.command.Mode.TheVariants.{NoBus, Opened, Raw}
 use Rattle.can_proto.specs.declared.verb.Verb.{Verb}
-use Rattle.can_proto.specs.declared.verb.Verb.TheVariants.{Echo, Interfaces, Open, Rawmode, OtherMode, Send, SendRtr, SendFd, Filter, Join, Loopback, RecvOwn, FdFrames, ErrMask, ErrData, Ack, Origin, Stats, Status, Restart, Fault, Faults, NoFaults, Close}
+use Rattle.can_proto.specs.declared.verb.Verb.TheVariants.{Echo, Interfaces, Open, Rawmode, OtherMode, Send, SendRtr, SendFd, SendFlagged, Filter, Join, Loopback, RecvOwn, FdFrames, ErrMask, ErrData, Ack, Origin, Stats, Status, Load, Restart, Fault, Faults, NoFaults, Close}
 
--- The commands' first words and the modes that have them (socketcand's raw mode; sendfd, and filter and what follows it, is own choice).
+-- The commands' first words and the modes that have them (socketcand's raw mode; sendfd, sendfdx, and filter and what
+-- follows it, is own choice).
 
 -- the two words are one, byte for byte
 abbrev pub is_word : List ℕ → List ℕ → Bool
@@ -22,6 +23,7 @@ named word =
     if is_word word (codes "send") then Some Send else
     if is_word word (codes "sendrtr") then Some SendRtr else
     if is_word word (codes "sendfd") then Some SendFd else
+    if is_word word (codes "sendfdx") then Some SendFlagged else
     if is_word word (codes "echo") then Some Echo else
     if is_word word (codes "interfaces") then Some Interfaces else
     if is_word word (codes "open") then Some Open else
@@ -37,6 +39,7 @@ named word =
     if is_word word (codes "origin") then Some Origin else
     if is_word word (codes "stats") then Some Stats else
     if is_word word (codes "status") then Some Status else
+    if is_word word (codes "load") then Some Load else
     if is_word word (codes "restart") then Some Restart else
     if is_word word (codes "fault") then Some Fault else
     if is_word word (codes "faults") then Some Faults else

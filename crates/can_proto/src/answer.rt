@@ -1,5 +1,6 @@
 ghost use Rattle.std.specs.Prelude.{◌≡◌, ◌≤◌, length};
 ghost use Rattle.can_proto.specs.Causes.{cause_text};
+ghost use Rattle.can_proto.specs.Spelling.{no_load};
 
 use crate::fault::ProtoFault;
 use can_confine::Counters;
@@ -20,12 +21,35 @@ pub enum Answer {
     Stats(SocketStats, IfaceStats),
     /// The error counters of the interface.
     Status(Counters),
+    /// How busy the bus was.
+    Load(BusLoad),
     /// How many rules of faults the bus has.
     Faults(u64),
     /// The socket was closed.
     Closing(Closed),
     /// Nothing was done.
     Refused(Cause),
+}
+
+/// How busy a bus with bit rates was: 0 and 0 on one without.
+#[derive(Debug, Clone, Copy, PartialEq, Eq)]
+pub struct BusLoad {
+    /// For how many thousandths of the last whole second.
+    pub permille: u16,
+    /// For how many microseconds since it started.
+    pub micros: u64,
+}
+
+impl BusLoad {
+    /// The load of a bus without bit rates.
+    pub fn none() -> BusLoad
+        ensures { result ≡ no_load }
+    {
+        BusLoad {
+            permille: 0,
+            micros: 0,
+        }
+    }
 }
 
 /// Where a frame comes from, seen from the interface of the socket that received it, and its number there.

@@ -6,11 +6,11 @@ ghost use Rattle.can_proto.specs.Commands.{Gives, GivesBut, takes_memory, only, 
 use crate::command::{Command, WantedName, WantedRule};
 use crate::fault::ProtoFault;
 use crate::filtering::read_set;
-use crate::sending::{read_remote, read_send, read_send_fd};
+use crate::sending::{read_remote, read_send, read_send_fd, read_send_flagged};
 use crate::verb::Verb;
 use crate::words::next_word;
 use can_event::Opt;
-use can_frame::read_hexadecimal;
+use can_frame::{FdFlags, read_hexadecimal};
 use std::alloc::Global;
 
 /// The word of a command that takes one.
@@ -111,7 +111,8 @@ pub fn read_arguments(alloc: Global, verb: Verb, rest: &[u8]) -> Result<Command,
         Verb::OtherMode => Err(ProtoFault::ModeNotSupported),
         Verb::Send => read_send(rest),
         Verb::SendRtr => read_remote(rest),
-        Verb::SendFd => read_send_fd(rest),
+        Verb::SendFd => read_send_fd(FdFlags::none(), rest),
+        Verb::SendFlagged => read_send_flagged(rest),
         Verb::Filter => read_set(alloc, rest),
         Verb::Join => Ok(Command::SetOption(Opt::Join(read_switch(rest)?))),
         Verb::Loopback => Ok(Command::SetOption(Opt::Loopback(read_switch(rest)?))),
@@ -123,6 +124,7 @@ pub fn read_arguments(alloc: Global, verb: Verb, rest: &[u8]) -> Result<Command,
         Verb::Origin => Ok(Command::Origin(read_switch(rest)?)),
         Verb::Stats => read_alone(Command::Stats, rest),
         Verb::Status => read_alone(Command::Status, rest),
+        Verb::Load => read_alone(Command::Load, rest),
         Verb::Restart => read_alone(Command::Restart, rest),
         Verb::Fault => read_fault(alloc, rest),
         Verb::Faults => read_alone(Command::Faults, rest),

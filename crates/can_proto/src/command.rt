@@ -106,6 +106,8 @@ pub enum Command {
     Stats,
     /// To get the error counters of the interface, and the state that they give.
     Status,
+    /// To get how busy the bus was.
+    Load,
     /// To take the interface out of bus off.
     Restart,
     /// To give the bus one more rule of faults.

@@ -27,7 +27,7 @@ mod usual_sends;
 mod verb;
 mod words;
 
-pub use answer::{Answer, Cause, Origin};
+pub use answer::{Answer, BusLoad, Cause, Origin};
 pub use command::{ClientWords, Command, Mode, WantedName, WantedRule};
 pub use fault::ProtoFault;
 pub use message::{Incoming, Message};

@@ -4,13 +4,13 @@ ghost use Rattle.can_frame.specs.Numbers.{number_in};
 ghost use Rattle.can_proto.specs.Words.{words_of};
 ghost use Rattle.can_proto.specs.Pairs.{IsFirstByte, IsFirstId, AsksFor, fault_of_byte};
 ghost use Rattle.can_proto.specs.declared.command.Command.TheVariants.{Send};
-ghost use Rattle.can_proto.specs.Commands.{Gives, id_of, length_of, fd_length_of, bytes_of, IsDataFault, asked, send_of, send_fd_of, remote_of};
+ghost use Rattle.can_proto.specs.Commands.{Gives, id_of, length_of, fd_length_of, bytes_of, IsDataFault, asked, send_of, send_fd_of, send_flagged_of, flags_of_word, remote_of};
 
 use crate::command::Command;
 use crate::fault::ProtoFault;
 use crate::pairs::{byte_of, paired_bytes, short_id};
 use crate::words::{has_words, next_word};
-use can_frame::{CanId, Frame, is_fd_length, read_decimal, read_hexadecimal};
+use can_frame::{CanId, FdFlags, Frame, is_fd_length, read_decimal, read_hexadecimal};
 
 /// An identifier of 8 digits (29 bits) or of 1 to 3 (11 bits).
 fn read_id(word: &[u8]) -> Result<CanId, ProtoFault>
@@ -244,11 +244,39 @@ fn spelled_frame(rest: &[u8]) -> Result<Frame, ProtoFault>
     }
 }
 
-/// The words of `sendfd ID LEN b ..`.
+/// The words of `sendfdx FLAGS ID LEN b ..`, where the flags are a number from 0 to 3.
+#[inline(never)]
+#[tactic(auto, unfolding(crate::specs::Commands::send_flagged_of))]
+pub fn read_send_flagged(rest: &[u8]) -> Result<Command, ProtoFault>
+    ensures { Gives result (send_flagged_of (words_of rest.now)) }
+{
+    let Some((word, rest)) = next_word(rest) else {
+        return Err(ProtoFault::BadCount);
+    };
+    let flags = read_flags(word)?;
+    read_send_fd(flags, rest)
+}
+
+/// The flags of an FD frame: one digit.
+#[tactic(auto, unfolding(crate::specs::Commands::flags_of_word))]
+fn read_flags(word: &[u8]) -> Result<FdFlags, ProtoFault>
+    ensures { Gives result (flags_of_word word.now) }
+{
+    let number = match word {
+        [digit] if b'0' <= *digit => *digit - b'0',
+        _ => return Err(ProtoFault::BadNumber),
+    };
+    match FdFlags::from_number(number) {
+        Some(flags) => Ok(flags),
+        None => Err(ProtoFault::BadNumber),
+    }
+}
+
+/// The words of `sendfd ID LEN b ..`, for a frame with these flags.
 #[inline(never)]
 #[tactic(auto, unfolding(crate::specs::Commands::send_fd_of))]
-pub fn read_send_fd(rest: &[u8]) -> Result<Command, ProtoFault>
-    ensures { Gives result (send_fd_of (words_of rest.now)) }
+pub fn read_send_fd(flags: FdFlags, rest: &[u8]) -> Result<Command, ProtoFault>
+    ensures { Gives result (send_fd_of flags (words_of rest.now)) }
 {
     let Some((id_word, rest)) = next_word(rest) else {
         return Err(ProtoFault::BadCount);
@@ -259,7 +287,7 @@ pub fn read_send_fd(rest: &[u8]) -> Result<Command, ProtoFault>
     let id = read_id(id_word)?;
     let len = read_fd_length(len_word)?;
     let bytes = read_bytes::<64>(rest, len)?;
-    match Frame::fd(id, &bytes[..len]) {
+    match Frame::fd_with(id, flags, &bytes[..len]) {
         Ok(frame) => Ok(Command::Send(frame)),
         Err(_) => Err(ProtoFault::BadLength),
     }

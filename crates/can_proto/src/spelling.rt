@@ -1,20 +1,20 @@
 ghost use Rattle.std.specs.Prelude.{◌≡◌, ◌≤◌, ◌<◌, ◌+◌, ◌^◌, ◌++◌, [], length, true, codes};
 ghost use Rattle.std.specs.Fmt.{decimal};
 ghost use Rattle.can_frame.specs.Frames.{is_remote};
-ghost use Rattle.can_proto.specs.Spelling.{class_width, class_text, body_text, data_front, fd_front, remote_front, frame_front, error_text, item_text, origin_text, item_text_from, stats_text, state_word, status_text, reply_text};
+ghost use Rattle.can_proto.specs.Spelling.{class_width, class_text, body_text, data_front, fd_word, fd_front, remote_front, frame_front, error_text, item_text, origin_text, item_text_from, stats_text, state_word, status_text, load_text, reply_text};
 ghost use Rattle.can_proto.specs.declared.answer.Answer.TheVariants.{Refused};
 
-use crate::answer::{Answer, Cause, Origin};
+use crate::answer::{Answer, BusLoad, Cause, Origin};
 use crate::texts::{ItemText, Text, push_next};
 use can_confine::{Counters, State};
 use can_event::{IfaceStats, SocketStats};
-use can_frame::{ErrorFrame, Frame, Item, Moment};
+use can_frame::{ErrorFrame, FdFlags, Frame, Item, Moment};
 
 /// The text of an item that a client's socket received, with the data of error message frames
 /// where `errdata` asks for them.
 pub fn item_text(item: Item, moment: Moment, errdata: bool) -> ItemText
     ensures text { result ≡ item_text errdata item moment }
-    ensures short { length result ≤ 167 }
+    ensures short { length result ≤ 170 }
 {
     let mut text = ItemText::new();
     push_item(&mut text, &item, moment, errdata);
@@ -25,7 +25,7 @@ pub fn item_text(item: Item, moment: Moment, errdata: bool) -> ItemText
 pub fn push_item(text: &mut ItemText, item: &Item, moment: Moment, errdata: bool)
     requires { text.old ≡ [] }
     ensures text { text.new ≡ item_text errdata item.now moment }
-    ensures short { length text.new ≤ 167 }
+    ensures short { length text.new ≤ 170 }
 {
     match item {
         Item::Data(frame) => {
@@ -47,7 +47,7 @@ pub fn push_item_from(
 )
     requires { text.old ≡ [] }
     ensures text { text.new ≡ item_text_from errdata origin item.now moment }
-    ensures short { length text.new ≤ 194 }
+    ensures short { length text.new ≤ 197 }
 {
     match item {
         Item::Data(frame) => {
@@ -87,6 +87,7 @@ pub fn reply_text(answer: Answer) -> Text
         Answer::Echo => fixed_text(b"< echo >"),
         Answer::Stats(socket, iface) => stats_text(socket, iface),
         Answer::Status(counters) => status_text(counters),
+        Answer::Load(load) => load_text(load),
         Answer::Sent(number) => count_text(b"< ack", number),
         Answer::Faults(left) => count_text(b"< faults", left),
         Answer::Closing(closed) => {
@@ -164,9 +165,9 @@ fn push_class(text: &mut ItemText, class: u32)
 /// Adds the text of a frame, up to its end.
 #[inline(always)]
 fn push_frame(text: &mut ItemText, frame: &Frame, moment: Moment)
-    requires { length text.old + 165 ≤ 200 }
+    requires { length text.old + 168 ≤ 200 }
     ensures text { text.new ≡ text.old ++ frame_front frame.now moment }
-    ensures len { length text.new ≤ length text.old + 165 }
+    ensures len { length text.new ≤ length text.old + 168 }
 {
     if frame.is_remote() {
         push_remote(text, frame, moment);
@@ -179,9 +180,9 @@ fn push_frame(text: &mut ItemText, frame: &Frame, moment: Moment)
 
 /// Adds a data frame, up to the end of its text. Without data a space is the last byte.
 fn push_classic(text: &mut ItemText, frame: &Frame, moment: Moment)
-    requires { length text.old + 165 ≤ 200 }
+    requires { length text.old + 168 ≤ 200 }
     ensures text { text.new ≡ text.old ++ data_front frame.now moment }
-    ensures len { length text.new ≤ length text.old + 165 }
+    ensures len { length text.new ≤ length text.old + 168 }
 {
     text.push_all(b"< frame ");
     push_data(text, frame, moment);
@@ -189,12 +190,27 @@ fn push_classic(text: &mut ItemText, frame: &Frame, moment: Moment)
 
 /// Adds an FD frame, in the same way.
 fn push_fd(text: &mut ItemText, frame: &Frame, moment: Moment)
-    requires { length text.old + 165 ≤ 200 }
+    requires { length text.old + 168 ≤ 200 }
     ensures text { text.new ≡ text.old ++ fd_front frame.now moment }
-    ensures len { length text.new ≤ length text.old + 165 }
+    ensures len { length text.new ≤ length text.old + 168 }
 {
-    text.push_all(b"< fdframe ");
+    push_fd_word(text, frame.flags());
     push_data(text, frame, moment);
+}
+
+/// Adds what the text of an FD frame with these flags begins with.
+fn push_fd_word(text: &mut ItemText, flags: FdFlags)
+    requires { length text.old + 13 ≤ 200 }
+    ensures text { text.new ≡ text.old ++ fd_word flags }
+    ensures len { length text.new ≤ length text.old + 13 }
+{
+    if flags.is_none() {
+        text.push_all(b"< fdframe ");
+    } else {
+        text.push_all(b"< fdframex ");
+        text.push(b'0' + flags.number());
+        text.push(b' ');
+    }
 }
 
 /// Adds the identifier, the moment and the data of a frame.
@@ -293,6 +309,18 @@ fn status_text(counters: Counters) -> Text
     text.push_all(state_word(counters.state()));
     push_next(&mut text, u64::from(counters.tec()));
     push_next(&mut text, u64::from(counters.rec()));
+    text.push_all(b" >");
+    text
+}
+
+/// The two numbers of `load`.
+fn load_text(load: BusLoad) -> Text
+    ensures { result ≡ load_text load }
+{
+    let mut text = Text::new();
+    text.push_all(b"< load");
+    push_next(&mut text, u64::from(load.permille));
+    push_next(&mut text, load.micros);
     text.push_all(b" >");
     text
 }

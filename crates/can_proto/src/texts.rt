@@ -4,7 +4,7 @@ ghost use Rattle.std.specs.Fmt.{decimal};
 /// The text of a reply, kept in place. The longest, `stats`, has 177 bytes.
 pub type Text = can_frame::Text<256>;
 
-/// The text of an item or of a refusal, kept in place. The longest, an FD frame of 64 bytes with its origin, has 194
+/// The text of an item or of a refusal, kept in place. The longest, an FD frame of 64 bytes with its origin, has 197
 /// bytes.
 pub type ItemText = can_frame::Text<200>;
 

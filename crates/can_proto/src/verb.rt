@@ -16,6 +16,8 @@ pub enum Verb {
     Send,
     SendRtr,
     SendFd,
+    /// An FD frame with flags.
+    SendFlagged,
     Filter,
     Join,
     Loopback,
@@ -27,6 +29,7 @@ pub enum Verb {
     Origin,
     Stats,
     Status,
+    Load,
     Restart,
     Fault,
     Faults,
@@ -51,6 +54,8 @@ pub fn verb_of(word: &[u8]) -> Option<Verb>
         Some(Verb::SendRtr)
     } else if matches(word, b"sendfd") {
         Some(Verb::SendFd)
+    } else if matches(word, b"sendfdx") {
+        Some(Verb::SendFlagged)
     } else if matches(word, b"echo") {
         Some(Verb::Echo)
     } else if matches(word, b"interfaces") {
@@ -81,6 +86,8 @@ pub fn verb_of(word: &[u8]) -> Option<Verb>
         Some(Verb::Stats)
     } else if matches(word, b"status") {
         Some(Verb::Status)
+    } else if matches(word, b"load") {
+        Some(Verb::Load)
     } else if matches(word, b"restart") {
         Some(Verb::Restart)
     } else if matches(word, b"fault") {

@@ -18,6 +18,7 @@ use Rattle.can_hub.proofs.Crossing.{buses_sync, port_send, shared}
 use Rattle.can_server.proofs.batch.Batch.TheSendSync as batch
 use Rattle.can_server.proofs.conn.Conn.TheSendSync as conn
 use Rattle.can_server.proofs.acceptor.Acceptor.TheSendSync as acceptor
+use Rattle.can_server.proofs.frame_ends.FrameEnds.TheSendSync as frame_ends
 use Rattle.can_server.proofs.clients.Clients.TheSendSync as clients
 use Rattle.can_server.proofs.opening.Opening.TheSendSync as opening
 use Rattle.can_server.proofs.opening.FirstBytes.TheSendSync as first
@@ -49,7 +50,10 @@ module _ (N F G : RattleType) (g : roll.Ghosts N.Denot) (g' : meter.Ghosts N.Den
                 search (sendable, crosses, clients.the_send) depth 20,
                 (
                   search (sendable, crosses, returned.the_send) depth 20,
-                  (search sendable depth 20, (search (sendable, crosses) depth 20, tt)),
+                  (
+                    search (sendable, frame_ends.the_sync) depth 20,
+                    (search sendable depth 20, (search (sendable, crosses) depth 20, tt)),
+                  ),
                 ),
               ),
             ),
@@ -63,10 +67,10 @@ module _ (N F G : RattleType) (g : roll.Ghosts N.Denot) (g' : meter.Ghosts N.Den
       declared_send (talk.the_type κ N F G R g g' g'') (session.the_send, (port_send N F G g g' g'' f s κ R r, (batch.the_send, (opening.the_send, (first.the_send, tt)))))
 
   -- what the thread has that delivers
-  pub delivery_sync : (ν : NamedLft) (R : RattleType) → IsSync R → IsSync (delivery.the_row ν κ N F G R g g' g'')
-  delivery_sync ν R r =
+  pub delivery_sync : (ν : NamedLft) (C R : RattleType) → IsSync C → IsSync R → IsSync (delivery.the_row ν κ N F G C R g g' g'')
+  delivery_sync ν C R c r =
       let talks : IsSync (mutex.the_row (talk.the_row κ N F G R g g' g'')) = mutex_sync.the_sync _ (talk_send R r) in
-      declared_sync (delivery.the_type ν κ N F G R g g' g'') (search (sendable, r) depth 20, (shared ν _ _ talks, (search (sendable, conn.the_sync) depth 20, tt)))
+      declared_sync (delivery.the_type ν κ N F G C R g g' g'') (search (sendable, r) depth 20, (search (sendable, c) depth 20, (search (sendable, frame_ends.the_sync) depth 20, (shared ν _ _ talks, (search (sendable, conn.the_sync) depth 20, tt)))))
 
   -- a server with its scribes
   pub long_server_sync : (ν ι : NamedLft) (C R K : RattleType) (k : keeper.Ghosts K.Denot) → IsSync C → IsSync R → IsSend K → IsSync (long_server.the_row ν κ ι N F G C R K g g' g'' k)

@@ -1,5 +1,6 @@
 pub mod Clients
 pub mod Driving
+pub mod Timed
 pub mod Openings
 pub mod Batches
 pub mod Keeping

@@ -2,6 +2,8 @@
 
 use crate::conn::Conn;
 use crate::conversation::Conversation;
+use crate::frame_ends::FrameEnds;
+use crate::serving::Clock;
 use can_fault::FaultSource;
 use can_hub::HubBus;
 use can_meter::MeterName;
@@ -23,9 +25,12 @@ pub struct Delivery<
     N: RollName + MeterName,
     F: FaultSource + Drop,
     G: Gate + Drop,
+    C,
     R: Wait,
 > {
     pub rt: &'s R,
+    pub host: &'s C,
+    pub ends: &'s FrameEnds,
     pub talk: &'s Mutex<Conversation<'t, N, F, G, R>>,
     pub conn: &'s Conn,
 }
@@ -36,8 +41,9 @@ impl<
     N: RollName + MeterName,
     F: FaultSource + Drop,
     G: Gate + Drop,
+    C: Clock,
     R: Wait + time::Clock,
-> Delivery<'s, 't, N, F, G, R> {
+> Delivery<'s, 't, N, F, G, C, R> {
     /// Gives the client its items, until the session is over, its socket is closed or the record is full. Where items
     /// are refused for another reason, as want of memory, the session ends.
     pub fn deliver_all(&self) {
@@ -50,6 +56,7 @@ impl<
             if wake != WakeReason::Ready {
                 break;
             }
+            self.await_frames(place.station);
             if !self.deliver_waiting(waiting) {
                 stop_full(self.rt, place.station);
                 if !place.station.is_full() {
@@ -59,6 +66,16 @@ impl<
                 break;
             }
         }
+    }
+
+    /// Waits until the frames are over whose items wait, on a bus with bit rates. No lock is held meanwhile.
+    fn await_frames(&self, station: &Station<N, F, G, HubBus>) {
+        let last = self.ends.last(usize::from(station.number()));
+        if last == 0 {
+            return;
+        }
+        let left = last.saturating_sub(self.host.now().micros());
+        station.rest(self.rt, Duration::from_micros(left));
     }
 
     /// Gives the client the items that wait, of which there are `waiting`. Returns whether there can be more.

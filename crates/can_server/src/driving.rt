@@ -21,11 +21,11 @@ use std::time;
 use std::time::Duration;
 
 /// The most steps of a driver in one hold of the lock.
-const MOST_STEPS: u32 = 64;
+pub const MOST_STEPS: u32 = 64;
 
 /// What became of a driver's steps.
 #[derive(Drop)]
-enum Stepped {
+pub enum Stepped {
     /// It goes on, after an attempt in which these interfaces changed.
     On(Changes),
     /// It is over: all sessions are, and no attempt would change what they see.
@@ -72,6 +72,17 @@ impl<
         if bus >= self.buses.count() {
             return false;
         }
+        match self.buses.timing(bus) {
+            Some(timing) => self.step_in_time(bus, timing, pass),
+            None => self.step_at_pace(bus, pass),
+        }
+    }
+
+    /// Steps a bus without bit rates, as `step_all` does.
+    fn step_at_pace(&self, bus: usize, pass: &mut Pass<N>) -> bool {
+        if bus >= self.buses.count() {
+            return false;
+        }
         let station = self.buses.station(bus);
         let pace = Duration::from_millis(u64::from(self.buses.pace_ms(bus)));
         let most = if pace.is_zero() { MOST_STEPS } else { 1 };
@@ -84,9 +95,7 @@ impl<
             match self.step_some(hold, most, pass) {
                 Stepped::On(changes) => {
                     self.report_changes(bus, changes);
-                    if is_nearly_full && !was_nearly_full {
-                        self.host.notify(Notice::NearlyFull { bus });
-                    }
+                    self.report_nearly_full(bus, is_nearly_full && !was_nearly_full);
                     was_nearly_full = is_nearly_full;
                     station.rest(self.rt, pace);
                 }
@@ -123,8 +132,15 @@ impl<
         Stepped::On(Changes::none())
     }
 
+    /// Reports to the host that a bus has become nearly full, if it has.
+    pub fn report_nearly_full(&self, bus: usize, has_become: bool) {
+        if has_become {
+            self.host.notify(Notice::NearlyFull { bus });
+        }
+    }
+
     /// Reports to the host which interfaces went bus off in an attempt, and which were restarted.
-    fn report_changes(&self, bus: usize, changes: Changes) {
+    pub fn report_changes(&self, bus: usize, changes: Changes) {
         if !changes.are_some() {
             return;
         }
@@ -143,14 +159,14 @@ impl<
 
 /// The interfaces that changed in an attempt.
 #[derive(Debug, Clone, Copy)]
-struct Changes {
+pub struct Changes {
     off: IfaceSet,
     restarted: IfaceSet,
 }
 
 impl Changes {
     /// Of no attempt.
-    fn none() -> Changes {
+    pub fn none() -> Changes {
         Changes {
             off: IfaceSet::empty(),
             restarted: IfaceSet::empty(),
@@ -158,14 +174,14 @@ impl Changes {
     }
 
     /// Whether an interface changed.
-    fn are_some(&self) -> bool
+    pub fn are_some(&self) -> bool
         ensures { result ≡ false ↔ (self.now.off ≡ no_ifaces) × (self.now.restarted ≡ no_ifaces) }
     {
         !self.off.is_empty() || !self.restarted.is_empty()
     }
 
     /// Of this attempt.
-    fn of(attempt: &Attempt) -> Changes
+    pub fn of(attempt: &Attempt) -> Changes
         ensures off { result.off ≡ off_in attempt.now }
         ensures restarted { result.restarted ≡ restarted_in (told_attempt attempt.now) }
     {
@@ -184,7 +200,7 @@ impl Changes {
 
 /// Whether an attempt neither sent a frame nor restarted an interface. Once all sessions are over, more of these only fill
 /// the record.
-fn makes_no_progress(attempt: &Attempt) -> bool
+pub fn makes_no_progress(attempt: &Attempt) -> bool
     ensures { IsTrue result ↔ IsInVain attempt.now }
 {
     match attempt {

@@ -20,6 +20,7 @@ pub mod conn;
 mod conversation;
 mod delivering;
 mod driving;
+mod frame_ends;
 pub mod given;
 pub mod notice;
 pub mod opening;
@@ -27,6 +28,7 @@ pub mod scribing;
 mod server;
 pub mod serving;
 mod sessions;
+mod timed_driving;
 
 pub use acceptor::{Acceptor, Listener};
 pub use batch::{Batch, Taken};

@@ -41,6 +41,12 @@ pub enum Notice {
         bus: usize,
         iface: Iface,
     },
+    /// The driver of this bus, which has bit rates, was so many milliseconds late, and left out what it missed. It is
+    /// reported at most once in a minute.
+    Late {
+        bus: usize,
+        millis: u64,
+    },
     /// This bus has nine tenths of the entries that it may have. It is reported once.
     NearlyFull {
         bus: usize,

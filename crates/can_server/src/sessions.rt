@@ -95,6 +95,8 @@ impl<
         });
         let delivery = Delivery {
             rt: self.rt,
+            host: self.host,
+            ends: self.ends,
             talk,
             conn,
         };

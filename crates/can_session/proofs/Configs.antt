@@ -15,7 +15,7 @@ use Rattle.can_dialog.specs.declared.stage.Stage.TheVariants.{NoBus, Opened, Raw
 use Rattle.can_dialog.specs.declared.stage.Dialog.{Dialog}
 use Rattle.can_dialog.specs.Calls.{Call}
 use Rattle.can_dialog.specs.Calls.{Reply as CallReply}
-use Rattle.can_dialog.specs.Calls.Call.{Names, Attach, Open, Close, SetFilters, SetOption, Send, Receive, Restart, Attempt, CountsOfSocket, CountsOfIface, CountersOfIface, Inject, CountsRules, EndsRules}
+use Rattle.can_dialog.specs.Calls.Call.{Names, Attach, Open, Close, SetFilters, SetOption, Send, Receive, Restart, Attempt, CountsOfSocket, CountsOfIface, CountersOfIface, LoadAt, Inject, CountsRules, EndsRules}
 use Rattle.can_dialog.specs.Plans.{Plan, Plays}
 use Rattle.can_dialog.specs.Plans.Plan.{Tell, Ask}
 use Rattle.can_dialog.specs.Sessions.{SessionState, Turns}
@@ -54,6 +54,7 @@ stepped old (Attempt moment verdict) answer new h = answered _ old.journal _ h.0
 stepped old (CountsOfSocket socket) answer new h = ap of_bus h.1
 stepped old (CountsOfIface iface) answer new h = ap of_bus h.1
 stepped old (CountersOfIface iface) answer new h = ap of_bus h.1
+stepped old (LoadAt moment) answer new h = ap of_bus h.1
 stepped old (Inject rule) answer new h = ap of_bus h.3
 stepped old Names answer new h = ap of_bus h.1
 stepped old CountsRules answer new h = ap of_bus h.1

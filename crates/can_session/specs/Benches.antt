@@ -21,7 +21,7 @@ use Rattle.can_dialog.specs.Turns.{ending, delivery, greeting}
 use Rattle.can_dialog.specs.Deliveries.{AreGiven}
 use Rattle.can_dialog.specs.Sessions.{SessionState, Turns, beginning}
 use Rattle.can_session.specs.BusSteps.{NamedBus, BusStep, next_number, head_on, verdict_on, plan_left}
-use Rattle.can_session.specs.Wires.{WireClock, attempt_moment, wire_left, moment_left, begins_before}
+use Rattle.can_session.specs.Wires.{Wire, attempt_moment, wire_left, moment_left, begins_before}
 use Rattle.can_session.specs.declared.ignored_input.IgnoredInput.{IgnoredInput}
 use Rattle.can_session.specs.IgnoredInput.{ignored_then}
 use Rattle.can_session.specs.Orders.{Effect, order_of}
@@ -37,7 +37,7 @@ pub record BenchState : Type 0 where
   pub bus : NamedBus
   pub sessions : List (Option SessionState)
   pub moment : ℕ
-  pub wire : Option WireClock
+  pub wire : Option Wire
   pub ignored : IgnoredInput
 
 -- session s: `Some None` where it was not started, `None` where there is no such number
@@ -112,7 +112,7 @@ abbrev pub next_moment : BenchState → ℕ
 next_moment b = attempt_moment b.wire b.moment (head_on b.bus)
 
 -- what its line says of that: nothing where the bus has no bit rates
-abbrev pub said_moment : Option WireClock → ℕ → Option ℕ
+abbrev pub said_moment : Option Wire → ℕ → Option ℕ
 said_moment wire moment = option_map (λ w. moment) wire
 
 -- the bench when the time of an attempt has passed that came to this and had this verdict

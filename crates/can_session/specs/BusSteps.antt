@@ -18,11 +18,12 @@ use Rattle.can_bus.specs.Answer.{Answers}
 use Rattle.can_record.specs.Outcomes.{done_reply, told_attempt}
 use Rattle.can_event.specs.declared.stats.IfaceStats.{IfaceStats}
 use Rattle.can_bus.specs.Stats.{socket_stats_of, iface_stats_of}
+use Rattle.can_proto.specs.Spelling.{no_load}
 use Rattle.can_dialog.specs.declared.port.PortRefusal.{PortRefusal}
 use Rattle.can_dialog.specs.declared.port.PortRefusal.TheVariants as port
 use Rattle.can_dialog.specs.Calls.{Call, reply_to_rule}
 use Rattle.can_dialog.specs.Calls.{Reply as CallReply}
-use Rattle.can_dialog.specs.Calls.Call.{Names, Attach, Open, Close, SetFilters, SetOption, Send, Receive, Restart, Attempt, CountsOfSocket, CountsOfIface, CountersOfIface, Inject, CountsRules, EndsRules}
+use Rattle.can_dialog.specs.Calls.Call.{Names, Attach, Open, Close, SetFilters, SetOption, Send, Receive, Restart, Attempt, CountsOfSocket, CountsOfIface, CountersOfIface, LoadAt, Inject, CountsRules, EndsRules}
 
 -- A bus as a port: each call but the look-ups and those of rules is one event of the bus.
 
@@ -86,6 +87,7 @@ BusStep old (Attempt moment verdict) answer new = IsEvent told_attempt old (even
 BusStep old (CountsOfSocket socket) answer new = (answer ≡ socket_stats_of old.journal.config old.journal.history socket.0) × (new ≡ old)
 BusStep old (CountsOfIface iface) answer new = (answer ≡ iface_stats_of old.journal.config old.journal.history iface) × (new ≡ old)
 BusStep old (CountersOfIface iface) answer new = (answer ≡ counters_in (iface_stats_of old.journal.config old.journal.history iface)) × (new ≡ old)
+BusStep old (LoadAt moment) answer new = (answer ≡ no_load) × (new ≡ old)
 BusStep old (Inject rule) answer new = IsInjected old rule answer new
 BusStep old CountsRules answer new = (answer ≡ length old.plan.rules) × (new ≡ old)
 BusStep old EndsRules answer new = new ≡ record old { plan = without_rules old.plan }

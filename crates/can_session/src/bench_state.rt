@@ -15,14 +15,14 @@ use crate::line_prefix::{begin_output, end_output};
 use crate::order::{Order, SessionNumber, read_order};
 use crate::starts::{make_bus, no_sessions, the_start};
 use crate::turns::{self, Act, BenchPort};
-use crate::wire_clock::{WireClock, unused_wire};
+use crate::wire_times::{attempt_lasts, frame_lasts, unused_wire};
 use can_bus::{Attempt, BusConfig, Record, Refusal};
 use can_dialog::Session;
 use can_event::MAX_RX_CAPACITY;
 use can_fault::{FaultSource, Verdict};
 use can_frame::{Moment, Names};
 use can_rules::{Plan, RuleRefusal};
-use can_wire::Timing;
+use can_wire::{Timing, Wire};
 use std::alloc::{AllocError, Global};
 use std::marker::Model;
 
@@ -34,7 +34,7 @@ pub struct Bench {
     capacity: u32,
     sessions: Vec<Option<Session>>,
     moment: Moment,
-    wire: Option<WireClock>,
+    wire: Option<Wire>,
     ignored: IgnoredInput,
 }
 
@@ -284,7 +284,10 @@ impl Bench {
         ensures { result ≡ next_moment self.now }
     {
         match self.wire {
-            Some(wire) => wire.attempt_moment(self.moment, self.port.next_head()),
+            Some(wire) => {
+                let lasts = frame_lasts(wire.timing(), self.port.next_head());
+                wire.moment_after(self.moment, lasts)
+            }
             None => self.moment,
         }
     }
@@ -306,7 +309,8 @@ impl Bench {
         let Some(wire) = self.wire else {
             return;
         };
-        let after = wire.after(self.moment, verdict, outcome);
+        let lasts = attempt_lasts(wire.timing(), verdict, outcome);
+        let after = wire.taken_for(self.moment, lasts);
         self.moment = after.free_at();
         self.wire = Some(after);
     }

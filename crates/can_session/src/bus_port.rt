@@ -13,6 +13,7 @@ use can_confine::Counters;
 use can_dialog::{Port, PortRefusal, put_names, rule_reply};
 use can_fault::Verdict;
 use can_frame::{Frame, Iface, Moment, Names};
+use can_proto::BusLoad;
 use can_queue::BoundedQueue;
 use can_rules::{Plan, RuleRefusal};
 use std::alloc::{AllocError, Global};
@@ -187,6 +188,11 @@ impl<T: BoundedQueue<Pending>, R: BoundedQueue<Received>, A: Arbiter> Port for B
             Some(stats) => stats.counters,
             None => Counters::zero(),
         }
+    }
+
+    // It knows no bit rate.
+    fn load(&mut self, _moment: Moment) -> BusLoad {
+        BusLoad::none()
     }
 
     fn inject(&mut self, rule: &[u8]) -> Result<(), PortRefusal> {

@@ -3,7 +3,7 @@ ghost use Rattle.can_fault.specs.declared.verdict.Verdict.{Verdict};
 ghost use Rattle.can_event.specs.declared.attempt.Attempt.{Attempt};
 ghost use Rattle.can_event.specs.declared.refusal.Refusal.{Refusal};
 ghost use Rattle.can_session.specs.Benches.{BenchState, is_due, next_moment, passed, said_moment};
-ghost use Rattle.can_session.specs.Wires.{WireClock, begin_of, wire_after};
+ghost use Rattle.can_session.specs.Wires.{Wire, begin_of, wire_after};
 ghost use Rattle.can_session.specs.Lines.{FindsEnd, Given, Input, IsWithin, Stops, StopsBehind, TakesLine, left_of, lines_of};
 ghost use Rattle.can_session.specs.declared.lines.LineFault.{LineFault};
 ghost use Rattle.can_session.specs.declared.lines.LineFault.TheVariants.{TooLong, Read};
@@ -53,9 +53,9 @@ pub fn attempts_take_no_time_without_bit_rates()
 /// On one with bit rates an attempt begins neither before the moment that is set nor before the wire is free, and
 /// afterwards the wire is free no earlier than that.
 pub fn one_attempt_comes_after_another()
-    ensures begins { (w : WireClock) (moment : ℕ) →
+    ensures begins { (w : Wire) (moment : ℕ) →
         (moment * 1000 ≤ begin_of moment w) × (w.free ≤ begin_of moment w) }
-    ensures ends { (w : WireClock) (moment : ℕ) (v : Verdict) (outcome : Result Attempt Refusal) →
+    ensures ends { (w : Wire) (moment : ℕ) (v : Verdict) (outcome : Result Attempt Refusal) →
         moment < 10 ^ 16 → w.free < 10 ^ 19 →
         begin_of moment w ≤ (wire_after moment v outcome w).free }
 {}

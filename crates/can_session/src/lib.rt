@@ -20,11 +20,12 @@ pub mod order;
 mod read_buffer;
 mod starts;
 mod turns;
-mod wire_clock;
+mod wire_times;
 
 pub use bench_run::{BenchConfig, BenchFault, bench, bench_lines, bench_noting};
 pub use bus_port::BusPort;
 pub use can_dialog::{Dialog, Port, PortRefusal, RawSocket, Session, SessionFault, Stage};
+pub use can_proto::BusLoad;
 pub use ignored_input::IgnoredInput;
 pub use lines::{LineFault, Lines};
 pub use order::{Order, SessionNumber, read_order};

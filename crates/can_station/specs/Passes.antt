@@ -196,6 +196,11 @@ MadeStep verdicts old pass moment (Ok a) new pass' = IsStepMade verdicts old pas
 MadeStep verdicts old pass moment (Err (station.Bus why)) new pass' = IsStepMade verdicts old pass moment (reply.Refused why) new pass' ⊎ ((why ≡ refusal.NoMemory) × IsUnchanged old pass new pass')
 MadeStep verdicts old pass moment (Err station.WrongStation) new pass' = ¬ (pass.number ≡ old.number) × IsUnchanged old pass new pass'
 
+-- what an attempt came to, without its verdict
+abbrev pub without_verdict : Result (Verdict × Attempt) StationRefusal → Result Attempt StationRefusal
+without_verdict (Ok r) = Ok r.1
+without_verdict (Err why) = Err why
+
 -- a state that this station can be in: it has its number and its configuration, which is within the limits; the history is
 -- legal, and its entries can be marked with passes so that the calls of each are the entries marked with it
 pub record IsStateOf {F : Type 0} (station : StationSeen) (held : Held F) : Type 0 where

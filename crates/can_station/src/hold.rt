@@ -4,10 +4,10 @@ ghost use Rattle.can_event.specs.Replies.{receive_reply, taken_reply};
 ghost use Rattle.can_event.specs.declared.event.Event.TheVariants as event;
 ghost use Rattle.can_rules.specs.Plans.{Injected, without_rules};
 ghost use Rattle.can_station.specs.Held.{with_plan};
-ghost use Rattle.can_station.specs.Passes.{ChangesNothing, IsCarriedOut, IsReady, IsReadyFor, IsReceived, IsStepped, Keeps, Suits, Called, Made, MadeStep, next_attempt, same};
+ghost use Rattle.can_station.specs.Passes.{ChangesNothing, IsCarriedOut, IsReady, IsReadyFor, IsReceived, IsStepped, Keeps, Suits, Called, Made, MadeStep, next_attempt, next_verdict, same, without_verdict};
 ghost use Rattle.can_station.specs.Waits.{IsNearlyFull, has_work};
 
-use crate::attempts::attempt_in;
+use crate::attempts::{attempt_in, with_verdict};
 use crate::gate::{Gate, Point};
 use crate::pass::{Pass, keep, make_ready, make_ready_for};
 use crate::receives::keep_receive;
@@ -16,7 +16,7 @@ use crate::station::Station;
 use crate::station_state::StationState;
 use crate::waits::Wakeups;
 use can_bus::{Attempt, Event, Journaled, Received, Refusal, Reply, RingBus, SocketId};
-use can_fault::FaultSource;
+use can_fault::{FaultSource, Verdict};
 use can_frame::{Frame, Iface, Moment, Names};
 use can_meter::MeterName;
 use can_record::PackedList;
@@ -207,6 +207,30 @@ impl<'s, N: RollName + MeterName, F: FaultSource + Drop, G: Gate + Drop, B: Jour
         attempt_in(reply)
     }
 
+    /// Tries the frame that wins the bus, as `step` does, and returns the attempt's verdict too.
+    pub fn step_judged(
+        &mut self,
+        alloc: Global,
+        pass: &mut Pass<N>,
+        moment: Moment,
+    ) -> Result<(Verdict, Attempt), StationRefusal>
+        ensures made { MadeStep F.verdicts self.old pass.old moment (without_verdict result) self.new pass.new }
+        ensures source { F.verdicts self.new.source ≡ F.verdicts self.old.source }
+        ensures verdict { IfOk result (λ r. r.0 ≡ next_verdict F.verdicts self.old) }
+    {
+        if make_ready(&mut pass.calls, alloc).is_err() {
+            return Err(StationRefusal::Bus(Refusal::NoMemory));
+        }
+        if pass.slip.number() != self.state.number() {
+            return Err(StationRefusal::WrongStation);
+        }
+        let judged = self.carry_out_judged(alloc, &mut pass.slip, &mut pass.calls, moment);
+        let Some((verdict, reply)) = judged else {
+            return Err(StationRefusal::Bus(Refusal::NoMemory));
+        };
+        with_verdict(verdict, attempt_in(reply))
+    }
+
     /// Carries out an attempt at a moment, with the verdict of the source or the plan, for the pass of this slip.
     pub(crate) fn carry_out_step(
         &mut self,
@@ -224,13 +248,35 @@ impl<'s, N: RollName + MeterName, F: FaultSource + Drop, G: Gate + Drop, B: Jour
         ensures none { IfNone result
             (ChangesNothing self.old slip.old calls.old self.new slip.new calls.new) }
     {
+        let (_, reply) = self.carry_out_judged(alloc, slip, calls, moment)?;
+        Some(reply)
+    }
+
+    /// Carries out an attempt as `carry_out_step` does, and returns its verdict too.
+    fn carry_out_judged(
+        &mut self,
+        alloc: Global,
+        slip: &mut Slip<N>,
+        calls: &mut Option<PackedList>,
+        moment: Moment,
+    ) -> Option<(Verdict, Reply)>
+        requires own { slip.old.number ≡ self.old.number }
+        requires ready { IsReady calls.old }
+        ensures verdict { IfSome result (λ r. r.0 ≡ next_verdict F.verdicts self.old) }
+        ensures carried { IfSome result (λ r. IsStepped F.verdicts self.old slip.old moment r.1 self.new slip.new) }
+        ensures source { F.verdicts self.new.source ≡ F.verdicts self.old.source }
+        ensures calls { IfSome result (λ r. Keeps calls.old (next_attempt F.verdicts self.old moment) r.1 calls.new) }
+        ensures suits { IfSome result (λ r. Suits (next_attempt F.verdicts self.old moment) r.1) }
+        ensures none { IfNone result
+            (ChangesNothing self.old slip.old calls.old self.new slip.new calls.new) }
+    {
         let station = self.station;
         station.gate.at(Point::InStep);
         let (verdict, reply) = self.state.step(alloc, slip, moment)?;
         let event = Event::Attempt(moment, verdict);
         self.wakeups.add(&event, &reply);
         keep(calls, event, &reply);
-        Some(reply)
+        Some((verdict, reply))
     }
 
     /// Takes the rule that a text spells, as the station's `inject` does.

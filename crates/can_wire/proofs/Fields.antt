@@ -1,10 +1,9 @@
 use Rattle.std.proofs.Common.{◌≡◌, ℕ, zero, suc, ◌+◌, ◌/◌, ◌^◌, ◌<◌, Bool, true, false, List, [], ◌∷◌, ◌++◌, length, drop, get_or, refl, sym, ap, ◌∙◌, append_assoc, arith}
 use Rattle.std.proofs.Math.Seq.{drop-cons}
-use Rattle.can_frame.specs.Frames.{CanFrame, payload_len}
+use Rattle.can_frame.specs.Frames.{CanFrame, payload_len, payload_flags}
 use Rattle.can_frame.specs.Arbitration.{arbitration_bits, low_bits, standard_bits, extended_bits}
 use Rattle.can_wire.specs.Stuffing.{stuffed, stuffed_inside}
 use Rattle.can_wire.specs.FrameBits.{byte_bits, bit_of, reserved_bits, classic_head, fd_head}
-use Rattle.can_wire.specs.declared.flags.FdFlags.{FdFlags}
 use Rattle.can_wire.specs.inner.Sending.{Sent, nothing_sent, flushed, sent_all, shifted_all}
 use Rattle.can_wire.proofs.Counted.{sent_all-append, counted_all, counted_inside}
 use Rattle.can_wire.proofs.Divided.{shifted_all-append}
@@ -33,9 +32,9 @@ flag_bit : (flag : Bool) (bits : List ℕ) → bits ++ 1 ∷ 0 ∷ [] ++ low_bit
 flag_bit true bits = append_assoc bits (1 ∷ 0 ∷ []) (1 ∷ [])
 flag_bit false bits = append_assoc bits (1 ∷ 0 ∷ []) (0 ∷ [])
 
-pub fd_sent : (f : CanFrame) (flags : FdFlags) → (0 ∷ arbitration_bits f) ++ low_bits 2 2 ++ low_bits 1 (bit_of flags.brs) ≡ fd_head f flags
+pub fd_sent : (f : CanFrame) → (0 ∷ arbitration_bits f) ++ low_bits 2 2 ++ low_bits 1 (bit_of (payload_flags f.payload).brs) ≡ fd_head f
 unfolding fd_head
-fd_sent f flags = flag_bit flags.brs (0 ∷ arbitration_bits f)
+fd_sent f = flag_bit (payload_flags f.payload).brs (0 ∷ arbitration_bits f)
 
 pub control_sent : (esi : Bool) (code : ℕ) → [] ++ low_bits 1 (bit_of esi) ++ low_bits 4 code ≡ bit_of esi ∷ low_bits 4 code
 control_sent true code = refl

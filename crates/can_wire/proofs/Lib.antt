@@ -6,3 +6,4 @@ pub mod Widths
 pub mod Bounds
 pub mod Rounded
 pub mod Fields
+pub mod Loaded

@@ -7,7 +7,6 @@ use Rattle.can_fault.specs.declared.verdict.LocalKind.TheVariants as local
 use Rattle.can_attempt.specs.declared.class.Class.{Class}
 use Rattle.can_attempt.specs.declared.class.Class.TheVariants as class
 use Rattle.can_wire.specs.FrameBits.{bits_to_data_end, bits_to_check_end, frame_bits_of, then_nominal}
-use Rattle.can_wire.specs.declared.flags.FdFlags.{FdFlags}
 use Rattle.can_wire.specs.declared.wire_bits.WireBits.{WireBits}
 
 -- How many bits attempts take, from start of frame until the next frame may begin (own choice, since a verdict names
@@ -54,12 +53,12 @@ intermission = 3
 
 -- how many bits of a frame are sent before its fault is answered by flags: after a CRC error a flag begins after the ACK
 -- delimiter (Bosch, section 7.2)
-abbrev pub bits_to_fault : CanFrame → FdFlags → Verdict → WireBits
-bits_to_fault f flags v = if is_early v then bits_to_data_end f flags else then_nominal (bits_to_check_end f flags) to_ack_delimiter
+abbrev pub bits_to_fault : CanFrame → Verdict → WireBits
+bits_to_fault f v = if is_early v then bits_to_data_end f else then_nominal (bits_to_check_end f) to_ack_delimiter
 
 -- how many bits an attempt takes: at no acknowledgement its sender's flag begins after the ACK slot
-abbrev pub attempt_bits_of : CanFrame → FdFlags → Class → Verdict → WireBits
-attempt_bits_of f flags class.Done v = then_nominal (frame_bits_of f flags) intermission
-attempt_bits_of f flags class.LastBit v = then_nominal (frame_bits_of f flags) (overload_answered_flag + delimiter + intermission)
-attempt_bits_of f flags class.NoAck v = then_nominal (bits_to_check_end f flags) (to_ack_slot + flag + delimiter + intermission)
-attempt_bits_of f flags class.Destroyed v = then_nominal (bits_to_fault f flags v) (answered_flag + delimiter + intermission)
+abbrev pub attempt_bits_of : CanFrame → Class → Verdict → WireBits
+attempt_bits_of f class.Done v = then_nominal (frame_bits_of f) intermission
+attempt_bits_of f class.LastBit v = then_nominal (frame_bits_of f) (overload_answered_flag + delimiter + intermission)
+attempt_bits_of f class.NoAck v = then_nominal (bits_to_check_end f) (to_ack_slot + flag + delimiter + intermission)
+attempt_bits_of f class.Destroyed v = then_nominal (bits_to_fault f v) (answered_flag + delimiter + intermission)

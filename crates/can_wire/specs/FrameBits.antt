@@ -1,9 +1,8 @@
 use Rattle.std.specs.Prelude.{ℕ, ◌+◌, ◌-◌, ◌/◌, ◌%◌, bit_xor, nat_le, ◌==◌, ◌&&◌, Bool, List, [], ◌∷◌, ◌++◌, length, replicate, if◌then◌else◌}
-use Rattle.can_frame.specs.Frames.{CanFrame, payload_len, payload_bytes, is_fd}
+use Rattle.can_frame.specs.Frames.{CanFrame, payload_len, payload_bytes, payload_flags, is_fd}
 use Rattle.can_frame.specs.Arbitration.{arbitration_bits, low_bits}
 use Rattle.can_wire.specs.Stuffing.{stuffed, stuffed_inside, then_fixed_stuffed}
 use Rattle.can_wire.specs.Division.{check_of, check_from_one, generator_15, generator_17, generator_21}
-use Rattle.can_wire.specs.declared.flags.FdFlags.{FdFlags}
 use Rattle.can_wire.specs.declared.wire_bits.WireBits.{WireBits}
 
 -- The bits of frames on the wire, the first sent first: 0 is dominant (Bosch CAN Specification 2.0, section 3.2.1; for
@@ -43,24 +42,24 @@ checked_bits f = covered_bits f ++ check_of generator_15 (covered_bits f)
 -- ---- FD frames
 
 -- an FD frame from start of frame to BRS, the bit that says whether it switches to the data bit rate: FDF is 1, res 0
-unfoldable pub fd_head : CanFrame → FdFlags → List ℕ
-fd_head f flags = 0 ∷ arbitration_bits f ++ 1 ∷ 0 ∷ bit_of flags.brs ∷ []
+unfoldable pub fd_head : CanFrame → List ℕ
+fd_head f = 0 ∷ arbitration_bits f ++ 1 ∷ 0 ∷ bit_of (payload_flags f.payload).brs ∷ []
 
 -- the data length code of an FD frame of so many bytes (ISO 11898-1; linux/can.h, struct canfd_frame)
 abbrev pub fd_code : ℕ → ℕ
 fd_code n = if nat_le n 8 then n else if n == 12 then 9 else if n == 16 then 10 else if n == 20 then 11 else if n == 24 then 12 else if n == 32 then 13 else if n == 48 then 14 else 15
 
 -- the rest of it to its last data bit: ESI, the data length code and the data
-abbrev pub fd_rest : CanFrame → FdFlags → List ℕ
-fd_rest f flags = bit_of flags.esi ∷ low_bits 4 (fd_code (payload_len f.payload)) ++ byte_bits (payload_bytes f.payload)
+abbrev pub fd_rest : CanFrame → List ℕ
+fd_rest f = bit_of (payload_flags f.payload).esi ∷ low_bits 4 (fd_code (payload_len f.payload)) ++ byte_bits (payload_bytes f.payload)
 
 -- the whole to its last data bit, as it is sent
-abbrev pub fd_to_data_end : CanFrame → FdFlags → List ℕ
-fd_to_data_end f flags = stuffed_inside (fd_head f flags ++ fd_rest f flags)
+abbrev pub fd_to_data_end : CanFrame → List ℕ
+fd_to_data_end f = stuffed_inside (fd_head f ++ fd_rest f)
 
 -- how many of these are stuff bits
-abbrev pub fd_stuff_bits : CanFrame → FdFlags → ℕ
-fd_stuff_bits f flags = length (fd_to_data_end f flags) - length (fd_head f flags ++ fd_rest f flags)
+abbrev pub fd_stuff_bits : CanFrame → ℕ
+fd_stuff_bits f = length (fd_to_data_end f) - length (fd_head f ++ fd_rest f)
 
 -- the stuff count: a number of stuff bits modulo 8 in Gray code, and a bit that makes the number of its ones even
 abbrev pub stuff_count : ℕ → List ℕ
@@ -71,26 +70,26 @@ abbrev pub fd_generator : ℕ → List ℕ
 fd_generator n = if nat_le n 16 then generator_17 else generator_21
 
 -- its stuff count, and its CRC, which covers the bits as they are sent, and the stuff count
-unfoldable pub fd_check : CanFrame → FdFlags → List ℕ
-fd_check f flags = stuff_count (fd_stuff_bits f flags) ++ check_from_one (fd_generator (payload_len f.payload)) (fd_to_data_end f flags ++ stuff_count (fd_stuff_bits f flags))
+unfoldable pub fd_check : CanFrame → List ℕ
+fd_check f = stuff_count (fd_stuff_bits f) ++ check_from_one (fd_generator (payload_len f.payload)) (fd_to_data_end f ++ stuff_count (fd_stuff_bits f))
 
 -- an FD frame to the end of its CRC, as it is sent
-abbrev pub fd_to_check_end : CanFrame → FdFlags → List ℕ
-fd_to_check_end f flags = then_fixed_stuffed (fd_to_data_end f flags) (fd_check f flags)
+abbrev pub fd_to_check_end : CanFrame → List ℕ
+fd_to_check_end f = then_fixed_stuffed (fd_to_data_end f) (fd_check f)
 
 -- ---- any frame
 
 -- a frame from start of frame to its last data bit, or to its data length code where it has no data, as it is sent
-abbrev pub to_data_end : CanFrame → FdFlags → List ℕ
-to_data_end f flags = if is_fd f.payload then fd_to_data_end f flags else stuffed_inside (covered_bits f)
+abbrev pub to_data_end : CanFrame → List ℕ
+to_data_end f = if is_fd f.payload then fd_to_data_end f else stuffed_inside (covered_bits f)
 
 -- to the end of its CRC
-abbrev pub to_check_end : CanFrame → FdFlags → List ℕ
-to_check_end f flags = if is_fd f.payload then fd_to_check_end f flags else stuffed (checked_bits f)
+abbrev pub to_check_end : CanFrame → List ℕ
+to_check_end f = if is_fd f.payload then fd_to_check_end f else stuffed (checked_bits f)
 
 -- to end of frame, as it is on the wire
-abbrev pub wire_of : CanFrame → FdFlags → List ℕ
-wire_of f flags = to_check_end f flags ++ end_bits
+abbrev pub wire_of : CanFrame → List ℕ
+wire_of f = to_check_end f ++ end_bits
 
 -- ---- how many bits there are, by their rates
 
@@ -103,21 +102,21 @@ abbrev pub then_nominal : WireBits → ℕ → WireBits
 then_nominal bits n = record { nominal = bits.nominal + n; fast = bits.fast }
 
 -- how many bits an FD frame has to BRS
-abbrev pub fd_bits_to_brs : CanFrame → FdFlags → ℕ
-fd_bits_to_brs f flags = length (stuffed_inside (fd_head f flags))
+abbrev pub fd_bits_to_brs : CanFrame → ℕ
+fd_bits_to_brs f = length (stuffed_inside (fd_head f))
 
 -- so many bits of this frame: an FD frame with BRS switches
-abbrev pub rated : CanFrame → FdFlags → ℕ → WireBits
-rated f flags n = by_rates (is_fd f.payload && flags.brs) (fd_bits_to_brs f flags) n
+abbrev pub rated : CanFrame → ℕ → WireBits
+rated f n = by_rates (is_fd f.payload && (payload_flags f.payload).brs) (fd_bits_to_brs f) n
 
 -- how many go to the last data bit
-unfoldable pub bits_to_data_end : CanFrame → FdFlags → WireBits
-bits_to_data_end f flags = rated f flags (length (to_data_end f flags))
+unfoldable pub bits_to_data_end : CanFrame → WireBits
+bits_to_data_end f = rated f (length (to_data_end f))
 
 -- how many go to the end of the CRC
-unfoldable pub bits_to_check_end : CanFrame → FdFlags → WireBits
-bits_to_check_end f flags = rated f flags (length (to_check_end f flags))
+unfoldable pub bits_to_check_end : CanFrame → WireBits
+bits_to_check_end f = rated f (length (to_check_end f))
 
 -- how many go to end of frame
-abbrev pub frame_bits_of : CanFrame → FdFlags → WireBits
-frame_bits_of f flags = then_nominal (bits_to_check_end f flags) (length end_bits)
+abbrev pub frame_bits_of : CanFrame → WireBits
+frame_bits_of f = then_nominal (bits_to_check_end f) (length end_bits)

@@ -5,4 +5,7 @@ pub mod AttemptBits
 pub mod Known
 pub mod Times
 pub mod Timings
+pub mod Wires
+pub mod Loads
+pub mod Schedules
 pub mod inner

@@ -1,7 +1,6 @@
 ghost use Rattle.std.specs.Prelude.{◌≡◌, ◌≤◌};
 ghost use Rattle.can_wire.specs.AttemptBits.{is_early, bits_to_fault, attempt_bits_of};
 
-use crate::flags::FdFlags;
 use crate::frames::{bits_to_check_end, bits_to_data_end, frame_bits};
 use crate::wire_bits::WireBits;
 use can_attempt::Class;
@@ -42,34 +41,28 @@ fn is_early(verdict: Verdict) -> bool
 }
 
 /// How many bits of a frame are sent before its fault is answered by flags.
-fn bits_to_fault(frame: &Frame, flags: FdFlags, verdict: Verdict) -> WireBits
-    ensures bits { result ≡ bits_to_fault frame.now flags verdict }
+fn bits_to_fault(frame: &Frame, verdict: Verdict) -> WireBits
+    ensures bits { result ≡ bits_to_fault frame.now verdict }
     ensures few { result.nominal ≤ 1400 }
 {
     if is_early(verdict) {
-        bits_to_data_end(frame, flags)
+        bits_to_data_end(frame)
     } else {
-        bits_to_check_end(frame, flags).then_nominal(TO_ACK_DELIMITER)
+        bits_to_check_end(frame).then_nominal(TO_ACK_DELIMITER)
     }
 }
 
 /// How many bits an attempt to send a frame takes, from start of frame until the next one may begin, if it was struck
 /// by this verdict and ended in this class. A verdict names no bit, so where a failed attempt ends is a choice of this
 /// project. The 8 bits for which an error passive sender waits after it are not counted.
-pub fn attempt_bits(frame: &Frame, flags: FdFlags, class: Class, verdict: Verdict) -> WireBits
-    ensures { result ≡ attempt_bits_of frame.now flags class verdict }
+pub fn attempt_bits(frame: &Frame, class: Class, verdict: Verdict) -> WireBits
+    ensures { result ≡ attempt_bits_of frame.now class verdict }
 {
     let (sent, end) = match class {
-        Class::Done => (frame_bits(frame, flags), 0),
-        Class::LastBit => (frame_bits(frame, flags), OVERLOAD_ANSWERED_FLAG + DELIMITER),
-        Class::NoAck => (
-            bits_to_check_end(frame, flags),
-            TO_ACK_SLOT + FLAG + DELIMITER,
-        ),
-        Class::Destroyed => (
-            bits_to_fault(frame, flags, verdict),
-            ANSWERED_FLAG + DELIMITER,
-        ),
+        Class::Done => (frame_bits(frame), 0),
+        Class::LastBit => (frame_bits(frame), OVERLOAD_ANSWERED_FLAG + DELIMITER),
+        Class::NoAck => (bits_to_check_end(frame), TO_ACK_SLOT + FLAG + DELIMITER),
+        Class::Destroyed => (bits_to_fault(frame, verdict), ANSWERED_FLAG + DELIMITER),
     };
     sent.then_nominal(end + INTERMISSION)
 }

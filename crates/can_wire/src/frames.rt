@@ -1,5 +1,5 @@
 ghost use Rattle.std.specs.Prelude.{◌≡◌, ◌≤◌, ◌<◌, ◌+◌, ◌^◌, ◌∷◌, length, false};
-ghost use Rattle.can_frame.specs.Frames.{is_fd, payload_len, payload_bytes};
+ghost use Rattle.can_frame.specs.Frames.{is_fd, payload_len, payload_bytes, payload_flags};
 ghost use Rattle.can_frame.specs.Arbitration.{arbitration_bits, low_bits, standard_bits, extended_bits};
 ghost use Rattle.can_wire.specs.Stuffing.{stuffed};
 ghost use Rattle.can_wire.specs.FrameBits.{bit_of, classic_head, covered_bits, checked_bits};
@@ -10,7 +10,6 @@ ghost use Rattle.can_wire.specs.inner.Sending.{bits_of, nothing_sent, sent_all, 
 use crate::bits::Bits;
 use crate::checksum::check_sequence;
 use crate::counter::Counter;
-use crate::flags::FdFlags;
 use crate::wire_bits::WireBits;
 use can_frame::Frame;
 
@@ -127,23 +126,26 @@ fn fd_check_width(len: u8) -> u32
 }
 
 /// An FD frame from start of frame to the bit that says whether it switches to the data bit rate.
-fn fd_head(frame: &Frame, flags: FdFlags) -> Bits
-    ensures bits { bits_of result ≡ fd_head frame.now flags }
+fn fd_head(frame: &Frame) -> Bits
+    ensures bits { bits_of result ≡ fd_head frame.now }
     ensures few { result.count ≤ 36 }
 {
-    first_bits(frame).then(2, 0b10).then(1, bit(flags.brs))
+    first_bits(frame)
+        .then(2, 0b10)
+        .then(1, bit(frame.flags().brs))
 }
 
 /// Its bits after that one and before its data.
 #[tactic(auto, using(crate::proofs::Bounds::bytes_within))]
-fn fd_control(frame: &Frame, flags: FdFlags) -> Bits
+fn fd_control(frame: &Frame) -> Bits
     ensures bits { bits_of result
-        ≡ bit_of flags.esi ∷ low_bits 4 (fd_code (payload_len frame.now.payload)) }
+        ≡ bit_of (payload_flags frame.now.payload).esi
+        ∷ low_bits 4 (fd_code (payload_len frame.now.payload)) }
     ensures count { result.count ≡ 5 }
     ensures bytes { length (payload_bytes frame.now.payload) ≤ 64 }
 {
     Bits::none()
-        .then(1, bit(flags.esi))
+        .then(1, bit(frame.flags().esi))
         .then(4, fd_code(frame.len()))
 }
 
@@ -155,16 +157,16 @@ struct FdSent {
 }
 
 /// Sends the bits of an FD frame to its last data bit.
-fn send_fd(frame: &Frame, flags: FdFlags) -> FdSent
-    ensures brs { result.to_brs ≡ fd_bits_to_brs frame.now flags }
-    ensures whole { result.to_data_end ≡ length (fd_to_data_end frame.now flags) }
+fn send_fd(frame: &Frame) -> FdSent
+    ensures brs { result.to_brs ≡ fd_bits_to_brs frame.now }
+    ensures whole { result.to_data_end ≡ length (fd_to_data_end frame.now) }
     ensures rises { result.to_brs ≤ result.to_data_end }
     ensures few { result.to_data_end ≤ 1200 }
 {
     let mut counter = Counter::new();
-    counter.send(fd_head(frame, flags));
+    counter.send(fd_head(frame));
     let to_brs = counter.count();
-    counter.send(fd_control(frame, flags));
+    counter.send(fd_control(frame));
     counter.send_bytes(frame.bytes());
     FdSent {
         to_brs,
@@ -192,13 +194,13 @@ fn by_rates(switches: bool, few: u32, all: u32) -> WireBits
 
 /// How many bits a frame has to its last data bit.
 #[tactic(auto, unfolding(crate::specs::FrameBits::bits_to_data_end))]
-pub(crate) fn bits_to_data_end(frame: &Frame, flags: FdFlags) -> WireBits
-    ensures bits { result ≡ bits_to_data_end frame.now flags }
+pub(crate) fn bits_to_data_end(frame: &Frame) -> WireBits
+    ensures bits { result ≡ bits_to_data_end frame.now }
     ensures few { result.nominal ≤ 1200 }
 {
     if frame.is_fd() {
-        let sent = send_fd(frame, flags);
-        by_rates(flags.brs, sent.to_brs, sent.to_data_end)
+        let sent = send_fd(frame);
+        by_rates(frame.flags().brs, sent.to_brs, sent.to_data_end)
     } else {
         WireBits {
             nominal: send_covered(frame).count(),
@@ -209,14 +211,14 @@ pub(crate) fn bits_to_data_end(frame: &Frame, flags: FdFlags) -> WireBits
 
 /// How many it has to the end of its CRC.
 #[tactic(auto, unfolding(crate::specs::FrameBits::bits_to_check_end))]
-pub(crate) fn bits_to_check_end(frame: &Frame, flags: FdFlags) -> WireBits
-    ensures bits { result ≡ bits_to_check_end frame.now flags }
+pub(crate) fn bits_to_check_end(frame: &Frame) -> WireBits
+    ensures bits { result ≡ bits_to_check_end frame.now }
     ensures few { result.nominal ≤ 1300 }
 {
     if frame.is_fd() {
-        let sent = send_fd(frame, flags);
+        let sent = send_fd(frame);
         by_rates(
-            flags.brs,
+            frame.flags().brs,
             sent.to_brs,
             sent.to_data_end + fd_check_width(frame.len()),
         )
@@ -229,11 +231,10 @@ pub(crate) fn bits_to_check_end(frame: &Frame, flags: FdFlags) -> WireBits
 }
 
 /// How many bits a frame has on the wire, from start of frame to end of frame, with its stuff bits. An FD frame with
-/// BRS sends those after it, to the end of its CRC, at the data bit rate; all others go at the nominal one. A classic
-/// frame has no flags, whatever is passed.
-pub fn frame_bits(frame: &Frame, flags: FdFlags) -> WireBits
-    ensures bits { result ≡ frame_bits_of frame.now flags }
+/// BRS sends those after it, to the end of its CRC, at the data bit rate; all others go at the nominal one.
+pub fn frame_bits(frame: &Frame) -> WireBits
+    ensures bits { result ≡ frame_bits_of frame.now }
     ensures few { result.nominal ≤ 1400 }
 {
-    bits_to_check_end(frame, flags).then_nominal(AFTER_CHECK)
+    bits_to_check_end(frame).then_nominal(AFTER_CHECK)
 }

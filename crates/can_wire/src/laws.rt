@@ -1,5 +1,5 @@
-ghost use Rattle.std.specs.Prelude.{◌≡◌, ◌≤◌, ◌<◌, ◌+◌, ◌-◌, ◌*◌, ◌/◌, ◌∷◌, ◌++◌, []};
-ghost use Rattle.std.specs.Prelude.{ℕ, List, Bool, length, replicate, nat_le, true, false, if◌then◌else◌};
+ghost use Rattle.std.specs.Prelude.{◌≡◌, ◌≤◌, ◌<◌, ◌+◌, ◌-◌, ◌*◌, ◌/◌, ◌^◌, ◌∷◌, ◌++◌, [], min};
+ghost use Rattle.std.specs.Prelude.{ℕ, List, Bool, Option, length, replicate, nat_le, true, false, if◌then◌else◌};
 ghost use Rattle.can_frame.specs.Frames.{CanFrame, payload_bytes, is_fd};
 ghost use Rattle.can_wire.specs.Stuffing.{stuffed, stuffed_inside, unstuffed};
 ghost use Rattle.can_frame.specs.Arbitration.{low_bits};
@@ -7,14 +7,16 @@ ghost use Rattle.can_wire.specs.Division.{check_of, remainder, generator_15, gen
 ghost use Rattle.can_wire.specs.FrameBits.{byte_bits, covered_bits, checked_bits, wire_of, frame_bits_of};
 ghost use Rattle.can_wire.specs.Known.{known_bytes, known_classic, known_short_fd, known_long_fd};
 ghost use Rattle.can_wire.specs.Times.{BitRates, AreBitRates, nanos_of, billionths};
-ghost use Rattle.can_wire.specs.declared.flags.FdFlags.{FdFlags};
+ghost use Rattle.can_wire.specs.Wires.{later};
+ghost use Rattle.can_wire.specs.Loads.{Taken, AreInOrder, busy, busy_in, load_of, over_at, permille_at, recent_of};
+ghost use Rattle.can_wire.specs.Schedules.{Schedule, attempted, next_begin, next_moment};
 ghost use Rattle.can_wire.specs.declared.wire_bits.WireBits.{WireBits};
 
 /// The bits that are counted, at both rates, are those of the frame.
 pub fn every_bit_is_counted()
-    ensures { (f : CanFrame) (flags : FdFlags) →
-        (frame_bits_of f flags).nominal + (frame_bits_of f flags).fast
-        ≡ length (wire_of f flags) }
+    ensures { (f : CanFrame) →
+        (frame_bits_of f).nominal + (frame_bits_of f).fast
+        ≡ length (wire_of f) }
 {}
 
 /// The check sequences of the bytes of "123456789" are those that catalogues of CRCs give for CRC-15/CAN, CRC-17/CAN-FD
@@ -33,11 +35,10 @@ pub fn the_crc_leaves_nothing()
 
 /// Three frames are bit by bit as a model sends them that was written apart (tests/wire_model.py).
 pub fn known_frames_have_their_bits()
-    ensures classic { (flags : FdFlags) →
-        wire_of known_classic flags ≡ low_bits 77 0x2461062446688476AFF }
-    ensures short_crc { wire_of known_short_fd (record { brs = true; esi = true })
+    ensures classic { wire_of known_classic ≡ low_bits 77 0x2461062446688476AFF }
+    ensures short_crc { wire_of known_short_fd
         ≡ low_bits 108 0x6AFA6F783660820C15AE7D676FF }
-    ensures long_crc { wire_of known_long_fd (record { brs = true; esi = false })
+    ensures long_crc { wire_of known_long_fd
         ≡ low_bits 230 0x1554AB04104104115555555555555555555555555555555558E7D1B6FF }
 {}
 
@@ -58,30 +59,30 @@ pub fn unstuffing_gives_the_bits_back()
 /// How few and how many bits a classic frame of n bytes can have, with intermission: those of its fields, and a stuff bit
 /// for each four of those that are stuffed, after the first.
 pub fn classic_frames_have_bounds()
-    ensures standard { (f : CanFrame) (flags : FdFlags) (n : ℕ) →
+    ensures standard { (f : CanFrame) (n : ℕ) →
         is_fd f.payload ≡ false → f.id.extended ≡ false → length (payload_bytes f.payload) ≡ n →
-        (47 + 8 * n ≤ length (wire_of f flags) + 3)
-        × (length (wire_of f flags) + 3 ≤ 47 + 8 * n + (34 + 8 * n - 1) / 4) }
-    ensures extended { (f : CanFrame) (flags : FdFlags) (n : ℕ) →
+        (47 + 8 * n ≤ length (wire_of f) + 3)
+        × (length (wire_of f) + 3 ≤ 47 + 8 * n + (34 + 8 * n - 1) / 4) }
+    ensures extended { (f : CanFrame) (n : ℕ) →
         is_fd f.payload ≡ false → f.id.extended ≡ true → length (payload_bytes f.payload) ≡ n →
-        (67 + 8 * n ≤ length (wire_of f flags) + 3)
-        × (length (wire_of f flags) + 3 ≤ 67 + 8 * n + (54 + 8 * n - 1) / 4) }
-    ensures one_rate { (f : CanFrame) (flags : FdFlags) →
-        is_fd f.payload ≡ false → (frame_bits_of f flags).fast ≡ 0 }
+        (67 + 8 * n ≤ length (wire_of f) + 3)
+        × (length (wire_of f) + 3 ≤ 67 + 8 * n + (54 + 8 * n - 1) / 4) }
+    ensures one_rate { (f : CanFrame) →
+        is_fd f.payload ≡ false → (frame_bits_of f).fast ≡ 0 }
 {}
 
 /// The same of an FD frame. Of what is stuffed the last bit has no stuff bit, and what follows has a fixed length.
 pub fn fd_frames_have_bounds()
-    ensures standard { (f : CanFrame) (flags : FdFlags) (n : ℕ) →
+    ensures standard { (f : CanFrame) (n : ℕ) →
         is_fd f.payload ≡ true → f.id.extended ≡ false → length (payload_bytes f.payload) ≡ n →
         let few = 35 + 8 * n + (if nat_le n 16 then 27 else 32) in
-        (few ≤ length (wire_of f flags) + 3)
-        × (length (wire_of f flags) + 3 ≤ few + (20 + 8 * n) / 4) }
-    ensures extended { (f : CanFrame) (flags : FdFlags) (n : ℕ) →
+        (few ≤ length (wire_of f) + 3)
+        × (length (wire_of f) + 3 ≤ few + (20 + 8 * n) / 4) }
+    ensures extended { (f : CanFrame) (n : ℕ) →
         is_fd f.payload ≡ true → f.id.extended ≡ true → length (payload_bytes f.payload) ≡ n →
         let few = 54 + 8 * n + (if nat_le n 16 then 27 else 32) in
-        (few ≤ length (wire_of f flags) + 3)
-        × (length (wire_of f flags) + 3 ≤ few + (39 + 8 * n) / 4) }
+        (few ≤ length (wire_of f) + 3)
+        × (length (wire_of f) + 3 ≤ few + (39 + 8 * n) / 4) }
 {}
 
 /// The nanoseconds of bits are not too few, and less than one too many.
@@ -90,4 +91,27 @@ pub fn times_are_rounded_up()
         (billionths bits rates ≤ nanos_of bits rates * (rates.nominal * rates.fast))
         × (nanos_of bits rates * (rates.nominal * rates.fast)
         < billionths bits rates + rates.nominal * rates.fast) }
+{}
+
+/// Whatever a driver attempts, and since when, each attempt begins neither before there is something to attempt nor
+/// before the attempt before it is over, and its moment is not before that one's.
+pub fn attempts_come_one_after_another()
+    ensures waits { (s : Schedule) → s.since * 1000 ≤ next_begin s }
+    ensures apart { (s : Schedule) (frame : Option CanFrame) (nanos since : ℕ) →
+        later (next_begin s) nanos
+        ≤ next_begin (record (attempted frame nanos s) { since = since }) }
+    ensures rising { (s : Schedule) (one other : Option CanFrame) (nanos since : ℕ) →
+        next_moment one s ≤ next_moment other (record (attempted one nanos s) { since = since }) }
+{}
+
+/// Of attempts that come one after another, each shorter than a second, it is known for how long they took the wire: in the
+/// last whole second before a moment, in thousandths rounded down, and in all. No second is more than full.
+pub fn loads_are_what_attempts_took()
+    ensures shown { (taken : List Taken) (now second : ℕ) →
+        AreInOrder taken → now / 10 ^ 6 ≡ second + 1 → over_at taken < (second + 3) * 10 ^ 9 →
+        permille_at now (recent_of (load_of taken)) ≡ busy_in second taken / 10 ^ 6 }
+    ensures within { (second : ℕ) (taken : List Taken) →
+        AreInOrder taken → busy_in second taken ≤ 10 ^ 9 }
+    ensures total { (taken : List Taken) → AreInOrder taken →
+        (load_of taken).total ≡ min (busy taken) (2 ^ 64 - 1) }
 {}

@@ -4,22 +4,31 @@
 //! CRC of a classic frame is the remainder of a long division, and stuffing is a rule over the list. Nothing here takes
 //! memory: bits are counted, not kept. How long an attempt lasts that fails is a choice of this project, since a
 //! verdict names no bit.
+//!
+//! [`Wire`] says when attempts begin and end on a bus with bit rates, and [`Schedule`] when those of a server's driver
+//! do; [`Load`] is how busy they keep it.
 #![tactic(auto)]
 
 pub mod attempts;
 mod bits;
 mod checksum;
 mod counter;
-pub mod flags;
 pub mod frames;
 pub mod laws;
+pub mod load;
 pub mod rates;
+pub mod recent_load;
+pub mod schedule;
 pub mod timing;
+pub mod wire;
 pub mod wire_bits;
 
 pub use attempts::attempt_bits;
-pub use flags::FdFlags;
 pub use frames::frame_bits;
+pub use load::Load;
 pub use rates::{BadBitRates, Rates};
+pub use recent_load::RecentLoad;
+pub use schedule::Schedule;
 pub use timing::Timing;
+pub use wire::Wire;
 pub use wire_bits::WireBits;

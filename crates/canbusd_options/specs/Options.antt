@@ -199,6 +199,7 @@ pub record AreServeOptions (rows : List Row) (o : ServeOptions) : Type 0 where
   pub recording : given rows (codes "record") ≡ recording_text o.recording
   pub together : GoWith o.recording rows
   pub settings : AreSettings rows (server_limit o.recording) o.settings
+  pub timed : IsTimed rows o.timing
   pub flush : IsNumberOf o.flush_ms (given_or (codes "100") rows (codes "flush"))
   pub soon : o.flush_ms ≤ 60000
   pub synced : IsTrue o.is_synced ↔ (given rows (codes "sync") ≡ codes "true")

@@ -32,17 +32,17 @@ words_rule name = record (word_rule name) { range = Some (record { start_inclusi
 -- a command with the options that say what a bus is like
 abbrev pub with_bus_rules : App → App
 with_bus_rules a =
-    with_rule (with_rule (with_rule (with_rule (with_rule (with_rule a (default_rule (codes "ack") (codes "always"))) (flag_rule (codes "report")))
+    with_rule (with_rule (with_rule (with_rule (with_rule (with_rule (with_rule (with_rule a (default_rule (codes "ack") (codes "always"))) (flag_rule (codes "report")))
     (default_rule (codes "txqueue") (codes "10")))
     (default_rule (codes "rxqueue") (codes "256")))
     (option_rule (codes "limit")))
-    (default_rule (codes "auto-restart") (codes "0"))
+    (default_rule (codes "auto-restart") (codes "0")))
+    (option_rule (codes "bitrate")))
+    (option_rule (codes "dbitrate"))
 
 abbrev pub bench_app : App
 bench_app =
-    with_rule (with_rule (with_rule (with_rule (with_rule (with_rule (with_bus_rules (new_app (codes "bench")))
-    (option_rule (codes "bitrate")))
-    (option_rule (codes "dbitrate")))
+    with_rule (with_rule (with_rule (with_rule (with_bus_rules (new_app (codes "bench")))
     (option_rule (codes "record")))
     (option_rule (codes "log")))
     (flag_rule (codes "strict")))

@@ -3,12 +3,12 @@ ghost use Rattle.std.specs.Prelude.{◌≡◌, ◌↔◌, codes, false, IfErr, I
 ghost use Rattle.clap.specs.Words.{app_of, rule_of};
 ghost use Rattle.canbusd_options.specs.BusWords.{path_of};
 ghost use Rattle.canbusd_options.specs.Help.{IsNoMemory, RefusesValue};
-ghost use Rattle.canbusd_options.specs.Options.{AreBenchOptions, AreOneFile, GiveBenchOptions, GiveTiming, GiveTimingOf, IsTimed, IsTimingOf, components_of, rows_in, steps_of, text_of};
+ghost use Rattle.canbusd_options.specs.Options.{AreBenchOptions, AreOneFile, GiveBenchOptions, components_of, rows_in, steps_of};
 ghost use Rattle.canbusd_options.specs.Program.{bench_app, flag_rule, option_rule};
 
+use crate::bit_rates::timing_given;
 use crate::bus_options::{
-    BUS, BusSettings, Subcommand, USUAL_LIMIT, bus_argument, free_option, settings_given,
-    text_within, with_bus_options,
+    BUS, BusSettings, Subcommand, USUAL_LIMIT, bus_argument, settings_given, with_bus_options,
 };
 use crate::bus_word::BusWord;
 use crate::help::BENCH_HELP;
@@ -16,16 +16,6 @@ use can_wire::Timing;
 use clap::{Arg, ArgAction, ArgMatches, Command, Error};
 use std::alloc::{AllocError, Global};
 use std::path::Path;
-
-const BITRATE: &str = "bitrate";
-
-const DBITRATE: &str = "dbitrate";
-
-const LEAST_BITRATE: u32 = 5_000;
-
-const MOST_BITRATE: u32 = 1_000_000;
-
-const MOST_DBITRATE: u32 = 20_000_000;
 
 const RECORD: &str = "record";
 
@@ -55,7 +45,7 @@ pub fn bench_options<'a>(alloc: Global, bench: &ArgMatches<'a>) -> Result<BenchO
     ensures refused { IfErr result RefusesValue }
 {
     let settings = settings_given(alloc, Subcommand::Bench, bench, USUAL_LIMIT)?;
-    let timing = timing_given(alloc, bench)?;
+    let timing = timing_given(alloc, Subcommand::Bench, bench)?;
     let record = bench.get_str(RECORD);
     let log = bench.get_str(LOG);
     if are_one_file(record, log) {
@@ -73,49 +63,6 @@ pub fn bench_options<'a>(alloc: Global, bench: &ArgMatches<'a>) -> Result<BenchO
         log,
         is_strict: bench.get_flag(STRICT),
     })
-}
-
-// The bit rates of the bus, if the nominal one is given. The one for data is not slower.
-#[tactic(auto, using(crate::proofs::Rules::text_in_rows))]
-fn timing_given(alloc: Global, bench: &ArgMatches<'_>) -> Result<Option<Timing>, Error>
-    ensures given { IfOk result (λ timing. IsTimed (rows_in bench.now) timing) }
-    ensures taken { IfErr result (λ e. GiveTiming (rows_in bench.now) → IsNoMemory e) }
-    ensures refused { IfErr result RefusesValue }
-{
-    match (bench.get_str(BITRATE), bench.get_str(DBITRATE)) {
-        (Some(bitrate), dbitrate) => Ok(Some(timing_of(alloc, bitrate, dbitrate)?)),
-        (None, None) => Ok(None),
-        (None, Some(_)) => Err(Subcommand::Bench.error(alloc, "'--dbitrate' needs '--bitrate'")?),
-    }
-}
-
-// The bit rates that texts write. Without a second text FD frames do not switch.
-fn timing_of(alloc: Global, bitrate: &str, dbitrate: Option<&str>) -> Result<Timing, Error>
-    ensures given { IfOk result (λ timing. IsTimingOf bitrate.now (text_of dbitrate.entry) timing) }
-    ensures taken { IfErr result (λ e.
-        GiveTimingOf bitrate.now (text_of dbitrate.entry) → IsNoMemory e) }
-    ensures refused { IfErr result RefusesValue }
-{
-    let nominal = text_within(
-        alloc,
-        Subcommand::Bench,
-        BITRATE,
-        bitrate,
-        LEAST_BITRATE,
-        MOST_BITRATE,
-    )?;
-    let Some(dbitrate) = dbitrate else {
-        return Ok(Timing::new(nominal, None).unwrap());
-    };
-    let fast = text_within(
-        alloc,
-        Subcommand::Bench,
-        DBITRATE,
-        dbitrate,
-        nominal,
-        MOST_DBITRATE,
-    )?;
-    Ok(Timing::new(nominal, Some(fast)).unwrap())
 }
 
 // Whether both are given, and differ at most in what means nothing: `.` and doubled slashes. Links are not followed.
@@ -147,16 +94,10 @@ fn without_dot(path: &str) -> Path<'_>
 pub fn bench_command<'a>(alloc: Global) -> Result<Command<'a>, AllocError>
     ensures { IfOk result (λ c. app_of c ≡ bench_app) }
 {
-    let bitrate_help =
-        "Bits a second, 5000 to 1000000: attempts take the time of their bits [default: no time]";
-    let dbitrate_help =
-        "Bits a second of the data phase of FD frames, to 20000000; needs --bitrate [default: as that]";
     let command = Command::new(alloc, "bench")
         .about("Carry out the lines of standard input on one bus")
         .after_help(BENCH_HELP);
     with_bus_options(alloc, command)?
-        .arg(free_option(alloc, BITRATE, "N", bitrate_help))?
-        .arg(free_option(alloc, DBITRATE, "M", dbitrate_help))?
         .arg(record_option(alloc))?
         .arg(log_option(alloc))?
         .arg(strict_option(alloc))?

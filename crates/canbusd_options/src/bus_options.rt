@@ -8,6 +8,7 @@ ghost use Rattle.canbusd_options.specs.Options.{AreSettings, GiveSettings, IsMod
 ghost use Rattle.canbusd_options.specs.Program.{default_rule, flag_rule, option_rule, with_bus_rules, word_rule};
 
 use crate::bench_options::bench_command;
+use crate::bit_rates::{BITRATE, DBITRATE};
 use crate::serve_options::serve_command;
 use can_attempt::AckMode;
 use clap::error::ErrorKind;
@@ -249,13 +250,19 @@ pub fn with_bus_options<'a>(alloc: Global, command: Command<'a>) -> Result<Comma
         "Calls and attempts of the run, 1 to 16777216, of 32 bytes of memory each, 108 with an FD frame [default: 1000000]";
     let restart_help =
         "Restart an interface in the Nth attempt after it went bus off, 1 to 1000000, or never (0)";
+    let bitrate_help =
+        "Bits a second, 5000 to 1000000: attempts take the time of their bits [default: no time]";
+    let dbitrate_help =
+        "Bits a second of the data phase of FD frames, to 20000000; needs --bitrate [default: as that]";
     command
         .arg(ack_option(alloc))?
         .arg(report_option(alloc))?
         .arg(number_option(alloc, TXQUEUE, "N", "10", tx_help))?
         .arg(number_option(alloc, RXQUEUE, "N", "256", rx_help))?
         .arg(free_option(alloc, LIMIT, "N", limit_help))?
-        .arg(number_option(alloc, AUTO_RESTART, "N", "0", restart_help))
+        .arg(number_option(alloc, AUTO_RESTART, "N", "0", restart_help))?
+        .arg(free_option(alloc, BITRATE, "N", bitrate_help))?
+        .arg(free_option(alloc, DBITRATE, "M", dbitrate_help))
 }
 
 fn ack_option<'a>(alloc: Global) -> Arg<'a>

@@ -29,6 +29,8 @@ Messages of a session (socketcand's raw mode), in the order of a first run:
   < send ID LEN BYTE .. >    Send a frame: ID of 1 to 3 hexadecimal digits for 11 bits, of 8 for 29 bits
   < sendrtr ID LEN >         Send a remote frame
   < sendfd ID LEN BYTE .. >  Send an FD frame of 0 to 8, 12, 16, 20, 24, 32, 48 or 64 bytes; needs < fdframes 1 >
+  < sendfdx FLAGS ID LEN BYTE .. >
+                             The same with flags: 1 is BRS, the bit rate switch, 2 is ESI, 3 both
   < filter N ID MASK .. >    Receive what matches one of N filters, in words of linux/can.h; at first everything
   < join 0|1 >               Receive what matches all filters, not one of them (0)
   < loopback 0|1 >           Give frames to other sockets of the interface too (1)
@@ -40,6 +42,8 @@ Messages of a session (socketcand's raw mode), in the order of a first run:
   < origin 0|1 >             End frames with `same NUMBER` if their sender has this interface, or `other NUMBER` (0)
   < stats >                  Write < stats QUEUED DROPPED TAKEN SENT DONE WAITING LOST REFUSED >
   < status >                 Write < status STATE TEC REC >, from the error counters of the interface
+  < load >                   Write < load PERMILLE MICROS >: how busy a bus of a server with --bitrate was, in the last
+                             whole second and in microseconds since its start; else 0 0
   < restart >                Bring the interface back that is bus off, before --auto-restart does
   < close >                  Close the socket, and write < closed UNREAD DROPPED >
 Once an interface is taken, with a socket or without:
@@ -49,8 +53,8 @@ Once an interface is taken, with a socket or without:
 A command that was carried out gets < ok >, an accepted send nothing unless ack is on, a refusal < error TEXT >.
 < echo > always gets < echo >, and < interfaces > gets < interfaces NAME .. >, with the names of all buses.
 
-What is received: < frame ID MOMENT DATA >, < remote ID MOMENT LEN >, < fdframe ID MOMENT DATA >,
-< error CLASS MOMENT > or with DATA.
+What is received: < frame ID MOMENT DATA >, < remote ID MOMENT LEN >, < fdframe ID MOMENT DATA >, with flags
+< fdframex FLAGS ID MOMENT DATA >, and < error CLASS MOMENT > or with DATA.
 What an attempt writes: tried NAME NUMBER CLASS ACCEPTED OFF, or idle, or record full. NUMBER counts the frames of
 NAME from 0; CLASS is done, or lastbit, destroyed or noack, and then the frame is sent again; ACCEPTED and OFF are
 the interfaces that accepted it and that went bus off, or -. Where --auto-restart brought interfaces back, restarted and
@@ -77,7 +81,8 @@ Example, with what it writes:
 pub const SERVE_HELP: &str =
     "Clients connect to ADDR and speak socketcand's raw mode: `canbusd help bench` has its messages. Each opens
 an interface by its name. On each bus the frame that wins arbitration goes out at once where one waits, and MS
-milliseconds later the next attempt may follow. Moments are microseconds since 1970.
+milliseconds later the next attempt may follow. Moments are microseconds since 1970. With --bitrate an attempt takes
+the time of its bits, the moment of a frame is its end, and no client gets it before.
 
 It prints `listening ADDR`, with the port that it got where the port given is 0. Once N sessions have come and ended,
 or with --until-eof standard input has ended, it prints for each bus, by its first name, `bus NAME entries N`, and
@@ -93,6 +98,7 @@ memory. Where a file can't be written, standard error says so at once, and the b
 entry, and takes 32 bytes of memory, 108 with an FD frame. 1000 frames a second to 4 sessions fill 1000000 entries in
 less than 3 minutes. Once a bus is full each of its calls returns `record full`, and standard error says so once. With
 --auto-restart attempts go on, MS milliseconds apart, while an interface waits for its restart, and each is an entry.
+With --bitrate each of them takes 11 bits: --auto-restart 128 is the recovery after 128 times 11 recessive bits.
 
 Example, with a client in Python (the package canbusd, and python3-can):
   $ canbusd serve --out . can0,can1@faults.script &

@@ -7,6 +7,7 @@
 
 mod audit_options;
 mod bench_options;
+mod bit_rates;
 mod bus_options;
 mod bus_word;
 mod command_line;

@@ -5,6 +5,7 @@ ghost use Rattle.canbusd_options.specs.Help.{IsNoMemory, RefusesValue};
 ghost use Rattle.canbusd_options.specs.Options.{AreBusWords, AreServeOptions, GiveServeOptions, IsNumberOf, IsNumberWithin, buses_given as buses_of, given_or, rows_in};
 ghost use Rattle.canbusd_options.specs.Program.{default_rule, flag_rule, option_rule, serve_app, words_rule};
 
+use crate::bit_rates::timing_given;
 use crate::bus_options::{
     BUS, BusSettings, Subcommand, bus_argument, free_option, number_option, number_within,
     settings_given, text_within, with_bus_options,
@@ -12,6 +13,7 @@ use crate::bus_options::{
 use crate::bus_word::BusWord;
 use crate::help::SERVE_HELP;
 use crate::recording::{END, RECORD, Recording, is_synced, recording_given};
+use can_wire::Timing;
 use clap::{Arg, ArgAction, ArgMatches, Command, Error};
 use std::alloc::{AllocError, Global};
 
@@ -52,7 +54,9 @@ pub struct ServeOptions<'a> {
     pub address: &'a str,
     /// How many sessions it serves: 1 to 4,000, in long runs to 4,294,967,295, and the most where that is not given.
     pub sessions: u32,
-    /// How many milliseconds pass after each attempt, at most 60,000.
+    /// The bit rates of the buses, if they have any.
+    pub timing: Option<Timing>,
+    /// How many milliseconds pass after each attempt of a bus without bit rates, at most 60,000.
     pub pace_ms: u32,
     /// The most bytes of frames that a client gets in one write, 256 to 65,536.
     pub write_bytes: u32,
@@ -79,6 +83,7 @@ pub fn serve_options<'a>(alloc: Global, serve: &ArgMatches<'a>) -> Result<ServeO
     let (usual, most) = (recording.usual_sessions(), recording.most_sessions());
     Ok(ServeOptions {
         settings: settings_given(alloc, Subcommand::Serve, serve, recording.limit())?,
+        timing: timing_given(alloc, Subcommand::Serve, serve)?,
         buses: buses_given(alloc, serve)?,
         address: serve.get_str(LISTEN).unwrap_or(""),
         sessions: sessions_given(alloc, serve, usual, most)?,
@@ -159,7 +164,7 @@ pub fn serve_command<'a>(alloc: Global) -> Result<Command<'a>, AllocError>
     ensures { IfOk result (λ c. app_of c ≡ serve_app) }
 {
     let sessions_help = "Sessions to serve [default, and the most: 4000, in long runs 4294967295]";
-    let pace_help = "Milliseconds after each attempt of a bus, 0 to 60000";
+    let pace_help = "Milliseconds after each attempt of a bus without --bitrate, 0 to 60000";
     let write_help = "Most bytes of frames in one write to a client, 256 to 65536";
     let flush_help = "Milliseconds that what is written live may wait, 0 to 60000 [default: 100]";
     let command = Command::new(alloc, "serve")

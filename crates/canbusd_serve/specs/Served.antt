@@ -32,6 +32,7 @@ pub record IsBenchOf (o : ServeOptions) (bus : BusWord) (b : Bench Perfect Open)
   pub config : b.config ≡ config_of o.settings (length b.names)
   pub words : b.blanks.meter.words ≡ length b.names
   pub plan : IsPlan bus.script b.names b.plan
+  pub timed : b.timing ≡ o.timing
   pub pace_ms : b.pace_ms ≡ o.pace_ms
   pub rx_capacity : b.rx_capacity ≡ o.settings.rx_capacity
 

@@ -2,7 +2,7 @@
 ghost use Rattle.std.specs.Prelude.{◌≡◌, ◌-◌, ◌^◌, ◌/◌, min};
 ghost use Rattle.std.specs.Duration.{as_nanos};
 
-use crate::notices::{first_name_at, notice_line};
+use crate::notices::{first_name_at, late_text, notice_line};
 use can_frame::Moment;
 use can_server::{Clock, Notice};
 use canbusd_io::{Report, Shown};
@@ -11,8 +11,8 @@ use std::alloc::Global;
 use std::io::Write;
 use std::sync::atomic::{AtomicBool, Ordering};
 use std::sync::{Mutex, Wait};
-use std::time;
 use std::time::Duration;
+use std::{io, time};
 
 /// The last moment, in microseconds.
 const LAST: u128 = 9_999_999_999_999_999;
@@ -20,6 +20,31 @@ const LAST: u128 = 9_999_999_999_999_999;
 /// What is reported of a bus whose record is nearly full.
 const NEARLY_FULL: &str =
     "the record is nine tenths full; serve --record live or --record none has no such end";
+
+/// When a server with bit rates started: its moments go on from there by a clock that nobody sets.
+#[derive(Debug, Clone, Copy)]
+pub struct Start {
+    since_1970: Duration,
+    monotonic: Duration,
+}
+
+impl Start {
+    /// Now, by both clocks: `None` where one can't be read.
+    pub fn now<H: time::Clock>(rt: &H) -> Option<Start> {
+        let since_1970 = rt.since_1970().ok()?;
+        let monotonic = rt.monotonic().ok()?;
+        Some(Start {
+            since_1970,
+            monotonic,
+        })
+    }
+
+    /// The time since 1970 when the steady clock has this time.
+    fn since_1970(&self, monotonic: Duration) -> Duration {
+        let passed = monotonic.saturating_sub(self.monotonic);
+        self.since_1970.saturating_add(passed)
+    }
+}
 
 /// The system's clock, and where it is reported that a bus came to its end before the server, and all else if that is
 /// asked for.
@@ -31,12 +56,14 @@ pub struct Host<'h, 'a, 'l, H, E: Write> {
     pub errors: Mutex<&'h mut E>,
     /// Whether a bus has lost its driver, or a file that is written while it is served.
     pub has_lost: &'l AtomicBool,
+    /// When it started, where its buses have bit rates.
+    pub start: Option<Start>,
 }
 
 impl<H: Wait + time::Clock, E: Write> Clock for Host<'_, '_, '_, H, E> {
     /// The time since 1970, as far as moments reach.
     fn now(&self) -> Moment {
-        match self.rt.since_1970() {
+        match self.since_1970() {
             Ok(since) => moment_of(since),
             Err(_) => moment_of(Duration::ZERO),
         }
@@ -57,6 +84,11 @@ impl<H: Wait + time::Clock, E: Write> Clock for Host<'_, '_, '_, H, E> {
                 self.put("note", bus, NEARLY_FULL);
             }
             Notice::Full { bus } => self.put("note", bus, "record full"),
+            Notice::Late { bus, millis } => {
+                if let Ok(what) = late_text(self.alloc, millis) {
+                    self.put("note", bus, &what);
+                }
+            }
             Notice::NoDriver { bus } => {
                 self.has_lost.store(true, Ordering::SeqCst);
                 self.put("canbusd", bus, "no memory");
@@ -67,6 +99,15 @@ impl<H: Wait + time::Clock, E: Write> Clock for Host<'_, '_, '_, H, E> {
 }
 
 impl<'a, H: Wait + time::Clock, E: Write> Host<'_, 'a, '_, H, E> {
+    /// The time since 1970: with bit rates that of the steady clock after the start, so that a bus is not disturbed
+    /// where the system's clock is set.
+    fn since_1970(&self) -> io::Result<Duration> {
+        match &self.start {
+            Some(start) => Ok(start.since_1970(self.rt.monotonic()?)),
+            None => self.rt.since_1970(),
+        }
+    }
+
     /// Writes the line of a notice, where each has one.
     fn put_line(&self, notice: &Notice) {
         if !self.options.is_verbose {

@@ -54,6 +54,10 @@ fn notice_text(alloc: Global, buses: &[BusWord<'_>], notice: Notice) -> Result<S
             name_at(buses, bus, iface),
             "restarted",
         ),
+        Notice::Late { bus, millis } => {
+            let what = late_text(alloc, millis)?;
+            bus_text(alloc, first_name_at(buses, bus), &what)
+        }
         Notice::NearlyFull { bus } => bus_text(
             alloc,
             first_name_at(buses, bus),
@@ -66,6 +70,12 @@ fn notice_text(alloc: Global, buses: &[BusWord<'_>], notice: Notice) -> Result<S
 
 fn bus_text(alloc: Global, name: &str, what: &str) -> Result<String, AllocError> {
     format!(in alloc; "{name}: {what}")
+}
+
+/// What is reported of a bus whose driver was so many milliseconds late.
+pub fn late_text(alloc: Global, millis: u64) -> Result<String, AllocError> {
+    let (seconds, tenths) = (millis / 1000, millis / 100 % 10);
+    format!(in alloc; "{seconds}.{tenths} s behind its bit rate")
 }
 
 fn from_text(alloc: Global, from: Option<SocketAddr>) -> Result<String, AllocError> {

@@ -12,7 +12,7 @@ ghost use Rattle.canbusd_serve.specs.Served.{AreAllBenches, AreEnds, IsBenchOf, 
 use crate::buses_notes::buses_note;
 use crate::ends::put_ends;
 use crate::file_keeper::{FileKeeper, KeptFiles};
-use crate::host::Host;
+use crate::host::{Host, Start};
 use crate::listening::{Listening, leave, listen, listen_failure};
 use crate::live_files::{LiveFiles, finish_all, open_all};
 use crate::notices::first_name_at;
@@ -149,6 +149,7 @@ impl<'r, 'a, H: ServerRuntime> ServerRun<'r, 'a, H> {
             source: Perfect,
             plan,
             gate: Open,
+            timing: self.options.timing,
             pace_ms: self.options.pace_ms,
             rx_capacity: self.options.settings.rx_capacity,
         })
@@ -410,6 +411,7 @@ impl<'r, 'a, H: ServerRuntime> ServerRun<'r, 'a, H> {
             options: self.options,
             errors: Mutex::new(errors),
             has_lost: &self.has_lost,
+            start: self.options.timing.and_then(|_| Start::now(self.rt)),
         };
         let served = match hub {
             Served::Whole(hub) => self.serve_whole(hub, acceptors, &host, until),

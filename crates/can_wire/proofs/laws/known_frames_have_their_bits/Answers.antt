@@ -6,7 +6,7 @@ use Rattle.can_wire.proofs.laws.known_frames_have_their_bits.Goals as goal
 
 pub returns-clause-classic : goal.returns-clause-classic
 unfolding arbitration_bits classic_head check_of generator_15
-returns-clause-classic c = λ flags. refl
+returns-clause-classic c = refl
 
 pub returns-clause-short_crc : goal.returns-clause-short_crc
 unfolding arbitration_bits fd_head fd_check check_of generator_17

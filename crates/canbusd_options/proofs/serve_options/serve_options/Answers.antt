@@ -16,6 +16,7 @@ returns-clause-given c =
       recording = c.in_ok-recording.ensures.given;
       together = c.in_ok-recording.ensures.together;
       settings = subst (λ text. AreSettings (rows_in m) text c.in_ok-settings_given.field-0) c.limit.ensures c.in_ok-settings_given.ensures.given;
+      timed = c.in_ok-timing_given.ensures.given;
       flush = c.in_ok-flush_given.ensures.number;
       soon = c.in_ok-flush_given.ensures.most;
       synced = c.is_synced.ensures;

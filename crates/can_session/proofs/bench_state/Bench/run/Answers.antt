@@ -1,9 +1,9 @@
 use Rattle.std.proofs.Common.{◌≡◌, ◌≤◌, ◌≢◌, ℕ, true, List, ◌++◌, Option, Some, None, is_some, sym, ap, subst, ◌∙◌, arith}
-use Rattle.can_session.specs.Wires.{WireClock}
+use Rattle.can_session.specs.Wires.{Wire}
 use Rattle.can_session.specs.Benches.{BenchState, AreMade}
 use Rattle.can_session.proofs.bench_state.Bench.run.Goals as goal
 
-there : (w : Option WireClock) → is_some w ≡ true → w ≢ None
+there : (w : Option Wire) → is_some w ≡ true → w ≢ None
 there None is = λ _. cc
 there (Some w) is = λ none. cc
 

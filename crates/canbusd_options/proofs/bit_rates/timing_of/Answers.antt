@@ -2,7 +2,7 @@ use Rattle.std.proofs.Common.{◌≡◌, Some, rules, sym, subst}
 use Rattle.can_wire.specs.Times.{AreBitRates}
 use Rattle.can_wire.specs.Timings.{timing_of}
 use Rattle.canbusd_options.specs.Options.{IsTimingOf, text_of}
-use Rattle.canbusd_options.proofs.bench_options.timing_of.Goals as goal
+use Rattle.canbusd_options.proofs.bit_rates.timing_of.Goals as goal
 
 pub returns-clause-given : goal.returns-clause-given
 returns-clause-given c =

@@ -1,0 +1,204 @@
+//! The driver of a bus with bit rates.
+ghost use Rattle.std.specs.Prelude.{◌≡◌, IfErr, IfOk};
+ghost use Rattle.can_server.specs.Timed.{GoesBy, after_attempt, caught_up, head_moment};
+ghost use Rattle.can_station.specs.Passes.{MadeStep, head_on, next_verdict};
+
+use crate::driving::{Changes, MOST_STEPS, Stepped, makes_no_progress};
+use crate::notice::Notice;
+use crate::server::Server;
+use crate::serving::Clock;
+use can_bus::Attempt;
+use can_fault::{FaultSource, Verdict};
+use can_frame::{Frame, Iface, Moment};
+use can_hub::HubBus;
+use can_meter::MeterName;
+use can_roll::RollName;
+use can_station::{Gate, Hold, Pass, StationRefusal, WakeReason};
+use can_wire::{Schedule, Timing};
+use std::sync::Wait;
+use std::sync::atomic::Ordering;
+use std::time;
+use std::time::Duration;
+
+/// How late a driver may be and still make up for it, in nanoseconds. One that is later leaves out what it missed.
+const MOST_LATE: u64 = 100_000_000;
+
+/// How many nanoseconds a millisecond has.
+const NANOS_IN_MILLI: u64 = 1_000_000;
+
+/// How many microseconds after a report that a driver is late the next may follow.
+const BETWEEN_NOTES: u64 = 60_000_000;
+
+/// What a driver of a bus with bit rates keeps between its holds of the lock.
+#[derive(Drop)]
+struct Timed {
+    schedule: Schedule,
+    /// Whether there was something to attempt when it let the lock go.
+    has_more: bool,
+    /// By how many milliseconds it was too late, where that is to be reported.
+    note: Option<u64>,
+    /// When it was reported last that it was too late.
+    noted: Option<Moment>,
+}
+
+impl Timed {
+    fn new(timing: Timing) -> Timed {
+        Timed {
+            schedule: Schedule::new(timing),
+            has_more: false,
+            note: None,
+            noted: None,
+        }
+    }
+
+    /// Where the next attempt is too late, it is from now on that there is something to attempt. That is to be reported
+    /// at most once in a minute.
+    fn catch_up(&mut self, now: Moment)
+        ensures schedule { self.new.schedule ≡ caught_up now self.old.schedule }
+        ensures more { self.new.has_more ≡ self.old.has_more }
+    {
+        let late = self.schedule.late(now);
+        if late <= MOST_LATE {
+            return;
+        }
+        self.schedule.set_since(now);
+        let is_noted = match self.noted {
+            Some(noted) => now.micros().saturating_sub(noted.micros()) < BETWEEN_NOTES,
+            None => false,
+        };
+        if !is_noted {
+            self.noted = Some(now);
+            self.note = Some(late / NANOS_IN_MILLI);
+        }
+    }
+}
+
+impl<
+    'a,
+    N: RollName + MeterName,
+    F: FaultSource + Drop,
+    G: Gate + Drop,
+    C: Clock,
+    R: Wait + time::Clock,
+> Server<'a, N, F, G, C, R> {
+    /// Steps a bus with bit rates while an interface has a frame to send or counts towards its restart, each time when
+    /// the wire is free, until its station is stopped: whether a step was refused, which ends it.
+    ///
+    /// Each attempt begins when the one before it is over, by their lengths and not by the clock, so that a driver that
+    /// wakes late is not late for ever. Where it is, it makes up to 64 attempts in one hold of the lock.
+    pub fn step_in_time(&self, bus: usize, timing: Timing, pass: &mut Pass<N>) -> bool {
+        if bus >= self.buses.count() {
+            return false;
+        }
+        let station = self.buses.station(bus);
+        let mut timed = Timed::new(timing);
+        let mut was_nearly_full = false;
+        for _ in self.rt.forever() {
+            if !timed.has_more {
+                if station.wait_work(self.rt) == WakeReason::Stopped {
+                    break;
+                }
+                timed.schedule.set_since(self.host.now());
+            }
+            let early = timed.schedule.early(self.host.now());
+            station.rest(self.rt, Duration::from_nanos(early));
+            let hold = station.lock(self.rt);
+            let is_nearly_full = hold.is_nearly_full();
+            match self.step_due(hold, bus, &mut timed, pass) {
+                Stepped::On(changes) => {
+                    self.report_changes(bus, changes);
+                    self.report_nearly_full(bus, is_nearly_full && !was_nearly_full);
+                    self.report_late(bus, &mut timed);
+                    was_nearly_full = is_nearly_full;
+                }
+                Stepped::Out => break,
+                Stepped::Refused => return true,
+            }
+        }
+        false
+    }
+
+    /// Makes the attempt that is due, and others as long as they are due too, in one hold of the lock. The attempt in
+    /// which an interface went bus off, or was restarted, is the last. Once all sessions are over nothing has to be
+    /// due.
+    fn step_due(
+        &self,
+        mut hold: Hold<'_, N, F, G, HubBus>,
+        bus: usize,
+        timed: &mut Timed,
+        pass: &mut Pass<N>,
+    ) -> Stepped {
+        let now = self.host.now();
+        let is_ending = self.is_ending.load(Ordering::SeqCst);
+        timed.catch_up(now);
+        timed.has_more = hold.has_work();
+        for count in 0..MOST_STEPS {
+            let is_due = count == 0 || is_ending || timed.schedule.early(now) == 0;
+            if !timed.has_more || !is_due {
+                break;
+            }
+            let Ok(attempt) = self.step_once(&mut hold, bus, &mut timed.schedule, pass) else {
+                return Stepped::Refused;
+            };
+            timed.has_more = hold.has_work();
+            let changes = Changes::of(&attempt);
+            if changes.are_some() {
+                return Stepped::On(changes);
+            }
+            if makes_no_progress(&attempt) && is_ending {
+                return Stepped::Out;
+            }
+        }
+        Stepped::On(Changes::none())
+    }
+
+    /// Makes the next attempt of a schedule, with the moment that the schedule has for it, and notes it there. Who
+    /// delivers its items knows before they are there when it is over.
+    fn step_once(
+        &self,
+        hold: &mut Hold<'_, N, F, G, HubBus>,
+        bus: usize,
+        schedule: &mut Schedule,
+        pass: &mut Pass<N>,
+    ) -> Result<Attempt, StationRefusal>
+        ensures made { MadeStep F.verdicts hold.old pass.old
+            (head_moment schedule.old (head_on hold.old.journal)) result hold.new pass.new }
+        ensures goes_by { IfOk result (λ a.
+            GoesBy schedule.old (next_verdict F.verdicts hold.old) a schedule.new) }
+        ensures stays { IfErr result (λ why. schedule.new ≡ schedule.old) }
+    {
+        let moment = head_moment(schedule, hold.next_head());
+        self.ends.set(bus, moment);
+        let (verdict, attempt) = hold.step_judged(self.alloc, pass, moment)?;
+        note_attempt(schedule, verdict, &attempt);
+        self.buses.show_load(bus, schedule.load());
+        Ok(attempt)
+    }
+
+    /// Reports to the host that the driver of a bus was too late, at most once in a minute.
+    fn report_late(&self, bus: usize, timed: &mut Timed) {
+        if let Some(millis) = timed.note.take() {
+            self.host.notify(Notice::Late { bus, millis });
+        }
+    }
+}
+
+/// The moment of the next attempt of a schedule, which tries this frame, if one.
+fn head_moment(schedule: &Schedule, head: Option<(Iface, Frame)>) -> Moment
+    ensures { result ≡ head_moment schedule.now head }
+{
+    match head {
+        Some((_, frame)) => schedule.next_moment(Some(&frame)),
+        None => schedule.next_moment(None),
+    }
+}
+
+/// Notes in a schedule what an attempt with this verdict came to.
+fn note_attempt(schedule: &mut Schedule, verdict: Verdict, attempt: &Attempt)
+    ensures { schedule.new ≡ after_attempt verdict attempt.now schedule.old }
+{
+    match attempt {
+        Attempt::Tried(tried) => schedule.note_tried(&tried.frame, tried.class, verdict),
+        Attempt::Idle { .. } => schedule.note_idle(),
+    }
+}

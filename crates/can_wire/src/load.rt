@@ -1,0 +1,153 @@
+ghost use Rattle.std.specs.Prelude.{◌≡◌, ◌<◌, ◌≤◌, ◌/◌, ◌^◌};
+ghost use Rattle.can_wire.specs.Loads.{added, more, moved_to, no_load, noted, recent_of};
+
+use crate::recent_load::RecentLoad;
+use std::marker::Model;
+
+/// How many nanoseconds a second has.
+const SECOND: u64 = 1_000_000_000;
+
+/// How many nanoseconds a thousandth of a second has.
+const MILLI: u64 = 1_000_000;
+
+/// How many nanoseconds a microsecond has.
+const MICRO: u64 = 1_000;
+
+/// How busy a wire is: for how many nanoseconds in each of the last three seconds, and in all.
+#[derive(Debug, Clone, Copy, PartialEq, Eq)]
+pub struct Load {
+    /// The second in which the last attempt ended.
+    second: u64,
+    /// For how long the wire was busy in it.
+    latest: u64,
+    /// In the second before that.
+    before: u64,
+    /// In the second before `before`.
+    earlier: u64,
+    /// In all.
+    total: u64,
+}
+
+impl Model for Load {
+    ghost use Rattle.can_wire.specs.Loads.{Load, IsLoad};
+
+    ghost Value = { Load };
+
+    ghost view = { λ l. record {
+      second = l.second;
+      latest = l.latest;
+      before = l.before;
+      earlier = l.earlier;
+      total = l.total;
+    } };
+
+    ghost invariant = { λ l. IsLoad (record {
+      second = l.second;
+      latest = l.latest;
+      before = l.before;
+      earlier = l.earlier;
+      total = l.total;
+    }) };
+
+    ghost inverse = { λ v. record {
+      second = v.second;
+      latest = v.latest;
+      before = v.before;
+      earlier = v.earlier;
+      total = v.total;
+    } };
+}
+
+impl Load {
+    /// The load of a wire before the first attempt.
+    pub fn none() -> Load
+        ensures { result ≡ no_load }
+    {
+        Load {
+            second: 0,
+            latest: 0,
+            before: 0,
+            earlier: 0,
+            total: 0,
+        }
+    }
+
+    /// Notes an attempt, which takes the wire from one nanosecond to another, less than a second later. What is after
+    /// the boundary between two seconds counts for the second one.
+    pub fn note(&mut self, begin: u64, end: u64)
+        requires begin { begin < 10 ^ 19 }
+        requires end { end < 10 ^ 19 }
+        ensures { self.new ≡ noted begin end self.old }
+    {
+        let boundary = end / SECOND * SECOND;
+        if begin < boundary {
+            self.add(begin / SECOND, boundary - begin);
+            self.add(end / SECOND, end - boundary);
+        } else {
+            self.add(end / SECOND, end.saturating_sub(begin));
+        }
+    }
+
+    /// For how many microseconds the wire was busy.
+    pub fn busy_micros(self) -> u64
+        ensures { result ≡ self.total / 1000 }
+    {
+        self.total / MICRO
+    }
+
+    /// The last three seconds in thousandths.
+    pub fn recent(self) -> RecentLoad
+        ensures { result ≡ recent_of self }
+    {
+        RecentLoad::new(
+            self.second,
+            (self.latest / MILLI) as u16,
+            (self.before / MILLI) as u16,
+            (self.earlier / MILLI) as u16,
+        )
+    }
+
+    /// Adds nanoseconds of a second that is not before the last.
+    fn add(&mut self, second: u64, nanos: u64)
+        requires second { second < 2 ^ 34 }
+        requires nanos { nanos < 10 ^ 19 }
+        ensures { self.new ≡ added second nanos self.old }
+    {
+        self.move_to(second);
+        self.latest = more(self.latest, nanos);
+        self.total = self.total.saturating_add(nanos);
+    }
+
+    /// Goes on to a second: those before it become older.
+    fn move_to(&mut self, second: u64)
+        requires { second < 2 ^ 34 }
+        ensures { self.new ≡ moved_to second self.old }
+    {
+        match second.saturating_sub(self.second) {
+            0 => return,
+            1 => {
+                self.earlier = self.before;
+                self.before = self.latest;
+            }
+            2 => {
+                self.earlier = self.latest;
+                self.before = 0;
+            }
+            _ => {
+                self.earlier = 0;
+                self.before = 0;
+            }
+        }
+        self.latest = 0;
+        self.second = second;
+    }
+}
+
+/// So many nanoseconds more of a second, of which it has no more than it has.
+fn more(nanos: u64, others: u64) -> u64
+    requires { nanos ≤ 10 ^ 9 }
+    ensures more { result ≡ more nanos others }
+    ensures within { result ≤ 10 ^ 9 }
+{
+    nanos.saturating_add(others).min(SECOND)
+}

@@ -1,0 +1,80 @@
+ghost use Rattle.std.specs.Prelude.{◌≡◌, ◌<◌, ◌≤◌, ◌^◌};
+ghost use Rattle.can_wire.specs.Loads.{permille_at, recent_in};
+
+use can_frame::Moment;
+use std::marker::Model;
+
+/// How many microseconds a second has.
+const SECOND: u64 = 1_000_000;
+
+/// How many values the ten bits of a load have.
+const SHARE: u64 = 1_024;
+
+/// How busy a wire was in the last seconds, in thousandths of each, as one word, which threads can share.
+#[derive(Debug, Drop)]
+pub struct RecentLoad {
+    /// The number of a second in 34 bits, its load and those of the two seconds before it in 10 bits each.
+    word: u64,
+}
+
+impl Model for RecentLoad {
+    ghost use Rattle.can_wire.specs.Loads.{Recent, recent_in};
+
+    ghost Value = { Recent };
+
+    ghost view = { λ r. recent_in r.word };
+}
+
+impl RecentLoad {
+    /// The load of a second, of the second before it and of the one before that.
+    pub fn new(second: u64, latest: u16, before: u16, earlier: u16) -> RecentLoad
+        requires second { second < 2 ^ 34 }
+        requires latest { latest ≤ 1000 }
+        requires before { before ≤ 1000 }
+        requires earlier { earlier ≤ 1000 }
+        ensures { result ≡ record {
+          second = second;
+          latest = latest;
+          before = before;
+          earlier = earlier;
+        } }
+    {
+        let newer = (second * SHARE + u64::from(latest)) * SHARE + u64::from(before);
+        RecentLoad {
+            word: newer * SHARE + u64::from(earlier),
+        }
+    }
+
+    /// What a word says.
+    pub fn of_word(word: u64) -> RecentLoad
+        ensures { result ≡ recent_in word }
+    {
+        RecentLoad { word }
+    }
+
+    /// Its word.
+    pub fn word(&self) -> u64
+        ensures { recent_in result ≡ self.now }
+    {
+        self.word
+    }
+
+    /// The load of the last whole second before a moment. It is 0 where that is after the seconds that are known, since
+    /// nothing was attempted since, and where it is before them.
+    pub fn permille_at(&self, now: Moment) -> u16
+        ensures { result ≡ permille_at now self.now }
+    {
+        let second = self.word / SHARE / SHARE / SHARE;
+        let current = now.micros() / SECOND;
+        let permille = if current == second + 1 {
+            self.word / SHARE / SHARE % SHARE
+        } else if current == second {
+            self.word / SHARE % SHARE
+        } else if current + 1 == second {
+            self.word % SHARE
+        } else {
+            0
+        };
+        permille as u16
+    }
+}
