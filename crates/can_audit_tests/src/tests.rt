@@ -1,5 +1,6 @@
 mod auditing;
 mod events;
+mod fd_flags;
 mod fd_frames;
 mod line_audits;
 mod long_runs;

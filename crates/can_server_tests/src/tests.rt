@@ -83,6 +83,7 @@ fn held_bench<F: FaultSource + Drop, G: Gate + Drop, R: Abort>(
         source,
         plan: Plan::new(alloc),
         gate,
+        timing: None,
         pace_ms: 0,
         rx_capacity: 16,
     }

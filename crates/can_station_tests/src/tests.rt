@@ -23,17 +23,13 @@ use can_fault::{FaultSource, Script, Verdict};
 use can_frame::{CanId, Frame, Iface, IfaceSet, Moment, Names};
 use can_meter::{Gauge, MeterName, Status};
 use can_roll::RollName;
-use can_station::{Blanks, Gate, Pass, Settled, Station, StationRefusal};
-use can_test_support::config;
+use can_station::{Blanks, Gate, Pass, Settled, Station, StationRefusal, WakeReason};
+use can_test_support::{config, reaches};
 use std::alloc::Global;
 use std::process::Abort;
 use std::sync::Wait;
 use std::sync::atomic::{AtomicU64, Ordering};
-use std::thread;
 use std::time::{Clock, Duration};
-
-/// How many looks are made before a test gives up.
-const TURNS: u32 = 10_000;
 
 fn iface<R: Abort>(rt: &R, number: u8) -> Iface {
     can_test_support::iface(number).expect(rt, "an interface")
@@ -51,17 +47,6 @@ fn script<R: Abort>(rt: &R, alloc: Global, text: &str) -> Script {
 
 fn moment<R: Abort>(rt: &R, micros: u64) -> Moment {
     Moment::new(micros).expect(rt, "a moment")
-}
-
-/// Looks until the count is reached, a millisecond apart. Whether it was.
-fn reaches<C: Clock>(clock: &C, count: &AtomicU64, goal: u64) -> bool {
-    for _ in 0..TURNS {
-        if count.load(Ordering::SeqCst) >= goal {
-            return true;
-        }
-        thread::sleep(clock, Duration::from_millis(1));
-    }
-    false
 }
 
 // The calls, without their clauses: a test runs them, and its proof has nothing to say of them.
@@ -137,6 +122,11 @@ impl<
         socket
     }
 
+    /// Opens a socket, which is this one.
+    fn opens(&mut self, number: u8, capacity: u32, socket: SocketId) {
+        assert!(self.rt; self.open(number, capacity) == socket);
+    }
+
     /// The reply to an event that comes to the bus.
     fn call(&mut self, event: Event) -> Reply {
         let reply = self
@@ -167,6 +157,11 @@ impl<
             .receive(self.rt, self.alloc, &mut self.pass, socket)
     }
 
+    /// Receives an item.
+    fn receives(&mut self, socket: SocketId) {
+        assert!(self.rt; matches!(self.receive(socket), Ok(Some(_))));
+    }
+
     /// Receives in a hold of the lock: what is in the room, if there was an item.
     fn receive_held(&mut self, socket: SocketId) -> Result<Option<Received>, StationRefusal> {
         let mut room = Received::nothing();
@@ -179,6 +174,13 @@ impl<
         let moment = moment(self.rt, micros);
         self.station
             .step(self.rt, self.alloc, &mut self.pass, moment)
+    }
+
+    /// Makes a step in a hold of the lock: its verdict, and what it came to.
+    fn step_judged(&mut self, micros: u64) -> Result<(Verdict, Attempt), StationRefusal> {
+        let moment = moment(self.rt, micros);
+        let mut hold = self.station.lock(self.rt);
+        hold.step_judged(self.alloc, &mut self.pass, moment)
     }
 
     /// Makes an attempt with the source's verdict, in which a frame is tried.
@@ -197,9 +199,19 @@ impl<
             .close(self.rt, self.alloc, &mut self.pass, socket)
     }
 
+    /// Closes a socket that is open.
+    fn closes(&mut self, socket: SocketId) {
+        assert!(self.rt; self.close(socket).is_ok());
+    }
+
     fn set_option(&mut self, socket: SocketId, option: Opt) -> Result<(), StationRefusal> {
         self.station
             .set_option(self.rt, self.alloc, &mut self.pass, socket, option)
+    }
+
+    /// Sets an option of a socket that is open.
+    fn sets(&mut self, socket: SocketId, option: Opt) {
+        assert!(self.rt; self.set_option(socket, option).is_ok());
     }
 
     fn restart(&mut self, number: u8, micros: u64) -> Result<(), StationRefusal> {
@@ -211,6 +223,21 @@ impl<
     /// How many calls its pass keeps.
     fn calls(&self) -> usize {
         self.pass.len()
+    }
+
+    /// Its pass keeps this many calls.
+    fn keeps(&self, calls: usize) {
+        assert!(self.rt; self.calls() == calls);
+    }
+
+    /// A wait for work ends since there is some.
+    fn has_work(&self) {
+        assert!(self.rt; self.station.wait_work(self.rt) == WakeReason::Ready);
+    }
+
+    /// A wait for items of this socket ends so, and so many are there.
+    fn has_items(&self, socket: SocketId, wake: WakeReason, count: u64) {
+        assert!(self.rt; self.station.wait_items(self.rt, socket) == (wake, count));
     }
 
     fn leave(self) -> Pass<N> {
@@ -236,6 +263,18 @@ fn settled<
         panic!(rt; "not settled");
     };
     settled
+}
+
+/// Settles so, and the record has this many entries.
+fn settles<N: RollName + MeterName, F: FaultSource + Drop, G: Gate + Drop, R: Wait + Abort>(
+    rt: &R,
+    station: Station<N, F, G>,
+    passes: Vec<Pass<N>>,
+    gauges: Vec<Gauge<N>>,
+    entries: usize,
+) {
+    let settled = settled(rt, station, passes, gauges);
+    assert!(rt; settled.history.len() == entries);
 }
 
 /// Another gauge of a station.

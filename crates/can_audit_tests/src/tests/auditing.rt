@@ -159,5 +159,10 @@ fn what_a_bus_did_is_legal(rt: HostRuntime) -> Result<(), Fail> {
         &events::mixed_with_fd(&rt, 27, 500)?,
         "canbus record 3\n",
     )?;
+    is_legal(
+        &rt,
+        &events::mixed_with_flags(&rt, 27, 500)?,
+        "canbus record 5\n",
+    )?;
     is_legal(&rt, &[], "canbus record 1\n")
 }

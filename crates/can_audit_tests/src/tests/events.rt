@@ -4,6 +4,7 @@ use super::*;
 use can_bus::Opt;
 use can_fault::{GlobalKind, LocalKind, Verdict};
 use can_filter::{Filter, FilterSet};
+use can_frame::FdFlags;
 use std::alloc::{AllocGlobal, Global};
 
 /// What an FD frame carries after its first byte.
@@ -151,6 +152,32 @@ pub fn mixed_with_fd(rt: &impl AllocGlobal, seed: u64, count: u64) -> Result<Vec
     }
     for micros in 0..count {
         events.push(some_event_with_fd(rt.alloc(), &mut dice, micros)?)?;
+    }
+    Ok(events)
+}
+
+/// An event with a flag or two in the FD frame that it sends, in three of four places; None for other events.
+fn flagged(event: &Event, place: usize) -> Result<Option<Event>, Fail> {
+    let flags = FdFlags {
+        brs: place % 2 == 1,
+        esi: place % 4 > 1,
+    };
+    Ok(match event {
+        Event::Send(id, frame) if frame.is_fd() => {
+            let sent = Frame::fd_with(frame.id(), flags, frame.bytes())?;
+            Some(Event::Send(*id, sent))
+        }
+        _ => None,
+    })
+}
+
+/// The same with flags in the FD frames.
+pub fn mixed_with_flags(rt: &impl AllocGlobal, seed: u64, count: u64) -> Result<Vec<Event>, Fail> {
+    let mut events = mixed_with_fd(rt, seed, count)?;
+    for place in 0..events.len() {
+        if let Some(event) = flagged(&events[place], place)? {
+            events[place] = event;
+        }
     }
     Ok(events)
 }

@@ -107,6 +107,7 @@ fn a_limit_is_of_one_version_alone(rt: HostRuntime) -> Result<(), Fail> {
         ("4294967294 0\n", "4294967294 1000001\n"),
         ("4294967294 0\n", "4294967294 0 \n"),
         // The line of version 4 under the first line of another, which has no such limit.
+        ("record 4\n", "record 5\n"),
         ("record 4\n", "record 3\n"),
         ("record 4\n", "record 2\n"),
         ("record 4\n", "record 1\n"),
@@ -121,7 +122,7 @@ fn a_limit_is_of_one_version_alone(rt: HostRuntime) -> Result<(), Fail> {
 #[test]
 fn each_damage_of_the_first_line_is_told(rt: HostRuntime) -> Result<(), Fail> {
     for to in [
-        "record 5\n",
+        "record 6\n",
         "record 04\n",
         "record 4 \n",
         "record 4\r\n",

@@ -5,6 +5,7 @@ ghost use Rattle.std.specs.Prelude.{◌≡◌, length};
 use super::*;
 use can_server::{Acceptor, Conn, Listener, Notice, serve};
 use can_station::Settled;
+use can_test_support::TURNS;
 use std::io::Write;
 use std::net::{Net, TcpListener, TcpStream};
 use std::os::unix::net as unix;
@@ -29,9 +30,6 @@ impl<
 
 /// How many seconds a client waits for a text.
 const PATIENCE: u64 = 20;
-
-/// How many looks are made before a test gives up.
-const TURNS: u32 = 10_000;
 
 /// The host of a test: its clock is stopped, until it is a minute later, and it counts how often it was notified of a
 /// full record, and of an interface that went bus off or was restarted.
@@ -154,6 +152,17 @@ impl Entrance {
     /// A client that comes to it.
     pub fn admit<'a, R: Machine>(&self, rt: &'a R, alloc: Global) -> Client<'a, R> {
         self.address.come(rt, alloc)
+    }
+
+    /// Two clients that come to it, one after the other, and the acceptors of a server that has no other.
+    pub fn into_two<'a, R: Machine>(
+        self,
+        rt: &'a R,
+        alloc: Global,
+    ) -> (Client<'a, R>, Client<'a, R>, Vec<Acceptor>) {
+        let first = self.admit(rt, alloc);
+        let second = self.admit(rt, alloc);
+        (first, second, self.into_acceptors(rt, alloc))
     }
 
     /// The acceptors of a server that has no other.
@@ -298,13 +307,23 @@ where
     buses
 }
 
-/// Looks until the count is reached, a millisecond apart. Whether it was.
-pub fn reaches<C: Clock>(clock: &C, count: &AtomicU64, goal: u64) -> bool {
-    for _ in 0..TURNS {
-        if count.load(Ordering::SeqCst) >= goal {
-            return true;
-        }
-        thread::sleep(clock, Duration::from_millis(1));
-    }
-    false
+/// What the one bus of a hub leaves. All of its passes were handed back.
+pub fn settled_bus<N, F, G, R>(
+    rt: &R,
+    alloc: Global,
+    hub: Hub<N, F, G>,
+    passes: Vec<Vec<Pass<N>>>,
+) -> Settled
+where
+    N: RollName + MeterName,
+    F: FaultSource + Drop,
+    G: Gate + Drop,
+    R: Machine,
+{
+    let mut buses = settled(rt, alloc, hub, passes);
+    assert!(rt; buses.len() == 1);
+    let Some(bus) = buses.pop() else {
+        panic!(rt; "no bus");
+    };
+    bus
 }

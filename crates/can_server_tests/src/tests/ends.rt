@@ -33,16 +33,13 @@ fn ends<N: RollName + MeterName + Send + Sync, R: Machine>(
 {
     let hub = made::<N, _, _, _>(rt, alloc, benches);
     let host = Host::new(rt);
-    let (first, second) = (entrance.admit(rt, alloc), entrance.admit(rt, alloc));
-    let acceptors = entrance.into_acceptors(rt, alloc);
+    let (first, second, acceptors) = entrance.into_two(rt, alloc);
     let ((), passes) = join(
         rt,
         || report_end(first, second, until),
         || serves(rt, alloc, &hub, &acceptors, &host, Some(&told)),
     );
-    let Some(bus) = settled(rt, alloc, hub, passes).pop() else {
-        panic!(rt; "no bus");
-    };
+    let bus = settled_bus(rt, alloc, hub, passes);
     assert!(rt; bus.passes == 2);
 }
 

@@ -6,37 +6,12 @@ ghost use Rattle.can_hub.specs.Benches.{NamedFrom};
 use super::clients::*;
 use super::*;
 use can_station::Point;
+use can_test_support::{Signals, reaches};
 use std::marker::Brand;
-use std::sync::atomic::{AtomicBool, AtomicU64, Ordering};
+use std::sync::atomic::Ordering;
 use std::thread;
 use std::thread::join;
 use std::time::{Clock, Duration};
-
-/// What a gate and its test notify each other: how often a thread was held, how often it was let go, and whether the gate
-/// gave up waiting.
-#[derive(Drop)]
-struct Signals {
-    held: AtomicU64,
-    release: AtomicU64,
-    late: AtomicBool,
-}
-
-impl Signals {
-    fn new() -> Signals {
-        Signals {
-            held: AtomicU64::new(0),
-            release: AtomicU64::new(0),
-            late: AtomicBool::new(false),
-        }
-    }
-
-    /// Waits until the count is reached, and notes where it is not.
-    fn wait_for<C: Clock>(&self, clock: &C, count: &AtomicU64, goal: u64) {
-        if !reaches(clock, count, goal) {
-            self.late.store(true, Ordering::SeqCst);
-        }
-    }
-}
 
 /// Holds each step until the test lets it go, where it holds any.
 #[derive(Drop)]
@@ -49,7 +24,7 @@ impl<C: Clock> Gate for Holding<'_, C> {
     fn at(&self, point: Point) {
         if let (Point::InStep, Some(signals)) = (point, self.signals) {
             let before = signals.held.fetch_add(1, Ordering::SeqCst);
-            signals.wait_for(self.clock, &signals.release, before.wrapping_add(1));
+            signals.wait_for(self.clock, &signals.let_go, before.wrapping_add(1));
         }
     }
 }
@@ -87,11 +62,11 @@ fn go_on<N: MeterName, R: Machine>(
     assert!(rt; reaches(rt, &signals.held, 1));
     clients.far_sender.say("< send 124 1 7 >");
     clients.far_listener.hear("< frame 124 23.424242 07 >");
-    signals.release.store(1, Ordering::SeqCst);
+    signals.let_go.store(1, Ordering::SeqCst);
     assert!(rt; reaches(rt, &signals.held, 2));
     assert!(rt; reading(rt, gauge, 0) == (4, 8, 0));
     clients.sender.ask("< status >", "< status active 8 0 >");
-    signals.release.store(2, Ordering::SeqCst);
+    signals.let_go.store(2, Ordering::SeqCst);
     let copies = "< frame 123 23.424242  >< frame 123 23.424242  >";
     clients.listener.hear(copies);
 }
@@ -194,8 +169,7 @@ fn sessions_meet<N: RollName + MeterName + Send + Sync, R: Machine>(
 {
     let hub = made::<N, _, _, _>(rt, alloc, benches);
     let host = Host::new(rt);
-    let (first, second) = (entrance.admit(rt, alloc), entrance.admit(rt, alloc));
-    let acceptors = entrance.into_acceptors(rt, alloc);
+    let (first, second, acceptors) = entrance.into_two(rt, alloc);
     let ((), passes) = join(
         rt,
         || open_both(first, second),
@@ -232,7 +206,7 @@ impl<C: Clock> Gate for Watching<'_, C> {
     fn at(&self, point: Point) {
         let signals = self.signals;
         let steps = &signals.held;
-        let answers = &signals.release;
+        let answers = &signals.let_go;
         if point == Point::AfterReply && steps.load(Ordering::SeqCst) > 0 {
             answers.fetch_add(1, Ordering::SeqCst);
         }
@@ -272,8 +246,7 @@ fn step_has_the_lock<N: RollName + MeterName + Send + Sync, R: Machine>(
 {
     let hub = made::<N, _, _, _>(rt, alloc, benches);
     let host = Host::new(rt);
-    let (first, second) = (entrance.admit(rt, alloc), entrance.admit(rt, alloc));
-    let acceptors = entrance.into_acceptors(rt, alloc);
+    let (first, second, acceptors) = entrance.into_two(rt, alloc);
     let ((), passes) = join(
         rt,
         || ask_meanwhile(rt, signals, first, second),

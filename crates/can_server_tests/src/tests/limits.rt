@@ -53,9 +53,7 @@ fn fills<N: RollName + MeterName + Send + Sync, R: Machine>(
         || crowd(rt, &address, clients, last),
         || serves(rt, alloc, &hub, &acceptors, &host, None),
     );
-    let Some(bus) = settled(rt, alloc, hub, passes).pop() else {
-        panic!(rt; "no bus");
-    };
+    let bus = settled_bus(rt, alloc, hub, passes);
     assert!(rt; bus.passes == MOST + 1);
 }
 
@@ -115,9 +113,7 @@ fn lets_in<N: RollName + MeterName + Send + Sync, R: Machine>(
         || make_room(rt, alloc, &host, &address, first, silent),
         || serves(rt, alloc, &hub, &acceptors, &host, None),
     );
-    let Some(bus) = settled(rt, alloc, hub, passes).pop() else {
-        panic!(rt; "no bus");
-    };
+    let bus = settled_bus(rt, alloc, hub, passes);
     assert!(rt; bus.passes == 3);
 }
 
@@ -154,17 +150,14 @@ fn is_full<N: RollName + MeterName + Send + Sync, R: Machine>(
 {
     let hub = made::<N, _, _, _>(rt, alloc, benches);
     let host = Host::new(rt);
-    let (first, second) = (entrance.admit(rt, alloc), entrance.admit(rt, alloc));
-    let acceptors = entrance.into_acceptors(rt, alloc);
+    let (first, second, acceptors) = entrance.into_two(rt, alloc);
     let ((), passes) = join(
         rt,
         || meet_full_record(first, second),
         || serves(rt, alloc, &hub, &acceptors, &host, None),
     );
     assert!(rt; host.told.load(Ordering::SeqCst) == 1);
-    let Some(bus) = settled(rt, alloc, hub, passes).pop() else {
-        panic!(rt; "no bus");
-    };
+    let bus = settled_bus(rt, alloc, hub, passes);
     assert!(rt; bus.history.len() == 1);
 }
 

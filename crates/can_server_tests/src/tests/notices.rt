@@ -109,8 +109,7 @@ fn told<N: RollName + MeterName + Send + Sync, R: Machine>(
 {
     let hub = made::<N, _, _, _>(rt, alloc, benches);
     let host = Counting::new(rt);
-    let (first, second) = (entrance.admit(rt, alloc), entrance.admit(rt, alloc));
-    let acceptors = entrance.into_acceptors(rt, alloc);
+    let (first, second, acceptors) = entrance.into_two(rt, alloc);
     let ((), served) = join(
         rt,
         || talk(first, second),

@@ -48,9 +48,7 @@ fn serves_on<N: RollName + MeterName + Send + Sync, R: Machine>(
         || outlive(first, second, third, fourth),
         || serves(rt, alloc, &hub, &acceptors, &host, None),
     );
-    let Some(bus) = settled(rt, alloc, hub, passes).pop() else {
-        panic!(rt; "no bus");
-    };
+    let bus = settled_bus(rt, alloc, hub, passes);
     assert!(rt; bus.passes == 4);
 }
 

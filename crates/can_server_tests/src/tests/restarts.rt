@@ -34,8 +34,7 @@ fn record<N: RollName + MeterName + Send + Sync, R: Machine>(
 {
     let hub = made::<N, _, _, _>(rt, alloc, benches);
     let host = Host::new(rt);
-    let (first, second) = (entrance.admit(rt, alloc), entrance.admit(rt, alloc));
-    let acceptors = entrance.into_acceptors(rt, alloc);
+    let (first, second, acceptors) = entrance.into_two(rt, alloc);
     let ((), passes) = join(
         rt,
         || talk(first, second),
@@ -44,10 +43,7 @@ fn record<N: RollName + MeterName + Send + Sync, R: Machine>(
     for count in [&host.off, &host.restarted] {
         assert!(rt; count.load(Ordering::SeqCst) == 1);
     }
-    let Some(bus) = settled(rt, alloc, hub, passes).pop() else {
-        panic!(rt; "no bus");
-    };
-    bus.history
+    settled_bus(rt, alloc, hub, passes).history
 }
 
 /// The reply of the attempt with this place, of 35: 32 are destroyed, the last of which takes can0 off; then one is idle,

@@ -32,17 +32,13 @@ fn record<N: RollName + MeterName + Send + Sync, R: Machine>(
 {
     let hub = made::<N, _, _, _>(rt, alloc, benches);
     let host = Host::new(rt);
-    let (first, second) = (entrance.admit(rt, alloc), entrance.admit(rt, alloc));
-    let acceptors = entrance.into_acceptors(rt, alloc);
+    let (first, second, acceptors) = entrance.into_two(rt, alloc);
     let ((), passes) = join(
         rt,
         || talk(first, second),
         || serves(rt, alloc, &hub, &acceptors, &host, None),
     );
-    let Some(bus) = settled(rt, alloc, hub, passes).pop() else {
-        panic!(rt; "no bus");
-    };
-    bus.history
+    settled_bus(rt, alloc, hub, passes).history
 }
 
 /// The log of a record of can0 and can1, with this many frames.
@@ -113,17 +109,14 @@ fn keeps_pace<N: RollName + MeterName + Send + Sync, R: Machine>(
 {
     let hub = made::<N, _, _, _>(rt, alloc, benches);
     let host = Host::new(rt);
-    let (first, second) = (entrance.admit(rt, alloc), entrance.admit(rt, alloc));
-    let acceptors = entrance.into_acceptors(rt, alloc);
+    let (first, second, acceptors) = entrance.into_two(rt, alloc);
     let (taken, passes) = join(
         rt,
         || time_two(rt, first, second),
         || serves(rt, alloc, &hub, &acceptors, &host, None),
     );
     assert!(rt; taken >= Duration::from_millis(u64::from(PACE_MS)));
-    let Some(bus) = settled(rt, alloc, hub, passes).pop() else {
-        panic!(rt; "no bus");
-    };
+    let bus = settled_bus(rt, alloc, hub, passes);
     // The driver ended once no frame waited.
     assert!(rt; log(rt, alloc, &bus.history, 5).as_slice() == FIVE.as_bytes());
 }

@@ -1,10 +1,11 @@
-// The error counters of its interface that a session reports, by a gauge.
+// The error counters of its interface that a session reports, by a gauge, and how busy its bus is.
 
 ghost use Rattle.std.specs.Prelude.{◌≡◌};
 ghost use Rattle.can_hub.specs.Benches.{NamedFrom};
 
 use super::local_clients::*;
 use super::*;
+use can_wire::Load;
 use std::marker::Brand;
 
 /// A client asks for its status before it has opened a bus, before it is raw, and after it sent a frame.
@@ -14,6 +15,20 @@ fn asks_too_early<N: RollName + MeterName, R: Wait + Abort>(
     let refused = "< error wrong state >< ok >< error wrong state >< ok >";
     first.ask("< status >< open can0 >< status >< rawmode >", refused);
     first.ask("< send 123 0 >< status >", "< status active 0 0 >");
+}
+
+/// A client asks how busy its bus is, of which nothing was shown, and then a quarter of the second before its moment.
+fn asks_load<N: RollName + MeterName, R: Wait + Abort>(
+    client: &mut LocalClient<'_, N, Script, R>,
+    hub: &Hub<N, Script, Open>,
+) {
+    client.ask("< load >", "< load 0 0 >");
+    let mut load = Load::none();
+    load.note(22_000_000_000, 22_250_000_000);
+    hub.buses().show_load(1, load);
+    client.ask("< load >", "< load 0 0 >");
+    hub.buses().show_load(0, load);
+    client.ask("< load >", "< load 250 250000 >");
 }
 
 /// A fault in the last bit and the good attempt after it, by the counters that two sessions report.
@@ -37,6 +52,7 @@ fn last_bit<N: RollName + MeterName, R: Wait + Abort>(
     first.ask("< status >", "< status active 7 0 >");
     second.ask("< status >", "< status active 0 0 >");
     assert!(rt; second.counts(0) == (7, 0) && second.counts(2) == (0, 0));
+    asks_load(&mut second, &hub);
 }
 
 /// A session's gauge reads what the station published, attempt by attempt.

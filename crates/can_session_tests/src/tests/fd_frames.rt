@@ -39,6 +39,16 @@ fn the_option_counts_when_a_frame_is_sent_and_when_it_comes(rt: HostRuntime) -> 
     Ok(())
 }
 
+/// Its flags go with it, and a number in place of flags is read as one: 1 is BRS, 2 ESI.
+#[test]
+fn an_fd_frame_keeps_its_flags(rt: HostRuntime) -> Result<(), Fail> {
+    let lines =
+        "feed 1 < sendfdx 1 123 1 7 >\nfeed 1 < fdframes 1 >< sendfdx 1 123 1 7 >< sendfdx 2 00000123 0 >< sendfdx 3 124 0 >< sendfdx 0 125 0 >< sendfdx 4 126 0 >\nfeed 2 < fdframes 1 >< origin 1 >\nattempt\nattempt\nattempt\nattempt\ndrain 2\n";
+    let told =
+        "1 < error fd frames off >\n1 < ok >< error bad number >\n2 < ok >< ok >\ntried can0 0 done can1 -\ntried can0 1 done can1 -\ntried can0 2 done can1 -\ntried can0 3 done can1 -\n2 < fdframex 1 123 0.000000 07 other 0 >< fdframex 2 00000123 0.000000  other 1 >< fdframex 3 124 0.000000  other 2 >< fdframe 125 0.000000  other 3 >\n";
+    two_write(&rt, "", lines, told)
+}
+
 #[test]
 fn an_fd_frame_has_up_to_64_bytes(rt: HostRuntime) -> Result<(), Fail> {
     let lines = [

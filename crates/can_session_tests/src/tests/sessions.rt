@@ -9,7 +9,7 @@ use can_confine::Counters;
 use can_fault::{GlobalKind, Verdict};
 use can_frame::{CanId, Frame, Iface, IfaceSet, Item, Moment, Names};
 use can_queue::ListQueue;
-use can_session::{BusPort, Port, PortRefusal, Session, SessionFault, Stage};
+use can_session::{BusLoad, BusPort, Port, PortRefusal, Session, SessionFault, Stage};
 use can_test_support::Output;
 use std::alloc::{AllocError, AllocGlobal, Global};
 use std::process::Abort;
@@ -80,6 +80,14 @@ impl Port for Counting {
     fn status(&mut self, _iface: Iface) -> Counters {
         self.count(false);
         Counters::zero()
+    }
+
+    fn load(&mut self, _moment: Moment) -> BusLoad {
+        self.count(false);
+        BusLoad {
+            permille: 7,
+            micros: 8,
+        }
     }
 
     fn inject(&mut self, rule: &[u8]) -> Result<(), PortRefusal> {
@@ -321,6 +329,37 @@ fn rules_are_asked_of_the_port(rt: HostRuntime) {
         }
         same(&rt, port.calls, called.saturating_add(4));
     }
+}
+
+#[test]
+fn a_load_is_asked_of_the_port_in_raw_mode(rt: HostRuntime) {
+    let cases: [(&[u8], &[u8]); 6] = [
+        (b"< load >", b"< error wrong state >"),
+        (b"< open can0 >", b"< ok >"),
+        (b"< load >", b"< error wrong state >"),
+        (b"< rawmode >", b"< ok >"),
+        (b"< load 1 >", b"< error bad word count >"),
+        (b"< load >", b"< load 7 8 >"),
+    ];
+    let mut port = Counting::new();
+    let mut session = Session::new(rt.alloc(), 256).expect(&rt, "memory");
+    for (piece, want) in cases {
+        says(&rt, &mut session, piece, 0, &mut port, want);
+    }
+    same(&rt, port.calls, 3);
+    // A bus with its names knows no bit rate.
+    let mut port = bus_of(rt.alloc(), "can0,can1", AckMode::Always).expect(&rt, "a bus");
+    let mut session = raw_on(rt.alloc(), b"< open can0 >< rawmode >", &mut port).expect(
+        &rt, "raw mode",
+    );
+    says(
+        &rt,
+        &mut session,
+        b"< load >",
+        0,
+        &mut port,
+        b"< load 0 0 >",
+    );
 }
 
 #[test]

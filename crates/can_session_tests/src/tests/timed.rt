@@ -138,19 +138,32 @@ fn runs_go_forward_on_a_bus_with_bit_rates(rt: HostRuntime) -> Result<(), Fail> 
 
 // An FD frame without data has 60 bits, or with BRS 27 and 32 at the data bit rate.
 #[test]
-fn fd_frames_switch_where_there_is_a_data_bit_rate(rt: HostRuntime) -> Result<(), Fail> {
-    let lines = "feed 1 < fdframes 1 >< sendfd 123 0 >\nattempt\n";
+fn fd_frames_with_brs_switch_where_there_is_a_data_bit_rate(rt: HostRuntime) -> Result<(), Fail> {
+    let plain = "feed 1 < fdframes 1 >< sendfd 123 0 >\nattempt\n";
+    let with_brs = "feed 1 < fdframes 1 >< sendfdx 1 123 0 >\nattempt\n";
     let table = [
         (
+            plain,
             None,
             "1 < hi >\n1 < ok >< ok >\n1 < ok >\ntried can0 0 done can1 - at 0.000120\n",
         ),
         (
+            plain,
+            Some(2_000_000),
+            "1 < hi >\n1 < ok >< ok >\n1 < ok >\ntried can0 0 done can1 - at 0.000120\n",
+        ),
+        (
+            with_brs,
+            None,
+            "1 < hi >\n1 < ok >< ok >\n1 < ok >\ntried can0 0 done can1 - at 0.000118\n",
+        ),
+        (
+            with_brs,
             Some(2_000_000),
             "1 < hi >\n1 < ok >< ok >\n1 < ok >\ntried can0 0 done can1 - at 0.000070\n",
         ),
     ];
-    for (data_rate, wanted) in table {
+    for (lines, data_rate, wanted) in table {
         let (output, ended) = timed(rt.alloc(), TWO, data_rate, "", lines)?;
         same(&rt, output.as_slice(), wanted.as_bytes());
         same(&rt, ended, None);

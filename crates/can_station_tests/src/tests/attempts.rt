@@ -2,12 +2,12 @@
 
 ghost use Rattle.std.specs.Prelude.{◌≡◌};
 
-use super::waits::{Act, Awaited, Party, woken};
+use super::waits::{Act, Awaited, Party, wakes};
 use super::*;
 use can_attempt::Class;
 use can_bus::RingBus;
 use can_fault::{GlobalKind, LocalKind, Perfect};
-use can_station::{Open, WakeReason};
+use can_station::Open;
 use std::marker::Brand;
 use std::test::Fail;
 use std::thread::Threads;
@@ -33,14 +33,11 @@ impl<N: RollName + MeterName, R: Wait + Abort> Both<'_, N, R> {
         assert!(rt; opened == Ok(self.caller.open(number, 4)));
     }
 
-    /// Sends a frame of can0, and answers its number there.
-    fn send(&mut self) -> u64 {
+    /// Sends a frame of can0, which gets this number there.
+    fn sends(&mut self, number: u64) {
         let rt = self.caller.rt;
-        let Ok(number) = self.bus.send(SocketId(0), frame(rt, 0x123)) else {
-            panic!(rt; "not sent");
-        };
-        assert!(rt; self.caller.send(SocketId(0), 0x123) == Ok(number));
-        number
+        assert!(rt; self.bus.send(SocketId(0), frame(rt, 0x123)) == Ok(number));
+        self.caller.sends(SocketId(0), 0x123, number);
     }
 
     /// An attempt with this verdict. Both answer alike.
@@ -63,13 +60,77 @@ impl<N: RollName + MeterName, R: Wait + Abort> Both<'_, N, R> {
     }
 }
 
-/// An idle attempt, a good one, two of the next frame that are destroyed, and its good one. A gauge reads what each
-/// leaves: 8 more of a transmitter and 1 of a receiver for an error, 1 less for a good frame. A step then has the
-/// source's verdict for the fifth frame that is tried.
+/// What a gauge reads: the record's length, the transmit and the receive count.
+type Reading = (u32, u16, u16);
+
+/// An attempt of a frame of can0.
+#[derive(Clone, Copy)]
+struct Row {
+    /// The number of the frame, where it is sent before.
+    sent: Option<u64>,
+    micros: u64,
+    verdict: Verdict,
+    /// How the frame ends: the class, and who accepted it.
+    ends: (Class, IfaceSet),
+    /// What a gauge then reads of can0 and of can1.
+    read: (Reading, Reading),
+}
+
+/// A good attempt, two of the next frame that are destroyed, and its good one: 8 more of a transmitter and 1 of a
+/// receiver for an error, 1 less for a good frame.
+const ROWS: [Row; 4] = [
+    Row {
+        sent: Some(0),
+        micros: 2,
+        verdict: Verdict::Good,
+        ends: (Class::Done, IfaceSet(2)),
+        read: ((0, 0, 0), (0, 0, 0)),
+    },
+    Row {
+        sent: Some(1),
+        micros: 3,
+        verdict: CRC,
+        ends: (Class::Destroyed, IfaceSet(0)),
+        read: ((7, 8, 0), (7, 0, 1)),
+    },
+    Row {
+        sent: None,
+        micros: 4,
+        verdict: FORM,
+        ends: (Class::Destroyed, IfaceSet(0)),
+        read: ((8, 16, 0), (8, 0, 2)),
+    },
+    Row {
+        sent: None,
+        micros: 5,
+        verdict: Verdict::Good,
+        ends: (Class::Done, IfaceSet(2)),
+        read: ((9, 15, 0), (9, 0, 1)),
+    },
+];
+
+/// An idle attempt, and these rows.
+fn tries_all<N: RollName + MeterName, R: Wait + Abort>(
+    both: &mut Both<'_, N, R>,
+    gauge: &mut Gauge<N>,
+) {
+    let rt = both.caller.rt;
+    let restarted = IfaceSet(0);
+    assert!(rt; both.attempt(1, FORM) == Some(Attempt::Idle { restarted }));
+    for row in ROWS {
+        if let Some(number) = row.sent {
+            both.sends(number);
+        }
+        assert!(rt; both.tries(row.micros, row.verdict) == row.ends);
+        reads(rt, gauge, 0, row.read.0);
+        reads(rt, gauge, 1, row.read.1);
+    }
+}
+
+/// Attempts with verdicts of the caller. A step then has the source's verdict for the fifth frame that is tried.
 fn gives_verdicts<N: RollName + MeterName, R: Wait + Abort>(rt: &R, alloc: Global, blanks: Blanks)
     requires { (blanks.roll ≡ N.roll 0) × (blanks.meter ≡ N.meter 0) }
 {
-    let (none, can1) = (IfaceSet(0), IfaceSet(2));
     let source = script(rt, alloc, SCRIPT);
     let station = made::<N, _, _, _>(rt, alloc, blanks, 0, config(2), source, Open);
     let mut gauge = gauge(rt, &station);
@@ -80,36 +141,26 @@ fn gives_verdicts<N: RollName + MeterName, R: Wait + Abort>(rt: &R, alloc: Globa
     let mut both = Both { caller, bus };
     both.open(0);
     both.open(1);
-    assert!(rt; both.attempt(1, FORM) == Some(Attempt::Idle { restarted: none }));
-    assert!(rt; both.send() == 0);
-    assert!(rt; both.tries(2, Verdict::Good) == (Class::Done, can1));
-    reads(rt, &mut gauge, 0, (0, 0, 0));
-    assert!(rt; both.send() == 1);
-    assert!(rt; both.tries(3, CRC) == (Class::Destroyed, none));
-    reads(rt, &mut gauge, 0, (7, 8, 0));
-    reads(rt, &mut gauge, 1, (7, 0, 1));
-    assert!(rt; both.tries(4, FORM) == (Class::Destroyed, none));
-    reads(rt, &mut gauge, 0, (8, 16, 0));
-    reads(rt, &mut gauge, 1, (8, 0, 2));
-    assert!(rt; both.tries(5, Verdict::Good) == (Class::Done, can1));
-    reads(rt, &mut gauge, 0, (9, 15, 0));
-    reads(rt, &mut gauge, 1, (9, 0, 1));
-    assert!(rt; both.send() == 2);
+    tries_all(&mut both, &mut gauge);
+    both.sends(2);
     let Both { mut caller, bus: _ } = both;
     steps_with_the_source(&mut caller);
     let passes = one(rt, alloc, caller.leave());
-    let settled = settled(rt, station, passes, one(rt, alloc, gauge));
-    assert!(rt; settled.history.len() == 11);
+    settles(rt, station, passes, one(rt, alloc, gauge), 12);
 }
 
-/// A step sees the fault in the last bit that the source has for attempt 4.
+/// A step sees the fault in the last bit that the source has for attempt 4, and returns it. The next one is good.
 fn steps_with_the_source<N: RollName + MeterName, R: Wait + Abort>(caller: &mut Party<'_, N, R>) {
     let rt = caller.rt;
-    let Ok(Attempt::Tried(tried)) = caller.step(6) else {
+    let Ok((verdict, Attempt::Tried(tried))) = caller.step_judged(6) else {
         panic!(rt; "no frame");
     };
-    assert!(rt; tried.class == Class::LastBit);
-    assert!(rt; caller.calls() == 11);
+    assert!(rt; verdict == Verdict::LastBit && tried.class == Class::LastBit);
+    let Ok(Attempt::Tried(tried)) = caller.step(7) else {
+        panic!(rt; "no frame");
+    };
+    assert!(rt; tried.class == Class::Done);
+    caller.keeps(12);
 }
 
 /// An attempt with a pass of another station is refused: the frame that waits is not tried, and no list grows.
@@ -127,7 +178,7 @@ fn is_refused<'s, N: RollName + MeterName, R: Wait + Abort>(
         pass,
     };
     assert!(rt; stranger.attempt(1, Verdict::Good) == Err(StationRefusal::WrongStation));
-    assert!(rt; stranger.calls() == 0);
+    stranger.keeps(0);
     assert!(rt; station.stats(rt, SocketId(0), iface(rt, 0)) == before);
 }
 
@@ -144,12 +195,11 @@ fn strange_attempt<N: RollName + MeterName, R: Wait + Abort>(
     let station = made::<N, _, _, _>(rt, alloc, here, 0, config(2), Perfect, Open);
     let far = made::<N, _, _, _>(rt, alloc, there, 1, config(2), Perfect, Open);
     let mut caller = entered(rt, alloc, &station);
-    assert!(rt; caller.open(0, 4) == SocketId(0));
-    assert!(rt; caller.send(SocketId(0), 0x123) == Ok(0));
+    caller.opens(0, 4, SocketId(0));
+    caller.sends(SocketId(0), 0x123, 0);
     is_refused(rt, alloc, &station, entered(rt, alloc, &far).leave());
     let passes = one(rt, alloc, caller.leave());
-    let settled = settled(rt, station, passes, Vec::new(alloc));
-    assert!(rt; settled.history.len() == 2);
+    settles(rt, station, passes, Vec::new(alloc), 2);
 }
 
 /// A thread that waits for an item is woken by an attempt.
@@ -165,10 +215,9 @@ fn attempt_wakes<N: RollName + MeterName + Send + Sync, R: Threads + Wait + Abor
     let mut caller = entered(rt, alloc, &station);
     let (sender, receiver) = (caller.open(0, 4), caller.open(1, 4));
     caller.sends(sender, 0x123, 0);
-    assert!(rt;
-        woken(rt, &mut caller, Awaited::Frame(receiver), Act::Attempt) == WakeReason::Ready
-    );
-    assert!(rt; matches!(caller.receive(receiver), Ok(Some(_))));
+    let frame = Awaited::Frame(receiver);
+    wakes(rt, &mut caller, frame, Act::Attempt, WakeReason::Ready);
+    caller.receives(receiver);
 }
 
 #[test]

@@ -6,7 +6,7 @@ use super::*;
 use can_bus::Refusal;
 use can_fault::Perfect;
 use can_frame::Item;
-use can_station::{Open, WakeReason};
+use can_station::Open;
 use can_test_support::fd_frame;
 use std::marker::Brand;
 use std::test::Fail;
@@ -29,7 +29,7 @@ fn sends<N: RollName + MeterName, R: Wait + Abort>(mut caller: Party<'_, N, R>) 
     let frame = twelve(rt);
     let refused = caller.send_frame(SENDER, frame);
     assert!(rt; refused == Err(StationRefusal::Bus(Refusal::FdOff)));
-    assert!(rt; caller.set_option(SENDER, Opt::FdFrames(true)).is_ok());
+    caller.sets(SENDER, Opt::FdFrames(true));
     assert!(rt; caller.send_frame(SENDER, frame) == Ok(0));
     caller.leave()
 }
@@ -37,8 +37,8 @@ fn sends<N: RollName + MeterName, R: Wait + Abort>(mut caller: Party<'_, N, R>) 
 /// Tries the frame once it waits to be sent, and receives it.
 fn receives<N: RollName + MeterName, R: Wait + Abort>(mut caller: Party<'_, N, R>) -> Pass<N> {
     let rt = caller.rt;
-    assert!(rt; caller.set_option(RECEIVER, Opt::FdFrames(true)).is_ok());
-    assert!(rt; caller.station.wait_work(rt) == WakeReason::Ready);
+    caller.sets(RECEIVER, Opt::FdFrames(true));
+    caller.has_work();
     caller.tries(1);
     let Ok(Some(received)) = caller.receive(RECEIVER) else {
         panic!(rt; "no item");
@@ -59,8 +59,8 @@ fn two_sides<N: RollName + MeterName + Send + Sync, R: Threads + Wait + Abort + 
     let station = made::<N, _, _, _>(rt, alloc, blanks, 0, config(2), Perfect, Open);
     let mut first = entered(rt, alloc, &station);
     let mut second = entered(rt, alloc, &station);
-    assert!(rt; first.open(0, 1) == SENDER);
-    assert!(rt; second.open(1, 1) == RECEIVER);
+    first.opens(0, 1, SENDER);
+    second.opens(1, 1, RECEIVER);
     let (sent, received) = join(rt, || sends(first), || receives(second));
     let (_, frames) = station.stats(rt, SENDER, iface(rt, 0));
     assert!(rt; frames.is_some_and(|counts| counts.done == 1 && counts.refused == 0));

@@ -45,17 +45,25 @@ fn one_caller<N: RollName + MeterName, R: Wait + Abort>(rt: &R, alloc: Global, b
     let socket = caller.open(0, 65_536);
     caller.sends(socket, 0x123, 0);
     caller.tries(1);
-    let before = counts(&caller);
+    finds_it_full_twice(&mut caller, socket);
+    let passes = one(rt, alloc, caller.leave());
+    settles(rt, station, passes, Vec::new(alloc), 3);
+}
+
+/// Two receives find the record full, and the first of them is who learns of it.
+fn finds_it_full_twice<N: RollName + MeterName, R: Wait + Abort>(
+    caller: &mut Party<'_, N, R>,
+    socket: SocketId,
+) {
+    let (rt, station) = (caller.rt, caller.station);
+    let before = counts(caller);
     assert!(rt; !station.became_full() && !station.is_full());
     is_refused(rt, caller.receive(socket));
     assert!(rt; station.became_full() && !station.became_full());
     is_refused(rt, caller.receive(socket));
     assert!(rt; !station.became_full() && station.is_full());
-    assert!(rt; counts(&caller) == before);
-    assert!(rt; caller.calls() == 3);
-    let passes = one(rt, alloc, caller.leave());
-    let settled = settled(rt, station, passes, Vec::new(alloc));
-    assert!(rt; settled.history.len() == 3);
+    assert!(rt; counts(caller) == before);
+    caller.keeps(3);
 }
 
 /// Two sends, and how many of them found the record full. The list of calls does not grow by those.
@@ -83,21 +91,36 @@ fn count_if_refused<N: RollName + MeterName, R: Wait + Abort>(
 
 /// A step and each of the eight calls find the record full.
 fn finds_it_full<N: RollName + MeterName, R: Wait + Abort>(mut caller: Party<'_, N, R>) {
-    let (rt, alloc, station) = (caller.rt, caller.alloc, caller.station);
-    let socket = SocketId(0);
+    let rt = caller.rt;
     is_refused(rt, caller.step(1));
     is_refused(rt, caller.attempt(2, Verdict::Good));
+    is_refused(rt, caller.restart(0, 3));
+    changes_no_socket(&mut caller, SocketId(0));
+    moves_no_frame(&mut caller, SocketId(0));
+    caller.keeps(0);
+}
+
+fn moves_no_frame<N: RollName + MeterName, R: Wait + Abort>(
+    caller: &mut Party<'_, N, R>,
+    socket: SocketId,
+) {
+    let rt = caller.rt;
     is_refused(rt, caller.send(socket, 0x123));
     is_refused(rt, caller.receive(socket));
     is_refused(rt, caller.receive_held(socket));
+}
+
+fn changes_no_socket<N: RollName + MeterName, R: Wait + Abort>(
+    caller: &mut Party<'_, N, R>,
+    socket: SocketId,
+) {
+    let (rt, alloc, station) = (caller.rt, caller.alloc, caller.station);
     is_refused(rt, caller.set_option(socket, Opt::Join(true)));
-    is_refused(rt, caller.restart(0, 3));
     is_refused(rt, caller.close(socket));
     let pass = &mut caller.pass;
     let none = FilterSet::none(alloc);
     is_refused(rt, station.set_filters(rt, alloc, pass, socket, &none));
     is_refused(rt, station.open(rt, alloc, pass, iface(rt, 0), 4));
-    assert!(rt; caller.calls() == 0);
 }
 
 /// After an open four sends of two threads: whichever come fourth and fifth find the record full.
@@ -120,8 +143,7 @@ fn two_callers<N: RollName + MeterName + Send + Sync, R: Threads + Wait + Abort 
     assert!(rt; some <= 2 && others == 2 - some);
     finds_it_full(entered(rt, alloc, &station));
     let passes = two(rt, alloc, first, second);
-    let settled = settled(rt, station, passes, Vec::new(alloc));
-    assert!(rt; settled.history.len() == 3);
+    settles(rt, station, passes, Vec::new(alloc), 3);
 }
 
 #[test]

@@ -4,19 +4,10 @@ ghost use Rattle.std.specs.Prelude.{◌≡◌};
 
 use super::*;
 use can_station::{Open, Point};
+use can_test_support::Signals;
 use std::marker::Brand;
-use std::sync::atomic::AtomicBool;
 use std::test::Fail;
 use std::thread::{Threads, join};
-
-/// What the gate and the test tell each other: how many steps were held, how many let go, and whether the gate
-/// gave up waiting.
-#[derive(Drop)]
-struct Signals {
-    held: AtomicU64,
-    let_go: AtomicU64,
-    late: AtomicBool,
-}
 
 /// Holds each step until the test lets it go.
 #[derive(Drop)]
@@ -30,9 +21,7 @@ impl<C: Clock> Gate for Holding<'_, C> {
         if point == Point::InStep {
             let signals = self.signals;
             let before = signals.held.fetch_add(1, Ordering::SeqCst);
-            if !reaches(self.clock, &signals.let_go, before.wrapping_add(1)) {
-                signals.late.store(true, Ordering::SeqCst);
-            }
+            signals.wait_for(self.clock, &signals.let_go, before.wrapping_add(1));
         }
     }
 }
@@ -65,11 +54,31 @@ where
 {
     let rt = caller.rt;
     assert!(rt; reaches(clock, &signals.held, 1));
-    assert!(rt; caller.send(SocketId(0), 0x123) == Ok(0));
+    caller.sends(SocketId(0), 0x123, 0);
     signals.let_go.store(1, Ordering::SeqCst);
     assert!(rt; reaches(clock, &signals.held, 2));
-    assert!(rt; reading(rt, gauge, 0) == (3, 8, 0));
+    reads(rt, gauge, 0, (3, 8, 0));
     signals.let_go.store(2, Ordering::SeqCst);
+}
+
+/// One thread makes two steps of a station, and another goes on beside it. Returns the pass of the steps.
+fn side_by_side<N: RollName + MeterName + Send + Sync, R: Threads + Wait + Abort + Clock + Sync>(
+    rt: &R,
+    signals: &Signals,
+    mut stepping: Caller<'_, N, Script, Holding<'_, R>, R>,
+    mut sending: Caller<'_, N, Script, Open, R>,
+    gauge: &mut Gauge<N>,
+) -> Pass<N> {
+    stepping.opens(0, 4, SocketId(0));
+    stepping.sends(SocketId(0), 0x123, 0);
+    sending.opens(0, 4, SocketId(0));
+    let (pass, _) = join(
+        rt,
+        || steps_twice(stepping),
+        || goes_on(signals, sending, rt, gauge),
+    );
+    assert!(rt; !signals.late.load(Ordering::SeqCst));
+    pass
 }
 
 fn two_stations<N: RollName + MeterName + Send + Sync, R: Threads + Wait + Abort + Clock + Sync>(
@@ -81,11 +90,7 @@ fn two_stations<N: RollName + MeterName + Send + Sync, R: Threads + Wait + Abort
     requires here { (here.roll ≡ N.roll 0) × (here.meter ≡ N.meter 0) }
     requires there { (there.roll ≡ N.roll 1) × (there.meter ≡ N.meter 1) }
 {
-    let signals = Signals {
-        held: AtomicU64::new(0),
-        let_go: AtomicU64::new(0),
-        late: AtomicBool::new(false),
-    };
+    let signals = Signals::new();
     let gate = Holding {
         clock: rt,
         signals: &signals,
@@ -95,20 +100,12 @@ fn two_stations<N: RollName + MeterName + Send + Sync, R: Threads + Wait + Abort
     let perfect = script(rt, alloc, "");
     let other = made::<N, _, _, _>(rt, alloc, there, 1, config(2), perfect, Open);
     let mut gauge = gauge(rt, &station);
-    let mut stepping = entered(rt, alloc, &station);
-    let mut sending = entered(rt, alloc, &other);
-    assert!(rt; stepping.open(0, 4) == SocketId(0));
-    assert!(rt; stepping.send(SocketId(0), 0x123) == Ok(0));
-    assert!(rt; sending.open(0, 4) == SocketId(0));
-    let (pass, _) = join(
-        rt,
-        || steps_twice(stepping),
-        || goes_on(&signals, sending, rt, &mut gauge),
-    );
-    assert!(rt; !signals.late.load(Ordering::SeqCst));
+    let stepping = entered(rt, alloc, &station);
+    let sending = entered(rt, alloc, &other);
+    let pass = side_by_side(rt, &signals, stepping, sending, &mut gauge);
     reads(rt, &mut gauge, 0, (4, 7, 0));
-    let settled = settled(rt, station, one(rt, alloc, pass), one(rt, alloc, gauge));
-    assert!(rt; settled.history.len() == 4);
+    let passes = one(rt, alloc, pass);
+    settles(rt, station, passes, one(rt, alloc, gauge), 4);
 }
 
 #[test]

@@ -27,8 +27,7 @@ fn last_bit<N: RollName + MeterName, R: Wait + Abort>(rt: &R, alloc: Global, bla
     reads(rt, &mut gauge, 0, (4, 7, 0));
     reads(rt, &mut gauge, 1, (0, 0, 0));
     let passes = one(rt, alloc, caller.leave());
-    let settled = settled(rt, station, passes, one(rt, alloc, gauge));
-    assert!(rt; settled.history.len() == 4);
+    settles(rt, station, passes, one(rt, alloc, gauge), 4);
 }
 
 /// A bus of can0 alone, where nobody acknowledges.
@@ -77,8 +76,8 @@ fn two_sides<N: RollName + MeterName + Send + Sync, R: Threads + Wait + Abort + 
     let caller = entered(rt, alloc, &station);
     let (pass, mut gauge) = join(rt, || fails_17_times(caller), || reads_often(rt, gauge));
     reads(rt, &mut gauge, 0, (18, 128, 0));
-    let settled = settled(rt, station, one(rt, alloc, pass), one(rt, alloc, gauge));
-    assert!(rt; settled.history.len() == 19);
+    let passes = one(rt, alloc, pass);
+    settles(rt, station, passes, one(rt, alloc, gauge), 19);
 }
 
 /// A station does not settle with a gauge of another.
@@ -109,8 +108,7 @@ fn two_gauges<N: RollName + MeterName, R: Wait + Abort>(
 {
     let station = made::<N, _, _, _>(rt, alloc, blanks, number, config(2), Perfect, Open);
     let gauges = two(rt, alloc, gauge(rt, &station), gauge(rt, &station));
-    let settled = settled(rt, station, Vec::new(alloc), gauges);
-    assert!(rt; settled.history.is_empty());
+    settles(rt, station, Vec::new(alloc), gauges, 0);
 }
 
 #[test]

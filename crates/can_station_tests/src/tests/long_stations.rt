@@ -7,9 +7,10 @@ use super::*;
 use can_attempt::Class;
 use can_bus::{BusFault, LongEnd, LongRingBus, PackedRecord, Record, Refusal};
 use can_fault::Perfect;
-use can_station::{Block, Open, Scroll, WakeReason, WrongStation};
+use can_station::{Block, Open, Scroll, WrongStation};
 use std::marker::Brand;
 use std::test::Fail;
+use std::thread;
 use std::thread::{Threads, join};
 
 type LongStation<N, F> = Station<N, F, Open, LongRingBus>;
@@ -247,13 +248,21 @@ fn finds_no_place<N: RollName + MeterName, R: Wait + Abort>(rt: &R, alloc: Globa
     let socket = caller.open(0, 4);
     caller.sends(socket, 0x123, 0);
     assert!(rt; send_held(&mut caller, socket, 3) == Some(NO_PLACE));
-    assert!(rt; caller.calls() == 4);
+    caller.keeps(4);
     takes_block(&caller, &mut scroll, 0, 4);
-    assert!(rt; caller.receive_held(socket) == Ok(None));
-    caller.tries(1);
-    caller.sends(socket, 0x123, 3);
+    goes_on(&mut caller, socket);
     takes_block(&caller, &mut scroll, 4, 3);
     takes_block(&caller, &mut scroll, 7, 0);
+}
+
+/// A receive, an attempt and the next send have places again.
+fn goes_on<N: RollName + MeterName, R: Wait + Abort>(
+    caller: &mut Party<'_, N, R>,
+    socket: SocketId,
+) {
+    assert!(caller.rt; caller.receive_held(socket) == Ok(None));
+    caller.tries(1);
+    caller.sends(socket, 0x123, 3);
 }
 
 /// Two sends in one hold of the lock, and a step that finds no place. Returns how many rules are left then.
@@ -326,14 +335,24 @@ fn takes_twice<N: RollName + MeterName, R: Wait + Abort + Clock>(
     taker.leave()
 }
 
+/// A wait for so many entries ends so, and not since its time is over.
+fn entries_wait<N: RollName + MeterName, R: Wait + Abort + Clock>(
+    caller: &Party<'_, N, R>,
+    count: u64,
+    wake: WakeReason,
+) {
+    let (rt, station) = (caller.rt, caller.station);
+    assert!(rt; station.wait_entries(rt, count, Duration::from_secs(100)) == wake);
+}
+
 /// So many frames are sent, and no more until a block is taken. A wait for more entries than the tail holds ends then.
 fn lets_some_by<N: RollName + MeterName, R: Wait + Abort + Clock>(
     taker: &Party<'_, N, R>,
     sent: &AtomicU64,
     count: u64,
 ) {
-    let (rt, station) = (taker.rt, taker.station);
-    assert!(rt; station.wait_entries(rt, 100, Duration::from_secs(100)) == WakeReason::Ready);
+    let rt = taker.rt;
+    entries_wait(taker, 100, WakeReason::Ready);
     assert!(rt; reaches(rt, sent, count));
     pause(rt);
     assert!(rt; sent.load(Ordering::SeqCst) == count);
@@ -403,7 +422,7 @@ fn driver_waits<N: RollName + MeterName + Send + Sync, R: Threads + Wait + Abort
     let mut caller = entered(rt, alloc, &station);
     let driver = entered(rt, alloc, &station);
     let socket = caller.open(0, 4);
-    assert!(rt; caller.open(1, 4) == SocketId(1));
+    caller.opens(1, 4, SocketId(1));
     caller.sends(socket, 0x123, 0);
     let driven = AtomicU64::new(0);
     let (_, mut caller) = join(
@@ -411,11 +430,20 @@ fn driver_waits<N: RollName + MeterName + Send + Sync, R: Threads + Wait + Abort
         || drives_once(driver, &driven),
         || lets_drive(caller, &mut scroll, &driven),
     );
-    assert!(rt; matches!(caller.receive(SocketId(1)), Ok(Some(_))));
-    assert!(rt; caller.set_option(socket, Opt::Join(true)).is_ok());
+    ends_driving(&mut caller, socket);
+    takes_block(&caller, &mut scroll, 3, 3);
+}
+
+/// Once the tail is full again and the station was stopped, a driver without work waits no more.
+fn ends_driving<N: RollName + MeterName, R: Wait + Abort>(
+    caller: &mut Party<'_, N, R>,
+    socket: SocketId,
+) {
+    let (rt, station) = (caller.rt, caller.station);
+    caller.receives(SocketId(1));
+    caller.sets(socket, Opt::Join(true));
     station.stop(rt);
     assert!(rt; station.hold_work(rt).is_none());
-    takes_block(&caller, &mut scroll, 3, 3);
 }
 
 /// Once nobody takes entries any more no call waits for a place, and nobody for entries.
@@ -430,16 +458,25 @@ fn goes_on_to_the_end<N: RollName + MeterName, R: Wait + Abort + Clock>(
     let mut caller = entered(rt, alloc, &station);
     assert!(rt; station.wait_entries(rt, 1, Duration::from_millis(1)) == WakeReason::Ready);
     let socket = caller.open(0, 4);
-    assert!(rt; station.wait_entries(rt, 1, Duration::from_secs(100)) == WakeReason::Ready);
+    entries_wait(&caller, 1, WakeReason::Ready);
     station.end_entries(rt);
-    assert!(rt; station.wait_entries(rt, 100, Duration::from_secs(100)) == WakeReason::Stopped);
+    entries_wait(&caller, 100, WakeReason::Stopped);
+    fills_the_tail(&mut caller, socket);
+    takes_block(&caller, &mut scroll, 0, 4);
+}
+
+/// Three sends have places, and no call after them.
+fn fills_the_tail<N: RollName + MeterName, R: Wait + Abort>(
+    caller: &mut Party<'_, N, R>,
+    socket: SocketId,
+) {
+    let rt = caller.rt;
     for number in 0..3 {
         caller.sends(socket, 0x123, number);
     }
     assert!(rt; caller.send(socket, 0x123) == Err(NO_PLACE));
     assert!(rt; caller.close(socket) == Err(NO_PLACE));
-    assert!(rt; caller.calls() == 4);
-    takes_block(&caller, &mut scroll, 0, 4);
+    caller.keeps(4);
 }
 
 /// A station gives no block to another's scroll.

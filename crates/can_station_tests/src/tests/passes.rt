@@ -59,6 +59,29 @@ fn replies<N: RollName + MeterName, R: Wait + Abort>(
     requires { (blanks.roll ≡ N.roll 0) × (blanks.meter ≡ N.meter 0) }
 {
     let station = made::<N, _, _, _>(rt, alloc, blanks, 0, config(2), Perfect, Open);
+    let pass = pass_of(rt, alloc, &station, is_light);
+    let mut caller = Caller {
+        rt,
+        alloc,
+        station: &station,
+        pass,
+    };
+    let replies = make_calls(&mut caller);
+    finds_nothing(&mut caller);
+    caller.keeps(if is_light { 0 } else { 8 });
+    assert!(rt; caller.pass.call(7).is_none() == is_light);
+    let passes = one(rt, alloc, caller.leave());
+    settles(rt, station, passes, Vec::new(alloc), 8);
+    replies
+}
+
+/// A pass of the station, a light one or another.
+fn pass_of<N: RollName + MeterName, R: Wait + Abort>(
+    rt: &R,
+    alloc: Global,
+    station: &Station<N, Perfect, Open>,
+    is_light: bool,
+) -> Pass<N> {
     let entered = if is_light {
         station.enter_light(rt)
     } else {
@@ -67,21 +90,16 @@ fn replies<N: RollName + MeterName, R: Wait + Abort>(
     let Ok(pass) = entered else {
         panic!(rt; "no pass");
     };
-    let mut caller = Caller {
-        rt,
-        alloc,
-        station: &station,
-        pass,
-    };
-    let replies = make_calls(&mut caller);
+    pass
+}
+
+/// An attempt and a receive find nothing.
+fn finds_nothing<N: RollName + MeterName, R: Wait + Abort>(
+    caller: &mut Caller<'_, N, Perfect, Open, R>,
+) {
+    let rt = caller.rt;
     assert!(rt; matches!(caller.step(9), Ok(Attempt::Idle { .. })));
     assert!(rt; matches!(caller.receive_held(SocketId(0)), Ok(None)));
-    assert!(rt; caller.calls() == if is_light { 0 } else { 8 });
-    assert!(rt; caller.pass.call(7).is_none() == is_light);
-    let passes = one(rt, alloc, caller.leave());
-    let settled = settled(rt, station, passes, Vec::new(alloc));
-    assert!(rt; settled.history.len() == 8);
-    replies
 }
 
 #[test]

@@ -2,10 +2,10 @@
 
 ghost use Rattle.std.specs.Prelude.{◌≡◌};
 
-use super::waits::{Act, Awaited, Party, woken};
+use super::waits::{Act, Awaited, Party, wakes};
 use super::*;
 use can_frame::Item;
-use can_station::{Open, WakeReason};
+use can_station::Open;
 use can_test_support::DESTROYED;
 use std::marker::Brand;
 use std::test::Fail;
@@ -24,9 +24,8 @@ fn restarting() -> BusConfig {
 
 /// Opens a socket on can0 that is notified only of restarts, and sends a frame, which takes can0 off: 35 calls.
 fn goes_off<N: RollName + MeterName, R: Wait + Abort>(caller: &mut Party<'_, N, R>) -> SocketId {
-    let rt = caller.rt;
     let sender = caller.open(0, 4);
-    assert!(rt; caller.set_option(sender, Opt::ErrMask(0x100)).is_ok());
+    caller.sets(sender, Opt::ErrMask(0x100));
     caller.sends(sender, 0x123, 0);
     for micros in 1..=32 {
         caller.tries(micros);
@@ -48,20 +47,39 @@ fn comes_back<N: RollName + MeterName + Send + Sync, R: Threads + Wait + Abort +
     let mut gauge = gauge(rt, &station);
     let mut caller = entered(rt, alloc, &station);
     let sender = goes_off(&mut caller);
-    reads(rt, &mut gauge, 0, (35, 256, 0));
-    assert!(rt; station.wait_work(rt) == WakeReason::Ready);
-    assert!(rt; caller.step(33) == Ok(NOBODY));
-    reads(rt, &mut gauge, 0, (35, 256, 0));
-    assert!(rt; station.wait_work(rt) == WakeReason::Ready);
-    assert!(rt; woken(rt, &mut caller, Awaited::Frame(sender), Act::Step) == WakeReason::Ready);
+    counts(&mut caller, &mut gauge);
+    let frame = Awaited::Frame(sender);
+    wakes(rt, &mut caller, frame, Act::Step, WakeReason::Ready);
     reads(rt, &mut gauge, 0, (37, 0, 0));
-    is_told(&mut caller, sender);
-    assert!(rt; woken(rt, &mut caller, Awaited::Work, Act::Send(sender)) == WakeReason::Ready);
-    caller.tries(34);
-    assert!(rt; woken(rt, &mut caller, Awaited::Work, Act::Stop) == WakeReason::Stopped);
+    goes_on(rt, &mut caller, sender);
     let passes = one(rt, alloc, caller.leave());
-    let settled = settled(rt, station, passes, one(rt, alloc, gauge));
-    assert!(rt; settled.history.len() == 41);
+    settles(rt, station, passes, one(rt, alloc, gauge), 41);
+}
+
+/// The first attempt after can0 went off is idle, and restarts nobody.
+fn counts<N: RollName + MeterName, R: Wait + Abort>(
+    caller: &mut Party<'_, N, R>,
+    gauge: &mut Gauge<N>,
+) {
+    let rt = caller.rt;
+    reads(rt, gauge, 0, (35, 256, 0));
+    caller.has_work();
+    assert!(rt; caller.step(33) == Ok(NOBODY));
+    reads(rt, gauge, 0, (35, 256, 0));
+    caller.has_work();
+}
+
+/// After the restart a send wakes a driver again, and so does a stop.
+fn goes_on<N: RollName + MeterName + Send + Sync, R: Threads + Wait + Abort + Clock + Sync>(
+    rt: &R,
+    caller: &mut Party<'_, N, R>,
+    sender: SocketId,
+) {
+    is_told(caller, sender);
+    let send = Act::Send(sender);
+    wakes(rt, caller, Awaited::Work, send, WakeReason::Ready);
+    caller.tries(34);
+    wakes(rt, caller, Awaited::Work, Act::Stop, WakeReason::Stopped);
 }
 
 /// The class of an error message frame; 0 of any other frame.

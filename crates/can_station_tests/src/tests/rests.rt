@@ -4,7 +4,7 @@ ghost use Rattle.std.specs.Prelude.{◌≡◌};
 
 use super::*;
 use can_fault::Perfect;
-use can_station::{Open, WakeReason};
+use can_station::Open;
 use std::marker::Brand;
 use std::test::Fail;
 use std::thread::{Threads, join};
@@ -65,18 +65,18 @@ fn count_items<N: RollName + MeterName, R: Wait + Abort>(rt: &R, alloc: Global, 
     let station = made::<N, _, _, _>(rt, alloc, blanks, 0, config(2), Perfect, Open);
     let mut caller = entered(rt, alloc, &station);
     let (sender, receiver) = (caller.open(0, 4), caller.open(1, 4));
-    for micros in 1..=3 {
-        assert!(rt; caller.send(sender, 0x123).is_ok());
-        caller.tries(micros);
-        assert!(rt; station.wait_items(rt, receiver) == (WakeReason::Ready, micros));
+    for number in 0..3 {
+        caller.sends(sender, 0x123, number);
+        caller.tries(number + 1);
+        caller.has_items(receiver, WakeReason::Ready, number + 1);
     }
-    assert!(rt; matches!(caller.receive(receiver), Ok(Some(_))));
-    assert!(rt; station.wait_items(rt, receiver) == (WakeReason::Ready, 2));
+    caller.receives(receiver);
+    caller.has_items(receiver, WakeReason::Ready, 2);
     station.stop(rt);
-    assert!(rt; station.wait_items(rt, receiver) == (WakeReason::Ready, 2));
-    assert!(rt; station.wait_items(rt, sender) == (WakeReason::Stopped, 0));
-    assert!(rt; caller.close(receiver).is_ok());
-    assert!(rt; station.wait_items(rt, receiver) == (WakeReason::Closed, 0));
+    caller.has_items(receiver, WakeReason::Ready, 2);
+    caller.has_items(sender, WakeReason::Stopped, 0);
+    caller.closes(receiver);
+    caller.has_items(receiver, WakeReason::Closed, 0);
 }
 
 #[test]

@@ -5,7 +5,7 @@ ghost use Rattle.std.specs.Prelude.{◌≡◌};
 use super::*;
 use can_bus::{Entry, Event, Reply};
 use can_fault::Perfect;
-use can_station::{Open, WakeReason, WrongStation};
+use can_station::{Open, WrongStation};
 use std::marker::Brand;
 use std::test::Fail;
 use std::thread::{Threads, join};
@@ -38,7 +38,7 @@ fn sends<N: RollName + MeterName, R: Wait + Abort>(
 /// Tries 200 frames, each once it waits to be sent.
 fn drives<N: RollName + MeterName, R: Wait + Abort>(mut caller: Party<'_, N, R>) -> Pass<N> {
     for micros in 0..200 {
-        assert!(caller.rt; caller.station.wait_work(caller.rt) == WakeReason::Ready);
+        caller.has_work();
         caller.tries(micros);
     }
     caller.leave()
@@ -48,7 +48,7 @@ fn drives<N: RollName + MeterName, R: Wait + Abort>(mut caller: Party<'_, N, R>)
 fn receives<N: RollName + MeterName, R: Wait + Abort>(mut caller: Party<'_, N, R>) -> Pass<N> {
     for _ in 0..200 {
         assert!(caller.rt; caller.station.wait_frame(caller.rt, RECEIVER) == WakeReason::Ready);
-        assert!(caller.rt; matches!(caller.receive(RECEIVER), Ok(Some(_))));
+        caller.receives(RECEIVER);
     }
     caller.leave()
 }
@@ -89,6 +89,36 @@ fn numbered<R: Abort>(rt: &R, entries: &[Entry], sockets: &[SocketId]) -> u64 {
     count
 }
 
+/// Two senders, on can0 and on this interface, a driver, and a receiver on can2, side by side. Returns their passes.
+fn all_side_by_side<N: RollName + MeterName + Send + Sync, R: Threads + Wait + Abort + Sync>(
+    rt: &R,
+    alloc: Global,
+    station: &Station<N, Perfect, Open>,
+    second_iface: u8,
+) -> Vec<Pass<N>> {
+    let mut first = entered(rt, alloc, station);
+    let mut second = entered(rt, alloc, station);
+    let driver = entered(rt, alloc, station);
+    let mut receiver = entered(rt, alloc, station);
+    first.opens(0, 1, SocketId(0));
+    second.opens(second_iface, 1, SocketId(1));
+    receiver.opens(2, 200, RECEIVER);
+    let (sent, delivered) = join(
+        rt,
+        || send_all(rt, first, second),
+        || deliver_all(rt, driver, receiver),
+    );
+    four(rt, alloc, sent, delivered)
+}
+
+/// A list of two and two.
+fn four<T: Drop, R: Abort>(rt: &R, alloc: Global, front: (T, T), back: (T, T)) -> Vec<T> {
+    let mut list = two(rt, alloc, front.0, front.1);
+    assert!(rt; list.push(back.0).is_ok());
+    assert!(rt; list.push(back.1).is_ok());
+    list
+}
+
 /// The record of two senders, on can0 and on this interface, with a driver and a receiver on can2.
 fn two_senders<N: RollName + MeterName + Send + Sync, R: Threads + Wait + Abort + Sync>(
     rt: &R,
@@ -99,21 +129,7 @@ fn two_senders<N: RollName + MeterName + Send + Sync, R: Threads + Wait + Abort 
     requires { (blanks.roll ≡ N.roll 0) × (blanks.meter ≡ N.meter 0) }
 {
     let station = made::<N, _, _, _>(rt, alloc, blanks, 0, long(), Perfect, Open);
-    let mut first = entered(rt, alloc, &station);
-    let mut second = entered(rt, alloc, &station);
-    let driver = entered(rt, alloc, &station);
-    let mut receiver = entered(rt, alloc, &station);
-    assert!(rt; first.open(0, 1) == SocketId(0));
-    assert!(rt; second.open(second_iface, 1) == SocketId(1));
-    assert!(rt; receiver.open(2, 200) == RECEIVER);
-    let (sent, delivered) = join(
-        rt,
-        || send_all(rt, first, second),
-        || deliver_all(rt, driver, receiver),
-    );
-    let mut passes = two(rt, alloc, sent.0, sent.1);
-    assert!(rt; passes.push(delivered.0).is_ok());
-    assert!(rt; passes.push(delivered.1).is_ok());
+    let passes = all_side_by_side(rt, alloc, &station, second_iface);
     let settled = settled(rt, station, passes, Vec::new(alloc));
     assert!(rt; settled.passes == 4);
     assert!(rt; settled.history.config() == long());
@@ -140,7 +156,21 @@ fn senders_of_one_interface_share_its_numbers(rt: HostRuntime) -> Result<(), Fai
     Ok(())
 }
 
-/// Another station refuses the pass, and no list grows; neither does it settle with it.
+/// A caller with a pass of another station is refused: no list grows, and no frame of can0 is sent.
+fn is_refused<N: RollName + MeterName, R: Wait + Abort>(
+    stranger: &mut Party<'_, N, R>,
+    socket: SocketId,
+) {
+    let rt = stranger.rt;
+    assert!(rt; stranger.send(socket, 0x123) == Err(StationRefusal::WrongStation));
+    assert!(rt; stranger.receive_held(socket) == Err(StationRefusal::WrongStation));
+    assert!(rt; stranger.step(1) == Err(StationRefusal::WrongStation));
+    stranger.keeps(0);
+    let (_, counts) = stranger.station.stats(rt, socket, iface(rt, 0));
+    assert!(rt; counts.is_some_and(|counts| counts.sent == 0));
+}
+
+/// Another station refuses the pass; neither does it settle with it.
 fn strange_pass<N: RollName + MeterName, R: Wait + Abort>(
     rt: &R,
     alloc: Global,
@@ -160,15 +190,7 @@ fn strange_pass<N: RollName + MeterName, R: Wait + Abort>(
         station: &station,
         pass,
     };
-    assert!(rt; stranger.send(socket, 0x123) == Err(StationRefusal::WrongStation));
-    assert!(rt; stranger.receive_held(socket) == Err(StationRefusal::WrongStation));
-    assert!(rt; stranger.step(1) == Err(StationRefusal::WrongStation));
-    assert!(rt; stranger.calls() == 0);
-    let sent = station
-        .stats(rt, socket, iface(rt, 0))
-        .1
-        .map(|counts| counts.sent);
-    assert!(rt; sent == Some(0));
+    is_refused(&mut stranger, socket);
     let passes = one(rt, alloc, stranger.leave());
     let outcome = station.settle(rt, passes, Vec::new(alloc));
     assert!(rt; matches!(outcome, Err(WrongStation)));

@@ -5,7 +5,7 @@ ghost use Rattle.std.specs.Prelude.{◌≡◌};
 use super::*;
 use can_bus::{Event, IfaceStats, Record, Reply, RingBus};
 use can_filter::{Filter, FilterSet};
-use can_station::{Open, WakeReason};
+use can_station::Open;
 use can_test_support::{DESTROYED, joined};
 use std::marker::Brand;
 use std::test::Fail;

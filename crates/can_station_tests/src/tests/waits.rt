@@ -3,7 +3,7 @@
 ghost use Rattle.std.specs.Prelude.{◌≡◌};
 
 use super::*;
-use can_station::{Open, WakeReason};
+use can_station::Open;
 use std::marker::Brand;
 use std::test::Fail;
 use std::thread::{Threads, join};
@@ -86,13 +86,14 @@ fn wake_up<N: RollName + MeterName, R: Wait + Abort + Clock>(
     is_woken
 }
 
-/// How a thread's wait ends, where another thread acts.
-pub fn woken<N: RollName + MeterName + Send + Sync, R: Threads + Wait + Abort + Clock + Sync>(
+/// A thread's wait ends so, where another thread acts.
+pub fn wakes<N: RollName + MeterName + Send + Sync, R: Threads + Wait + Abort + Clock + Sync>(
     rt: &R,
     caller: &mut Party<'_, N, R>,
     awaited: Awaited,
     ending: Act,
-) -> WakeReason {
+    wanted: WakeReason,
+) {
     let station = caller.station;
     let (begun, ended) = (AtomicU64::new(0), AtomicU64::new(0));
     let (is_woken, wake) = join(
@@ -100,8 +101,7 @@ pub fn woken<N: RollName + MeterName + Send + Sync, R: Threads + Wait + Abort + 
         || wake_up(caller, ending, &begun, &ended),
         || wait(rt, station, awaited, &begun, &ended),
     );
-    assert!(rt; is_woken);
-    wake
+    assert!(rt; is_woken && wake == wanted);
 }
 
 /// A send, a step, a restart, a close and a stop each end a wait.
@@ -116,23 +116,28 @@ fn each_call_wakes<N: RollName + MeterName + Send + Sync, R: Threads + Wait + Ab
     let station = made::<N, _, _, _>(rt, alloc, blanks, 0, config(2), faults, Open);
     let mut caller = entered(rt, alloc, &station);
     let (sender, receiver) = (caller.open(0, 4), caller.open(1, 4));
-    assert!(rt; woken(rt, &mut caller, Awaited::Work, Act::Send(sender)) == WakeReason::Ready);
-    assert!(rt; woken(rt, &mut caller, Awaited::Frame(receiver), Act::Step) == WakeReason::Ready);
-    assert!(rt; matches!(caller.receive(receiver), Ok(Some(_))));
+    let (work, sent, received) = (
+        Awaited::Work,
+        Awaited::Frame(sender),
+        Awaited::Frame(receiver),
+    );
+    wakes(rt, &mut caller, work, Act::Send(sender), WakeReason::Ready);
+    wakes(rt, &mut caller, received, Act::Step, WakeReason::Ready);
+    caller.receives(receiver);
     goes_off(&mut caller, sender);
-    assert!(rt; woken(rt, &mut caller, Awaited::Frame(sender), Act::Restart) == WakeReason::Ready);
+    wakes(rt, &mut caller, sent, Act::Restart, WakeReason::Ready);
     let close = Act::Close(receiver);
-    assert!(rt; woken(rt, &mut caller, Awaited::Frame(receiver), close) == WakeReason::Closed);
-    assert!(rt; matches!(caller.receive(sender), Ok(Some(_))));
-    assert!(rt; woken(rt, &mut caller, Awaited::Frame(sender), Act::Stop) == WakeReason::Stopped);
+    wakes(rt, &mut caller, received, close, WakeReason::Closed);
+    caller.receives(sender);
+    wakes(rt, &mut caller, sent, Act::Stop, WakeReason::Stopped);
 }
 
-/// How the waits of two sockets end, where another thread makes a step.
-fn woken_both<N: RollName + MeterName + Send + Sync, R: Threads + Wait + Abort + Clock + Sync>(
+/// The waits of two sockets end, where another thread makes a step.
+fn wakes_both<N: RollName + MeterName + Send + Sync, R: Threads + Wait + Abort + Clock + Sync>(
     rt: &R,
     caller: &mut Party<'_, N, R>,
     sockets: [SocketId; 2],
-) -> (WakeReason, WakeReason) {
+) {
     let station = caller.station;
     let [one, other] = sockets;
     let (begun, ended) = (AtomicU64::new(0), AtomicU64::new(0));
@@ -157,8 +162,7 @@ fn woken_both<N: RollName + MeterName + Send + Sync, R: Threads + Wait + Abort +
             )
         },
     );
-    assert!(rt; is_woken);
-    wakes
+    assert!(rt; is_woken && wakes == (WakeReason::Ready, WakeReason::Ready));
 }
 
 /// A frame wakes each receiver that gets it, also where the second socket was opened as the 64th after the first.
@@ -172,18 +176,22 @@ fn a_frame_wakes_all<
     let station = made::<N, _, _, _>(rt, alloc, blanks, 0, config(2), faults, Open);
     let mut caller = entered(rt, alloc, &station);
     let (sender, first) = (caller.open(0, 4), caller.open(1, 4));
-    for _ in 0..63 {
-        let between = caller.open(1, 4);
-        assert!(rt; caller.close(between).is_ok());
-    }
+    opens_and_closes(&mut caller);
     let last = caller.open(1, 4);
     assert!(rt; (first, last) == (SocketId(1), SocketId(65)));
-    for _ in 0..2 {
-        assert!(rt; caller.send(sender, 0x123).is_ok());
-        let wakes = woken_both(rt, &mut caller, [first, last]);
-        assert!(rt; wakes == (WakeReason::Ready, WakeReason::Ready));
-        assert!(rt; matches!(caller.receive(first), Ok(Some(_))));
-        assert!(rt; matches!(caller.receive(last), Ok(Some(_))));
+    for number in 0..2 {
+        caller.sends(sender, 0x123, number);
+        wakes_both(rt, &mut caller, [first, last]);
+        caller.receives(first);
+        caller.receives(last);
+    }
+}
+
+/// Opens 63 sockets, and closes each.
+fn opens_and_closes<N: RollName + MeterName, R: Wait + Abort>(caller: &mut Party<'_, N, R>) {
+    for _ in 0..63 {
+        let socket = caller.open(1, 4);
+        caller.closes(socket);
     }
 }
 
@@ -192,7 +200,7 @@ fn goes_off<N: RollName + MeterName, R: Wait + Abort>(
     caller: &mut Party<'_, N, R>,
     sender: SocketId,
 ) {
-    assert!(caller.rt; caller.set_option(sender, Opt::ErrMask(0x100)).is_ok());
+    caller.sets(sender, Opt::ErrMask(0x100));
     assert!(caller.rt; caller.send(sender, 0x123).is_ok());
     for micros in 1..=32 {
         caller.tries(micros);
@@ -224,7 +232,13 @@ fn stop_wakes<N: RollName + MeterName + Send + Sync, R: Threads + Wait + Abort +
     let faults = script(rt, alloc, "");
     let station = made::<N, _, _, _>(rt, alloc, blanks, 0, config(2), faults, Open);
     let mut caller = entered(rt, alloc, &station);
-    assert!(rt; woken(rt, &mut caller, Awaited::Work, Act::Stop) == WakeReason::Stopped);
+    wakes(
+        rt,
+        &mut caller,
+        Awaited::Work,
+        Act::Stop,
+        WakeReason::Stopped,
+    );
     drives_to_the_end(caller);
 }
 

@@ -1,7 +1,8 @@
 use super::{same, same_at};
 use can_frame::{
-    CanId, ErrorFrame, Frame, Iface, Item, Moment, Names, NamesError, Text, frame_text, guess_item,
-    is_fd_length, is_name, read_decimal, read_frame_text, read_hexadecimal,
+    CanId, ErrorFrame, FdFlags, Frame, Iface, Item, Moment, Names, NamesError, Text, frame_text,
+    guess_item, is_fd_length, is_name, read_decimal, read_flagged_frame_text, read_frame_text,
+    read_hexadecimal,
 };
 use std::alloc::Global;
 use std::process::Abort;
@@ -71,6 +72,11 @@ fn extended_remote(number: u32, len: u8) -> Option<Item> {
 
 fn fd(number: u16, bytes: &[u8]) -> Option<Item> {
     Some(Item::Data(Frame::fd(CanId::standard(number).ok()?, bytes).ok()?))
+}
+
+fn flagged(number: u16, brs: bool, esi: bool, bytes: &[u8]) -> Option<Item> {
+    let id = CanId::standard(number).ok()?;
+    Some(Item::Data(Frame::fd_with(id, FdFlags { brs, esi }, bytes).ok()?))
 }
 
 fn error(class: u32, bytes: [u8; 8]) -> Option<Item> {
@@ -220,6 +226,33 @@ fn makes_fd_frame(id: CanId, bytes: &[u8]) -> bool {
                 && !frame.is_remote()
         }
         Err(_) => false,
+    }
+}
+
+// As candump of can-utils writes them: CANFD_BRS of linux/can.h is 1, CANFD_ESI 2.
+#[test]
+fn flags_of_fd_frames_go_there_and_back(rt: HostRuntime) {
+    let items = [
+        ("123##0AABB", flagged(0x123, false, false, b"\xAA\xBB")),
+        ("123##1AABB", flagged(0x123, true, false, b"\xAA\xBB")),
+        ("123##2", flagged(0x123, false, true, b"")),
+        (
+            "7FF##311223344",
+            flagged(0x7FF, true, true, b"\x11\x22\x33\x44"),
+        ),
+    ];
+    for (text, item) in items {
+        same_at(&rt, text, item.is_some(), true);
+        same_at(&rt, text, read_flagged_frame_text(text).ok() == item, true);
+        same_at(&rt, text, is_written(item, text), true);
+        let plain = text.as_bytes()[5] == b'0';
+        same_at(&rt, text, read_frame_text(text).is_ok(), plain);
+    }
+    let texts = [
+        "123##4", "123##5AA", "123##A", "123##", "123##/", "123##1A", "123#1#",
+    ];
+    for text in texts {
+        same_at(&rt, text, read_flagged_frame_text(text).is_err(), true);
     }
 }
 

@@ -1,9 +1,9 @@
 use super::{same, same_at};
 use can_bus::{Closed, Opt, Refusal};
 use can_confine::Counters;
-use can_frame::{CanId, ErrorFrame, Frame, Item, Moment};
+use can_frame::{CanId, ErrorFrame, FdFlags, Frame, Item, Moment};
 use can_proto::{
-    Answer, Cause, Command, Incoming, ItemText, Message, Mode, Origin, ProtoFault, Reader,
+    Answer, BusLoad, Cause, Command, Incoming, ItemText, Message, Mode, Origin, ProtoFault, Reader,
     item_text, push_item_from, reply_text,
 };
 use std::alloc::{AllocError, AllocGlobal, Global};
@@ -92,7 +92,7 @@ fn has_words_of_its_cause(rt: &(impl Abort + AllocGlobal), fault: ProtoFault) ->
 #[test]
 fn faults_are_told_in_their_order(rt: HostRuntime) {
     let raw = Mode::Raw;
-    let cases: [(Mode, &[u8], ProtoFault); 46] = [
+    let cases: [(Mode, &[u8], ProtoFault); 53] = [
         (raw, b"< >", ProtoFault::EmptyMessage),
         (Mode::Ended, b"<>", ProtoFault::EmptyMessage),
         (raw, b"< statuses >", ProtoFault::UnknownCommand),
@@ -123,6 +123,13 @@ fn faults_are_told_in_their_order(rt: HostRuntime) {
         (raw, b"< sendfd 123 128 >", ProtoFault::BadLength),
         (raw, b"< sendfd 123 12 1 x >", ProtoFault::BadCount),
         (raw, b"< sendfd 123 2 1 x >", ProtoFault::BadByte),
+        (Mode::Opened, b"< sendfdx 1 123 0 >", ProtoFault::WrongState),
+        (raw, b"< sendfdx >", ProtoFault::BadCount),
+        (raw, b"< sendfdx 4 123 0 >", ProtoFault::BadNumber),
+        (raw, b"< sendfdx 01 123 0 >", ProtoFault::BadNumber),
+        (raw, b"< sendfdx 123 0 >", ProtoFault::BadNumber),
+        (raw, b"< sendfdx 1 123 >", ProtoFault::BadCount),
+        (raw, b"< sendfdx 1 123 9 >", ProtoFault::BadLength),
         (raw, b"< fdframes on >", ProtoFault::BadNumber),
         (raw, b"< status 1 >", ProtoFault::BadCount),
         (raw, b"< filter 513 >", ProtoFault::TooManyFilters),
@@ -178,11 +185,26 @@ fn frames_are_read(rt: HostRuntime) {
     }
 }
 
+/// Flags of an FD frame.
+fn flags(brs: bool, esi: bool) -> FdFlags {
+    FdFlags { brs, esi }
+}
+
 #[test]
 fn fd_frames_are_read(rt: HostRuntime) {
     let short = CanId::standard(0x123).expect(&rt, "an id");
     let long = CanId::extended(0x1FFF_FFFF).expect(&rt, "an id");
-    let cases: [(&[u8], Option<Frame>); 4] = [
+    let (brs, both) = (flags(true, false), flags(true, true));
+    let cases: [(&[u8], Option<Frame>); 7] = [
+        (
+            b"< sendfdx 1 123 2 aa BB >",
+            Frame::fd_with(short, brs, b"\xAA\xBB").ok(),
+        ),
+        (
+            b"<sendfdx\t3 1FFFFFFF 0>",
+            Frame::fd_with(long, both, b"").ok(),
+        ),
+        (b"< sendfdx 0 123 1 7 >", Frame::fd(short, b"\x07").ok()),
         (b"< sendfd 123 0 >", Frame::fd(short, b"").ok()),
         (b"< sendfd 123 1 fF >", Frame::fd(short, b"\xFF").ok()),
         (
@@ -219,7 +241,8 @@ fn is_command(place: usize, command: &Command) -> bool {
         | (13, Command::Faults)
         | (14, Command::NoFaults)
         | (17, Command::Interfaces)
-        | (18, Command::Close) => true,
+        | (18, Command::Load)
+        | (19, Command::Close) => true,
         (15, Command::Ack(on)) => *on,
         (16, Command::Origin(on)) => !*on,
         (12, Command::SetOption(option)) => *option == Opt::FdFrames(true),
@@ -242,9 +265,9 @@ fn is_read(alloc: Global, place: usize, incoming: &Incoming) -> bool {
 #[test]
 fn commands_are_read(rt: HostRuntime) {
     let stream =
-        b"< open can0 >< filter 2 123 C00007FF 0 0 >< join 1 >< loopback 0 >< recvown 1 >< errmask 204 >< errdata 1 >< stats >< status >< restart >< echo >< rawmode >< fdframes 1 >< faults >< nofaults >< ack 1 >< origin 0 >< interfaces >< close >";
+        b"< open can0 >< filter 2 123 C00007FF 0 0 >< join 1 >< loopback 0 >< recvown 1 >< errmask 204 >< errdata 1 >< stats >< status >< restart >< echo >< rawmode >< fdframes 1 >< faults >< nofaults >< ack 1 >< origin 0 >< interfaces >< load >< close >";
     let given = fed(rt.alloc(), stream, b"").expect(&rt, "memory");
-    same(&rt, given.len(), 19);
+    same(&rt, given.len(), 20);
     for (place, incoming) in given.iter().enumerate() {
         same_at(&rt, place, is_read(rt.alloc(), place, incoming), true);
     }
@@ -286,7 +309,19 @@ fn frames_are_written(rt: HostRuntime) {
     let long = CanId::extended(0x123).expect(&rt, "an id");
     let wide = [1, 2, 3, 4, 5, 6, 7, 8, 9, 10, 11, 12];
     let last = 9_999_999_999_999_999;
-    let cases: [(Option<Frame>, u64, bool, &[u8]); 5] = [
+    let cases: [(Option<Frame>, u64, bool, &[u8]); 7] = [
+        (
+            Frame::fd_with(short, flags(true, false), &wide).ok(),
+            1,
+            false,
+            b"< fdframex 1 123 0.000001 0102030405060708090A0B0C >",
+        ),
+        (
+            Frame::fd_with(long, flags(false, true), b"").ok(),
+            1,
+            false,
+            b"< fdframex 2 00000123 0.000001  >",
+        ),
         (
             Frame::data(short, b"\x11\x22\x33\x44").ok(),
             23_424_242,
@@ -328,7 +363,12 @@ fn frames_are_written(rt: HostRuntime) {
 fn origins_are_written(rt: HostRuntime) {
     let short = CanId::standard(0x123).expect(&rt, "an id");
     let long = CanId::extended(0x1FFF_FFFF).expect(&rt, "an id");
-    let cases: [(Option<Frame>, Origin, &[u8]); 4] = [
+    let cases: [(Option<Frame>, Origin, &[u8]); 5] = [
+        (
+            Frame::fd_with(long, flags(true, true), b"\xA5").ok(),
+            Origin::Other(0),
+            b"< fdframex 3 1FFFFFFF 1.000000 A5 other 0 >",
+        ),
         (
             Frame::data(short, b"\x11\x22").ok(),
             Origin::Same(17),
@@ -424,5 +464,22 @@ fn statuses_are_written(rt: HostRuntime) {
     for (tec, rec, text) in cases {
         let counters = Counters::new(tec, rec).expect(&rt, "counters");
         same(&rt, reply_text(Answer::Status(counters)).as_bytes(), text);
+    }
+}
+
+#[test]
+fn loads_are_written(rt: HostRuntime) {
+    let cases: [(u16, u64, &[u8]); 3] = [
+        (0, 0, b"< load 0 0 >"),
+        (7, 12_345_678, b"< load 7 12345678 >"),
+        (
+            1_000,
+            18_446_744_073_709_551_615,
+            b"< load 1000 18446744073709551615 >",
+        ),
+    ];
+    for (permille, micros, text) in cases {
+        let load = BusLoad { permille, micros };
+        same(&rt, reply_text(Answer::Load(load)).as_bytes(), text);
     }
 }

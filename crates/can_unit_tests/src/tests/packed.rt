@@ -6,7 +6,7 @@ use can_attempt::Class;
 use can_event::{Closed, Entry, Event, Opt, Received, Refusal, Reply, SocketId, Tried};
 use can_fault::{GlobalKind, LocalKind, Verdict};
 use can_filter::{Filter, FilterSet};
-use can_frame::{CanId, ErrorFrame, Frame, Iface, IfaceSet, Item, Moment};
+use can_frame::{CanId, ErrorFrame, FdFlags, Frame, Iface, IfaceSet, Item, Moment};
 use can_record::PackedRecord;
 use std::alloc::{AllocError, AllocGlobal, Global};
 use std::process::Abort;
@@ -21,7 +21,7 @@ fn moment(rt: &impl Abort, micros: u64) -> Moment {
 
 const LAST_MOMENT: u64 = 9_999_999_999_999_999;
 
-/// An FD frame of this many bytes, which differ.
+/// An FD frame of this many bytes, which differ, with or without each flag.
 fn fd(rt: &impl Abort, len: usize) -> Frame
     requires { len ≤ 64 }
 {
@@ -30,7 +30,11 @@ fn fd(rt: &impl Abort, len: usize) -> Frame
     for place in 0..64 {
         bytes[place] = 255 - place as u8;
     }
-    Frame::fd(id, &bytes[..len]).expect(rt, "a length of FD frames")
+    let flags = FdFlags {
+        brs: len % 2 == 1,
+        esi: len > 4,
+    };
+    Frame::fd_with(id, flags, &bytes[..len]).expect(rt, "a length of FD frames")
 }
 
 /// Frames with the least and the greatest parts, and FD frames of each length.

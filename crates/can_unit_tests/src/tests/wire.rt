@@ -1,12 +1,15 @@
 use super::{same, same_at};
 use can_attempt::Class;
 use can_fault::{GlobalKind, LocalKind, Verdict};
-use can_frame::{CanId, Frame, IfaceSet, Item, read_frame_text};
-use can_wire::{BadBitRates, FdFlags, Rates, WireBits, attempt_bits, frame_bits};
+use can_frame::{CanId, FdFlags, Frame, IfaceSet, Item, Moment, read_flagged_frame_text};
+use can_wire::{
+    BadBitRates, Load, Rates, RecentLoad, Schedule, Timing, WireBits, attempt_bits, frame_bits,
+};
+use std::process::Abort;
 
 /// The frame of a text.
 fn frame(text: &str) -> Option<Frame> {
-    let item = read_frame_text(text).ok()?;
+    let item = read_flagged_frame_text(text).ok()?;
     match &item {
         Item::Data(frame) => Some(*frame),
         Item::Error(_) => None,
@@ -19,8 +22,8 @@ fn rates(bits: WireBits) -> (u32, u32) {
 }
 
 /// The bits of the frame of a text to end of frame.
-fn bits(text: &str, brs: bool, esi: bool) -> Option<(u32, u32)> {
-    Some(rates(frame_bits(&frame(text)?, FdFlags { brs, esi })))
+fn bits(text: &str) -> Option<(u32, u32)> {
+    Some(rates(frame_bits(&frame(text)?)))
 }
 
 // By hand: 000# has 34 zeros with 6 stuff bits, and 10 bits. The others are of tests/wire_model.py, too.
@@ -37,8 +40,7 @@ fn classic_frames_have_their_bits(rt: HostRuntime) {
         ("1FFFFFFF#", 71),
     ];
     for (text, nominal) in rows {
-        same_at(&rt, text, bits(text, false, false), Some((nominal, 0)));
-        same_at(&rt, text, bits(text, true, true), Some((nominal, 0)));
+        same_at(&rt, text, bits(text), Some((nominal, 0)));
     }
 }
 
@@ -88,7 +90,7 @@ fn random_classic_frames_have_theirs(rt: HostRuntime) {
         ("12800464#FF", 77),
     ];
     for (text, nominal) in rows {
-        same_at(&rt, text, bits(text, false, false), Some((nominal, 0)));
+        same_at(&rt, text, bits(text), Some((nominal, 0)));
     }
 }
 
@@ -96,108 +98,69 @@ fn random_classic_frames_have_theirs(rt: HostRuntime) {
 #[test]
 fn random_fd_frames_have_theirs(rt: HostRuntime) {
     let rows = [
-        ("795##09D", true, false, 27, 40),
-        ("06CA7F1B##0BEE389120EBAEEA3C2D8545A", true, false, 47, 130),
-        ("00C37206##05DE4", true, false, 48, 48),
+        ("795##19D", 27, 40),
+        ("06CA7F1B##1BEE389120EBAEEA3C2D8545A", 47, 130),
+        ("00C37206##15DE4", 48, 48),
         (
-            "5E0##0E452CCEC7FFA8EFFB5E8ECB3E9F971A65589F59E9BD09F6A",
-            true,
-            true,
+            "5E0##3E452CCEC7FFA8EFFB5E8ECB3E9F971A65589F59E9BD09F6A",
             28,
             236,
         ),
-        ("09A0042C##000FF3C0000833C000F83FF3C", false, false, 187, 0),
-        ("008##000F8", false, true, 79, 0),
-        ("613##0000000003C", true, true, 27, 78),
-        ("2FC##08300", false, false, 79, 0),
-        ("1FB##0", true, false, 28, 32),
-        ("0ACA748B##087CD4EF2", true, false, 46, 65),
-        ("009##041C9F9A749", false, true, 102, 0),
-        ("2BA##0471D811143525731E876107E", false, false, 158, 0),
-        ("0E3AF629##0B8", true, false, 46, 40),
+        ("09A0042C##000FF3C0000833C000F83FF3C", 187, 0),
+        ("008##200F8", 79, 0),
+        ("613##3000000003C", 27, 78),
+        ("2FC##08300", 79, 0),
+        ("1FB##1", 28, 32),
+        ("0ACA748B##187CD4EF2", 46, 65),
+        ("009##241C9F9A749", 102, 0),
+        ("2BA##0471D811143525731E876107E", 158, 0),
+        ("0E3AF629##1B8", 46, 40),
         (
-            "08894A00##000833C00FF000000FFFF00FF00833CF8F80F833CF8FF3CFF",
-            true,
-            true,
+            "08894A00##300833C00FF000000FFFF00FF00833CF8F80F833CF8FF3CFF",
             48,
             254,
         ),
-        ("360##0", true, true, 28, 32),
+        ("360##3", 28, 32),
+        ("173##23CBB94BE9D09D333359C6508E71ED2F8", 189, 0),
+        ("10562082##33C", 49, 40),
+        ("1828D471##30F", 47, 40),
+        ("03E5353A##16C", 47, 40),
+        ("032##00FF8FF0F0FF883", 120, 0),
         (
-            "173##03CBB94BE9D09D333359C6508E71ED2F8",
-            false,
-            true,
-            189,
-            0,
-        ),
-        ("10562082##03C", true, true, 49, 40),
-        ("1828D471##00F", true, true, 47, 40),
-        ("03E5353A##06C", true, false, 47, 40),
-        ("032##00FF8FF0F0FF883", false, false, 120, 0),
-        (
-            "581##0CA7650FA84DA2B3124B65A4BD5222C134197C776A8E05892",
-            true,
-            true,
+            "581##3CA7650FA84DA2B3124B65A4BD5222C134197C776A8E05892",
             28,
             234,
         ),
-        ("114EFF58##056", true, true, 48, 40),
-        ("390##04AEEE1", true, false, 28, 56),
+        ("114EFF58##356", 48, 40),
+        ("390##14AEEE1", 28, 56),
+        ("67A##1F80F3C3CF83C3CF80F830F3C3C3C003CFF8383FF", 27, 212),
+        ("0415C548##1", 47, 32),
+        ("05AD0158##3", 47, 32),
+        ("06E55E9A##03C8383FFF883", 132, 0),
+        ("139827E1##1FF000F00F8833C", 47, 95),
+        ("609##2EB0E28B158CF82451B53FFC3ED964F05", 194, 0),
+        ("0EF4E00C##1689DFF44F7", 47, 73),
+        ("5B0##30F", 28, 40),
+        ("324##34C2D9D1477EA768E", 27, 97),
         (
-            "67A##0F80F3C3CF83C3CF80F830F3C3C3C003CFF8383FF",
-            true,
-            false,
-            27,
-            212,
-        ),
-        ("0415C548##0", true, false, 47, 32),
-        ("05AD0158##0", true, true, 47, 32),
-        ("06E55E9A##03C8383FFF883", false, false, 132, 0),
-        ("139827E1##0FF000F00F8833C", true, false, 47, 95),
-        (
-            "609##0EB0E28B158CF82451B53FFC3ED964F05",
-            false,
-            true,
-            194,
-            0,
-        ),
-        ("0EF4E00C##0689DFF44F7", true, false, 47, 73),
-        ("5B0##00F", true, true, 28, 40),
-        ("324##04C2D9D1477EA768E", true, true, 27, 97),
-        (
-            "03940852##0000FF80FFFF8F80FF8FF3CF83CFF0F0FFF00FFF8FF3C0FFF",
-            true,
-            true,
+            "03940852##3000FF80FFFF8F80FF8FF3CF83CFF0F0FFF00FFF8FF3C0FFF",
             47,
             252,
         ),
-        ("19717098##03C0F0F3C", false, false, 111, 0),
+        ("19717098##03C0F0F3C", 111, 0),
+        ("405##09525BC9DCAF75984B5E1F42C5FA1C2410E35B355", 228, 0),
         (
-            "405##09525BC9DCAF75984B5E1F42C5FA1C2410E35B355",
-            false,
-            false,
-            228,
-            0,
-        ),
-        (
-            "1C19419C##083F8830FF83CFF0F0FFFF800FFFF0F0FFFF80F0F000FFFFF",
-            true,
-            true,
+            "1C19419C##383F8830FF83CFF0F0FFFF800FFFF0F0FFFF80F0F000FFFFF",
             48,
             253,
         ),
-        ("5D3##0495A20DCE3", false, false, 100, 0),
-        ("001##0CA741BC8F2FAA22EFDCDE856", false, true, 160, 0),
-        ("10CAE3BB##03C", true, false, 46, 40),
-        ("166##03C0FFFFF", true, false, 27, 68),
+        ("5D3##0495A20DCE3", 100, 0),
+        ("001##2CA741BC8F2FAA22EFDCDE856", 160, 0),
+        ("10CAE3BB##13C", 46, 40),
+        ("166##13C0FFFFF", 27, 68),
     ];
-    for (text, brs, esi, nominal, fast) in rows {
-        same_at(
-            &rt,
-            (text, brs, esi),
-            bits(text, brs, esi),
-            Some((nominal, fast)),
-        );
+    for (text, nominal, fast) in rows {
+        same_at(&rt, text, bits(text), Some((nominal, fast)));
     }
 }
 
@@ -207,12 +170,12 @@ fn filled(byte: u8, len: usize) -> Option<(u32, u32)> {
     if len > 64 {
         return None;
     }
-    let frame = Frame::fd(CanId::standard(0x123).ok()?, &bytes[..len]).ok()?;
     let flags = FdFlags {
         brs: true,
         esi: false,
     };
-    Some(rates(frame_bits(&frame, flags)))
+    let frame = Frame::fd_with(CanId::standard(0x123).ok()?, flags, &bytes[..len]).ok()?;
+    Some(rates(frame_bits(&frame)))
 }
 
 // By hand. Bytes 55 have no stuff bits: 27 bits to BRS and after the CRC, 5 from ESI to the length, the data, and 27 or
@@ -236,9 +199,8 @@ fn long_fd_frames_have_theirs(rt: HostRuntime) {
 }
 
 /// How many bits an attempt with the frame of a text takes.
-fn attempt(text: &str, brs: bool, class: Class, verdict: Verdict) -> Option<(u32, u32)> {
-    let flags = FdFlags { brs, esi: false };
-    Some(rates(attempt_bits(&frame(text)?, flags, class, verdict)))
+fn attempt(text: &str, class: Class, verdict: Verdict) -> Option<(u32, u32)> {
+    Some(rates(attempt_bits(&frame(text)?, class, verdict)))
 }
 
 // 52 and 67 bits to the end of the data and of the CRC, and 3 bits of intermission after each attempt.
@@ -276,18 +238,18 @@ fn attempts_have_theirs(rt: HostRuntime) {
         ),
     ];
     for (class, verdict, nominal) in rows {
-        let got = attempt("123#11223344", false, class, verdict);
+        let got = attempt("123#11223344", class, verdict);
         same_at(&rt, (class, verdict), got, Some((nominal, 0)));
     }
     let early = Verdict::Global(GlobalKind::Bit);
     same(
         &rt,
-        attempt("123##0", true, Class::Destroyed, early),
+        attempt("123##1", Class::Destroyed, early),
         Some((17 + 23, 5)),
     );
     same(
         &rt,
-        attempt("123##0", true, Class::NoAck, Verdict::Good),
+        attempt("123##1", Class::NoAck, Verdict::Good),
         Some((17 + 19, 32)),
     );
 }
@@ -317,4 +279,139 @@ fn bits_take_their_time(rt: HostRuntime) {
         };
         same_at(&rt, (nominal, data_rate), got, nanos);
     }
+}
+
+fn moment(rt: &impl Abort, micros: u64) -> Moment {
+    Moment::new(micros).expect(rt, "a moment")
+}
+
+/// The moment of the next attempt of a schedule, which tries the frame of a text, and sends it.
+fn sent(schedule: &mut Schedule, text: &str) -> Option<u64> {
+    let frame = frame(text)?;
+    let moment = schedule.next_moment(Some(&frame));
+    schedule.note_tried(&frame, Class::Done, Verdict::Good);
+    Some(moment.micros())
+}
+
+// Frames of 105 bits at 500 kbit/s, as in examples/response_times.bench: 210 us, and 6 us of intermission.
+#[test]
+fn a_schedule_goes_by_lengths(rt: HostRuntime) {
+    let timing = Timing::new(500_000, None).expect(&rt, "bit rates");
+    let mut schedule = Schedule::new(timing);
+    same(&rt, sent(&mut schedule, "001#55555555555505"), Some(210));
+    same(&rt, sent(&mut schedule, "002#55555555555503"), Some(426));
+    // It waits since before the wire is free, at 432 us, or since after that.
+    schedule.set_since(moment(&rt, 300));
+    let (before, after) = (moment(&rt, 400), moment(&rt, 500));
+    same(
+        &rt,
+        (schedule.early(before), schedule.late(before)),
+        (32_000, 0),
+    );
+    same(
+        &rt,
+        (schedule.early(after), schedule.late(after)),
+        (0, 68_000),
+    );
+    same(&rt, sent(&mut schedule, "003#5555555555557C"), Some(642));
+    schedule.set_since(moment(&rt, 1000));
+    same(&rt, sent(&mut schedule, "001#55555555555505"), Some(1210));
+    same(&rt, schedule.next_moment(None).micros(), 1238);
+    schedule.note_idle();
+    same(&rt, sent(&mut schedule, "001#55555555555505"), Some(1448));
+    // Five frames were sent. The attempt without one does not count.
+    same(&rt, schedule.load().busy_micros(), 1080);
+}
+
+// An FD frame of 64 bytes that is destroyed after its data is over 19 bits before its end would have been, and an idle
+// attempt takes 11: its moment is not before that of the frame.
+#[test]
+fn moments_of_a_schedule_do_not_fall(rt: HostRuntime) {
+    let timing = Timing::new(1_000_000, None).expect(&rt, "bit rates");
+    let mut schedule = Schedule::new(timing);
+    let frame = Frame::fd(
+        CanId::standard(0x123).expect(&rt, "an identifier"),
+        &[0x55; 64],
+    )
+    .expect(&rt, "a frame");
+    let end = schedule.next_moment(Some(&frame));
+    schedule.note_tried(&frame, Class::Destroyed, Verdict::Global(GlobalKind::Bit));
+    same(&rt, schedule.next_moment(None), end);
+    schedule.note_idle();
+    same(&rt, schedule.next_moment(None).micros(), end.micros() + 3);
+}
+
+/// The load that is shown at each of some moments, in milliseconds.
+fn shows(rt: &impl Abort, load: Load, rows: &[(u64, u16)]) {
+    for (millis, permille) in rows {
+        let recent = RecentLoad::of_word(load.recent().word());
+        let now = moment(rt, millis.saturating_mul(1000));
+        same_at(rt, *millis, recent.permille_at(now), *permille);
+    }
+}
+
+#[test]
+fn a_load_is_that_of_the_last_whole_second(rt: HostRuntime) {
+    let milli = 1_000_000;
+    let mut load = Load::none();
+    shows(&rt, load, &[(0, 0), (999, 0), (1_000, 0)]);
+    load.note(100 * milli, 350 * milli);
+    load.note(900 * milli, 1_100 * milli);
+    let rows = [
+        (999, 0),
+        (1_000, 350),
+        (1_999, 350),
+        (2_000, 100),
+        (3_000, 0),
+    ];
+    shows(&rt, load, &rows);
+    same(&rt, load.busy_micros(), 450_000);
+    load.note(3_000 * milli, 3_999 * milli + 999_999);
+    let rows = [
+        (1_999, 0),
+        (2_500, 100),
+        (3_500, 0),
+        (4_000, 999),
+        (5_000, 0),
+    ];
+    shows(&rt, load, &rows);
+    load.note(4_000 * milli, 4_500 * milli);
+    load.note(4_500 * milli, 5_000 * milli);
+    shows(&rt, load, &[(3_999, 0), (4_000, 999), (5_999, 1_000)]);
+    same(&rt, load.busy_micros(), 2_449_999);
+}
+
+// The last second that a moment has, full.
+#[test]
+fn the_last_load_is_kept_in_a_word(rt: HostRuntime) {
+    let mut load = Load::none();
+    load.note(9_999_999_999_000_000_000, 9_999_999_999_999_999_999);
+    same(
+        &rt,
+        load.recent()
+            .permille_at(moment(&rt, 9_999_999_999_999_999)),
+        0,
+    );
+    let recent = RecentLoad::new(9_999_999_998, 1_000, 999, 1);
+    let recent = RecentLoad::of_word(recent.word());
+    same(
+        &rt,
+        recent.permille_at(moment(&rt, 9_999_999_999_999_999)),
+        1_000,
+    );
+    same(
+        &rt,
+        recent.permille_at(moment(&rt, 9_999_999_998_000_000)),
+        999,
+    );
+    same(
+        &rt,
+        recent.permille_at(moment(&rt, 9_999_999_997_000_000)),
+        1,
+    );
+    same(
+        &rt,
+        recent.permille_at(moment(&rt, 9_999_999_996_000_000)),
+        0,
+    );
 }
