@@ -36,6 +36,11 @@ FAULTY = [
     "sendfd 123 65", "sendfd 123 1 g", "fdframes", "fdframes 2", "fdframes 1 1", "fdframe", "rawmode 1", "open",
     "open can0 can1", "bcmmode", "bcmmode 1 2", "isotpmode", "controlmode", "Send 123 0", "stat",
 ]  # fmt: skip
+# The same of messages that are newer than the programs beside which canbusd is compared.
+NEWER = [
+    "sendfdx", "sendfdx 1", "sendfdx 4 123 0", "sendfdx 01 123 0", "sendfdx 1 123 9", "sendfdx x 123 0", "fdframex",
+    "load 1",
+]  # fmt: skip
 BLANKS = [" ", " ", " ", "  ", "\t", " \t", "\r", " \r "]
 NAMES = [
     "can0", "can1", "vcan0", "a", "b-c", "x.y_z", "Can0", "CAN", "body", "engine-1", "0", "longest-name.15", "d1",
@@ -62,8 +67,10 @@ class Case:
 class Maker:
     """Makes cases from a source of random numbers."""
 
-    def __init__(self, seed):
+    def __init__(self, seed, has_newer=True):
         self.random = random.Random(seed)
+        # Whether there are flags of FD frames, and the message `load`.
+        self.has_newer = has_newer
         # Whether the sessions of a case send FD frames.
         self.fd = False
 
@@ -244,7 +251,10 @@ class Maker:
         if kind < 0.55:
             command, lengths = ("sendfd", FD_LENGTHS) if self.chance(self.fd / 2) else ("send", [0, 1, 2, 4, 8])
             data = [self.byte() for _ in range(self.random.choice(lengths))]
-            return self.message(command, self.random.choice(IDENTIFIERS), str(len(data)), *data)
+            words = [self.random.choice(IDENTIFIERS), str(len(data)), *data]
+            if command == "sendfd" and self.has_newer and self.chance(0.5):
+                return self.message("sendfdx", self.random.choice("0123"), *words)
+            return self.message(command, *words)
         if kind < 0.6:
             return self.message("sendrtr", self.random.choice(IDENTIFIERS), str(self.random.randint(0, 8)))
         if kind < 0.68:
@@ -261,14 +271,13 @@ class Maker:
                 "errmask", self.random.choice(["0", "204", "140", "88", "a0", "3FF", "1fffffff", "E0000000"])
             )
         if kind < 0.88:
-            return self.message(
-                self.random.choice(["stats", "stats", "stats", "restart", "restart", "echo", "rawmode"])
-            )
+            words = ["stats", "stats", "stats", "restart", "restart", "echo", "rawmode"]
+            return self.message(self.random.choice(words + ["load"] * self.has_newer))
         if kind < 0.885:
             return self.message("close")
         if kind < 0.91:
             return self.message("open", self.random.choice(names + ["nobody", "can0,can1", "caf\u00e9", "\udcff"]))
-        return self.message(*self.random.choice(FAULTY).split(" "))
+        return self.message(*self.random.choice(FAULTY + NEWER * self.has_newer).split(" "))
 
     def byte(self):
         return self.random.choice([f"{self.random.randint(0, 255):02x}", f"{self.random.randint(0, 255):X}"])

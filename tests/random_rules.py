@@ -12,7 +12,7 @@ NAMES = ["can0", "can1", "next", "id", "skip", "x.y_z", "longest-name.15", "0", 
 # Frames: data and remote ones, of 11 and 29 bits, and FD frames.
 FRAMES = [
     "send 123 0", "send 124 1 11", "send 7FF 0", "sendrtr 123 0", "send 00000123 0", "sendrtr 00000123 2",
-    "send 1FFFFFFF 1 22", "sendfd 123 0", "sendfd 00000124 1 33",
+    "send 1FFFFFFF 1 22", "sendfd 123 0", "sendfd 00000124 1 33", "sendfdx 1 123 0",
 ]  # fmt: skip
 IDENTIFIERS = [
     "123", "123", "124", "7ff", "000", "00000123", "1FFFFFFF", "123:7FF", "123:800007FF", "120:7F0", "0:0", "20000000:0",

@@ -74,7 +74,7 @@ CARRIED_OUT = [
         "feed 1 < send 124 0 >\nfeed 2 < send 048C0000 0 >\nattempt\nattempt\n",
         "tried can1 0 done can0 -\ntried can0 0 done can1 -\n",
     ),
-    # Frames of 45 and 60 bits, and 3 between them; an FD frame that switches has 27 bits, and 32 at the data bit rate.
+    # Frames of 45 and 60 bits, and 3 between them; an FD frame with BRS has 27 bits, and 32 at the data bit rate.
     (
         "bench --bitrate 500000 can0,can1",
         "feed 1 < send 123 0 >< fdframes 1 >< sendfd 123 0 >\nrun 0.000096\nattempt\n",
@@ -82,8 +82,13 @@ CARRIED_OUT = [
     ),
     (
         "bench --bitrate 500000 --dbitrate 2000000 can0,can1",
-        "feed 1 < send 123 0 >< fdframes 1 >< sendfd 123 0 >\nrun 0.000097\n",
+        "feed 1 < send 123 0 >< fdframes 1 >< sendfdx 1 123 0 >\nrun 0.000097\n",
         "1 < ok >\ntried can0 0 done can1 - at 0.000090\ntried can0 1 done can1 - at 0.000166\n",
+    ),
+    (
+        "bench --bitrate 500000 --dbitrate 2000000 can0,can1",
+        "feed 1 < send 123 0 >< fdframes 1 >< sendfd 123 0 >\nrun 0.000097\n",
+        "1 < ok >\ntried can0 0 done can1 - at 0.000090\ntried can0 1 done can1 - at 0.000216\n",
     ),
 ]
 # Sixteen names of fifteen bytes each.

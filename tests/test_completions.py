@@ -39,6 +39,8 @@ TYPED = [
     ("canbusd bench --str", "ict "),
     ("canbusd bench --bitr", "ate "),
     ("canbusd bench --db", "itrate "),
+    ("canbusd serve --bitr", "ate "),
+    ("canbusd serve --db", "itrate "),
     ("canbusd serve --out=lo", "gs/"),
     ("canbusd serve --out lo", "gs/"),
     ("canbusd serve --until", "-eof "),
@@ -59,7 +61,6 @@ TYPED = [
     ("canbusd bench --until", ""),
     ("canbusd serve --lo", ""),
     ("canbusd serve --str", ""),
-    ("canbusd serve --bitr", ""),
 ]
 # The beginning of an option that takes a value, and the rest of its name, after which a shell puts its own sign.
 OPTIONS = [

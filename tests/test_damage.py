@@ -124,6 +124,12 @@ def with_fd():
     return "\n".join(["canbus record 3", "bus 2 always 0000 10 100 0", *lines, f"end {len(lines)}", ""]).encode()
 
 
+def with_flags():
+    """The same with flags of FD frames."""
+    text = with_fd().replace(b"record 3", b"record 5").replace(b"123##0 = fd-off", b"123##2 = fd-off")
+    return text.replace(b"##001", b"##101").replace(b"##0FF", b"##3FF")
+
+
 def live(data=None):
     """A record as it is where it was written while its run went on; of one with an automatic restart, or another."""
     first, bus, entries = (data or restarted()).split(b"\n", 2)
@@ -210,7 +216,9 @@ def random_line(rng, session, has_fd):
     )
     if has_fd and rng.random() < 0.3:
         data = " ".join(["a5"] * rng.choice([0, 1, 8, 12, 20, 64]))
-        command = rng.choice(["fdframes 1", "fdframes 1", "fdframes 0", f"sendfd {number} {len(data.split())} {data}"])
+        sent = f"{number} {len(data.split())} {data}"
+        verb = rng.choice(["sendfd", "sendfd", "sendfdx 1", "sendfdx 3"])
+        command = rng.choice(["fdframes 1", "fdframes 1", "fdframes 0", f"{verb} {sent}"])
     return f"feed {session} < {command} >"
 
 
@@ -236,6 +244,12 @@ def test_bytes_of_a_record_with_fd_frames(tried):
     """the same for version 3"""
     assert audit(with_fd()) == "ok 15 entries", f"the record: {audit(with_fd())}"
     change_bytes(tried, with_fd())
+
+
+def test_bytes_of_a_record_with_flags(tried):
+    """each byte changed, and the record cut at each"""
+    assert audit(with_flags()) == "ok 15 entries", f"the record: {audit(with_flags())}"
+    change_bytes(tried, with_flags())
 
 
 def test_bytes_of_a_live_record(tried):
@@ -319,7 +333,11 @@ def test_named_damages_of_the_example(tried):
         (text.replace("4294967294 2", "4294967294 0"), "line 40: bad line"),
         (text.replace("4294967294 2", "4294967294 1"), "entry 36: wrong"),
         (text.replace("record 4", "record 3"), "line 2: bad line"),
-        (text.replace("record 4", "record 5"), "bad version"),
+        (text.replace("record 4", "record 5"), "line 2: bad line"),
+        (text.replace("record 4", "record 6"), "bad version"),
+        (with_flags().decode().replace("record 5", "record 3"), "line 6: bad line"),
+        (with_flags().decode().replace("##2", "##4"), "line 6: bad line"),
+        (with_fd().decode().replace("record 3", "record 5"), "bad version"),
         (restarted().decode().replace("10 100 2", "10 16777217 2"), "line 2: bad line"),
         (with_fd().decode().replace("10 100 0", "10 16777217 0"), "line 2: bad line"),
         (live(with_fd()).decode().replace("fd-off", "number 0"), "entry 3: wrong"),

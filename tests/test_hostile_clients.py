@@ -37,6 +37,7 @@ WORDS = [
     b"recvown",
     b"fdframes",
     b"sendfd",
+    b"sendfdx",
     b"12",
     b"errmask",
     b"FFFFFFFF",
@@ -47,6 +48,7 @@ WORDS = [
     b"1",
     b"stats",
     b"status",
+    b"load",
     b"echo",
     b"restart",
     # Rules of faults, of which none takes a frame from the others.

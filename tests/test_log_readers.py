@@ -23,6 +23,9 @@ EVERY_KIND = """\
 (0000000023.424245) can0 1FFFFFFF#0102030405060708
 (0000000023.424246) can1 123##01122334455667788AABBCCDD
 (0000000023.424247) can0 12345678##0
+(0000000023.424248) can1 123##1AABB
+(0000000023.424249) can1 00000123##2
+(0000000023.424250) can0 7FF##301020304
 (9999999999.999999) can0 20000080#0000000000000000
 (9999999999.999999) can1 200000A0#0000000000000000
 """
@@ -35,10 +38,10 @@ class Message:
         stamp, self.channel, text = line.split(" ")
         self.moment = stamp.strip("()")
         word, payload = text.split("#", 1)
-        self.is_fd = payload.startswith("#")
+        self.is_fd, self.flags = payload.startswith("#"), 0
         if self.is_fd:
-            # (a second mark and a digit of flags)
-            payload = payload[2:]
+            # A second mark and a digit of flags: 1 is the bit rate switch, 2 the error state indicator.
+            self.flags, payload = int(payload[1]), payload[2:]
         self.is_error = len(word) == 8 and int(word, 16) & 0x20000000 != 0
         self.is_extended = len(word) == 8 and not self.is_error
         self.number = int(word, 16) & 0x1FFFFFFF
@@ -56,6 +59,7 @@ def by_python_can(path, messages):
             got.is_error_frame == wanted.is_error
             and got.is_remote_frame == wanted.is_remote
             and got.is_fd == wanted.is_fd
+            and got.bitrate_switch + 2 * got.error_state_indicator == wanted.flags
             and abs(got.timestamp - float(wanted.moment)) < 1e-3
             and (wanted.is_error or got.arbitration_id == wanted.number and got.is_extended_id == wanted.is_extended)
             and (wanted.is_error or bytes(got.data) == wanted.data)
@@ -82,6 +86,7 @@ def by_log2asc(path, messages):
             if wanted.is_fd:
                 # time, CANFD, channel, Rx, identifier, two flags, code of the length, length, bytes
                 same, data = words[1] == "CANFD" and words[4] == number, words[9:]
+                same = same and int(words[5]) + 2 * int(words[6]) == wanted.flags
             else:
                 same, data = words[2] == number and words[4] == ("r" if wanted.is_remote else "d"), words[6:]
             data = data[: len(wanted.data)]
@@ -105,7 +110,7 @@ LOG = """\
 HEARD = [
     "frame 123 1.000000 1122", "remote 123 1.000100 0", "remote 7FF 1.000200 4",
     "frame 1FFFFFFF 1.000300 0102030405060708", "frame 12345678 1.000400 ", "frame 048C0000 0.500000 DEADBEEF",
-    "fdframe 123 1.000450 0102030405060708090A0B0C", "fdframe 1FFFFFFF 1.000460 ",
+    "fdframex 1 123 1.000450 0102030405060708090A0B0C", "fdframe 1FFFFFFF 1.000460 ",
 ]  # fmt: skip
 # What a bench logs of it.
 LOGGED = """\
@@ -115,7 +120,7 @@ LOGGED = """\
 (0000000001.000300) can0 1FFFFFFF#0102030405060708
 (0000000001.000400) can2 12345678#
 (0000000000.500000) can1 048C0000#DEADBEEF
-(0000000001.000450) can1 123##00102030405060708090A0B0C
+(0000000001.000450) can1 123##10102030405060708090A0B0C
 (0000000001.000460) can0 1FFFFFFF##0
 """
 # Lines that can't be taken, and a word of the reason.
@@ -146,7 +151,7 @@ def heard(bench, folder):
     )
     assert done.returncode == 0, done.stderr
     assert call(program(), "audit", record)[0] == 0, "the audit"
-    return re.findall(r"< ((?:frame|remote|fdframe) .*?) >", done.stdout)
+    return re.findall(r"< ((?:frame|remote|fdframex?) .*?) >", done.stdout)
 
 
 def test_logs_of_candump(tmp_path):

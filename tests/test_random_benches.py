@@ -48,7 +48,7 @@ def difference(one, other):
 
 def test_beside_an_independent_program(request, program, other, cases, tmp_path):
     """random runs; the files of those that differ are kept"""
-    maker, faults = Maker(request.config.getoption("seed")), []
+    maker, faults = Maker(request.config.getoption("seed"), has_newer=False), []
     for number in range(cases):
         case, folder = maker.case(), tmp_path / str(number % 2)
         case.write_to(folder)

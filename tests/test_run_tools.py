@@ -37,10 +37,10 @@ def test_cansend():
     """classic, 29 bits, remote, FD: as the server's log has them"""
     with serving(*FAST, "can0,can1") as server:
         frames = ["123#", "123#DEADBEEF", "5AA#0011223344556677", "1F334455#11", "00000123#", "123#R", "123#R5"]
-        send(server, *frames, "213##311223344556677881122334455667788")
-        flags = "213##011223344556677881122334455667788"  # The flags of FD frames are not carried.
+        frames += ["213##311223344556677881122334455667788", "123##1AABB", "123##2", "123##0AA"]
+        send(server, *frames)
         assert none_left(server)
-        assert logged(server, "can0") == [f"can0 {frame}" for frame in [*frames, flags]]
+        assert logged(server, "can0") == [f"can0 {frame}" for frame in frames]
 
 
 def test_cansend_refused():
@@ -74,6 +74,10 @@ def test_candump(server):
     with listening(server, "candump", "-n", "1", "can1") as dump:
         send(server, "123##0112233445566778899AABBCC")
         assert written(dump) == "  can1  123  [12]  11 22 33 44 55 66 77 88 99 AA BB CC\n"
+    # A digit of flags: 1 is the bit rate switch, 2 the error state indicator; 4 marks each FD frame (linux/can.h).
+    with listening(server, "candump", "-L", "-n", "3", "can1") as dump:
+        send(server, "123##1AABB", "123##3", "123##0AA")
+        assert [line.split()[-1] for line in written(dump).splitlines()] == ["123##5AABB", "123##7", "123##4AA"]
     quiet = run(server, "candump", "-T", "300", "can1")
     assert (quiet.returncode, quiet.stdout) == (0, ""), quiet
 
@@ -181,7 +185,7 @@ def test_cangen_kinds(server):
         passes(server, "cangen", "can0", "-g", "1", "-n", "10", "-e")
         passes(server, "cangen", "can0", "-g", "1", "-n", "10", "-R")
         lines = [line.split()[-1] for line in written(dump).splitlines()]
-    assert all(re.fullmatch(r"[0-9A-F]{3}##0([0-9A-F]{2})*", line) for line in lines[:10]), lines
+    assert all(re.fullmatch(r"[0-9A-F]{3}##4([0-9A-F]{2})*", line) for line in lines[:10]), lines
     assert all(re.fullmatch(r"[0-9A-F]{8}#([0-9A-F]{2})*", line) for line in lines[10:20]), lines
     assert all(re.fullmatch(r"[0-9A-F]{3}#R[0-8]?", line) for line in lines[20:]), lines
     with serving("--pace", "50", "can0,can1") as slow:

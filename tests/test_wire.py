@@ -20,8 +20,8 @@ CRCS = [(15, 0x4599, 0x059E), (17, 0x1685B, 0x04F03), (21, 0x102899, 0x0ED841)]
 # The frames of the law `known_frames_have_their_bits` (specs/Known.antt).
 KNOWN = [
     Frame.read("123#11223344"),
-    Frame.read("1ABCDEF0##0000102", brs=True, esi=True),
-    Frame.read("555##0" + 4 * "00" + 16 * "55", brs=True),
+    Frame.read("1ABCDEF0##3000102"),
+    Frame.read("555##1" + 4 * "00" + 16 * "55"),
 ]
 
 
@@ -69,10 +69,9 @@ def test_tables() -> None:
     classic = re.findall(r'\("([0-9A-FR#]+)", (\d+)\),', text)
     for frame, nominal in classic:
         assert bit_counts(Frame.read(frame)) == (int(nominal), 0), frame
-    fd = re.findall(r'\(\s*"([0-9A-F#]+)",\s+(true|false),\s+(true|false),\s+(\d+),\s+(\d+),?\s*\),', text)
-    for frame, brs, esi, nominal, fast in fd:
-        counts = bit_counts(Frame.read(frame, brs == "true", esi == "true"))
-        assert counts == (int(nominal), int(fast)), frame
+    fd = re.findall(r'\(\s*"([0-9A-F]+##[0-3][0-9A-F]*)",\s+(\d+),\s+(\d+),?\s*\),', text)
+    for frame, nominal, fast in fd:
+        assert bit_counts(Frame.read(frame)) == (int(nominal), int(fast)), frame
     assert len(classic) >= 48 and len(fd) == 40
 
 

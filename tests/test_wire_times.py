@@ -87,7 +87,9 @@ def send(frame: Frame) -> str:
     if frame.requests is not None:
         return f"< sendrtr {name} {frame.requests} >"
     data = "".join(f" {byte:02X}" for byte in frame.data)
-    return f"< {'sendfd' if frame.is_fd else 'send'} {name} {len(frame.data)}{data or ' '} >"
+    flags = frame.brs + 2 * frame.esi
+    verb = f"sendfdx {flags}" if flags else "sendfd" if frame.is_fd else "send"
+    return f"< {verb} {name} {len(frame.data)}{data or ' '} >"
 
 
 def interfaces(count: int) -> list[str]:
@@ -212,11 +214,22 @@ def test_known_length_of_an_fd_frame(program: str) -> None:
     assert lines == ["tried can0 0 done - - at 0.000092"]
 
 
+def test_frames_without_brs_do_not_switch(program: str) -> None:
+    """64 zero bytes without BRS: all bits go at the nominal bit rate, whatever the one for data is."""
+    frame = Frame.read("123##0" + 64 * "00")
+    bits, fast = bit_counts(frame)
+    assert fast == 0 and bits > 600
+    for rates in (Rates(1_000_000), Rates(1_000_000, 10_000_000)):
+        lines = bench(program, rate_options(rates), ["can0"], [f"feed 1 {send(frame)}", "attempt"])
+        assert lines == [f"tried can0 0 done - - at {moment(bits * MICRO)}"]
+
+
 def random_frame(maker: random.Random) -> Frame:
     extended = maker.random() < 0.5
     number = maker.getrandbits(29 if extended else 11)
     if maker.random() < 0.4:
-        return Frame(number, extended, random_data(maker, maker.choice(FD_LENGTHS)), is_fd=True)
+        data = random_data(maker, maker.choice(FD_LENGTHS))
+        return Frame(number, extended, data, None, True, maker.random() < 0.6, maker.random() < 0.3)
     if maker.random() < 0.2:
         return Frame(number, extended, requests=maker.randrange(9))
     return Frame(number, extended, random_data(maker, maker.randrange(9)))
@@ -277,7 +290,7 @@ def test_restart_by_attempts(program: str) -> None:
 def without_moments(output: bytes) -> bytes:
     """What a bench wrote, without the moments of attempts and of what was received."""
     lines = re.sub(rb"^((?:tried|idle).*) at [0-9.]+$", rb"\1", output, flags=re.MULTILINE)
-    return re.sub(rb"(< (?:frame|fdframe|remote|error) [0-9A-F]+) [0-9]+\.[0-9]{6}", rb"\1", lines)
+    return re.sub(rb"(< (?:frame|fdframe|fdframex [0-3]|remote|error) [0-9A-F]+) [0-9]+\.[0-9]{6}", rb"\1", lines)
 
 
 def moments_of(text: bytes, record: str, rates: Rates) -> list[str]:

@@ -39,19 +39,21 @@ class Frame:
     esi: bool = False
 
     @staticmethod
-    def read(text: str, brs: bool = False, esi: bool = False) -> Frame:
-        """The frame of a text like candump's, where the digit of flags says nothing."""
+    def read(text: str) -> Frame:
+        """The frame of a text like candump's: of an FD frame's flags BRS is 1, and ESI 2."""
         word, payload = text.split("#", 1)
         number, extended = int(word, 16), len(word) == 8
         if payload.startswith("#"):
-            return Frame(number, extended, bytes.fromhex(payload[2:]), None, True, brs, esi)
+            flags = int(payload[1])
+            return Frame(number, extended, bytes.fromhex(payload[2:]), None, True, flags & 1 > 0, flags & 2 > 0)
         if payload.startswith("R"):
             return Frame(number, extended, requests=int(payload[1:] or "0"))
         return Frame(number, extended, bytes.fromhex(payload))
 
     def __str__(self) -> str:
         payload = "R" + str(self.requests or "") if self.requests is not None else self.data.hex().upper()
-        return f"{self.number:0{8 if self.extended else 3}X}#{'#0' if self.is_fd else ''}{payload}"
+        flags = f"#{self.brs + 2 * self.esi}" if self.is_fd else ""
+        return f"{self.number:0{8 if self.extended else 3}X}#{flags}{payload}"
 
 
 def number_bits(number: int, count: int) -> list[int]:
@@ -180,7 +182,7 @@ def main() -> None:
         print(f'        ("{frame}", {bit_counts(frame)[0]}),')
     for frame in random_frames(2, 40, is_fd=True, longest=24):
         nominal, fast = bit_counts(frame)
-        print(f'        ("{frame}", {str(frame.brs).lower()}, {str(frame.esi).lower()}, {nominal}, {fast}),')
+        print(f'        ("{frame}", {nominal}, {fast}),')
 
 
 if __name__ == "__main__":

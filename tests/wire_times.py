@@ -36,7 +36,7 @@ class Ending(enum.Enum):
 
 @dataclasses.dataclass(frozen=True)
 class Rates:
-    """The bit rates of a bus; FD frames switch where there is a data bit rate."""
+    """The bit rates of a bus: FD frames with BRS switch to the second, if there is one."""
 
     nominal: int
     fast: int | None = None
@@ -49,17 +49,13 @@ class Rates:
             + fractions.Fraction(fast * SECOND, self.fast or self.nominal)
         )
 
-    def sent(self, frame: Frame) -> Frame:
-        """The frame as it is sent on this bus."""
-        return dataclasses.replace(frame, brs=frame.is_fd and self.fast is not None, esi=False)
-
     def frame_nanos(self, frame: Frame) -> int:
         """How long a frame lasts from start of frame to end of frame."""
-        return self.nanos(bit_counts(self.sent(frame)))
+        return self.nanos(bit_counts(frame))
 
     def attempt_nanos(self, frame: Frame, ending: Ending = Ending.DONE) -> int:
         """How long it is from start of frame until the next frame may begin."""
-        return self.nanos(attempt_bits(self.sent(frame), ending))
+        return self.nanos(attempt_bits(frame, ending))
 
     def idle_nanos(self) -> int:
         return self.nanos((IDLE, 0))

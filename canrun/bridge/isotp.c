@@ -65,7 +65,9 @@ bool isotp_is_well_padded(const struct canfd_frame *frame, unsigned from) {
 /* It waits for room, as the kernel's protocol sends a frame only once the one before has gone out. */
 int isotp_put(const struct canfd_frame *frame) {
     struct session *to = sessions_for(bound_index);
-    return to ? raw_send(to, frame, isotp.link.mtu == CANFD_MTU, true, true) : ENXIO;
+    struct canfd_frame sent = *frame;
+    sent.flags = isotp.link.tx_flags;
+    return to ? raw_send(to, &sent, isotp.link.mtu == CANFD_MTU, true, true) : ENXIO;
 }
 
 /* ---- options ---- */

@@ -43,7 +43,12 @@ static char *put_decimal(char *at, unsigned number) {
 void message_of_frame(char text[COMMAND], const struct canfd_frame *frame, bool is_fd) {
     bool is_long = frame->can_id & CAN_EFF_FLAG, is_remote = !is_fd && frame->can_id & CAN_RTR_FLAG;
     unsigned length = is_fd ? fd_length(frame->len) : frame->len;
-    char *at = put_text(text, is_remote ? "< sendrtr " : is_fd ? "< sendfd " : "< send ");
+    unsigned flags = is_fd ? frame->flags & (CANFD_BRS | CANFD_ESI) : 0;
+    char *at = put_text(text, is_remote ? "< sendrtr " : flags ? "< sendfdx " : is_fd ? "< sendfd " : "< send ");
+    if (flags) {
+        at = put_decimal(at, flags);
+        *at++ = ' ';
+    }
     at = put_hex(at, frame->can_id & (is_long ? CAN_EFF_MASK : CAN_SFF_MASK), is_long ? 8 : 3);
     *at++ = ' ';
     at = put_decimal(at, length);
@@ -103,6 +108,15 @@ static void get_data(const char **at, struct canfd_frame *frame) {
     }
 }
 
+/* The flags of an FD frame, a digit and a space. */
+static void get_flags(const char **at, struct canfd_frame *frame) {
+    if (**at >= '0' && **at <= '3') {
+        frame->flags |= (uint8_t)(**at - '0');
+        *at += 1;
+        *at += **at == ' ';
+    }
+}
+
 /* From which interface a frame was sent, and its number there; error message frames have none. */
 static void get_origin(const char *at, struct item *item) {
     static const char same[] = "same ", other[] = "other ";
@@ -120,8 +134,11 @@ bool message_to_item(const char *text, struct item *item) {
         const char *word;
         bool is_fd;
         uint32_t flag;
-    } kinds[] = {
-        {"frame ", false, 0}, {"remote ", false, CAN_RTR_FLAG}, {"fdframe ", true, 0}, {"error ", false, CAN_ERR_FLAG}};
+    } kinds[] = {{"frame ", false, 0},
+                 {"remote ", false, CAN_RTR_FLAG},
+                 {"fdframe ", true, 0},
+                 {"fdframex ", true, 0},
+                 {"error ", false, CAN_ERR_FLAG}};
     for (size_t i = 0; i < sizeof kinds / sizeof *kinds; i++) {
         size_t length = strlen(kinds[i].word);
         if (strncmp(text, kinds[i].word, length) != 0) {
@@ -131,6 +148,11 @@ bool message_to_item(const char *text, struct item *item) {
         uint32_t identifier;
         uint64_t remote_length = 0;
         *item = (struct item){.is_fd = kinds[i].is_fd};
+        /* Linux sets it in each FD frame that it hands out. */
+        item->frame.flags = kinds[i].is_fd ? CANFD_FDF : 0;
+        if (text[length - 2] == 'x') {
+            get_flags(&at, &item->frame);
+        }
         int digits = get_hex(&at, &identifier);
         /* A refusal, such as `error bad id`, has no moment. */
         if (!digits || !get_moment(&at, &item->moment)) {

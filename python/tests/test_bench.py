@@ -535,11 +535,21 @@ def test_attempts_take_the_time_of_their_bits():
 
 
 def test_a_bit_rate_for_data():
-    """64 bytes 00 under 123: 27 bits at 1 Mbit/s, and 651 at 10 Mbit/s."""
+    """64 bytes 00 under 123: 27 bits at 1 Mbit/s, and 651 at 10 Mbit/s; without BRS 678 bits at 1 Mbit/s."""
     with Bench("can0", bitrate=1_000_000, dbitrate=10_000_000) as bench:
-        bench.open("can0", fd=True).send(0x123, bytes(64), is_fd=True)
-        (attempt,) = bench.run(until=1)
-        assert attempt.timestamp == 0.000092
+        session = bench.open("can0", fd=True)
+        session.send(0x123, bytes(64), is_fd=True, bitrate_switch=True)
+        session.send(0x123, bytes(64), is_fd=True)
+        assert [attempt.timestamp for attempt in bench.run(until=1)] == [0.000092, 0.000773]
+
+
+def test_a_bench_counts_no_load():
+    for rates in ({}, {"bitrate": 5_000}):
+        with Bench("can0", **rates) as bench:
+            session = bench.open("can0")
+            session.send(0x123)
+            bench.run()
+            assert session.load() == (0, 0)
 
 
 def test_a_run_to_a_moment_that_is_refused():

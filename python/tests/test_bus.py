@@ -86,12 +86,15 @@ def test_fd_frames_have_the_lengths_of_can_fd(server, length):
         bus.send(message(1, bytes(length), is_fd=True))
 
 
-def test_flags_of_fd_frames_are_left_out_with_one_warning(server, caplog):
-    with server.bus("can0", fd=True) as can0, server.bus("can1", fd=True) as can1:
-        for _ in range(2):
-            can0.send(message(1, is_fd=True, bitrate_switch=True, error_state_indicator=True))
-        assert not can1.recv(WAIT).bitrate_switch
-    assert [record.levelname for record in caplog.records] == ["WARNING"]
+@pytest.mark.parametrize("brs", [False, True])
+@pytest.mark.parametrize("esi", [False, True])
+def test_flags_of_fd_frames_are_kept(server, caplog, brs, esi):
+    with server.bus("can0", fd=True, receive_own_messages=True) as can0, server.bus("can1", fd=True) as can1:
+        can0.send(message(1, b"\x11", is_fd=True, bitrate_switch=brs, error_state_indicator=esi))
+        for bus in (can0, can1):
+            got = bus.recv(WAIT)
+            assert (got.is_fd, got.bitrate_switch, got.error_state_indicator) == (True, brs, esi)
+    assert not caplog.records
 
 
 def error(class_, data):

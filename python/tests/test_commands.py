@@ -13,8 +13,10 @@ import can
 import pytest
 
 import canbusd
+from canbusd import Load
 from canbusd.bench import Bench
 from canbusd.commands.dump import View
+from canbusd.commands.status import table_of
 from canbusd.faults import Faults
 from canbusd.frames import Frame
 from canbusd.server import Server
@@ -258,6 +260,8 @@ def test_dump_when_the_server_ends():
         ("123#R", "123#R"),
         ("1FFFFFFF#R4", "1FFFFFFF#R4"),
         ("123##0" + "01" * 64, "123##0" + "01" * 64),
+        ("123##1FF", "123##1FF"),
+        ("123##3", "123##3"),
     ],
 )
 def test_send_in_the_spelling_of_cansend(text, spelled):
@@ -266,7 +270,10 @@ def test_send_in_the_spelling_of_cansend(text, spelled):
         received = receiver.recv(WAIT)
     frame = Frame.parse(spelled)
     assert bytes(received.data) == frame.data
-    for field in ("arbitration_id", "is_extended_id", "is_remote_frame", "is_fd", "dlc"):
+    for field in (
+        "arbitration_id", "is_extended_id", "is_remote_frame", "is_fd", "dlc", "bitrate_switch",
+        "error_state_indicator",
+    ):  # fmt: skip
         assert getattr(received, field) == getattr(frame, field)
 
 
@@ -274,7 +281,7 @@ def test_send_of_several_frames_and_flags():
     with Server("can0,can1") as server, server.bus("can1", fd=True) as receiver:
         frames = [f"1{number:02}#{number:02}" for number in range(30)]
         status, written, said = call("send", "can0", *frames, "123##5FF", server=server)
-        assert (status, written) == (0, "") and "flags are left out" in said
+        assert (status, written) == (0, "") and "of the flags only 1 and 2 are sent" in said
         assert [receiver.recv(WAIT).arbitration_id for _ in range(31)] == [
             *(int(text[:3], 16) for text in frames),
             0x123,
@@ -316,6 +323,31 @@ def test_status_of_interfaces():
         "can0       off     256    0     1     0        0     1        0",
         "can1       active    0   32     0     0        0     0        0",
     ]
+
+
+def test_status_has_the_load_of_busy_buses():
+    rows = [("can0", "active", 0, 0, 1200, 1190, 10, 0, 3), ("can1", "off", 256, 0, 1, 0, 0, 1, 0)]
+    rows.append(("body0", "active", 0, 7, 0, 0, 0, 0, 0))
+    assert table_of(rows, [Load(432, 1_080_000), Load(1000, 2_000_000), Load(0, 5_000)]) == [
+        "interface  state   TEC  REC  sent  done  waiting  lost  refused            bus load",
+        "can0       active    0    0  1200  1190       10     0        3   43.2 % ####......",
+        "can1       off     256    0     1     0        0     1        0  100.0 % ##########",
+        "body0      active    0    7     0     0        0     0        0",
+    ]
+    assert table_of(rows[:1], [Load(0, 1_080_000)]) == [
+        "interface  state   TEC  REC  sent  done  waiting  lost  refused",
+        "can0       active    0    0  1200  1190       10     0        3",
+    ]
+
+
+def test_status_of_a_busy_bus():
+    with Server("can0,can1", bitrate=5_000, txqueue=1_000) as server, server.bus("can0") as sender:
+        # 26 seconds of frames.
+        sender.send_many([message(1, bytes(8))] * 1_000)
+        server.wait_for(lambda: sender.load().permille >= 990, timeout=WAIT)
+        status, written, said = call("status", server=server)
+    assert (status, said) == (0, "")
+    assert re.search(r"^can0  .*  (99\.\d|100\.0) % #{10}\n", written, re.M), written
 
 
 def test_status_that_watches():

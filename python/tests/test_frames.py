@@ -17,7 +17,11 @@ from canbusd.frames import BadFrame, Frame, command_of, frame_of, meaning
         ("123#R0", Frame(0x123, is_remote_frame=True)),
         ("00000123#R3", Frame(0x123, is_extended_id=True, is_remote_frame=True, dlc=3)),
         ("123##0" + "AB" * 64, Frame(0x123, b"\xab" * 64, is_fd=True)),
-        ("123##3", Frame(0x123, is_fd=True)),
+        ("123##1", Frame(0x123, is_fd=True, bitrate_switch=True)),
+        ("123##2", Frame(0x123, is_fd=True, error_state_indicator=True)),
+        ("123##3", Frame(0x123, is_fd=True, bitrate_switch=True, error_state_indicator=True)),
+        # candump of a newer Linux marks FD frames by 4.
+        ("123##511", Frame(0x123, b"\x11", is_fd=True, bitrate_switch=True)),
         ("20000204#0008000000006000", Frame(0x204, bytes([0, 8, 0, 0, 0, 0, 0x60, 0]), is_error_frame=True)),
     ],
 )
@@ -36,6 +40,9 @@ def test_spelling_of_cansend(text, frame):
         "00000123#R3",
         "123##0",
         "123##0" + "00" * 12,
+        "123##1",
+        "00000123##2" + "00" * 16,
+        "123##3AABB",
         "20000040#0000000000000000",
     ],
 )
@@ -67,6 +74,8 @@ def test_what_is_no_frame(text, word):
         ({"arbitration_id": 1, "is_remote_frame": True, "dlc": 9}, "dlc"),
         ({"arbitration_id": 1, "is_remote_frame": True, "data": b"1"}, "remote"),
         ({"arbitration_id": 1, "is_remote_frame": True, "is_fd": True}, "remote"),
+        ({"arbitration_id": 1, "bitrate_switch": True}, "flags"),
+        ({"arbitration_id": 1, "is_remote_frame": True, "error_state_indicator": True}, "flags"),
     ],
 )
 def test_a_wrong_field_is_named(fields, word):
@@ -81,6 +90,8 @@ def test_a_wrong_field_is_named(fields, word):
         (Frame(0x123, is_extended_id=True), "send 00000123 0"),
         (Frame(0x123, is_extended_id=True, is_remote_frame=True, dlc=3), "sendrtr 00000123 3"),
         (Frame(0x7FF, bytes(12), is_fd=True), "sendfd 7FF 12" + " 00" * 12),
+        (Frame(0x7FF, b"\xab", is_fd=True, bitrate_switch=True), "sendfdx 1 7FF 1 AB"),
+        (Frame.parse("00000123##3"), "sendfdx 3 00000123 0"),
     ],
 )
 def test_the_message_that_sends_a_frame(frame, command):
@@ -100,6 +111,8 @@ def test_nobody_sends_error_message_frames():
         ("frame 048C0000 0.000001 FF", "048C0000#FF", 0.000001),
         ("remote 00000123 0.000005 3", "00000123#R3", 0.000005),
         ("fdframe 123 0.000001 0102030405060708090A0B0C", "123##00102030405060708090A0B0C", 0.000001),
+        ("fdframex 1 123 0.000001 AABB", "123##1AABB", 0.000001),
+        ("fdframex 3 00000123 0.000001  other 17", "00000123##3", 0.000001),
         ("error 204 0.000012 0008000000006000", "20000204#0008000000006000", 0.000012),
     ],
 )

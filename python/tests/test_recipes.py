@@ -39,7 +39,7 @@ def written(installed, tmp_path_factory):
 
 
 def test_all_recipes_are_there():
-    assert len(recipes()) == 11
+    assert len(recipes()) == 10
     for name, code in recipes().items():
         assert f"(#{name})" in RECIPES.read_text(encoding="utf-8")
         assert code.count("\n") <= MOST_LINES, name

@@ -52,6 +52,7 @@ option 0 fd 1 = ok
 send 0 123##00102030405060708090A0B0C = number 0
 end 4
 """
+WITH_FLAGS = WITH_FD.replace("record 3", "record 5").replace("##001", "##101")
 # A record that was written while its run went on: one that says `fd` to no frame, and whose interface is restarted.
 LIVE = """\
 canbus record 4
@@ -118,7 +119,14 @@ def test_the_example_is_the_one_of_the_documents():
         (LIVE.replace("4294967294 1", "4294967294"), "line 2: bad line"),
         (LIVE.replace("4294967294 1", "4294967294 1000001"), "line 2: bad line"),
         (LIVE.replace("4294967294", "04294967294"), "line 2: bad line"),
-        (LIVE.replace("record 4", "record 5"), "bad version"),
+        (LIVE.replace("record 4", "record 6"), "bad version"),
+        (LIVE.replace("record 4", "record 5"), "line 2: bad line"),
+        (WITH_FLAGS, "ok 4 entries"),
+        (WITH_FLAGS.replace("record 5", "record 4").replace("10 100 0", "10 4294967294 0"), "ok 4 entries"),
+        (WITH_FLAGS.replace("record 5", "record 3"), "line 6: bad line"),
+        (WITH_FLAGS.replace("##1", "##4"), "line 6: bad line"),
+        (WITH_FLAGS.replace("##1", "##0"), "bad version"),
+        (WITH_FLAGS.replace("fd 1", "fd 0"), "entry 3: wrong"),
         (LIVE.replace("record 4", "record 3"), "line 2: bad line"),
         (LIVE_CLASSIC.replace("record 4", "record 2"), "line 2: bad line"),
         (LIVE_CLASSIC.replace("record 4", "record 1"), "line 2: bad line"),

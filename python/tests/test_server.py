@@ -17,8 +17,11 @@ import pytest
 from conftest import WAIT, message, needs_live, shape
 
 import canbusd
+from canbusd import Load
 from canbusd._program import find_program
 from canbusd._process import NUMBERS
+from canbusd._wire import Rates, Wire
+from canbusd.commands import NOTHING
 from canbusd.faults import Faults
 from canbusd.server import Server, ServerError
 
@@ -99,6 +102,9 @@ def test_ways_to_give_faults(tmp_path, form):
         (["can0"], {"pace_ms": -1}, "pace_ms"),
         (["can0"], {"pace_ms": 0.5}, "pace_ms"),
         (["can0"], {"write_bytes": 255}, "write_bytes"),
+        (["can0"], {"bitrate": 4999}, "bitrate"),
+        (["can0"], {"dbitrate": 500_000}, "dbitrate needs a bitrate"),
+        (["can0"], {"bitrate": 500_000, "dbitrate": 499_999}, "dbitrate needs a bitrate"),
         (["can0"], {"txqueue": "10"}, "txqueue"),
         (["can0"], {"limit": True}, "limit"),
     ],
@@ -124,16 +130,10 @@ def test_a_start_that_fails_says_why(buses, options, said):
         Server(*buses, **options)
 
 
-# A bench has the bit rates.
-SERVER_NUMBERS = [name for name in NUMBERS if name not in ("bitrate", "dbitrate")]
-
-
-@pytest.mark.parametrize(
-    "name", [pytest.param(name, marks=needs_live if name == "flush" else ()) for name in SERVER_NUMBERS]
-)
+@pytest.mark.parametrize("name", [pytest.param(name, marks=needs_live if name == "flush" else ()) for name in NUMBERS])
 def test_the_limits_of_numbers_are_those_of_the_program(name, tmp_path):
     option, least, most = NUMBERS[name]
-    more = {"record": "live"} if name == "flush" else {}
+    more = {"flush": {"record": "live"}, "dbitrate": {"bitrate": least}}.get(name, {})
     for number, is_taken in ((least - 1, False), (least, True), (most, True), (most + 1, False)):
         words = [find_program(), "serve", "--until-eof", "--listen", "127.0.0.1:0", "--out", tmp_path]
         words += [f"--{option}={value}" for option, value in more.items()]
@@ -196,6 +196,53 @@ def test_the_options_reach_the_program():
             assert refused.value.error_code == errno.ENOBUFS
     record = server.record()
     assert (record.tx_capacity, record.auto_restart, record.limit, record.reporting) == (3, 7, 500, 3)
+
+
+def test_the_bit_rates_reach_the_program(caplog):
+    frames = [message(1, b"\x55" * 4), message(2, bytes(64), is_fd=True, bitrate_switch=True), message(3)]
+    with Server("can0,can1", bitrate=5_000, dbitrate=20_000) as server:
+        with server.bus("can0", bitrate=5_000, fd=True) as can0, server.bus("can1", fd=True) as can1:
+            can0.send_many(frames)
+            received = [can1.recv(WAIT) for _ in frames]
+        assert not caplog.records
+        server.bus("can0", bitrate=500_000).shutdown()
+        assert caplog.messages == ["can0: bitrate 500000 is left out: that of the server is 5000"]
+    attempts, wire = server.record().attempts, Wire(Rates(5_000, 20_000))
+    times = [wire.times(attempt.frame, attempt.outcome, "good") for attempt in attempts]
+    moments = [round(one.timestamp * 1_000_000) for one in attempts]
+    assert moments == [round(one.timestamp * 1_000_000) for one in received]
+    for place in (1, 2):
+        wanted = (times[place - 1].attempt - times[place - 1].frame + times[place].frame) // 1000
+        assert 0 <= moments[place] - moments[place - 1] - wanted <= 1
+    # The page has the bus load.
+    assert "loadIn" in server.report().read_text(encoding="utf-8")
+
+
+def test_the_load_of_a_bus():
+    """A full bus is busy all the time, and an idle one never; each frame counts with the bits that follow it."""
+    frame, size = message(1, bytes(8)), 500
+    with Server("can0,can1", "car0", bitrate=50_000, txqueue=size) as server:
+        with server.bus("can0") as can0, server.bus("can1", can_filters=NOTHING) as can1, server.bus("car0") as car0:
+
+            def is_full():
+                can0.send_many([frame] * (size - can0.stats().waiting), timeout=WAIT)
+                return can0.load().permille >= 990
+
+            assert can0.load() == car0.load() == Load(0, 0)
+            server.wait_for(is_full, timeout=WAIT)
+            assert can1.load().permille >= 990 and can1.load().micros >= 990_000
+            assert car0.load() == Load(0, 0)
+            server.wait_for(lambda: can0.stats().waiting == 0 and can0.load().permille == 0, timeout=WAIT)
+            load, done = can0.load(), can0.stats().done
+        lasts = Wire(Rates(50_000)).times("001#0000000000000000", "done", "good").attempt
+        assert load == Load(0, done * lasts // 1000)
+
+
+def test_without_a_bit_rate_there_is_no_load():
+    with Server("can0,can1") as server, server.bus("can0") as can0, server.bus("can1") as can1:
+        can0.send_many([message(1)] * 10)
+        assert [can1.recv(WAIT) for _ in range(10)]
+        assert can0.load() == Load(0, 0)
 
 
 def test_what_a_server_says_of_a_full_record():

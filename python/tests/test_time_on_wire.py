@@ -51,17 +51,15 @@ FULL = [(0, A, 210), (1, B, 426), (2, C, 642), (0, A, 858), (1, B, 1074), (0, A,
 
 
 def model_frames(count):
-    """Frames of the model with the flags that canbusd's frames have at `SWITCHING`."""
+    """Frames of the model, those of CAN FD with flags and without."""
     yield from random_frames(11, count, is_fd=False, longest=8)
-    for frame in random_frames(12, count, is_fd=True, longest=64):
-        yield type(frame)(frame.number, frame.extended, frame.data, None, True, brs=True)
+    yield from random_frames(12, count, is_fd=True, longest=64)
 
 
 def test_frames_have_the_bits_of_the_model():
     for frame in model_frames(1500):
         assert Wire(SWITCHING).frame_bits(str(frame)) == bit_counts(frame), str(frame)
-        one_rate = type(frame)(frame.number, frame.extended, frame.data, frame.requests, frame.is_fd)
-        assert Wire(SLOW).frame_bits(str(frame)) == bit_counts(one_rate), str(frame)
+        assert Wire(SLOW).frame_bits(str(frame)) == bit_counts(frame), str(frame)
 
 
 @pytest.mark.parametrize(
@@ -77,11 +75,11 @@ def test_known_lengths_of_classic_frames(text, bits):
 
 def test_known_lengths_of_fd_frames():
     """Without stuff bits but for the fixed ones, by counting fields; and with those of 64 zeros."""
-    assert Wire(SWITCHING).frame_bits("555##0") == (27, 32)
-    assert Wire(SWITCHING).frame_bits("555##0" + 3 * "55") == (27, 32 + 24)
-    assert Wire(SWITCHING).frame_bits("555##0" + 20 * "55") == (27, 37 + 160)
-    assert Wire(SWITCHING).frame_bits("15555555##0" + 20 * "55") == (46, 37 + 160)
-    assert Wire(SWITCHING).frame_bits("123##0" + 64 * "00") == (27, 651)
+    assert Wire(SWITCHING).frame_bits("555##1") == (27, 32)
+    assert Wire(SWITCHING).frame_bits("555##1" + 3 * "55") == (27, 32 + 24)
+    assert Wire(SWITCHING).frame_bits("555##1" + 20 * "55") == (27, 37 + 160)
+    assert Wire(SWITCHING).frame_bits("15555555##1" + 20 * "55") == (46, 37 + 160)
+    assert Wire(SWITCHING).frame_bits("123##1" + 64 * "00") == (27, 651)
     # Without a switch BRS is dominant: before a length of 3 that makes five zeros, which a stuff bit follows.
     assert Wire(SLOW).frame_bits("555##0" + 20 * "55") == (27 + 37 + 160, 0)
     assert Wire(SLOW).frame_bits("555##0" + 3 * "55") == (27 + 32 + 24 + 1, 0)
@@ -93,7 +91,8 @@ def to_data_end(frame):
     if frame.is_fd:
         sender.send([0, *arbitration_bits(frame), 1, 0, int(frame.brs)])
         lengths = [*range(9), 12, 16, 20, 24, 32, 48, 64]
-        sender.send([0, *number_bits(lengths.index(len(frame.data)), 4), *data_bits(frame)], frame.brs)
+        code = number_bits(lengths.index(len(frame.data)), 4)
+        sender.send([int(frame.esi), *code, *data_bits(frame)], frame.brs)
     else:
         length = len(frame.data) if frame.requests is None else frame.requests
         reserved = [0, 0] if frame.extended else [0]
@@ -123,8 +122,8 @@ def test_known_lengths_of_attempts():
     """52 and 67 bits to the end of the data and of the CRC, and 3 bits of intermission after each attempt."""
     lengths = [80, 80, 77 + 18, 67 + 19, 52 + 23, 52 + 23, 67 + 26, 67 + 26, 67 + 26]
     assert [Wire(SWITCHING).attempt_bits("123#11223344", *end) for end in ENDS] == [(length, 0) for length in lengths]
-    assert Wire(SWITCHING).attempt_bits("123##0", "destroyed", "global-bit") == (17 + 23, 5)
-    assert Wire(SWITCHING).attempt_bits("123##0", "noack", "good") == (17 + 19, 32)
+    assert Wire(SWITCHING).attempt_bits("123##1", "destroyed", "global-bit") == (17 + 23, 5)
+    assert Wire(SWITCHING).attempt_bits("123##1", "noack", "good") == (17 + 19, 32)
 
 
 def test_times_are_rounded_up():

@@ -18,6 +18,7 @@ import pytest
 from browser import PROGRAM, Browser
 
 import canbusd
+from canbusd._wire import Rates, Wire
 from canbusd.faults import Faults
 from canbusd.frames import Frame
 from canbusd.server import Server
@@ -66,6 +67,21 @@ def test_the_sender_is_the_interface_that_has_sent_the_frame():
         for bus in watcher.buses:
             bus.shutdown()
     assert [(row[1], row[2], row[4]) for row in sorted(rows)] == [("100#", 3, sender) for sender in (0, 1, -1, 1, 0)]
+
+
+def test_the_load_and_how_long_frames_took():
+    with Server("can0,can1", bitrate=5_000, txqueue=1_000) as server, server.bus("can0") as bus:
+        watcher = Watcher(["can0", "can1"], server.address, rates=Rates(5_000))
+        # 26 seconds of frames.
+        bus.send_many([can.Message(arbitration_id=1, data=bytes(8), is_extended_id=False)] * 1_000)
+        server.wait_for(lambda: bus.load().permille >= 990, timeout=WAIT)
+        tick, rows = watcher.tick(0.1)
+        for one in watcher.buses:
+            one.shutdown()
+    assert all(990 <= load <= 1_000 for load in tick["loads"]) and len(tick["loads"]) == 2
+    assert rows and {row[5] for row in rows} == {
+        Wire(Rates(5_000)).times("001#0000000000000000", "done", "good").attempt
+    }
 
 
 def test_a_page_that_reads_slowly_begins_anew():
@@ -173,7 +189,7 @@ def test_news_have_the_frames_and_counts_of_both_interfaces():
             line = answer.readline()
             if line.startswith(b"data: "):
                 news = json.loads(line[6:])
-                for _, text, seen, says, _ in news["frames"]:
+                for _, text, seen, says, *_ in news["frames"]:
                     frames[text, says] = frames.get((text, says), 0) | seen
                 faults += sum(tick["faults"][0][1] for tick in news["ticks"])
                 now = news["ticks"][-1]["ifaces"][0] if news["ticks"] else now

@@ -11,13 +11,14 @@ int main(void) {
     for (size_t i = 0; i < sizeof lengths; i++) {
         struct canfd_frame frame = {.can_id = i % 2 ? 0x123 : 0x1ABCDEF0 | CAN_EFF_FLAG, .len = lengths[i]},
                            got_frame = {0};
+        frame.flags = (unsigned char)(i % 4);
         for (unsigned at = 0; at < frame.len; at++) {
             frame.data[at] = (unsigned char)(at * 3 + i);
         }
         CHECK(write(writer, &frame, sizeof frame) == CANFD_MTU);
         CHECK(comes(reader, PATIENCE) && read(reader, &got_frame, sizeof got_frame) == CANFD_MTU);
         CHECK(got_frame.can_id == frame.can_id && got_frame.len == frame.len &&
-              !memcmp(got_frame.data, frame.data, frame.len));
+              got_frame.flags == (frame.flags | CANFD_FDF) && !memcmp(got_frame.data, frame.data, frame.len));
     }
     /* A length that no frame has is filled up with zeros. */
     struct canfd_frame odd = {.can_id = 0x123, .len = 9, .data = {9, 9, 9, 9, 9, 9, 9, 9, 9}}, filled = {0};

@@ -5,7 +5,7 @@ _canbusd() {
     # The value of an option follows a blank or `=`, at which bash parts words unless COMP_WORDBREAKS lacks it.
     [ "$before" != = ] || before=${COMP_WORDS[COMP_CWORD - 2]}
     case $text in --*=*) before=${text%%=*} ;; esac
-    local options="--ack --report --txqueue --rxqueue --limit --auto-restart --help"
+    local options="--ack --report --txqueue --rxqueue --limit --auto-restart --bitrate --dbitrate --help"
     case $COMP_CWORD,$before,${COMP_WORDS[1]} in
     # A file follows a redirection.
     *,*[\<\>]*,*) compopt -o default ;;
@@ -17,7 +17,7 @@ _canbusd() {
         esac
         ;;
     *,help) _canbusd_offer "bench serve audit" ;;
-    *,bench) _canbusd_word "$options --bitrate --dbitrate --record --log --strict" ;;
+    *,bench) _canbusd_word "$options --record --log --strict" ;;
     *,serve) _canbusd_word "$options --listen --sessions --pace --write --out --record --flush --sync --until-eof --verbose" ;;
     esac
 }

@@ -27,13 +27,13 @@ _canbusd() {
         '--rxqueue=[capacity of a receive queue]:items:'
         '--limit=[most events of a bus]:events:'
         '--auto-restart=[attempts from bus off to an automatic restart]:attempts:'
+        '--bitrate=[bits a second]:bits:'
+        '--dbitrate=[bits a second of the data of FD frames]:bits:'
         '(- *)--help[show the help]'
     )
     case $line[1] in
     bench)
         _arguments $shared \
-            '--bitrate=[bits a second]:bits:' \
-            '--dbitrate=[bits a second of the data of FD frames]:bits:' \
             '--record=[write the record of the run]:file:_files' \
             '--log=[write the frames of the run as candump logs them]:file:_files' \
             '--strict[end with status 1 if a message was refused]' \

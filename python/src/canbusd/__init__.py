@@ -14,7 +14,7 @@ from typing import TYPE_CHECKING, Any
 
 if TYPE_CHECKING:
     from canbusd._program import ProgramNotFound
-    from canbusd._protocol import ErrorCounters, Stats
+    from canbusd._protocol import ErrorCounters, Load, Stats
     from canbusd.bench import Bench, BenchError, Refused, Session
     from canbusd.bus import CanbusdBus
     from canbusd.faults import Faults
@@ -39,6 +39,7 @@ __all__ = [
     "Faults",
     "Frame",
     "Item",
+    "Load",
     "ProgramNotFound",
     "Record",
     "Refused",
@@ -53,7 +54,7 @@ __all__ = [
 
 _HOMES = {
     "_program": ["ProgramNotFound"],
-    "_protocol": ["ErrorCounters", "Stats"],
+    "_protocol": ["ErrorCounters", "Load", "Stats"],
     "bench": ["Bench", "BenchError", "Refused", "Session"],
     "bus": ["CanbusdBus"],
     "faults": ["Faults"],

@@ -13,7 +13,7 @@ from types import TracebackType
 from typing import Optional, TypeVar, Union
 
 from canbusd._program import find_program
-from canbusd._wire import LEAST_BITRATE, MOST_BITRATE, MOST_DBITRATE
+from canbusd._wire import LEAST_BITRATE, MOST_BITRATE, MOST_DBITRATE, Rates
 
 Self = TypeVar("Self", bound="ProgramRun")
 
@@ -49,6 +49,20 @@ def number_words(**numbers: int) -> list[str]:
             raise ValueError(f"{name} is a whole number from {least} to {most}, not {number!r}")
         words += [option, str(number)]
     return words
+
+
+def rate_words(bitrate: Optional[int], dbitrate: Optional[int]) -> list[str]:
+    """Returns the words of the command line that give these bit rates, if there are any."""
+    rates = {"bitrate": bitrate, "dbitrate": dbitrate}
+    words = number_words(**{name: rate for name, rate in rates.items() if rate is not None})
+    if dbitrate is not None and (bitrate is None or dbitrate < bitrate):
+        raise ValueError(f"dbitrate needs a bitrate, which is no faster, not {bitrate!r} and {dbitrate!r}")
+    return words
+
+
+def rates_of(bitrate: Optional[int], dbitrate: Optional[int]) -> Optional[Rates]:
+    """Returns these bit rates, if there are any."""
+    return None if bitrate is None else Rates(bitrate, dbitrate)
 
 
 def check_names(names: Sequence[str]) -> Sequence[str]:

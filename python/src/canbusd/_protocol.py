@@ -54,6 +54,15 @@ class Stats(NamedTuple):
     refused: int
 
 
+class Load(NamedTuple):
+    """How busy a bus of a server with a bit rate is; of any other bus both are 0."""
+
+    #: How long the wire was busy in the last whole second, in thousandths of it: 1000 is a full bus.
+    permille: int
+    #: How long it was busy since the server began, in microseconds.
+    micros: int
+
+
 def refusal_in(answer: str) -> str:
     """Returns the text of a refusal, the empty text for `ok`, and any other answer as it is."""
     return "" if answer == "ok" else answer.removeprefix("error ")
@@ -73,6 +82,14 @@ def stats_of(answer: str) -> Optional[Stats]:
     if len(words) != 9 or words[0] != "stats":
         return None
     return Stats(*map(int, words[1:]))
+
+
+def load_of(answer: str) -> Optional[Load]:
+    """Returns what the answer `load 432 1080000` says; None for another message."""
+    words = answer.split()
+    if len(words) != 3 or words[0] != "load":
+        return None
+    return Load(int(words[1]), int(words[2]))
 
 
 def rules_left_of(answer: str) -> Optional[int]:

@@ -7,7 +7,7 @@ from dataclasses import dataclass
 from typing import Optional
 
 from canbusd._text import shown
-from canbusd.frames import ERROR_FRAME, FD_FRAME, FRAME, is_fd
+from canbusd.frames import ERROR_FRAME, FD_FRAME, FLAGGED_FRAME, FRAME, flags_in, is_fd
 
 
 def up_to(most: int) -> str:
@@ -42,13 +42,14 @@ MOST_ENTRIES, MOST_LIVE_ENTRIES = 1 << 24, (1 << 32) - 2
 class Version:
     """A version of the text: the line of its bus and its limits, and for each kind of event its words and its replies."""
 
-    def __init__(self, bus: str, with_fd: bool = False, limits: range = range(1, MOST_ENTRIES + 1)) -> None:
-        self.bus, self.with_fd, self.limits = re.compile(bus), with_fd, limits
+    def __init__(self, bus: str, fd: Optional[str] = None, limits: range = range(1, MOST_ENTRIES + 1)) -> None:
+        # FD frames as it spells them, if it has any.
+        self.bus, self.fd, self.limits = re.compile(bus), fd, limits
 
     def entries(self, restarts: bool) -> dict[str, re.Pattern[str]]:
         """Returns the entries' regular expressions, on a bus that restarts interfaces or one that does not."""
-        frame = f"(?:{FRAME}|{FD_FRAME})" if self.with_fd else FRAME
-        options = "loopback|recvown|join|fd" if self.with_fd else "loopback|recvown|join"
+        frame = f"(?:{FRAME}|{self.fd})" if self.fd else FRAME
+        options = "loopback|recvown|join|fd" if self.fd else "loopback|recvown|join"
         restarted = f"(?: restarted (?!0000){SET})?" if restarts else ""
         attempted = f"(?:idle|tried {IFACE} {COUNT} {frame} (?:done|lastbit|destroyed|noack) {SET} {SET}){restarted}"
         received = f"none|data {IFACE} {COUNT} {frame} {MOMENT}|error {IFACE} {ERROR_FRAME} {MOMENT}"
@@ -64,19 +65,22 @@ class Version:
         ]
         refusal = "|".join(REFUSALS)
         spelled = {kind: f"{kind} {event} = (?:{reply}|{refusal})" for kind, event, reply in lines}
-        if self.with_fd:
-            spelled["send"] += f"|send {SOCKET} {FD_FRAME} = fd-off"
+        if self.fd:
+            spelled["send"] += f"|send {SOCKET} {self.fd} = fd-off"
         return {kind: re.compile(line) for kind, line in spelled.items()}
 
 
 # From version 2 on a number after the limit says after how many attempts interfaces are restarted.
-VERSION_3 = Version(f"{BUS} {NUMBER}", with_fd=True)
+VERSION_3 = Version(f"{BUS} {NUMBER}", FD_FRAME)
+# Version 5 has flags of FD frames.
+VERSION_5 = Version(f"{BUS} {NUMBER}", FLAGGED_FRAME)
 # By the first line. Version 4 is the text of the record of a long run, and of no other.
 VERSIONS = {
     "canbus record 1": Version(BUS),
     "canbus record 2": Version(f"{BUS} ([1-9][0-9]*)"),
     "canbus record 3": VERSION_3,
-    "canbus record 4": Version(f"{BUS} {NUMBER}", with_fd=True, limits=range(MOST_ENTRIES + 1, MOST_LIVE_ENTRIES + 1)),
+    "canbus record 4": Version(f"{BUS} {NUMBER}", FLAGGED_FRAME, range(MOST_ENTRIES + 1, MOST_LIVE_ENTRIES + 1)),
+    "canbus record 5": VERSION_5,
 }
 
 
@@ -203,6 +207,8 @@ class TextReader:
             raise self._text_after_the_end()
         if self._version is VERSION_3 and not any(map(needs_fd, self.lines)):
             raise BadRecord("version 3, with neither an FD frame nor the option for such", "bad version")
+        if self._version is VERSION_5 and not any(map(flags_in, self.lines)):
+            raise BadRecord("version 5, without a flag of an FD frame", "bad version")
         return self._bus
 
     def _text_after_the_end(self) -> BadRecord:

@@ -4,8 +4,10 @@ import os
 import re
 from collections.abc import Iterable, Sequence
 from pathlib import Path
+from typing import Optional
 
 from canbusd._protocol import STATES
+from canbusd._wire import Rates
 from canbusd.frames import ERROR_FRAME, meaning
 from canbusd.record import Record
 from canbusd.story import events_of, heading_of
@@ -42,6 +44,11 @@ def story(record: Record, most: int = MOST_EVENTS) -> list[str]:
     return lines
 
 
+def load_words(permille: int) -> str:
+    """Returns the load of a bus, of 1000 where it is full, with a small bar: ` 43.2 % ####......`."""
+    return f"{permille / 10:5.1f} % {'#' * min(round(permille / 100), 10):.<10}"
+
+
 def table(rows: Iterable[Row], headings: Sequence[str] = HEADINGS) -> list[str]:
     """Returns the lines of a table: texts at the left, numbers at the right of their columns."""
     cells = [list(headings), *([str(cell) for cell in row] for row in rows)]
@@ -74,11 +81,13 @@ def with_meaning(line: str) -> str:
     return line
 
 
-def write_page(record: Record, path: "os.PathLike[str]", rules: Sequence[str] = ()) -> Path:
-    """Writes the page of a run, with the rule of each attempt if they are given, and returns its path."""
+def write_page(
+    record: Record, path: "os.PathLike[str]", rules: Sequence[str] = (), rates: Optional[Rates] = None
+) -> Path:
+    """Writes the page of a run, with the rule of each attempt and the bus load if they are given, and returns its path."""
     from canbusd.report import page
 
     target = Path(path)
     name = target.with_suffix(".rec").name
-    target.write_text(page(record.replay, record.names, name, rules=rules), encoding="utf-8")
+    target.write_text(page(record.replay, record.names, name, rules=rules, rates=rates), encoding="utf-8")
     return target

@@ -1,15 +1,14 @@
 """Time on the wire: how many bits frames and attempts have there, and how long these last at bit rates.
 
 The rules are those of crates/can_wire: specs/FrameBits.antt, by the Bosch CAN Specification 2.0 and ISO 11898-1:2015,
-AttemptBits.antt and Times.antt. A frame is spelled as in a record. ESI is dominant, and FD frames switch where there is
-a bit rate for data.
+AttemptBits.antt and Times.antt. A frame is spelled as in a record. FD frames with BRS switch to the bit rate for data.
 """
 
 import functools
 from dataclasses import dataclass
 from typing import NamedTuple, Optional
 
-from canbusd.frames import FD_LENGTHS, is_fd
+from canbusd.frames import BRS, ESI, FD_LENGTHS, flags_in, is_fd
 
 LEAST_BITRATE, MOST_BITRATE, MOST_DBITRATE = 5000, 1000000, 20000000
 # x^15 + x^14 + x^10 + x^8 + x^7 + x^4 + x^3 + 1, without its first term.
@@ -58,10 +57,10 @@ class Times(NamedTuple):
 
 @dataclass(frozen=True)
 class Rates:
-    """The bit rates of a bus, in bits a second: the nominal one, and the one to which FD frames switch for their data."""
+    """The bit rates of a bus, in bits a second: the nominal one, and the one to which FD frames with BRS switch."""
 
     bitrate: int
-    #: None where FD frames do not switch.
+    #: None where all bits go at the nominal one.
     dbitrate: Optional[int] = None
 
     def __post_init__(self) -> None:
@@ -81,18 +80,17 @@ class Wire:
 
     def __init__(self, rates: Rates) -> None:
         self.rates = rates
-        self.switches = rates.dbitrate is not None
         self._times: dict[tuple[str, str, bool], Times] = {}
 
     def frame_bits(self, text: str) -> Bits:
         """Returns how many bits a frame has, from start of frame to end of frame."""
-        return to_check_end(text, self.switches).then(TO_END_OF_FRAME)
+        return to_check_end(text).then(TO_END_OF_FRAME)
 
     def attempt_bits(self, text: str, kind: str, verdict: str) -> Bits:
         """Returns how many bits an attempt takes: of `done`, `lastbit`, `destroyed` or `noack`, by a record's verdict."""
         if kind == "destroyed" and is_early(verdict):
-            return to_data_end(text, self.switches).then(ANSWERED_FLAG + DELIMITER + INTERMISSION)
-        return to_check_end(text, self.switches).then(AFTER_CHECK[kind])
+            return to_data_end(text).then(ANSWERED_FLAG + DELIMITER + INTERMISSION)
+        return to_check_end(text).then(AFTER_CHECK[kind])
 
     def times(self, text: str, kind: str, verdict: str) -> Times:
         """Returns how long an attempt takes."""
@@ -111,24 +109,21 @@ def is_early(verdict: str) -> bool:
     return verdict.startswith(EARLY)
 
 
-def to_data_end(text: str, switches: bool) -> Bits:
-    """Returns how many bits a frame has to its last data bit, or to its data length code where it has no data.
-
-    An FD frame switches to the bit rate for data, or does not.
-    """
+def to_data_end(text: str) -> Bits:
+    """Returns how many bits a frame has to its last data bit, or to its data length code where it has no data."""
     if is_fd(text):
-        return fd_to_data_end(text, switches)
+        return fd_to_data_end(text)
     bits, count = covered_bits(text)
     return Bits(count + stuff_bits(bits, count))
 
 
 @functools.lru_cache(maxsize=1024)
-def to_check_end(text: str, switches: bool) -> Bits:
+def to_check_end(text: str) -> Bits:
     """Returns how many bits a frame has to the end of its CRC, which is stuffed in a classic frame."""
     if is_fd(text):
-        nominal, fast = fd_to_data_end(text, switches)
-        check = SHORT_FD_CHECK if len(text.partition("##0")[2]) <= 2 * 16 else LONG_FD_CHECK
-        return Bits(nominal, fast + check) if switches else Bits(nominal + check)
+        nominal, fast = fd_to_data_end(text)
+        check = SHORT_FD_CHECK if len(text.partition("##")[2]) <= 1 + 2 * 16 else LONG_FD_CHECK
+        return Bits(nominal, fast + check) if flags_in(text) & BRS else Bits(nominal + check)
     bits, count = covered_bits(text)
     return Bits(count + 15 + stuff_bits(bits << 15 | crc(bits, count), count + 15, at_end=True))
 
@@ -153,16 +148,17 @@ def covered_bits(text: str) -> tuple[int, int]:
     return with_data(bits << more | length, count + more, data)
 
 
-def fd_to_data_end(text: str, switches: bool) -> Bits:
+def fd_to_data_end(text: str) -> Bits:
     """The bits of an FD frame to its last data bit."""
-    identifier, _, digits = text.partition("##0")
-    data = bytes.fromhex(digits)
+    identifier, _, payload = text.partition("##")
+    flags, data = flags_in(text), bytes.fromhex(payload[1:])
+    switches, is_passive = bool(flags & BRS), bool(flags & ESI)
     bits, count = arbitration_bits(identifier, False)
     # FDF, res and BRS.
     bits, count = bits << 3 | 0b100 | switches, count + 3
     nominal = count + stuff_bits(bits, count)
     # ESI and the data length code.
-    bits, count = with_data(bits << 5 | FD_LENGTHS.index(len(data)), count + 5, data)
+    bits, count = with_data(bits << 5 | is_passive << 4 | FD_LENGTHS.index(len(data)), count + 5, data)
     whole = count + stuff_bits(bits, count)
     return Bits(nominal, whole - nominal) if switches else Bits(whole)
 

@@ -26,13 +26,15 @@ from canbusd._protocol import (
     LONGEST_MESSAGE,
     ErrorCounters,
     Filters,
+    Load,
     Stats,
     counters_of,
     filter_message,
+    load_of,
     options,
     stats_of,
 )
-from canbusd._process import RUNNING, ProgramRun, check_names, number_words, option_words
+from canbusd._process import RUNNING, ProgramRun, check_names, option_words, rate_words, rates_of
 from canbusd._summary import write_page
 from canbusd.faults import Script, plan_of, rules_of, script_text
 from canbusd.frames import Frame, MessageLike, command_of, frame_like, frame_of, identifier_word, without_origin
@@ -88,15 +90,6 @@ def bus_of(names: Union[str, Sequence[str]], faults: Optional[Script]) -> tuple[
     return parts, faults
 
 
-def rate_words(bitrate: Optional[int], dbitrate: Optional[int]) -> list[str]:
-    """Returns the words of the command line that give these bit rates, if there are any."""
-    rates = {"bitrate": bitrate, "dbitrate": dbitrate}
-    words = number_words(**{name: rate for name, rate in rates.items() if rate is not None})
-    if dbitrate is not None and (bitrate is None or dbitrate < bitrate):
-        raise ValueError(f"dbitrate needs a bitrate, which is no faster, not {bitrate!r} and {dbitrate!r}")
-    return words
-
-
 class Session(InjectsFaults):
     """A client of the bus with a raw socket on one interface, made by `Bench.open`."""
 
@@ -116,6 +109,8 @@ class Session(InjectsFaults):
         is_extended_id: Optional[bool] = None,
         is_remote_frame: bool = False,
         is_fd: bool = False,
+        bitrate_switch: bool = False,
+        error_state_indicator: bool = False,
         dlc: int = 0,
     ) -> None:
         """Puts a frame into the transmit queue of the interface, or raises Refused.
@@ -125,7 +120,16 @@ class Session(InjectsFaults):
         """
         if isinstance(frame, int):
             extended = frame > 0x7FF if is_extended_id is None else is_extended_id
-            sent = Frame(frame, data, extended, is_remote_frame, is_fd=is_fd, dlc=dlc)
+            sent = Frame(
+                frame,
+                data,
+                extended,
+                is_remote_frame,
+                is_fd=is_fd,
+                dlc=dlc,
+                bitrate_switch=bitrate_switch,
+                error_state_indicator=error_state_indicator,
+            )
         elif isinstance(frame, str):
             raise ValueError(
                 f"frame is an identifier, a message or a Frame, such as Frame.parse('123#11'), not {frame!r}"
@@ -159,6 +163,12 @@ class Session(InjectsFaults):
         stats = stats_of(self.call("stats")[0])
         assert stats is not None
         return stats
+
+    def load(self) -> Load:
+        """Returns `Load(0, 0)`: only a server counts how busy its buses are."""
+        load = load_of(self.call("load")[0])
+        assert load is not None
+        return load
 
     def set_filters(self, filters: Optional[Filters] = None) -> None:
         """Sets the filters of the socket, in python-can's form; None receives everything."""
@@ -214,9 +224,9 @@ class Bench(ProgramRun):
     """A bus with these interfaces, as `"can0,can1"` or a list, and the options of `canbusd bench`.
 
     With a `bitrate` attempts take the time of their bits, and their moment is the end of their frame; with a `dbitrate`
-    FD frames switch to that for their data. `faults` is a script: Faults, a path, or a text. `out` is a folder for the
-    log and the record, which are written at the end and are called after the first interface; without it they are kept
-    as long as the bench is.
+    FD frames with `bitrate_switch` go on at that for their data. `faults` is a script: Faults, a path, or a text. `out`
+    is a folder for the log and the record, which are written at the end and are called after the first interface;
+    without it they are kept as long as the bench is.
     """
 
     def __init__(
@@ -242,7 +252,7 @@ class Bench(ProgramRun):
         self._sessions = 0
         self._sent: dict[str, list[Frame]] = {name: [] for name in self.names}
         self._moment = "0.000000"
-        self._is_timed = bitrate is not None
+        self._rates = rates_of(bitrate, dbitrate)
         # One call at a time. Where one was interrupted, its answer is still to come, and would be taken for that of the next.
         self._turn = threading.RLock()
         self._in_step = True
@@ -350,7 +360,7 @@ class Bench(ProgramRun):
 
     def _run_until(self, moment: str) -> list[Attempt]:
         """Makes the attempts that begin before a moment; an echo follows them."""
-        if not self._is_timed:
+        if self._rates is None:
             raise ValueError("until needs a bitrate")
         lines: list[str] = []
         with self._turn:
@@ -398,7 +408,7 @@ class Bench(ProgramRun):
 
     def _page(self, record: Record, path: Path) -> Path:
         """Writes the page of the run there."""
-        return write_page(record, path, self._rules)
+        return write_page(record, path, self._rules, self._rates)
 
     def _path(self, ending: str) -> Path:
         return self._out / f"{self.names[0]}.{ending}"

@@ -35,11 +35,13 @@ from canbusd._injection import InjectsFaults
 from canbusd._protocol import (
     ErrorCounters,
     Filters,
+    Load,
     Stats,
     counters_of,
     filter_message,
     filter_words,
     interfaces_of,
+    load_of,
     options,
     refusal_in,
     stats_of,
@@ -235,7 +237,6 @@ class CanbusdBus(InjectsFaults, BusABC):
         self._pairs: list[tuple[int, int]] = []
         self._filters_here = False
         self._unfiltered = 0
-        self._warned_of_flags = False
         self._lock_send_periodic = threading.Lock()
 
     def __enter__(self: Self) -> Self:
@@ -336,6 +337,14 @@ class CanbusdBus(InjectsFaults, BusABC):
         """Returns the counts of this socket and of its interface."""
         return self._stats(self._call("stats"))
 
+    def load(self) -> Load:
+        """Returns how busy the bus was, with bit rates; without them `Load(0, 0)`."""
+        answer = self._call("load")
+        load = load_of(answer)
+        if load is None:
+            raise refusal(answer)
+        return load
+
     def fileno(self) -> int:
         """Returns a file descriptor that is readable where `recv` has something to return or to raise.
 
@@ -428,12 +437,8 @@ class CanbusdBus(InjectsFaults, BusABC):
         """The command that sends this message; ValueError where none does."""
         if not isinstance(msg, Message):
             raise ValueError(f"msg is a can.Message, such as can.Message(arbitration_id=0x123, data=[1]), not {msg!r}")
-        if msg.is_fd:
-            if not self._fd:
-                raise ValueError("an FD frame needs a bus with fd=True")
-            if (msg.bitrate_switch or msg.error_state_indicator) and not self._warned_of_flags:
-                self._warned_of_flags = True
-                LOG.warning("bitrate_switch and error_state_indicator are left out: a bus of canbusd has no such flags")
+        if msg.is_fd and not self._fd:
+            raise ValueError("an FD frame needs a bus with fd=True")
         return command_of(msg)
 
     def _open(self, messages: Sequence[str]) -> Connection:

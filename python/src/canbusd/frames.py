@@ -25,21 +25,28 @@ PLACES = {
     0x1A: "end of frame",
     0x1B: "ACK delimiter",
 }
+# The flags of an FD frame, as linux/can.h has them.
+BRS, ESI = 0x1, 0x2
 # How many bytes an FD frame may have.
 FD_LENGTHS = (*range(9), 12, 16, 20, 24, 32, 48, 64)
 # Regular expressions of a data or remote frame, of an FD frame and of an error message frame, as a record spells them.
 IDENTIFIER = "(?:[0-7][0-9A-F]{2}|[01][0-9A-F]{7})"
 FRAME = f"{IDENTIFIER}#(?:(?:[0-9A-F]{{2}}){{0,8}}|R[1-8]?)"
-FD_FRAME = f"{IDENTIFIER}##0(?:{'|'.join(f'[0-9A-F]{{{2 * length}}}' for length in FD_LENGTHS)})"
+FD_DATA = f"(?:{'|'.join(f'[0-9A-F]{{{2 * length}}}' for length in FD_LENGTHS)})"
+FD_FRAME = f"{IDENTIFIER}##0{FD_DATA}"
+# The same, with flags or without.
+FLAGGED_FRAME = f"{IDENTIFIER}##[0-3]{FD_DATA}"
 ERROR_FRAME = "[23][0-9A-F]{7}#[0-9A-F]{16}"
 
 # cansend's spelling: an FD frame has a second # and a digit of flags.
 SPELLING = re.compile("([0-9A-Fa-f]+)#(?:#([0-9A-Fa-f]))?([0-9A-Fa-fRr.]*)")
-# A session's message with a frame or an error message frame: its first word, and all of it; where asked for with whether
-# the same interface has sent it, and its number there. In answers no moment follows `error`.
+# A session's message with a frame or an error message frame: its first word, and all of it; an FD frame with flags has
+# these after the first word; where asked for with whether the same interface has sent it, and its number there. In
+# answers no moment follows `error`.
 HANDED_OVER = ("frame", "fdframe", "remote", "error")
 MESSAGE = re.compile(
-    "(frame|fdframe|remote|error) ([0-9A-F]+) ([0-9]+[.][0-9]{6})(?: +([0-9A-F]*))?(?: +(?:same|other) [0-9]+)?"
+    "(frame|fdframe|fdframex [0-3]|remote|error) ([0-9A-F]+) ([0-9]+[.][0-9]{6})(?: +([0-9A-F]*))?"
+    "(?: +(?:same|other) [0-9]+)?"
 )
 
 
@@ -69,6 +76,10 @@ class Frame:
     timestamp: float = field(default=0.0, compare=False)
     #: False where the session that received it has sent it.
     is_rx: bool = field(default=True, compare=False)
+    #: Of an FD frame: whether it goes on at the bit rate for data.
+    bitrate_switch: bool = False
+    #: Of an FD frame: whether its sender says that it is error passive.
+    error_state_indicator: bool = False
 
     def __post_init__(self) -> None:
         object.__setattr__(self, "data", bytes(self.data))
@@ -78,9 +89,10 @@ class Frame:
 
     @classmethod
     def parse(cls, text: str, timestamp: float = 0.0) -> "Frame":
-        """Returns the frame that cansend's spelling names: `123#11.22`, `00000123#R4`, `123##01122`.
+        """Returns the frame that cansend's spelling names: `123#11.22`, `00000123#R4`, `123##11122`.
 
-        The flags of an FD frame are left out, since canbusd has none.
+        Of the digit of an FD frame's flags 1 is the bit rate switch and 2 the error state indicator; what else it says
+        (candump adds 4, by which Linux marks FD frames) is left out.
         """
         words = SPELLING.fullmatch(text)
         if not words:
@@ -105,6 +117,7 @@ class Frame:
             is_error_frame=is_error,
             is_fd=flags is not None,
             timestamp=timestamp,
+            **flags_of(int(flags or "0", 16)),
         )
 
     def __str__(self) -> str:
@@ -113,7 +126,7 @@ class Frame:
         digits = f"{self.arbitration_id:08X}" if self.is_extended_id else f"{self.arbitration_id:03X}"
         if self.is_remote_frame:
             return f"{digits}#R{self.dlc or ''}"
-        return f"{digits}#{'#0' if self.is_fd else ''}{self.data.hex().upper()}"
+        return f"{digits}#{f'#{flag_number(self)}' if self.is_fd else ''}{self.data.hex().upper()}"
 
     @property
     def meaning(self) -> str:
@@ -176,6 +189,24 @@ class MessageLike(Protocol):
     def is_rx(self) -> bool:
         ...
 
+    @property
+    def bitrate_switch(self) -> bool:
+        ...
+
+    @property
+    def error_state_indicator(self) -> bool:
+        ...
+
+
+def flags_of(number: int) -> dict[str, bool]:
+    """Returns the flags of an FD frame that a number says, by their names."""
+    return {"bitrate_switch": bool(number & BRS), "error_state_indicator": bool(number & ESI)}
+
+
+def flag_number(message: MessageLike) -> int:
+    """Returns the number of the flags of a frame."""
+    return BRS * message.bitrate_switch + ESI * message.error_state_indicator
+
 
 def frame_like(message: MessageLike) -> Frame:
     """Returns the frame that a message of python-can is."""
@@ -191,6 +222,8 @@ def frame_like(message: MessageLike) -> Frame:
         message.dlc,
         message.timestamp,
         message.is_rx,
+        message.bitrate_switch,
+        message.error_state_indicator,
     )
 
 
@@ -199,6 +232,8 @@ def check_frame(message: MessageLike) -> None:
     most = 0x1FFFFFFF if message.is_extended_id or message.is_error_frame else 0x7FF
     if not 0 <= message.arbitration_id <= most:
         raise BadFrame(f"arbitration_id {message.arbitration_id:#x} is not in 0 to {most:X}")
+    if not message.is_fd and flag_number(message):
+        raise BadFrame("bitrate_switch and error_state_indicator are flags of FD frames")
     length = len(message.data)
     if message.is_remote_frame:
         if length or message.is_fd or not 0 <= message.dlc <= 8:
@@ -218,12 +253,22 @@ def command_of(message: MessageLike) -> str:
     digits = f"{message.arbitration_id:08X}" if message.is_extended_id else f"{message.arbitration_id:03X}"
     if message.is_remote_frame:
         return f"sendrtr {digits} {message.dlc}"
-    words = f"{'sendfd' if message.is_fd else 'send'} {digits} {message.dlc}"
+    flags = flag_number(message)
+    verb = f"sendfdx {flags}" if flags else "sendfd" if message.is_fd else "send"
+    words = f"{verb} {digits} {message.dlc}"
     return f"{words} {message.data.hex(' ').upper()}" if message.dlc else words
 
 
-def received(make: Callable[..., Made], kind: str, digits: str, moment: str, payload: str = "") -> Made:
+def received(make: Callable[..., Made], kind: str, *words: str) -> Made:
     """Returns what `make` makes of the words of a message that hands over a frame."""
+    if kind == "fdframex":
+        flags, *words_of_frame = words
+        return made(make, "fdframe", *words_of_frame, flags=int(flags))
+    return made(make, kind, *words)
+
+
+def made(make: Callable[..., Made], kind: str, digits: str, moment: str, payload: str = "", *, flags: int = 0) -> Made:
+    """The same of the words of one with these flags."""
     is_remote, is_error = kind == "remote", kind == "error"
     data = b"" if is_remote else bytes.fromhex(payload)
     return make(
@@ -235,6 +280,7 @@ def received(make: Callable[..., Made], kind: str, digits: str, moment: str, pay
         dlc=int(payload) if is_remote else len(data),
         data=data,
         is_fd=kind == "fdframe",
+        **flags_of(flags),
     )
 
 
@@ -248,7 +294,7 @@ def without_origin(message: str) -> tuple[str, Optional[int]]:
 def frame_of(message: str) -> Optional[Frame]:
     """Returns the frame that a session's message, without `<` and `>`, hands over; None for an answer."""
     words = MESSAGE.fullmatch(message.strip())
-    return received(Frame, *words.groups(default="")) if words else None
+    return received(Frame, *words[1].split(" "), *words.groups(default="")[1:]) if words else None
 
 
 def error_frame(error_class: int, data: Union[bytes, Sequence[int]]) -> str:
@@ -259,6 +305,12 @@ def error_frame(error_class: int, data: Union[bytes, Sequence[int]]) -> str:
 def is_fd(text: str) -> bool:
     """Whether this is the text of an FD frame."""
     return "##" in text
+
+
+def flags_in(text: str) -> int:
+    """Returns the number of the flags of the frame with this text, or in a line with it; 0 for another frame."""
+    place = text.find("##")
+    return int(text[place + 2]) if place >= 0 else 0
 
 
 def is_error(text: str) -> bool:

@@ -6,6 +6,7 @@
     assert len(server.log("can0")) == 2
 """
 
+import logging
 import os
 import re
 import select
@@ -20,7 +21,7 @@ from canbusd._connection import SessionRefused, reason_of
 from canbusd._injection import RuleSession
 from canbusd._live import LiveLog, LiveRecord, left_by
 from canbusd._program import audited, find_program
-from canbusd._process import RUNNING, ProgramRun, check_names, option_words
+from canbusd._process import RUNNING, ProgramRun, check_names, option_words, rate_words, rates_of
 from canbusd.expectations import Expectations
 from canbusd.faults import Script, plan_of, rules_of, script_text
 from canbusd.log import read_log
@@ -33,6 +34,7 @@ if TYPE_CHECKING:
     from canbusd._observer import Observer
     from canbusd.bus import CanbusdBus
 
+LOG = logging.getLogger("can.canbusd")
 #: Seconds in which a server has to listen, and to end. Long records take their time.
 START, END = 10.0, 60.0
 ENTRIES = re.compile(r"bus (\S+) entries (\d+)")
@@ -108,13 +110,14 @@ class Server(Expectations, ProgramRun):
     """`canbusd serve` with these buses, each the names of its interfaces: ``Server("can0,can1", "car0")``.
 
     The options are those of the program. ``faults`` is a script for the one bus there is (:class:`canbusd.Faults`, a
-    path or a text), or a dict of them by the name of a bus's first interface. ``out`` is a folder for logs and records;
-    without it they are kept as long as the server is. With ``record="live"`` logs and records are written while the
-    server runs, ``flush`` milliseconds (100) after each call, and :meth:`log`, :meth:`record` and :meth:`attempts`
-    return what is there; with ``record="none"`` logs are, and there is no record. Then a run may go on for weeks, and
-    ``limit`` (1,000,000 entries) is not given. ``observe`` names interfaces whose frames :meth:`expect` looks at. The
-    server runs when the constructor returns, and is ended by :meth:`stop`, by the end of a ``with`` block, and
-    by the end of this process, whatever ends it.
+    path or a text), or a dict of them by the name of a bus's first interface. ``out`` is a folder for logs and
+    records; without it they are kept as long as the server is. With ``record="live"`` logs and records are written
+    while the server runs, ``flush`` milliseconds (100) after each call, and :meth:`log`, :meth:`record` and
+    :meth:`attempts` return what is there; with ``record="none"`` logs are, and there is no record. Then a run may go
+    on for weeks, and ``limit`` (1,000,000 entries) is not given. With a ``bitrate`` attempts take the time of their
+    bits, in place of ``pace_ms``; with a ``dbitrate`` FD frames with ``bitrate_switch`` go on at that for their data.
+    ``observe`` names interfaces whose frames :meth:`expect` looks at. The server runs when the constructor returns,
+    and is ended by :meth:`stop`, by the end of a ``with`` block, and by the end of this process, whatever ends it.
     """
 
     def __init__(
@@ -124,6 +127,8 @@ class Server(Expectations, ProgramRun):
         ack: str = "always",
         report: bool = False,
         auto_restart: int = 0,
+        bitrate: Optional[int] = None,
+        dbitrate: Optional[int] = None,
         pace_ms: int = 1,
         write_bytes: int = 16_384,
         txqueue: int = 10,
@@ -141,9 +146,11 @@ class Server(Expectations, ProgramRun):
         options, numbers = record_options(record, limit, flush, sync)
         numbers.update(auto_restart=auto_restart, pace_ms=pace_ms, write_bytes=write_bytes)
         options += option_words(ack, report, txqueue=txqueue, rxqueue=rxqueue, **numbers)
+        options += rate_words(bitrate, dbitrate)
         observed = tuple(observe.split(",") if isinstance(observe, str) else observe)
         super().__init__(out)
         self._txqueue = txqueue
+        self._rates = rates_of(bitrate, dbitrate)
         self._by_bus = bus_words(buses, faults, self._folder)
         self._prepare(record)
         for name in observed:
@@ -190,6 +197,9 @@ class Server(Expectations, ProgramRun):
             raise CanInitializationError(
                 f"{channel}: the server has ended; stop(), {self._ends_too}audit(), report() and its with block end it"
             )
+        own = self._rates.bitrate if self._rates else None
+        if kwargs.get("bitrate", own) != own:
+            LOG.warning("%s: bitrate %s is left out: that of the server is %s", channel, kwargs["bitrate"], own)
         bus = CanbusdBus(channel, address=self.address, **kwargs)
         bus.window = self._txqueue
         return bus
@@ -323,7 +333,8 @@ class Server(Expectations, ProgramRun):
 
         first = record.names[0]
         plan = plan_of(script_of(self._by_bus[first][-1]))
-        return write_page(record, path, deciders(record.attempts, plan, self._injected.get(first, [])))
+        rules = deciders(record.attempts, plan, self._injected.get(first, []))
+        return write_page(record, path, rules, self._rates)
 
     def _rule_session(self, interface: Optional[str]) -> RuleSession:
         """A session for the rules of the bus of this interface."""

@@ -54,9 +54,15 @@ def remote_frames(extended: Optional[bool] = None) -> SearchStrategy[Frame]:
 
 
 def fd_frames(extended: Optional[bool] = None) -> SearchStrategy[Frame]:
-    """FD frames, of each length that there is."""
+    """FD frames, of each length that there is, with each flag or without."""
     return st.builds(
-        lambda one, data: Frame(one[0], data, one[1], is_fd=True), identifiers(extended), bytes_of(FD_LENGTHS)
+        lambda one, data, brs, esi: Frame(
+            one[0], data, one[1], is_fd=True, bitrate_switch=brs, error_state_indicator=esi
+        ),
+        identifiers(extended),
+        bytes_of(FD_LENGTHS),
+        st.booleans(),
+        st.booleans(),
     )
 
 

@@ -46,8 +46,8 @@ def add_rates(parser: argparse.ArgumentParser, what: str) -> None:
         "--dbitrate",
         type=digits,
         metavar="M",
-        help=f"bits a second of the data of FD frames, from those of --bitrate to {MOST_DBITRATE}; without it FD frames "
-        "do not switch",
+        help="bits a second of the data of FD frames with the bit rate switch, from those of --bitrate to "
+        f"{MOST_DBITRATE}; without it all bits go at that rate",
     )
 
 

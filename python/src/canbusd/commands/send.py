@@ -19,7 +19,7 @@ frames:
   123#DEADBEEF       11 bits in 3 digits; bytes may be parted by points: 123#DE.AD.BE.EF
   00000123#          29 bits in 8 digits
   123#R, 123#R4      remote frames of length 0 and 4
-  123##0DEADBEEF     an FD frame; canbusd has no bit rate switch, so other flags than 0 are left out
+  123##0DEADBEEF     an FD frame; in place of 0 its flags: 1 bit rate switch, 2 error state indicator, 3 both
   Engine.speed=120   with --dbc, a message with this signal; the words of one message that follow each other are one
                      frame, and signals that are not given have their initial value
 
@@ -73,8 +73,8 @@ def frame_of_word(text: str) -> Frame:
             raise BadFrame("an error message frame, which nobody sends")
     except BadFrame as fault:
         raise BadFrame(f"{text}: {fault}") from None
-    if re.search("##[1-9A-Fa-f]", text):
-        print(f"canbusd send: {text}: the flags are left out: canbusd has no bit rate switch", file=sys.stderr)
+    if re.search("##[4-9A-Fa-f]", text):
+        print(f"canbusd send: {text}: of the flags only 1 and 2 are sent", file=sys.stderr)
     return frame
 
 

@@ -3,15 +3,17 @@
 import argparse
 import sys
 import time
+from collections.abc import Sequence
 
-from canbusd._summary import Row, table
+from canbusd._protocol import Load
+from canbusd._summary import HEADINGS, Row, load_words, table
 from canbusd.bus import CanbusdBus, interfaces, seconds
 from canbusd.commands import NOTHING, add_address
 
 EPILOG = """\
 TEC and REC are the transmit and the receive error count: error warning from 96, error passive from 128, bus off from
 256. `sent` is what was accepted for sending: done, waiting, or lost at bus off. `refused` found the transmit queue
-full.
+full. Where a bus with a bit rate was busy in the last whole second, `bus load` is how much of that.
 
   python3 -m canbusd status
   python3 -m canbusd status --watch can0 can1
@@ -40,7 +42,7 @@ def run(options: argparse.Namespace) -> None:
     if on_screen:
         sys.stdout.write(HOME + CLEAR_BELOW)
     while True:
-        lines = table([row_of(name, bus) for name, bus in zip(names, buses)])
+        lines = table_of([row_of(name, bus) for name, bus in zip(names, buses)], [bus.load() for bus in buses])
         if on_screen:
             sys.stdout.write(HOME + "".join(f"{line}{CLEAR_LINE}\n" for line in lines) + CLEAR_BELOW)
         else:
@@ -51,6 +53,14 @@ def run(options: argparse.Namespace) -> None:
         time.sleep(interval)
     for bus in buses:
         bus.shutdown()
+
+
+def table_of(rows: Sequence[Row], loads: Sequence[Load]) -> list[str]:
+    """The lines of the table, which has the load of each interface's bus where there is any."""
+    if not any(load.permille for load in loads):
+        return table(rows)
+    words = [load_words(load.permille) if load.permille else "" for load in loads]
+    return table([(*row, one) for row, one in zip(rows, words)], (*HEADINGS, "bus load"))
 
 
 def row_of(name: str, bus: CanbusdBus) -> Row:

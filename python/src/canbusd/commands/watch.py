@@ -18,8 +18,9 @@ import canbusd._python_can  # noqa: F401  it says what is missing, so it comes f
 
 from can.exceptions import CanOperationError
 
+from canbusd._wire import Rates, Wire
 from canbusd.bus import CanbusdBus, interfaces, seconds
-from canbusd.commands import add_address, add_database, database_of
+from canbusd.commands import add_address, add_database, add_rates, database_of, rates_of
 from canbusd.frames import SENDING, Frame, frame_like
 from canbusd.report import filled
 from canbusd.signals import Database
@@ -28,10 +29,12 @@ EPILOG = """\
 The page is served on 127.0.0.1 only. It shows on a time line how many frames each interface sent, its state, error
 counts and queue; and lists the last frames, with the watched interfaces that sent them, changes of state, and each
 identifier with its last data. Destroyed and unacknowledged frames are shown where the server was started with --report.
+Of a server with a bit rate it has the bus load; where --bitrate says that rate here too, also what each identifier takes
+of it.
 A session on each interface receives everything: each frame that it gets is an entry of the record.
 
   python3 -m canbusd watch
-  python3 -m canbusd watch --port 0 -a ./bench.socket can0
+  python3 -m canbusd watch --port 0 -a ./bench.socket --bitrate 500000 can0
 """
 # How much a page gets that is opened later: ticks, and frames.
 MOST_TICKS, MOST_FRAMES = 2400, 4000
@@ -104,10 +107,9 @@ class Pages(ThreadingHTTPServer):
     daemon_threads = True
     request_queue_size = 128
 
-    def __init__(self, port: int, board: Board, names: Sequence[str], source: str, has_database: bool) -> None:
+    def __init__(self, port: int, board: Board, known: Json) -> None:
         super().__init__(("127.0.0.1", port), Request)
         self.board = board
-        known = {"names": list(names), "source": source, "isDecoded": has_database}
         data = json.dumps(known).replace("<", "\\u003c")
         self.page = (
             filled("watch.html", ["core.js", "lanes.js", "lists.js", "watch.js"]).replace("/*RUN*/", data).encode()
@@ -127,10 +129,10 @@ class Pages(ThreadingHTTPServer):
         return f"http://127.0.0.1:{self.server_address[1]}/"
 
 
-def opened(port: int, board: Board, names: Sequence[str], source: str, has_database: bool) -> Pages:
+def opened(port: int, board: Board, known: Json) -> Pages:
     """Returns the pages on this port; the fault of a port that can't be had names it."""
     try:
-        return Pages(port, board, names, source, has_database)
+        return Pages(port, board, known)
     except OSError as fault:
         hint = "; --port 0 takes a free one" if fault.errno == errno.EADDRINUSE else ""
         raise OSError(fault.errno, f"{fault.strerror}{hint}", f"127.0.0.1:{port}") from None
@@ -190,8 +192,15 @@ class Watched(CanbusdBus):
 class Watcher:
     """The sessions on the interfaces."""
 
-    def __init__(self, names: Sequence[str], address: Optional[str], database: Optional[Database] = None) -> None:
+    def __init__(
+        self,
+        names: Sequence[str],
+        address: Optional[str],
+        database: Optional[Database] = None,
+        rates: Optional[Rates] = None,
+    ) -> None:
         self.database = database
+        self.wire = None if rates is None else Wire(rates)
         self.buses = [Watched(name, address=address, fd=True, receive_own_messages=True) for name in names]
 
     def tick(self, seconds: float) -> tuple[Json, list[Row]]:
@@ -206,16 +215,20 @@ class Watcher:
                     self.take(number, rows, faults[number])
             if time.monotonic() >= deadline:
                 break
-        stats = [bus.stats() for bus in self.buses]
+        stats, loads = [bus.stats() for bus in self.buses], [bus.load().permille for bus in self.buses]
         for number in range(len(self.buses)):
             # What came before the counts.
             self.take(number, rows, faults[number])
         ifaces = [[*bus.error_counters(), *one[3:]] for bus, one in zip(self.buses, stats)]
         missed = sum(one.dropped for one in stats)
-        return {"time": time.time(), "ifaces": ifaces, "faults": faults, "missed": missed}, list(rows.values())
+        tick = {"time": time.time(), "ifaces": ifaces, "faults": faults, "loads": loads, "missed": missed}
+        return tick, list(rows.values())
 
     def take(self, number: int, rows: dict[tuple[float, str, int], Row], faults: list[int]) -> None:
-        """Takes what an interface has received. A row is moment, frame, interfaces, what it says, sender."""
+        """Takes what an interface has received.
+
+        A row is moment, frame, interfaces, what it says, sender, and how many nanoseconds it took the wire.
+        """
         for _ in range(MOST_FRAMES):
             message = self.buses[number].recv(0)
             if message is None:
@@ -226,7 +239,7 @@ class Watcher:
                 faults[kind] += 1
             # An error frame is the interface's own; a frame that several have received is one row.
             key = frame.timestamp, str(frame), number if frame.is_error_frame else -1
-            row = rows.setdefault(key, [frame.timestamp, str(frame), 0, self.meaning(frame), -1])
+            row = rows.setdefault(key, [frame.timestamp, str(frame), 0, self.meaning(frame), -1, self.busy(frame)])
             row[2] |= 1 << number
             row[4] = row[4] if frame.is_rx else number
 
@@ -234,6 +247,12 @@ class Watcher:
         """What an error message frame says, or one that a file knows."""
         decoded = self.database.decode(frame) if self.database is not None else None
         return str(decoded) if decoded is not None else frame.meaning
+
+    def busy(self, frame: Frame) -> int:
+        """How many nanoseconds a frame took the wire, with those that follow it; 0 where no bit rate is known."""
+        if self.wire is None or frame.is_error_frame:
+            return 0
+        return self.wire.times(str(frame), "done", "good").attempt
 
 
 def is_frame(row: Row) -> bool:
@@ -266,6 +285,7 @@ def add_arguments(parser: argparse.ArgumentParser) -> None:
         metavar="S",
         help="seconds between two looks at the counts (default 0.25)",
     )
+    add_rates(parser, "the page has what each identifier takes of the bus load")
     add_database(parser)
     add_address(parser)
 
@@ -276,8 +296,14 @@ def run(options: argparse.Namespace) -> None:
     if not 0 <= options.port <= 65535:
         raise ValueError(f"--port is a number from 0 to 65535, not {options.port}")
     names: list[str] = options.interfaces or interfaces(options.address)
-    watcher, board = Watcher(names, options.address, database_of(options)), Board()
-    with opened(options.port, board, names, watcher.buses[0].address, watcher.database is not None) as pages:
+    watcher, board = Watcher(names, options.address, database_of(options), rates_of(options)), Board()
+    known = {
+        "names": names,
+        "source": watcher.buses[0].address,
+        "isDecoded": watcher.database is not None,
+        "isTimed": watcher.wire is not None,
+    }
+    with opened(options.port, board, known) as pages:
         threading.Thread(target=pages.serve_forever, daemon=True).start()
         print(f"watching {', '.join(names)} on {pages.url}", flush=True)
         try:

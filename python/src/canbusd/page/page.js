@@ -353,7 +353,8 @@ function countersAround(step) {
 function fieldsOf(text) {
   const [identifier, payload] = [text.slice(0, text.indexOf("#")), text.slice(text.indexOf("#") + 1)];
   const isRemote = payload.startsWith("R"), isFd = payload.startsWith("#"), data = isRemote ? "" : payload.slice(isFd ? 2 : 0);
-  const kind = [identifier.length === 3 ? "11-bit" : "29-bit", isFd ? "FD" : isRemote ? "remote" : "data", "frame"].join(" ");
+  const flags = isFd ? ["", " with BRS", " with ESI", " with BRS and ESI"][Number(payload[1])] : "";
+  const kind = [identifier.length === 3 ? "11-bit" : "29-bit", isFd ? "FD" : isRemote ? "remote" : "data", "frame"].join(" ") + flags;
   const bytes = data.match(/../g) || [];
   const length = isRemote ? Number(payload.slice(1) || 0) : bytes.length;
   return { identifier, kind, length, bytes: bytes.join(" ") };

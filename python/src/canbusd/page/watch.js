@@ -1,6 +1,6 @@
 // The live page: ticks and frames as they come from `python3 -m canbusd watch`, on the time line of the page of a run.
 
-const { names, source, isDecoded } = JSON.parse(at("run").textContent);
+const { names, source, isDecoded, isTimed } = JSON.parse(at("run").textContent);
 const MOST = 4000, MOST_TICKS = 2400, FOLLOWED = 60;
 // The kinds of events, the worst first.
 const EVENTS = ["bus off", "error passive", "error warning", "error active", "restarted", "no acknowledgement",
@@ -8,12 +8,14 @@ const EVENTS = ["bus off", "error passive", "error warning", "error active", "re
 const QUEUE = 5, SENT_DONE = 4;
 let ticks = [], frames = [], events = [], offs = [], held = [], busiest = 1, total = 0, isLatest = true, isPaused = false;
 let chosenAt = null, chosen = null, byKey = new Map(), byIdentifier = new Map(), lists = {}, chips, showTab, tab;
+// Of each node the first one that is known to be on its bus; which nodes got one frame; how long all frames took the wire.
+let busOf = names.map((_, i) => i), joined = new Set(), busyInAll = 0, nodeLanes = [], loadLanes = new Map();
 
 // What came.
 
 function take(news) {
   if (news.start) {
-    [ticks, frames, events, offs, total] = [[], [], [], [], 0];
+    [ticks, frames, events, offs, total, busyInAll] = [[], [], [], [], 0, 0];
     byKey = new Map();
     byIdentifier = new Map();
   }
@@ -46,10 +48,11 @@ function takeTick(tick) {
 // The first digit of an error message frame has bit 29.
 const isError = text => /^[23].{7}#/.test(text);
 // A frame that an interface got later is the same row.
-function takeFrame(moment, text, seen, says, sender) {
+function takeFrame(moment, text, seen, says, sender, busy) {
   const key = `${moment} ${text}`, known = isError(text) ? undefined : byKey.get(key);
   if (known && !(known.seen & seen)) {
     known.seen |= seen;
+    joinBuses(known.seen);
     return;
   }
   const frame = { key, moment, text, seen, says, sender };
@@ -63,10 +66,23 @@ function takeFrame(moment, text, seen, says, sender) {
   byKey.set(key, frame);
   frames.push(frame);
   total++;
-  const identifier = text.split("#")[0], one = byIdentifier.get(identifier) || { number: 0, moment, sender: -1 };
-  const from = sender < 0 ? one.sender : sender;
-  byIdentifier.set(identifier, { identifier, number: one.number + 1, moment, period: moment - one.moment, text, sender: from });
+  busyInAll += busy;
+  joinBuses(seen);
+  const identifier = text.split("#")[0], one = byIdentifier.get(identifier) || { number: 0, moment, sender: -1, busy: 0 };
+  const from = sender < 0 ? one.sender : sender, period = moment - one.moment;
+  byIdentifier.set(identifier, { identifier, number: one.number + 1, moment, period, text, sender: from, busy: one.busy + busy });
 }
+// Nodes that got one frame are on one bus.
+function joinBuses(seen) {
+  if (joined.has(seen)) return;
+  joined.add(seen);
+  const got = new Set(busOf.filter((_, i) => seen >> i & 1)), first = Math.min(...got);
+  busOf = busOf.map(bus => got.has(bus) ? first : bus);
+}
+// The buses that were busy, by their first nodes, and what is said of one.
+const busyBuses = some => [...new Set(busOf)].filter(bus => some.some(tick => tick.loads[bus]));
+const percent = permille => `${(permille / 10).toFixed(1)} %`;
+const loadWords = (tick, bus) => `bus load ${percent(tick.loads[bus])}${new Set(busOf).size > 1 ? ` (${names[bus]})` : ""}`;
 
 // The time line: a tick is a step, and its place is its time.
 
@@ -90,7 +106,25 @@ function measure() {
   view.step = chosenAt === null ? Math.max(0, ticks.length - 1) : tickAt(chosenAt);
   const column = place => names.map((_, i) => new Numbers(Uint16Array.from(ticks, tick => tick.ifaces[i][place])));
   const [tec, rec, queue] = [1, 2, QUEUE].map(column), queueMost = Math.max(...queue.map(one => one.most));
-  lanes.forEach((lane, i) => Object.assign(lane, { tec: tec[i], rec: rec[i], queue: queue[i], queueMost }));
+  nodeLanes.forEach((lane, i) => Object.assign(lane, { tec: tec[i], rec: rec[i], queue: queue[i], queueMost }));
+  measureLoads();
+}
+// A lane for each bus that was busy, above those of the nodes.
+function measureLoads() {
+  const buses = busyBuses(ticks), isOne = new Set(busOf).size === 1;
+  const none = new Numbers(new Uint16Array(0)), laneOf = bus => loadLanes.get(bus) || new CurveLane("", none, null, { scale: "100 %" });
+  const made = buses.map(bus => [bus, laneOf(bus)]);
+  for (const [bus, lane] of made) {
+    const title = `share of the last whole second in which the wire was busy, as the server says of ${names[bus]}`;
+    const numbers = new Numbers(Uint16Array.from(ticks, tick => Math.min(tick.loads[bus], 1000)));
+    const words = step => percent(ticks[step].loads[bus]), name = isOne ? "bus load" : `load ${names[bus]}`;
+    Object.assign(lane, { name, title, numbers, words, most: 1000 });
+  }
+  const lanesNow = [...made.map(([, lane]) => lane), ...nodeLanes], said = lanesNow.map(({ name }) => name).join();
+  loadLanes = new Map(made);
+  if (said === measure.said) return;
+  [lanes, measure.said] = [lanesNow, said];
+  buildGutter();
 }
 function tickAt(seconds) {
   let low = 0, high = ticks.length - 1;
@@ -136,7 +170,8 @@ function tipWords(first, last) {
     const [state, transmit, receive] = ticks[last - 1].ifaces[i];
     return `${name}: ${words.join(", ") || "nothing"}; ${state}, counts ${transmit}/${receive}`;
   });
-  return [clock(ticks[first].time), ...lines].join("\n");
+  const loads = busyBuses(ticks).map(bus => loadWords(ticks[last - 1], bus));
+  return [clock(ticks[first].time), ...lines, ...loads].join("\n");
 }
 function drawOverview() {
   const canvas = at("overview"), width = canvas.parentElement.clientWidth, pen = sized(canvas, width, 24);
@@ -173,8 +208,10 @@ function makeLists() {
     ["what", "minmax(0, 1fr)", "w"]], frame => [momentWords(frame.moment), names[frame.iface],
     isBad(frame.kind) ? element("span", frame.kind, { className: "bad" }) : frame.kind, frame.says]);
   lists["tab-identifiers"] = make("identifiers", [["identifier", "10ch", "n"], ["sender", "minmax(0, 1fr)", "h"],
-    ["frames", "9ch", "n h"], ["ms since the one before", "22ch", "n h"], ["last", "minmax(0, 2fr)"], ["moment", "15ch", "n"]],
-    one => [one.identifier, senderOf(one), grouped(one.number), (one.period * 1000).toFixed(3), one.text, momentWords(one.moment)]);
+    ["frames", "9ch", "n h"], ...isTimed ? [["share of wire time", "18ch", "n h"]] : [],
+    ["ms since the one before", "22ch", "n h"], ["last", "minmax(0, 2fr)"], ["moment", "15ch", "n"]],
+    one => [one.identifier, senderOf(one), grouped(one.number), ...isTimed ? [percent(1000 * one.busy / busyInAll)] : [],
+      (one.period * 1000).toFixed(3), one.text, momentWords(one.moment)]);
   chips = new Chips("kinds", () => showLists());
 }
 function found() {
@@ -209,10 +246,16 @@ function showList(name) {
 }
 function showIfaces() {
   const heads = ["node", "state", "transmit count", "receive count", "sent", "done", "waiting", "lost", "refused"];
-  const now = ticks.length ? ticks[ticks.length - 1].ifaces : [];
-  at("ifaces").replaceChildren(...rowsOf(heads, now.map(([state, ...counts], i) => [names[i],
+  const { ifaces, loads } = ticks.length ? ticks[ticks.length - 1] : { ifaces: [], loads: [] }, isBusy = loads.some(one => one);
+  if (isBusy) heads.push("bus load");
+  at("ifaces").replaceChildren(...rowsOf(heads, ifaces.map(([state, ...counts], i) => [names[i],
     element("td", stateWords(state), { className: state === "active" ? "" : "bad" }),
-    ...counts.slice(0, 5), ...counts.slice(5).map(loss)])));
+    ...counts.slice(0, 5), ...counts.slice(5).map(loss), ...isBusy ? [loadCell(loads[i])] : []])));
+}
+// A load with a small bar.
+function loadCell(permille) {
+  const bar = element("meter", [], { max: 1000, value: permille, title: "of the last whole second" });
+  return element("td", permille ? [bar, ` ${percent(permille)}`] : "", { className: "number" });
 }
 function showMoment() {
   const made = [];
@@ -231,7 +274,9 @@ function sayNow() {
   if (!last) return;
   const sent = recent.slice(1).reduce((sum, tick) => sum + tick.wins.reduce((all, one) => all + one[0], 0), 0);
   const rate = recent.length > 1 ? sent / (last.time - recent[0].time) : 0;
+  const loads = busyBuses(recent).map(bus => loadWords(last, bus)).join(", ");
   at("facts").textContent = `${source}: ${grouped(Math.round(rate))} frames a second, ${grouped(total)} received so far.`
+    + (loads ? ` ${loads[0].toUpperCase()}${loads.slice(1)}.` : "")
     + (last.missed ? ` ${grouped(last.missed)} missed: they came too fast for \`canbusd watch\`.` : "")
     + (isPaused ? ` Paused at ${clock(last.time)}.` : "");
   sayOffs(last);
@@ -347,7 +392,8 @@ function begin() {
   legend("legend", LEGEND);
   at("of-node").append(...[["all", ""], ...names.map((name, i) => [name, i])].map(([text, value]) => element("option", text, { value })));
   const none = new Numbers(new Uint16Array(0));
-  lanes = names.map((name, i) => new NodeLane(i, name, { tec: none, rec: none, queue: none, queueMost: 0 }, strip));
+  nodeLanes = names.map((name, i) => new NodeLane(i, name, { tec: none, rec: none, queue: none, queueMost: 0 }, strip));
+  lanes = nodeLanes;
   makeLists();
   listen();
   readTheme();
