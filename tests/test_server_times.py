@@ -272,7 +272,7 @@ class Filling:
         self.send(count)
 
     def run(self, seconds: float) -> tuple[int, float]:
-        """How many frames came in so many seconds, once the bus is full, and how long that was, from frame to frame."""
+        """How many frames came in these seconds, once the bus is full, and how long that was, from frame to frame."""
         self.send(600)
         begun = time.monotonic() + 1
         while time.monotonic() < begun:

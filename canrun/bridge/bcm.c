@@ -34,7 +34,7 @@ struct task {
     unsigned at;          /* the frame that is sent next */
     uint64_t due;         /* the next frame, or the timeout; 0 for never */
     uint64_t held_until;  /* the throttle; 0 where it is off */
-    uint64_t reported;        /* when the program got a frame last */
+    uint64_t reported;    /* when the program got a frame last */
     struct last *last;    /* one for each frame of an RX task */
     struct canfd_frame frames[];
 };

@@ -10,7 +10,7 @@ import functools
 import logging
 import threading
 import time
-from collections.abc import Iterable, Iterator, Sequence
+from collections.abc import Callable, Iterable, Iterator, Sequence
 from math import isfinite
 from typing import TYPE_CHECKING, Any, Optional, TypeVar, Union, cast
 
@@ -53,6 +53,7 @@ if TYPE_CHECKING:
     from can.typechecking import AutoDetectedConfig
 
 Self = TypeVar("Self", bound="CanbusdBus")
+T = TypeVar("T")
 
 LOG = logging.getLogger("can.canbusd")
 NO_BUFFERS, BUS_OFF, NOT_BUS_OFF = "no buffers", "bus off", "not bus off"
@@ -109,6 +110,14 @@ def seconds(name: str, value: object) -> float:
 def refusal(text: str, after: str = "") -> CanOperationError:
     """The exception for what the server refused; its `error_code` is that of the system's own CAN sockets."""
     return CanOperationError(f"{text}{after}{CURES.get(text, '')}", ERROR_CODES.get(text))
+
+
+def parsed(answer: str, read: Callable[[str], Optional[T]]) -> T:
+    """Returns what an answer says, by the function that reads it; CanOperationError where it is a refusal."""
+    found = read(answer)
+    if found is None:
+        raise refusal(answer)
+    return found
 
 
 def interfaces(address: Optional[str] = None, timeout: float = 5.0) -> list[str]:
@@ -285,7 +294,7 @@ class CanbusdBus(InjectsFaults, BusABC):
                 stats = self._departure(stats, deadline, f" after {total - len(rest)} of {total} messages")
                 room = max(1, window - stats.waiting)
             answers = self._calls([*rest[:room], "stats"])
-            stats = self._stats(answers.pop())
+            stats = parsed(answers.pop(), stats_of)
             refused = [command for command, answer in zip(rest, answers) if answer]
             rest[: len(answers)] = refused
             fault = next((answer for answer in answers if answer not in ("", NO_BUFFERS)), None)
@@ -327,23 +336,15 @@ class CanbusdBus(InjectsFaults, BusABC):
 
     def error_counters(self) -> ErrorCounters:
         """Returns the state of the interface and its error counts."""
-        answer = self._call("status")
-        counters = counters_of(answer)
-        if counters is None:
-            raise refusal(answer)
-        return counters
+        return parsed(self._call("status"), counters_of)
 
     def stats(self) -> Stats:
         """Returns the counts of this socket and of its interface."""
-        return self._stats(self._call("stats"))
+        return parsed(self._call("stats"), stats_of)
 
     def load(self) -> Load:
         """Returns how busy the bus was, with bit rates; without them `Load(0, 0)`."""
-        answer = self._call("load")
-        load = load_of(answer)
-        if load is None:
-            raise refusal(answer)
-        return load
+        return parsed(self._call("load"), load_of)
 
     def fileno(self) -> int:
         """Returns a file descriptor that is readable where `recv` has something to return or to raise.
@@ -480,12 +481,6 @@ class CanbusdBus(InjectsFaults, BusABC):
 
     def _refusal(self, text: str) -> Exception:
         return refusal(text)
-
-    def _stats(self, answer: str) -> Stats:
-        stats = stats_of(answer)
-        if stats is None:
-            raise refusal(answer)
-        return stats
 
     def _departure(self, before: Optional[Stats], deadline: float, after: str = "") -> Stats:
         """Waits until a frame has left the transmit queue since these counts, and returns the counts then.

@@ -42,7 +42,7 @@ ERROR_FRAME = "[23][0-9A-F]{7}#[0-9A-F]{16}"
 SPELLING = re.compile("([0-9A-Fa-f]+)#(?:#([0-9A-Fa-f]))?([0-9A-Fa-fRr.]*)")
 # A session's message with a frame or an error message frame: its first word, and all of it; an FD frame with flags has
 # these after the first word; where asked for with whether the same interface has sent it, and its number there. In
-# answers no moment follows `error`.
+# replies no moment follows `error`.
 HANDED_OVER = ("frame", "fdframe", "remote", "error")
 MESSAGE = re.compile(
     "(frame|fdframe|fdframex [0-3]|remote|error) ([0-9A-F]+) ([0-9]+[.][0-9]{6})(?: +([0-9A-F]*))?"
