@@ -31,7 +31,6 @@ use Rattle.can_bus.specs.contracts.long_bus.LongBus.TheInside as long_inside
 use Rattle.can_roll.specs.declared.roll_name.RollName as roll
 use Rattle.can_station.proofs.station.Station.TheSendSync as station
 use Rattle.can_station.proofs.pass.Pass.TheSendSync as pass
-use Rattle.can_dialog.proofs.session.Session.TheSendSync as session
 use Rattle.can_wire.proofs.timing.Timing.TheSendSync as timing
 use Rattle.can_hub.specs.contracts.hub_bus.AnyBus as any
 use Rattle.can_hub.specs.contracts.hub_bus.HubBus as hub
@@ -39,7 +38,7 @@ use Rattle.can_hub.specs.contracts.hub_bus.HubBus.TheInside as hub_inside
 use Rattle.can_hub.specs.contracts.hub_bus.HubBusJournaled.TheImpl as journaled
 use Rattle.can_hub.specs.contracts.hub_bus.HubEnd as hub_end
 use Rattle.can_hub.proofs.returned.ReturnedPasses.TheSendSync as returned
-use Rattle.can_hub.proofs.shown_load.ShownLoad.TheSendSync as shown
+use Rattle.can_hub.proofs.shown_time.ShownTime.TheSendSync as shown
 use Rattle.can_hub.proofs.tally.Tally.TheSendSync as tally
 use Rattle.can_hub.specs.contracts.buses.Network as network
 use Rattle.can_hub.specs.contracts.buses.Network.TheInside as network_inside

@@ -21,8 +21,10 @@ use Rattle.can_station.specs.Passes.{PassSeen, Called, HadNoPassLeft, InSome, Su
 use Rattle.can_station.specs.Waits.{AreCounts}
 use Rattle.can_station.specs.declared.refusals.StationRefusal.{StationRefusal}
 use Rattle.can_station.specs.declared.refusals.StationRefusal.TheVariants as station
-use Rattle.can_hub.specs.Buses.{BusSeen, IsFirstNamed, config_on, items_on, names_on}
-use Rattle.can_hub.specs.PassSteps.{EnteredSeen, PortSeen, PassStep, CountsSocket, CountsIface, entered_with, passed_on, refused_as, room_in, with_room, is_shared, OnPort, SomeNamed, SomeNamedFull, Attaches, GaugeTells, TellsCounters, InjectsNamed, Injects, RulesLeft}
+use Rattle.can_proto.specs.declared.answer.BusLoad.{BusLoad}
+use Rattle.can_wire.specs.Times.{rates_of}
+use Rattle.can_hub.specs.Buses.{BusSeen, IsFirstNamed, config_on, items_on, names_on, rates_on}
+use Rattle.can_hub.specs.PassSteps.{EnteredSeen, PortSeen, PassStep, CountsSocket, CountsIface, entered_with, passed_on, refused_as, room_in, with_room, is_shared, OnPort, SomeNamed, SomeNamedFull, Attaches, GaugeTells, TellsCounters, TellsRates, InjectsNamed, Injects, RulesLeft}
 
 -- the calls of a port over the station that was entered
 abbrev over : List BusSeen → EnteredSeen → PortSeen
@@ -148,6 +150,12 @@ pub injected : (F : Type 0) (old : PortSeen) (buses : List BusSeen) (inside : Op
 injected F old buses inside now rule found answer seen is named came =
     subst (λ (o : PortSeen). Injects F o.buses o.entered rule answer) (ap (λ (i : Option EnteredSeen). record { buses = buses; entered = i }) (sym is) ∙ seen)
     (subst (λ (ns : Option (List (List ℕ))). InjectsNamed F now.station ns rule answer) named came)
+
+-- a load with the bit rates of the bus that was entered is one of the port
+pub rates_told : (old : PortSeen) (buses : List BusSeen) (inside : Option EnteredSeen) (now : EnteredSeen) (load : BusLoad)
+    → ◌≡◌ {A = PortSeen} (record { buses = buses; entered = inside }) old → inside ≡ Some now → rates_of load.bitrate load.dbitrate ≡ rates_on (slice_get buses now.station.number) → TellsRates old.buses old.entered load
+rates_told old buses inside now load seen is rates =
+    subst (λ (o : PortSeen). TellsRates o.buses o.entered load) (ap (λ (i : Option EnteredSeen). record { buses = buses; entered = i }) (sym is) ∙ seen) rates
 
 -- how many rules the station that was entered has is how many the port has
 pub rules_left : (F : Type 0) (old : PortSeen) (buses : List BusSeen) (inside : Option EnteredSeen) (now : EnteredSeen) (count : ℕ)

@@ -2,7 +2,8 @@ use Rattle.std.proofs.Common.{◌≡◌, ◌+◌, ◌<◌, ◌≤◌, ℕ, zero,
 use Rattle.std.specs.Prelude.{slice_get, slice_index_or}
 use Rattle.can_frame.specs.Names.{place_of}
 use Rattle.std.proofs.lemmas.Bool.{cases_lt}
-use Rattle.can_hub.specs.Buses.{BusSeen, config_on, items_on, names_on, NumberedFrom, NoneNamed}
+use Rattle.can_wire.specs.Times.{rates_of}
+use Rattle.can_hub.specs.Buses.{BusSeen, bit_rates, config_on, items_on, names_on, rates_on, NumberedFrom, NoneNamed}
 
 -- the element at a place
 pub index_of_get : {X : Type 0} (xs : List X) (k : ℕ) (x d : X) → slice_get xs k ≡ Some x → slice_index_or xs k d ≡ x
@@ -50,6 +51,19 @@ items_past [] zero le = refl
 items_past [] (suc k) le = refl
 items_past (x ∷ xs) zero le = absurd (omega (arith, le))
 items_past (x ∷ xs) (suc k) le = items_past xs k (omega (arith, le))
+
+-- the bit rates of the bus at a place
+pub rates_at : (buses : List BusSeen) (k : ℕ) (b d : BusSeen) → k < length buses → b ≡ slice_index_or buses k d → bit_rates b.timing ≡ rates_on (slice_get buses k)
+rates_at [] k b d lt same = absurd (omega (arith, lt))
+rates_at (x ∷ xs) zero b d lt same = ap (λ (s : BusSeen). bit_rates s.timing) same
+rates_at (x ∷ xs) (suc k) b d lt same = rates_at xs k b d (omega (arith, lt)) same
+
+-- no bus after the last has any
+pub rates_past : (buses : List BusSeen) (k : ℕ) → length buses ≤ k → rates_of 0 0 ≡ rates_on (slice_get buses k)
+rates_past [] zero le = refl
+rates_past [] (suc k) le = refl
+rates_past (x ∷ xs) zero le = absurd (omega (arith, le))
+rates_past (x ∷ xs) (suc k) le = rates_past xs k (omega (arith, le))
 
 -- the names of the bus at a place
 pub names_at : (buses : List BusSeen) (k : ℕ) (b d : BusSeen) → k < length buses → b ≡ slice_index_or buses k d → Some b.names ≡ names_on (slice_get buses k)

@@ -2,6 +2,7 @@ use Rattle.std.specs.Prelude.{◌≡◌, ◌<◌, ℕ, suc, List, [], ◌∷◌,
 use Rattle.can_event.specs.declared.bus_config.BusConfig.{BusConfig}
 use Rattle.can_frame.specs.Names.{place_of}
 use Rattle.can_station.specs.Held.{StationSeen}
+use Rattle.can_wire.specs.Times.{BitRates, rates_of}
 use Rattle.can_wire.specs.Timings.{BusTiming}
 
 -- The buses of a hub, and their names.
@@ -24,6 +25,16 @@ items_on (Some bus) = bus.rx_capacity
 -- the names of the interfaces of a bus, if it is there
 abbrev pub names_on : Option BusSeen → Option (List (List ℕ))
 names_on bus = option_map (λ b. b.names) bus
+
+-- bit rates that a bus may lack: then both are 0
+abbrev pub bit_rates : Option BusTiming → BitRates
+bit_rates None = rates_of 0 0
+bit_rates (Some t) = t.rates
+
+-- the bit rates of a bus, both 0 where it has none, or there is no bus
+abbrev pub rates_on : Option BusSeen → BitRates
+rates_on None = rates_of 0 0
+rates_on (Some bus) = bit_rates bus.timing
 
 -- the configuration of a bus, if it is there
 abbrev pub config_on : Option BusSeen → Option BusConfig

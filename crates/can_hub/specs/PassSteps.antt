@@ -22,7 +22,10 @@ use Rattle.can_station.specs.Held.{StationSeen}
 use Rattle.can_station.specs.Passes.{PassSeen, Called, HadNoPassLeft, InSome, InjectsIn}
 use Rattle.can_station.specs.declared.refusals.StationRefusal.{StationRefusal}
 use Rattle.can_station.specs.declared.refusals.StationRefusal.TheVariants as station
-use Rattle.can_hub.specs.Buses.{BusSeen, IsFirstNamed, IsStationOn, items_on, names_on, all_names}
+use Rattle.can_wire.specs.Times.{rates_of}
+use Rattle.can_proto.specs.Spelling.{no_load}
+use Rattle.can_proto.specs.declared.answer.BusLoad.{BusLoad}
+use Rattle.can_hub.specs.Buses.{BusSeen, IsFirstNamed, IsStationOn, items_on, names_on, rates_on, all_names}
 
 -- A pass as a port: each call but the look-ups and those of rules is an event of the station.
 
@@ -112,6 +115,11 @@ abbrev pub TellsCounters : Option EnteredSeen → ℕ → ErrorCounts → Option
 TellsCounters None iface answer new = (answer ≡ at_start) × (new ≡ None)
 TellsCounters (Some old) iface answer new = (gauge : Readings) × GaugeTells old.gauge iface answer gauge × (new ≡ Some (record old { gauge = gauge }))
 
+-- a load has the bit rates of the bus that was entered (how busy it was is not said); where none was, all is 0
+abbrev pub TellsRates : List BusSeen → Option EnteredSeen → BusLoad → Type 0
+TellsRates buses None answer = answer ≡ no_load
+TellsRates buses (Some e) answer = rates_of answer.bitrate answer.dbitrate ≡ rates_on (slice_get buses e.station.number)
+
 -- counts that a socket with this number has in some state of the station that was entered (which is not said); where
 -- none was, it is not open
 abbrev pub CountsSocket : Type 0 → Option EnteredSeen → ℕ → Option SocketStats → Type 0
@@ -154,7 +162,7 @@ PassStep F old (Attempt moment verdict) answer new = OnPort told_attempt old (ev
 PassStep F old (CountsOfSocket socket) answer new = CountsSocket F old.entered socket.0 answer × (new ≡ old)
 PassStep F old (CountsOfIface iface) answer new = CountsIface F old.entered iface answer × (new ≡ old)
 PassStep F old (CountersOfIface iface) answer new = TellsCounters old.entered iface answer new.entered × (new.buses ≡ old.buses)
-PassStep F old (LoadAt moment) answer new = new ≡ old
+PassStep F old (LoadAt moment) answer new = TellsRates old.buses old.entered answer × (new ≡ old)
 PassStep F old (Inject rule) answer new = Injects F old.buses old.entered rule answer × (new ≡ old)
 PassStep F old CountsRules answer new = RulesLeft F old.entered answer × (new ≡ old)
 PassStep F old EndsRules answer new = new ≡ old

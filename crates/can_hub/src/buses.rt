@@ -2,14 +2,15 @@
 ghost use Rattle.std.specs.Prelude.{◌≡◌, ◌<◌, ◌≤◌, ◌++◌, [], length, OnOk, IfOk, IfErr, All, option_map, slice_index_or, slice_get};
 ghost use Rattle.can_frame.specs.Names.{place_of};
 ghost use Rattle.can_proto.specs.Spelling.{spaced};
-ghost use Rattle.can_hub.specs.Buses.{BusSeen, IsFirstNamed, config_on, items_on, names_on, all_names};
+ghost use Rattle.can_hub.specs.Buses.{BusSeen, IsFirstNamed, config_on, items_on, names_on, rates_on, all_names};
 ghost use Rattle.can_hub.specs.Benches.{IsWithin, NamedFrom, bus_of, buses_from};
 ghost use Rattle.can_hub.specs.Settling.{AreNewScrolls};
 ghost use Rattle.can_roll.specs.Seen.{scroll_seen};
+ghost use Rattle.can_wire.specs.Times.{rates_of};
 
 use crate::bench::Bench;
 use crate::hub_bus::{HubBus, Leaves};
-use crate::shown_load::ShownLoad;
+use crate::shown_time::ShownTime;
 use can_bus::BusFault;
 use can_dialog::put_names;
 use can_fault::FaultSource;
@@ -31,7 +32,7 @@ pub struct Network<N: RollName + MeterName, F: FaultSource + Drop, G: Gate + Dro
     timing: Option<Timing>,
     pace_ms: u32,
     rx_capacity: u32,
-    load: ShownLoad,
+    shown: ShownTime,
 }
 
 impl<N: RollName + MeterName, F: FaultSource + Drop, G: Gate + Drop> Model for Network<N, F, G> {
@@ -86,7 +87,7 @@ impl<N: RollName + MeterName, F: FaultSource + Drop, G: Gate + Drop> Network<N, 
             timing,
             pace_ms,
             rx_capacity,
-            load: ShownLoad::none(),
+            shown: ShownTime::none(),
         };
         Ok((network, scroll))
     }
@@ -189,19 +190,38 @@ impl<N: RollName + MeterName, F: FaultSource + Drop, G: Gate + Drop> Buses<N, F,
         }
     }
 
-    /// Shows how busy a bus is, if there is one with this number.
-    pub fn show_load(&self, bus: usize, load: Load) {
+    /// Shows the moment of an attempt on a bus, if there is one with this number. The attempt's items may be received only
+    /// after that.
+    pub fn show_end(&self, bus: usize, moment: Moment) {
         if let Some(network) = self.networks.get(bus) {
-            network.load.show(load);
+            network.shown.show_end(moment);
         }
     }
 
-    /// How busy a bus was at a moment, as it was shown last: 0 and 0 where nothing was, or there is no such bus. It takes
-    /// no lock.
-    pub fn load_at(&self, bus: usize, moment: Moment) -> BusLoad {
-        match self.networks.get(bus) {
-            Some(network) => network.load.at(moment),
-            None => BusLoad::none(),
+    /// The moment of the last attempt on a bus that was shown: `None` where none was, or there is no such bus. It takes no
+    /// lock.
+    pub fn last_end(&self, bus: usize) -> Option<Moment> {
+        self.networks.get(bus)?.shown.end()
+    }
+
+    /// Shows how busy a bus is, if there is one with this number.
+    pub fn show_load(&self, bus: usize, load: Load) {
+        if let Some(network) = self.networks.get(bus) {
+            network.shown.show_load(load);
+        }
+    }
+
+    /// How busy a bus was at a moment, as it was shown last, 0 and 0 where nothing was, and its bit rates, 0 where it has
+    /// none. All are 0 where there is no such bus. It takes no lock.
+    #[tactic(auto, using(crate::proofs::Places::rates_at, crate::proofs::Places::rates_past))]
+    pub fn load_at(&self, bus: usize, moment: Moment) -> BusLoad
+        ensures { rates_of result.bitrate result.dbitrate ≡ rates_on (slice_get self.now bus) }
+    {
+        if bus < self.networks.len() {
+            let network = &self.networks[bus];
+            network.shown.load_at(moment, network.timing)
+        } else {
+            BusLoad::none()
         }
     }
 

@@ -13,7 +13,7 @@ pub mod hub_bus;
 pub mod locked_port;
 pub mod pass_port;
 pub mod returned;
-mod shown_load;
+mod shown_time;
 mod tally;
 
 pub use bench::Bench;

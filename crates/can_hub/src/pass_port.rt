@@ -1,5 +1,4 @@
 ghost use Rattle.std.specs.Prelude.{◌≡◌, IfOk, IfSome, OnErr};
-ghost use Rattle.can_hub.specs.Buses.{IsFirstNamed};
 ghost use Rattle.can_hub.specs.PassSteps.{GaugeTells, passed_on, with_room};
 ghost use Rattle.can_station.specs.Passes.{HadNoPassLeft};
 
@@ -47,7 +46,7 @@ impl<'a, N: RollName + MeterName, F: FaultSource + Drop, G: Gate + Drop> Model
 ///
 /// `status` returns the error counters that were published last, as the gauge reads them: it takes no lock and waits
 /// for nobody. They are 0/0 where no station was entered, or where its bus has no such interface. `load` takes no lock
-/// either.
+/// either; it has the bit rates of the bus that was entered.
 #[derive(Drop)]
 pub struct PassPort<'a, N: RollName + MeterName, F: FaultSource + Drop, G: Gate + Drop, R: Wait> {
     pub(crate) rt: &'a R,
@@ -250,12 +249,11 @@ impl<'a, N: RollName + MeterName, F: FaultSource + Drop, G: Gate + Drop, R: Wait
     }
 
     fn load(&mut self, moment: Moment) -> BusLoad {
-        match &self.entered {
-            Some(entered) => self
-                .buses
-                .load_at(usize::from(entered.station.number()), moment),
-            None => BusLoad::none(),
-        }
+        let Some(entered) = &self.entered else {
+            return BusLoad::none();
+        };
+        let number = usize::from(entered.station.number());
+        self.buses.load_at(number, moment)
     }
 
     fn inject(&mut self, rule: &[u8]) -> Result<(), PortRefusal> {

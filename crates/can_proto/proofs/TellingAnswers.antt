@@ -114,10 +114,10 @@ same-status c d hc hd e =
     let parts = cut is_space 32 one other (row (c.tec ∷ c.rec ∷ [])) (row (d.tec ∷ d.rec ∷ [])) refl (clear-state (state_of c)).0 (clear-state (state_of d)).0 rows in
     ap (λ (l : List ℕ). record { tec = get_or l 0 0; rec = get_or l 1 0 }) (same-row (c.tec ∷ c.rec ∷ []) (d.tec ∷ d.rec ∷ []) hc hd refl parts.1)
 
-same-load : (l m : BusLoad) → AreSmall (l.permille ∷ l.micros ∷ []) → AreSmall (m.permille ∷ m.micros ∷ []) → load_text l ≡ load_text m → l ≡ m
+same-load : (l m : BusLoad) → AreSmall (l.permille ∷ l.micros ∷ l.bitrate ∷ l.dbitrate ∷ []) → AreSmall (m.permille ∷ m.micros ∷ m.bitrate ∷ m.dbitrate ∷ []) → load_text l ≡ load_text m → l ≡ m
 same-load l m hl hm e =
-    let h = same-behind l.permille m.permille (l.micros ∷ []) (m.micros ∷ []) hl hm refl (ap (drop 7) e) in
-    ap (λ (ns : List ℕ). record { permille = get_or ns 0 0; micros = get_or ns 1 0 }) h
+    let h = same-behind l.permille m.permille (l.micros ∷ l.bitrate ∷ l.dbitrate ∷ []) (m.micros ∷ m.bitrate ∷ m.dbitrate ∷ []) hl hm refl (ap (drop 7) e) in
+    ap (λ (ns : List ℕ). record { permille = get_or ns 0 0; micros = get_or ns 1 0; bitrate = get_or ns 2 0; dbitrate = get_or ns 3 0 }) h
 
 pub one-answer : (one other : Answer) → IsAnswer one → IsAnswer other → reply_text one ≡ reply_text other → AreAlike one other
 one-answer Greeting Greeting ha hb e = refl
@@ -156,7 +156,7 @@ clear-answer (Stats s i) h = clear-behind s.queued (s.dropped ∷ s.taken ∷ i.
 clear-answer (Status c) h =
     let word = state_word (state_of c) in
     ap (clear is_point) (row-behind word (c.tec ∷ c.rec ∷ [])) ∙ clear-append is_point word (32 ∷ row (c.tec ∷ c.rec ∷ [])) (clear-state (state_of c)).1 (clear-row (c.tec ∷ c.rec ∷ []) h)
-clear-answer (Load l) h = clear-behind l.permille (l.micros ∷ []) h
+clear-answer (Load l) h = clear-behind l.permille (l.micros ∷ l.bitrate ∷ l.dbitrate ∷ []) h
 clear-answer (Faults left) h = clear-behind left [] h
 clear-answer (Closing c) h = clear-behind c.unread (c.dropped ∷ []) h
 clear-answer (Refused why) h = clear-cause why

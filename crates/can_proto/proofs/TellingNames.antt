@@ -10,7 +10,7 @@ use Rattle.can_proto.specs.declared.answer.Answer.TheVariants.{Greeting, Done, E
 use Rattle.can_proto.specs.declared.answer.Origin.{Origin}
 use Rattle.can_proto.specs.Words.{words_of}
 use Rattle.can_proto.specs.CommandSpelling.{IsWord}
-use Rattle.can_proto.specs.Spelling.{item_text, item_text_from, origin_text, frame_front, error_text, reply_text, spaced, interfaces_text}
+use Rattle.can_proto.specs.Spelling.{item_text, item_text_from, origin_text, frame_front, reply_text, spaced, interfaces_text}
 use Rattle.can_proto.proofs.ReadingBack.{AreWords, next-word, clear-front}
 use Rattle.can_proto.proofs.TellingItems.{third}
 

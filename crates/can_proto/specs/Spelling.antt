@@ -110,11 +110,12 @@ status_text c = codes "< status " ++ state_word (state_of c) ++ codes " " ++ dec
 
 -- the load of a bus without bit rates
 abbrev pub no_load : BusLoad
-no_load = record { permille = 0; micros = 0 }
+no_load = record { permille = 0; micros = 0; bitrate = 0; dbitrate = 0 }
 
--- for how many thousandths of the last whole second the bus was busy, and for how many microseconds since it started
+-- for how many thousandths of the last whole second the bus was busy, for how many microseconds since it started, and its
+-- bit rates, the nominal one and the one for data
 abbrev pub load_text : BusLoad → List ℕ
-load_text l = codes "< load " ++ decimal l.permille ++ codes " " ++ decimal l.micros ++ codes " >"
+load_text l = codes "< load " ++ decimal l.permille ++ codes " " ++ decimal l.micros ++ codes " " ++ decimal l.bitrate ++ codes " " ++ decimal l.dbitrate ++ codes " >"
 
 -- the reply to a client
 abbrev pub reply_text : Answer → List ℕ
@@ -146,7 +147,7 @@ abbrev pub IsAnswer : Answer → Type 0
 IsAnswer (Sent number) = All (λ n. n < 2 ^ 64) (number ∷ [])
 IsAnswer (Stats s i) = All (λ n. n < 2 ^ 64) (told_counts s i)
 IsAnswer (Status c) = All (λ n. n < 2 ^ 64) (c.tec ∷ c.rec ∷ [])
-IsAnswer (Load l) = All (λ n. n < 2 ^ 64) (l.permille ∷ l.micros ∷ [])
+IsAnswer (Load l) = All (λ n. n < 2 ^ 64) (l.permille ∷ l.micros ∷ l.bitrate ∷ l.dbitrate ∷ [])
 IsAnswer (Faults left) = All (λ n. n < 2 ^ 64) (left ∷ [])
 IsAnswer (Closing c) = All (λ n. n < 2 ^ 64) (c.unread ∷ c.dropped ∷ [])
 IsAnswer _ = Unit {0}

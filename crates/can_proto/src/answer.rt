@@ -31,13 +31,17 @@ pub enum Answer {
     Refused(Cause),
 }
 
-/// How busy a bus with bit rates was: 0 and 0 on one without.
+/// How busy a bus with bit rates was, and its bit rates in bits a second: all 0 on one without.
 #[derive(Debug, Clone, Copy, PartialEq, Eq)]
 pub struct BusLoad {
     /// For how many thousandths of the last whole second.
     pub permille: u16,
     /// For how many microseconds since it started.
     pub micros: u64,
+    /// The nominal bit rate.
+    pub bitrate: u32,
+    /// The bit rate for data: the nominal one where it has none of its own.
+    pub dbitrate: u32,
 }
 
 impl BusLoad {
@@ -48,6 +52,8 @@ impl BusLoad {
         BusLoad {
             permille: 0,
             micros: 0,
+            bitrate: 0,
+            dbitrate: 0,
         }
     }
 }

@@ -1,7 +1,7 @@
 ghost use Rattle.std.specs.Prelude.{◌≡◌, ◌≤◌, ◌*◌, Ok, Err, length, take, IfErr};
 ghost use Rattle.std.specs.Result.{result_map_both};
 ghost use Rattle.can_proto.specs.Words.{words_of};
-ghost use Rattle.can_proto.specs.Commands.{Gives, GivesBut, takes_memory, filter_of, filters_of, set_of, IsFilterFault};
+ghost use Rattle.can_proto.specs.Commands.{GivesBut, takes_memory, filter_of, filters_of, set_of, IsFilterFault};
 
 use crate::command::Command;
 use crate::fault::ProtoFault;

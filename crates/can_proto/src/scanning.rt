@@ -1,5 +1,5 @@
 ghost use Rattle.std.specs.Prelude.{◌≡◌, ◌≤◌, ◌<◌, ◌+◌, ◌++◌, ◌∷◌, [], true, false, length, take, drop, IfOk, slice_index};
-ghost use Rattle.can_proto.specs.Messages.{is_mark, has_mark, messages_of, kept_of, IsKept};
+ghost use Rattle.can_proto.specs.Messages.{is_mark, has_mark, IsKept};
 ghost use Rattle.can_proto.specs.declared.message.Incoming.TheVariants.{Message as Given};
 ghost use Rattle.can_proto.specs.Scanning.{text_at, text_of, IsWithin, ReadsUpTo, Scans};
 

@@ -1,4 +1,4 @@
-ghost use Rattle.std.specs.Prelude.{◌≡◌, ◌≤◌, ◌<◌, ◌+◌, ◌^◌, ◌++◌, [], length, true, codes};
+ghost use Rattle.std.specs.Prelude.{◌≡◌, ◌≤◌, ◌<◌, ◌+◌, ◌++◌, [], length, true, codes};
 ghost use Rattle.std.specs.Fmt.{decimal};
 ghost use Rattle.can_frame.specs.Frames.{is_remote};
 ghost use Rattle.can_proto.specs.Spelling.{class_width, class_text, body_text, data_front, fd_word, fd_front, remote_front, frame_front, error_text, item_text, origin_text, item_text_from, stats_text, state_word, status_text, load_text, reply_text};
@@ -313,7 +313,7 @@ fn status_text(counters: Counters) -> Text
     text
 }
 
-/// The two numbers of `load`.
+/// The four numbers of `load`.
 fn load_text(load: BusLoad) -> Text
     ensures { result ≡ load_text load }
 {
@@ -321,6 +321,8 @@ fn load_text(load: BusLoad) -> Text
     text.push_all(b"< load");
     push_next(&mut text, u64::from(load.permille));
     push_next(&mut text, load.micros);
+    push_next(&mut text, u64::from(load.bitrate));
+    push_next(&mut text, u64::from(load.dbitrate));
     text.push_all(b" >");
     text
 }

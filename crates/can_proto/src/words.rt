@@ -1,4 +1,4 @@
-ghost use Rattle.std.specs.Prelude.{◌≡◌, ◌==◌, ◌≤◌, ◌<◌, [], List, ℕ, false, length, take, drop, slice_index, MatchOption};
+ghost use Rattle.std.specs.Prelude.{◌≡◌, ◌==◌, ◌≤◌, ◌<◌, [], false, length, take, drop, slice_index, MatchOption};
 ghost use Rattle.can_proto.specs.Words.{BeginsWith, is_blank, front, words_after, words_of};
 
 fn is_space(byte: u8) -> bool

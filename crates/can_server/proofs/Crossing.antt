@@ -18,7 +18,6 @@ use Rattle.can_hub.proofs.Crossing.{buses_sync, port_send, shared}
 use Rattle.can_server.proofs.batch.Batch.TheSendSync as batch
 use Rattle.can_server.proofs.conn.Conn.TheSendSync as conn
 use Rattle.can_server.proofs.acceptor.Acceptor.TheSendSync as acceptor
-use Rattle.can_server.proofs.frame_ends.FrameEnds.TheSendSync as frame_ends
 use Rattle.can_server.proofs.clients.Clients.TheSendSync as clients
 use Rattle.can_server.proofs.opening.Opening.TheSendSync as opening
 use Rattle.can_server.proofs.opening.FirstBytes.TheSendSync as first
@@ -50,10 +49,7 @@ module _ (N F G : RattleType) (g : roll.Ghosts N.Denot) (g' : meter.Ghosts N.Den
                 search (sendable, crosses, clients.the_send) depth 20,
                 (
                   search (sendable, crosses, returned.the_send) depth 20,
-                  (
-                    search (sendable, frame_ends.the_sync) depth 20,
-                    (search sendable depth 20, (search (sendable, crosses) depth 20, tt)),
-                  ),
+                  (search sendable depth 20, (search (sendable, crosses) depth 20, tt)),
                 ),
               ),
             ),
@@ -70,7 +66,7 @@ module _ (N F G : RattleType) (g : roll.Ghosts N.Denot) (g' : meter.Ghosts N.Den
   pub delivery_sync : (ν : NamedLft) (C R : RattleType) → IsSync C → IsSync R → IsSync (delivery.the_row ν κ N F G C R g g' g'')
   delivery_sync ν C R c r =
       let talks : IsSync (mutex.the_row (talk.the_row κ N F G R g g' g'')) = mutex_sync.the_sync _ (talk_send R r) in
-      declared_sync (delivery.the_type ν κ N F G C R g g' g'') (search (sendable, r) depth 20, (search (sendable, c) depth 20, (search (sendable, frame_ends.the_sync) depth 20, (shared ν _ _ talks, (search (sendable, conn.the_sync) depth 20, tt)))))
+      declared_sync (delivery.the_type ν κ N F G C R g g' g'') (search (sendable, r) depth 20, (search (sendable, c) depth 20, (shared ν _ _ (buses_sync N F G g g' g'' f s), (shared ν _ _ talks, (search (sendable, conn.the_sync) depth 20, tt)))))
 
   -- a server with its scribes
   pub long_server_sync : (ν ι : NamedLft) (C R K : RattleType) (k : keeper.Ghosts K.Denot) → IsSync C → IsSync R → IsSend K → IsSync (long_server.the_row ν κ ι N F G C R K g g' g'' k)

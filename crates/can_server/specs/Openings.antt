@@ -1,5 +1,5 @@
 use Rattle.std.specs.Prelude.{ℕ, List, [], ◌∷◌, codes, if◌then◌else◌, eqb}
-use Rattle.std.specs.List.{list_any, starts_with}
+use Rattle.std.specs.List.{starts_with}
 use Rattle.can_server.specs.declared.opening.Opening.{Opening}
 use Rattle.can_server.specs.declared.opening.Opening.TheVariants.{Undecided, Request, Other}
 

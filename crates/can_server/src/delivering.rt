@@ -2,10 +2,9 @@
 
 use crate::conn::Conn;
 use crate::conversation::Conversation;
-use crate::frame_ends::FrameEnds;
 use crate::serving::Clock;
 use can_fault::FaultSource;
-use can_hub::HubBus;
+use can_hub::{Buses, HubBus};
 use can_meter::MeterName;
 use can_roll::RollName;
 use can_station::{Gate, Station, WakeReason};
@@ -30,7 +29,7 @@ pub struct Delivery<
 > {
     pub rt: &'s R,
     pub host: &'s C,
-    pub ends: &'s FrameEnds,
+    pub buses: &'s Buses<N, F, G>,
     pub talk: &'s Mutex<Conversation<'t, N, F, G, R>>,
     pub conn: &'s Conn,
 }
@@ -70,11 +69,10 @@ impl<
 
     /// Waits until the frames are over whose items wait, on a bus with bit rates. No lock is held meanwhile.
     fn await_frames(&self, station: &Station<N, F, G, HubBus>) {
-        let last = self.ends.last(usize::from(station.number()));
-        if last == 0 {
+        let Some(end) = self.buses.last_end(usize::from(station.number())) else {
             return;
-        }
-        let left = last.saturating_sub(self.host.now().micros());
+        };
+        let left = end.micros().saturating_sub(self.host.now().micros());
         station.rest(self.rt, Duration::from_micros(left));
     }
 

@@ -20,7 +20,6 @@ pub mod conn;
 mod conversation;
 mod delivering;
 mod driving;
-mod frame_ends;
 pub mod given;
 pub mod notice;
 pub mod opening;

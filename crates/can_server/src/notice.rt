@@ -41,7 +41,7 @@ pub enum Notice {
         bus: usize,
         iface: Iface,
     },
-    /// The driver of this bus, which has bit rates, was so many milliseconds late, and left out what it missed. It is
+    /// The driver of this bus, which has bit rates, was this many milliseconds late, and left out what it missed. It is
     /// reported at most once in a minute.
     Late {
         bus: usize,

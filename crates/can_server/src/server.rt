@@ -1,6 +1,5 @@
 use crate::acceptor::Acceptor;
 use crate::clients::Clients;
-use crate::frame_ends::FrameEnds;
 use crate::serving::Clock;
 use can_fault::FaultSource;
 use can_hub::{Buses, ReturnedPasses};
@@ -32,8 +31,6 @@ pub struct Server<'a, N: RollName + MeterName, F: FaultSource + Drop, G: Gate + 
     pub host: &'a C,
     pub clients: &'a Mutex<Clients>,
     pub returned: &'a Mutex<ReturnedPasses<N>>,
-    /// When the frames that were tried are over, which nobody receives before.
-    pub ends: &'a FrameEnds,
     /// Whether its buses are those of long runs. Then a session may have the pass of one that is over, and counts once it
     /// is raw.
     pub is_long: bool,

@@ -2,7 +2,6 @@ ghost use Rattle.std.specs.Prelude.{◌≡◌, length, IfOk};
 
 use crate::acceptor::Acceptor;
 use crate::clients::Clients;
-use crate::frame_ends::FrameEnds;
 use crate::notice::Notice;
 use crate::scribing::{Discard, Keeper, Scribe};
 use crate::server::Server;
@@ -206,8 +205,7 @@ fn serve_buses<
 {
     let clients = Clients::new(alloc);
     let returned = ReturnedPasses::new(alloc, buses.count(), most_passes(acceptors));
-    let ends = FrameEnds::new(alloc, buses.count());
-    let (Ok(clients), Ok(returned), Ok(ends)) = (clients, returned, ends) else {
+    let (Ok(clients), Ok(returned)) = (clients, returned) else {
         buses.stop_all(rt);
         return Err(AllocError);
     };
@@ -220,7 +218,6 @@ fn serve_buses<
         host,
         clients: &clients,
         returned: &returned,
-        ends: &ends,
         is_long: scribes.is_some(),
         is_ending: &is_ending,
     };

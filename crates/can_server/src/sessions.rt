@@ -96,7 +96,7 @@ impl<
         let delivery = Delivery {
             rt: self.rt,
             host: self.host,
-            ends: self.ends,
+            buses: self.buses,
             talk,
             conn,
         };

@@ -14,6 +14,7 @@ use can_hub::HubBus;
 use can_meter::MeterName;
 use can_roll::RollName;
 use can_station::{Gate, Hold, Pass, StationRefusal, WakeReason};
+use can_wire::units::NANOS_PER_MILLI;
 use can_wire::{Schedule, Timing};
 use std::sync::Wait;
 use std::sync::atomic::Ordering;
@@ -22,9 +23,6 @@ use std::time::Duration;
 
 /// How late a driver may be and still make up for it, in nanoseconds. One that is later leaves out what it missed.
 const MOST_LATE: u64 = 100_000_000;
-
-/// How many nanoseconds a millisecond has.
-const NANOS_IN_MILLI: u64 = 1_000_000;
 
 /// How many microseconds after a report that a driver is late the next may follow.
 const BETWEEN_NOTES: u64 = 60_000_000;
@@ -68,7 +66,7 @@ impl Timed {
         };
         if !is_noted {
             self.noted = Some(now);
-            self.note = Some(late / NANOS_IN_MILLI);
+            self.note = Some(late / NANOS_PER_MILLI);
         }
     }
 }
@@ -168,7 +166,7 @@ impl<
         ensures stays { IfErr result (λ why. schedule.new ≡ schedule.old) }
     {
         let moment = head_moment(schedule, hold.next_head());
-        self.ends.set(bus, moment);
+        self.buses.show_end(bus, moment);
         let (verdict, attempt) = hold.step_judged(self.alloc, pass, moment)?;
         note_attempt(schedule, verdict, &attempt);
         self.buses.show_load(bus, schedule.load());

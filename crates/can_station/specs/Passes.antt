@@ -201,6 +201,10 @@ abbrev pub without_verdict : Result (Verdict × Attempt) StationRefusal → Resu
 without_verdict (Ok r) = Ok r.1
 without_verdict (Err why) = Err why
 
+-- a step in one hold of the lock that returns its verdict too
+abbrev pub MadeJudged : {F : Type 0} → (F → VerdictMap) → Held F → PassSeen → ℕ → Result (Verdict × Attempt) StationRefusal → Held F → PassSeen → Type 0
+MadeJudged verdicts old pass moment outcome new pass' = MadeStep verdicts old pass moment (without_verdict outcome) new pass'
+
 -- a state that this station can be in: it has its number and its configuration, which is within the limits; the history is
 -- legal, and its entries can be marked with passes so that the calls of each are the entries marked with it
 pub record IsStateOf {F : Type 0} (station : StationSeen) (held : Held F) : Type 0 where

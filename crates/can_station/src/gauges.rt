@@ -11,7 +11,7 @@ pub(crate) fn are_gauges_of<N: MeterName>(gauges: &[Gauge<N>], number: u8) -> bo
 }
 
 /// Takes all gauges in: what each has seen is what the keeper had published.
-pub(crate) fn absorb_all<N: MeterName>(keeper: &mut Keeper<N>, gauges: Vec<Gauge<N>>)
+pub(crate) fn take_back_gauges<N: MeterName>(keeper: &mut Keeper<N>, gauges: Vec<Gauge<N>>)
     requires { GaugesOf keeper.old.number gauges.items }
     ensures same { keeper.new ≡ keeper.old }
     ensures seen { AllSeen gauges.items keeper.old }

@@ -4,7 +4,7 @@ ghost use Rattle.can_event.specs.Replies.{receive_reply, taken_reply};
 ghost use Rattle.can_event.specs.declared.event.Event.TheVariants as event;
 ghost use Rattle.can_rules.specs.Plans.{Injected, without_rules};
 ghost use Rattle.can_station.specs.Held.{with_plan};
-ghost use Rattle.can_station.specs.Passes.{ChangesNothing, IsCarriedOut, IsReady, IsReadyFor, IsReceived, IsStepped, Keeps, Suits, Called, Made, MadeStep, next_attempt, next_verdict, same, without_verdict};
+ghost use Rattle.can_station.specs.Passes.{ChangesNothing, IsCarriedOut, IsReady, IsReadyFor, IsReceived, IsStepped, Keeps, Suits, Called, Made, MadeJudged, MadeStep, next_attempt, next_verdict, same};
 ghost use Rattle.can_station.specs.Waits.{IsNearlyFull, has_work};
 
 use crate::attempts::{attempt_in, with_verdict};
@@ -123,7 +123,8 @@ impl<'s, N: RollName + MeterName, F: FaultSource + Drop, G: Gate + Drop, B: Jour
     ) -> Option<Reply>
         requires own { slip.old.number ≡ self.old.number }
         requires ready { IsReadyFor event calls.old }
-        ensures carried { IfSome result (λ r. IsCarriedOut self.old slip.old event r self.new slip.new) }
+        ensures carried { IfSome result
+            (λ r. IsCarriedOut self.old slip.old event r self.new slip.new) }
         ensures calls { IfSome result (λ r. Keeps calls.old event r calls.new) }
         ensures suits { IfSome result (λ r. Suits event r) }
         ensures none { IfNone result
@@ -144,8 +145,10 @@ impl<'s, N: RollName + MeterName, F: FaultSource + Drop, G: Gate + Drop, B: Jour
         socket: SocketId,
         room: &mut Received,
     ) -> Result<bool, StationRefusal>
-        ensures made { Made (taken_reply room.new) self.old pass.old (event.Receive socket) result self.new pass.new }
-        ensures called { Called (taken_reply room.new) self.old.number pass.old (event.Receive socket) result pass.new }
+        ensures made { Made (taken_reply room.new) self.old pass.old (event.Receive socket) result
+            self.new pass.new }
+        ensures called { Called (taken_reply room.new) self.old.number pass.old (event.Receive socket)
+            result pass.new }
         ensures stays { result ≢ Ok true → room.new ≡ room.old }
     {
         if make_ready(&mut pass.calls, alloc).is_err() {
@@ -171,8 +174,10 @@ impl<'s, N: RollName + MeterName, F: FaultSource + Drop, G: Gate + Drop, B: Jour
     ) -> Option<Result<bool, Refusal>>
         requires own { slip.old.number ≡ self.old.number }
         requires ready { IsReady calls.old }
-        ensures carried { IfSome result (λ r. IsReceived self.old slip.old socket room.new r self.new slip.new) }
-        ensures calls { IfSome result (λ r. Keeps calls.old (event.Receive socket) (receive_reply room.new r) calls.new) }
+        ensures carried { IfSome result
+            (λ r. IsReceived self.old slip.old socket room.new r self.new slip.new) }
+        ensures calls { IfSome result
+            (λ r. Keeps calls.old (event.Receive socket) (receive_reply room.new r) calls.new) }
         ensures stays { result ≢ Some (Ok true) → room.new ≡ room.old }
         ensures none { IfNone result
             (ChangesNothing self.old slip.old calls.old self.new slip.new calls.new) }
@@ -214,7 +219,7 @@ impl<'s, N: RollName + MeterName, F: FaultSource + Drop, G: Gate + Drop, B: Jour
         pass: &mut Pass<N>,
         moment: Moment,
     ) -> Result<(Verdict, Attempt), StationRefusal>
-        ensures made { MadeStep F.verdicts self.old pass.old moment (without_verdict result) self.new pass.new }
+        ensures made { MadeJudged F.verdicts self.old pass.old moment result self.new pass.new }
         ensures source { F.verdicts self.new.source ≡ F.verdicts self.old.source }
         ensures verdict { IfOk result (λ r. r.0 ≡ next_verdict F.verdicts self.old) }
     {
@@ -241,9 +246,11 @@ impl<'s, N: RollName + MeterName, F: FaultSource + Drop, G: Gate + Drop, B: Jour
     ) -> Option<Reply>
         requires own { slip.old.number ≡ self.old.number }
         requires ready { IsReady calls.old }
-        ensures carried { IfSome result (λ r. IsStepped F.verdicts self.old slip.old moment r self.new slip.new) }
+        ensures carried { IfSome result
+            (λ r. IsStepped F.verdicts self.old slip.old moment r self.new slip.new) }
         ensures source { F.verdicts self.new.source ≡ F.verdicts self.old.source }
-        ensures calls { IfSome result (λ r. Keeps calls.old (next_attempt F.verdicts self.old moment) r calls.new) }
+        ensures calls { IfSome result
+            (λ r. Keeps calls.old (next_attempt F.verdicts self.old moment) r calls.new) }
         ensures suits { IfSome result (λ r. Suits (next_attempt F.verdicts self.old moment) r) }
         ensures none { IfNone result
             (ChangesNothing self.old slip.old calls.old self.new slip.new calls.new) }
@@ -263,9 +270,11 @@ impl<'s, N: RollName + MeterName, F: FaultSource + Drop, G: Gate + Drop, B: Jour
         requires own { slip.old.number ≡ self.old.number }
         requires ready { IsReady calls.old }
         ensures verdict { IfSome result (λ r. r.0 ≡ next_verdict F.verdicts self.old) }
-        ensures carried { IfSome result (λ r. IsStepped F.verdicts self.old slip.old moment r.1 self.new slip.new) }
+        ensures carried { IfSome result
+            (λ r. IsStepped F.verdicts self.old slip.old moment r.1 self.new slip.new) }
         ensures source { F.verdicts self.new.source ≡ F.verdicts self.old.source }
-        ensures calls { IfSome result (λ r. Keeps calls.old (next_attempt F.verdicts self.old moment) r.1 calls.new) }
+        ensures calls { IfSome result
+            (λ r. Keeps calls.old (next_attempt F.verdicts self.old moment) r.1 calls.new) }
         ensures suits { IfSome result (λ r. Suits (next_attempt F.verdicts self.old moment) r.1) }
         ensures none { IfNone result
             (ChangesNothing self.old slip.old calls.old self.new slip.new calls.new) }

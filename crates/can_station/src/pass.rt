@@ -1,4 +1,4 @@
-ghost use Rattle.std.specs.Prelude.{◌≡◌, ◌<◌, ◌≤◌, [], length, reverse, ◌==◌, slice_get, IsTrue, IsOk, OnOk, ◌↔◌};
+ghost use Rattle.std.specs.Prelude.{◌≡◌, ◌<◌, [], length, reverse, ◌==◌, slice_get, IsTrue, IsOk, OnOk, ◌↔◌};
 ghost use Rattle.can_roll.specs.Seen.{roll_seen};
 ghost use Rattle.can_roll.specs.Lists.{Distinct, AllBelow};
 ghost use Rattle.can_station.specs.Passes.{AllOf, AllMatch, CanClose, IsReady, IsReadyFor, HasPlace, Keeps, Suits, calls_listed, kept_calls, numbers_of};

@@ -1,4 +1,4 @@
-ghost use Rattle.std.specs.Prelude.{◌≡◌, ◌≢◌, ◌<◌, ◌≤◌, ℕ, [], true, List, length, Some, Ok, IfSome, IfNone, IfOk, IsTrue, OnErr, ◌↔◌};
+ghost use Rattle.std.specs.Prelude.{◌≡◌, ◌≢◌, ◌<◌, ℕ, [], true, List, length, Some, Ok, IfSome, IfNone, IfOk, IsTrue, OnErr, ◌↔◌};
 ghost use Rattle.can_event.specs.Events.{IsLongConfig};
 ghost use Rattle.can_event.specs.Replies.{enters};
 ghost use Rattle.can_bus.specs.Heads.{next_head};
@@ -14,7 +14,7 @@ ghost use Rattle.can_roll.specs.Seen.{scroll_seen};
 ghost use Rattle.can_station.specs.Published.{AreTrue, IsPublished, TakesBack, TakesBackScroll};
 ghost use Rattle.can_station.specs.Waits.{AreCounts, IsNearlyFull, frame_wake, has_work, work_wake, stopped_wake, waiting_at};
 
-use crate::gauges::{absorb_all, are_gauges_of};
+use crate::gauges::{are_gauges_of, take_back_gauges};
 use crate::pass::{Pass, Settled, are_all_of, recall_all};
 use crate::publishing::{counters_before, publish_changes};
 use crate::refusals::{TooManyPasses, WrongStation};
@@ -491,7 +491,7 @@ fn settle_bus<N: RollName + MeterName, B: Journaled>(
         return Err(WrongStation);
     }
     recall_all(&mut roll, passes);
-    absorb_all(&mut keeper, gauges);
+    take_back_gauges(&mut keeper, gauges);
     Ok(Settled {
         history: bus.into_left(),
         passes: roll.passes(),

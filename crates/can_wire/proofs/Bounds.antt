@@ -51,7 +51,7 @@ pub classic_fast : (f : CanFrame) → is_fd f.payload ≡ false → (frame_bits_
 unfolding bits_to_check_end
 classic_fast f h = rw h refl
 
--- few and many bits of a frame with so many before its data
+-- few and many bits of a frame with this many before its data
 bounded : (f : CanFrame) (head n : ℕ) → is_fd f.payload ≡ false → length (classic_head f) ≡ head → length (payload_bytes f.payload) ≡ n → (head + 28 + 8 * n ≤ length (wire_of f) + 3) × (length (wire_of f) + 3 ≤ head + 28 + 8 * n + (head + 15 + 8 * n - 1) / 4)
 bounded f head n classic long bytes =
     let all = classic_wire f classic in

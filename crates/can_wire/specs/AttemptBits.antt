@@ -9,8 +9,9 @@ use Rattle.can_attempt.specs.declared.class.Class.TheVariants as class
 use Rattle.can_wire.specs.FrameBits.{bits_to_data_end, bits_to_check_end, frame_bits_of, then_nominal}
 use Rattle.can_wire.specs.declared.wire_bits.WireBits.{WireBits}
 
--- How many bits attempts take, from start of frame until the next frame may begin (own choice, since a verdict names
--- no bit), resting on the Bosch CAN Specification 2.0, sections 3 and 7. All after the CRC go at the nominal bit rate.
+-- How many bits attempts take, from start of frame until the next frame may begin. Their parts are those of the Bosch
+-- CAN Specification 2.0, sections 3 and 7; at which bit a fault is seen is own choice, since a verdict names none. All
+-- bits after the CRC go at the nominal bit rate.
 
 -- the fault is seen by the end of the data: a bit that was read back otherwise, or six equal bits; others are seen
 -- after the CRC

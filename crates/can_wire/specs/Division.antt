@@ -13,7 +13,7 @@ subtracted [] bits = bits
 subtracted (g ∷ gs) [] = []
 subtracted (g ∷ gs) (b ∷ bits) = xor b g ∷ subtracted gs bits
 
--- what is left of bits after so many steps of long division by a generator, whose leading 1 is left out
+-- what is left of bits after this many steps of long division by a generator, whose leading 1 is left out
 abbrev pub remainder : List ℕ → ℕ → List ℕ → List ℕ
 remainder g zero bits = bits
 remainder g (suc n) [] = []

@@ -45,7 +45,7 @@ checked_bits f = covered_bits f ++ check_of generator_15 (covered_bits f)
 unfoldable pub fd_head : CanFrame → List ℕ
 fd_head f = 0 ∷ arbitration_bits f ++ 1 ∷ 0 ∷ bit_of (payload_flags f.payload).brs ∷ []
 
--- the data length code of an FD frame of so many bytes (ISO 11898-1; linux/can.h, struct canfd_frame)
+-- the data length code of an FD frame by its number of bytes (ISO 11898-1; linux/can.h, struct canfd_frame)
 abbrev pub fd_code : ℕ → ℕ
 fd_code n = if nat_le n 8 then n else if n == 12 then 9 else if n == 16 then 10 else if n == 20 then 11 else if n == 24 then 12 else if n == 32 then 13 else if n == 48 then 14 else 15
 
@@ -65,7 +65,7 @@ fd_stuff_bits f = length (fd_to_data_end f) - length (fd_head f ++ fd_rest f)
 abbrev pub stuff_count : ℕ → List ℕ
 stuff_count n = low_bits 3 (bit_xor (n % 8) (n % 8 / 2)) ++ n % 2 ∷ []
 
--- the generator of the CRC of an FD frame of so many bytes
+-- the generator of the CRC of an FD frame of this many bytes
 abbrev pub fd_generator : ℕ → List ℕ
 fd_generator n = if nat_le n 16 then generator_17 else generator_21
 
@@ -93,7 +93,7 @@ wire_of f = to_check_end f ++ end_bits
 
 -- ---- how many bits there are, by their rates
 
--- so many bits of a frame: if it switches those after the first few go at the data bit rate
+-- this many bits of a frame, by their rates: if it switches those after the first few go at the data bit rate
 abbrev pub by_rates : Bool → ℕ → ℕ → WireBits
 by_rates switches few n = if switches then record { nominal = few; fast = n - few } else record { nominal = n; fast = 0 }
 
@@ -105,7 +105,7 @@ then_nominal bits n = record { nominal = bits.nominal + n; fast = bits.fast }
 abbrev pub fd_bits_to_brs : CanFrame → ℕ
 fd_bits_to_brs f = length (stuffed_inside (fd_head f))
 
--- so many bits of this frame: an FD frame with BRS switches
+-- this many bits of this frame: an FD frame with BRS switches
 abbrev pub rated : CanFrame → ℕ → WireBits
 rated f n = by_rates (is_fd f.payload && (payload_flags f.payload).brs) (fd_bits_to_brs f) n
 

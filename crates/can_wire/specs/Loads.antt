@@ -49,7 +49,7 @@ IsLoad l = (l.second < 2 ^ 34) × (l.latest ≤ 10 ^ 9) × (l.before ≤ 10 ^ 9)
 abbrev pub no_load : Load
 no_load = record { second = 0; latest = 0; before = 0; earlier = 0; total = 0 }
 
--- so many seconds on, in this one
+-- this many seconds later, in this second: those before it become older
 abbrev pub moved_by : ℕ → ℕ → Load → Load
 moved_by gap second l =
     if gap == 0 then l else
@@ -61,15 +61,15 @@ moved_by gap second l =
 abbrev pub moved_to : ℕ → Load → Load
 moved_to second l = moved_by (second - l.second) second l
 
--- so many nanoseconds more of a second, of which it has no more than it has
+-- the busy nanoseconds of a second and others of it: no more than the second has
 abbrev pub more : ℕ → ℕ → ℕ
 more nanos others = min (nanos + others) (10 ^ 9)
 
--- so many more of its last second
+-- this many nanoseconds more of its last second
 abbrev pub more_of : ℕ → Load → Load
 more_of nanos l = record l { latest = more l.latest nanos; total = min (l.total + nanos) (2 ^ 64 - 1) }
 
--- so many more of a second that is not before the last
+-- this many nanoseconds more of a second that is not before the last
 abbrev pub added : ℕ → ℕ → Load → Load
 added second nanos l = more_of nanos (moved_to second l)
 

@@ -34,7 +34,7 @@ next_lasts t (Some frame) = frame_nanos_of t frame
 abbrev pub next_moment : Option CanFrame → Schedule → ℕ
 next_moment frame s = max s.last (moment_after s.since (next_lasts s.wire.timing frame) s.wire)
 
--- after an attempt that tried this frame and takes the wire so many nanoseconds
+-- after an attempt that tried this frame and takes the wire this many nanoseconds
 abbrev pub attempted : Option CanFrame → ℕ → Schedule → Schedule
 attempted frame nanos s = record { wire = taken_for s.since nanos s.wire; since = s.since; last = next_moment frame s; load = s.load }
 

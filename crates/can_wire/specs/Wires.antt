@@ -12,7 +12,7 @@ pub record Wire : Type 0 where
 abbrev pub unused : BusTiming → Wire
 unused t = record { timing = t; free = 0 }
 
--- so much later, in nanoseconds, but no later than the last moment that there is
+-- this many nanoseconds later, but no later than the last moment that there is
 abbrev pub later : ℕ → ℕ → ℕ
 later start nanos = min (start + nanos) (10 ^ 19 - 1)
 
@@ -28,10 +28,10 @@ begin_of moment w = max (moment * 1000) w.free
 abbrev pub is_before : ℕ → Wire → ℕ → Bool
 is_before set w moment = nat_lt (begin_of set w) (moment * 1000)
 
--- the moment that is so many nanoseconds after its begin
+-- the moment that is this many nanoseconds after its begin
 abbrev pub moment_after : ℕ → ℕ → Wire → ℕ
 moment_after moment nanos w = moment_of (later (begin_of moment w) nanos)
 
--- the wire after an attempt that takes so many nanoseconds
+-- the wire after an attempt that takes this many nanoseconds
 abbrev pub taken_for : ℕ → ℕ → Wire → Wire
 taken_for moment nanos w = record w { free = later (begin_of moment w) nanos }

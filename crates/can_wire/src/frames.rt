@@ -1,4 +1,4 @@
-ghost use Rattle.std.specs.Prelude.{◌≡◌, ◌≤◌, ◌<◌, ◌+◌, ◌^◌, ◌∷◌, length, false};
+ghost use Rattle.std.specs.Prelude.{◌≡◌, ◌≤◌, ◌<◌, ◌+◌, ◌∷◌, length};
 ghost use Rattle.can_frame.specs.Frames.{is_fd, payload_len, payload_bytes, payload_flags};
 ghost use Rattle.can_frame.specs.Arbitration.{arbitration_bits, low_bits, standard_bits, extended_bits};
 ghost use Rattle.can_wire.specs.Stuffing.{stuffed};
@@ -174,7 +174,7 @@ fn send_fd(frame: &Frame) -> FdSent
     }
 }
 
-/// So many bits of an FD frame, where those after the first few go at the data bit rate if it switches.
+/// The bits of an FD frame by their rates: if it switches, those after the first few go at the data bit rate.
 fn by_rates(switches: bool, few: u32, all: u32) -> WireBits
     requires { few ≤ all }
     ensures { result ≡ by_rates switches few all }

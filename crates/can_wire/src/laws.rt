@@ -1,5 +1,5 @@
-ghost use Rattle.std.specs.Prelude.{◌≡◌, ◌≤◌, ◌<◌, ◌+◌, ◌-◌, ◌*◌, ◌/◌, ◌^◌, ◌∷◌, ◌++◌, [], min};
-ghost use Rattle.std.specs.Prelude.{ℕ, List, Bool, Option, length, replicate, nat_le, true, false, if◌then◌else◌};
+ghost use Rattle.std.specs.Prelude.{◌≡◌, ◌≤◌, ◌<◌, ◌+◌, ◌-◌, ◌*◌, ◌/◌, ◌^◌, ◌++◌, min};
+ghost use Rattle.std.specs.Prelude.{ℕ, List, Option, length, replicate, nat_le, true, false, if◌then◌else◌};
 ghost use Rattle.can_frame.specs.Frames.{CanFrame, payload_bytes, is_fd};
 ghost use Rattle.can_wire.specs.Stuffing.{stuffed, stuffed_inside, unstuffed};
 ghost use Rattle.can_frame.specs.Arbitration.{low_bits};

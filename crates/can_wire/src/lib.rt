@@ -20,6 +20,7 @@ pub mod rates;
 pub mod recent_load;
 pub mod schedule;
 pub mod timing;
+pub mod units;
 pub mod wire;
 pub mod wire_bits;
 

@@ -2,16 +2,8 @@ ghost use Rattle.std.specs.Prelude.{◌≡◌, ◌<◌, ◌≤◌, ◌/◌, ◌^
 ghost use Rattle.can_wire.specs.Loads.{added, more, moved_to, no_load, noted, recent_of};
 
 use crate::recent_load::RecentLoad;
+use crate::units::{NANOS_PER_MICRO, NANOS_PER_MILLI, NANOS_PER_SECOND};
 use std::marker::Model;
-
-/// How many nanoseconds a second has.
-const SECOND: u64 = 1_000_000_000;
-
-/// How many nanoseconds a thousandth of a second has.
-const MILLI: u64 = 1_000_000;
-
-/// How many nanoseconds a microsecond has.
-const MICRO: u64 = 1_000;
 
 /// How busy a wire is: for how many nanoseconds in each of the last three seconds, and in all.
 #[derive(Debug, Clone, Copy, PartialEq, Eq)]
@@ -79,12 +71,12 @@ impl Load {
         requires end { end < 10 ^ 19 }
         ensures { self.new ≡ noted begin end self.old }
     {
-        let boundary = end / SECOND * SECOND;
+        let boundary = end / NANOS_PER_SECOND * NANOS_PER_SECOND;
         if begin < boundary {
-            self.add(begin / SECOND, boundary - begin);
-            self.add(end / SECOND, end - boundary);
+            self.add(begin / NANOS_PER_SECOND, boundary - begin);
+            self.add(end / NANOS_PER_SECOND, end - boundary);
         } else {
-            self.add(end / SECOND, end.saturating_sub(begin));
+            self.add(end / NANOS_PER_SECOND, end.saturating_sub(begin));
         }
     }
 
@@ -92,7 +84,7 @@ impl Load {
     pub fn busy_micros(self) -> u64
         ensures { result ≡ self.total / 1000 }
     {
-        self.total / MICRO
+        self.total / NANOS_PER_MICRO
     }
 
     /// The last three seconds in thousandths.
@@ -101,9 +93,9 @@ impl Load {
     {
         RecentLoad::new(
             self.second,
-            (self.latest / MILLI) as u16,
-            (self.before / MILLI) as u16,
-            (self.earlier / MILLI) as u16,
+            (self.latest / NANOS_PER_MILLI) as u16,
+            (self.before / NANOS_PER_MILLI) as u16,
+            (self.earlier / NANOS_PER_MILLI) as u16,
         )
     }
 
@@ -143,11 +135,11 @@ impl Load {
     }
 }
 
-/// So many nanoseconds more of a second, of which it has no more than it has.
+/// The busy nanoseconds of a second and others of it: no more than the second has.
 fn more(nanos: u64, others: u64) -> u64
     requires { nanos ≤ 10 ^ 9 }
     ensures more { result ≡ more nanos others }
     ensures within { result ≤ 10 ^ 9 }
 {
-    nanos.saturating_add(others).min(SECOND)
+    nanos.saturating_add(others).min(NANOS_PER_SECOND)
 }

@@ -40,6 +40,20 @@ impl Rates {
         Ok(Rates { nominal, fast })
     }
 
+    /// The nominal bit rate, in bits a second.
+    pub fn nominal(self) -> u32
+        ensures { result ≡ self.nominal }
+    {
+        self.nominal
+    }
+
+    /// The bit rate for data, in bits a second.
+    pub fn fast(self) -> u32
+        ensures { result ≡ self.fast }
+    {
+        self.fast
+    }
+
     /// How many nanoseconds bits take, rounded up.
     pub fn nanos(self, bits: WireBits) -> u64
         ensures { result ≡ nanos_of bits self }

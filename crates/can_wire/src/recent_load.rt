@@ -1,11 +1,9 @@
 ghost use Rattle.std.specs.Prelude.{◌≡◌, ◌<◌, ◌≤◌, ◌^◌};
 ghost use Rattle.can_wire.specs.Loads.{permille_at, recent_in};
 
+use crate::units::MICROS_PER_SECOND;
 use can_frame::Moment;
 use std::marker::Model;
-
-/// How many microseconds a second has.
-const SECOND: u64 = 1_000_000;
 
 /// How many values the ten bits of a load have.
 const SHARE: u64 = 1_024;
@@ -65,7 +63,7 @@ impl RecentLoad {
         ensures { result ≡ permille_at now self.now }
     {
         let second = self.word / SHARE / SHARE / SHARE;
-        let current = now.micros() / SECOND;
+        let current = now.micros() / MICROS_PER_SECOND;
         let permille = if current == second + 1 {
             self.word / SHARE / SHARE % SHARE
         } else if current == second {

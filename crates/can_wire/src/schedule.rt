@@ -1,6 +1,6 @@
 ghost use Rattle.std.specs.Prelude.{◌≡◌, ◌≤◌, ◌-◌, ◌*◌, max};
 ghost use Rattle.std.specs.Option.{option_map};
-ghost use Rattle.can_wire.specs.Schedules.{after_idle, after_tried, next_begin, next_lasts, next_moment, nothing_yet};
+ghost use Rattle.can_wire.specs.Schedules.{after_idle, after_tried, next_begin, next_moment, nothing_yet};
 
 use crate::load::Load;
 use crate::timing::Timing;

@@ -41,6 +41,20 @@ impl Timing {
         })
     }
 
+    /// Its nominal bit rate, in bits a second.
+    pub fn nominal(self) -> u32
+        ensures { result ≡ self.rates.nominal }
+    {
+        self.rates.nominal()
+    }
+
+    /// Its bit rate for data, in bits a second: the nominal one where it has none.
+    pub fn fast(self) -> u32
+        ensures { result ≡ self.rates.fast }
+    {
+        self.rates.fast()
+    }
+
     /// How many nanoseconds a frame takes, from start of frame to end of frame, rounded up.
     pub fn frame_nanos(self, frame: &Frame) -> u64
         ensures { result ≡ frame_nanos_of self frame.now }

@@ -2,11 +2,9 @@ ghost use Rattle.std.specs.Prelude.{◌≡◌, ◌<◌, ◌*◌, ◌^◌};
 ghost use Rattle.can_wire.specs.Wires.{unused, later, moment_of, begin_of, is_before, moment_after, taken_for};
 
 use crate::timing::Timing;
+use crate::units::NANOS_PER_MICRO;
 use can_frame::Moment;
 use std::marker::Model;
-
-/// How many nanoseconds a microsecond has.
-const MICRO: u64 = 1_000;
 
 /// The last nanosecond of the last moment.
 const LAST: u64 = 9_999_999_999_999_999_999;
@@ -76,14 +74,14 @@ impl Wire {
         self.begin(set) < nanos_of(moment)
     }
 
-    /// The moment so many nanoseconds after the next attempt begins.
+    /// The moment this many nanoseconds after the next attempt begins.
     pub fn moment_after(self, set: Moment, nanos: u64) -> Moment
         ensures { result ≡ moment_after set nanos self }
     {
         moment_of(later(self.begin(set), nanos))
     }
 
-    /// The wire after that attempt, which takes so many nanoseconds.
+    /// The wire after that attempt, which takes this many nanoseconds.
     pub fn taken_for(self, set: Moment, nanos: u64) -> Wire
         ensures { result ≡ taken_for set nanos self }
     {
@@ -94,7 +92,7 @@ impl Wire {
     }
 }
 
-/// So much later, but no later than the last moment.
+/// This many nanoseconds later, but no later than the last moment.
 fn later(start: u64, nanos: u64) -> u64
     ensures later { result ≡ later start nanos }
     ensures below { result < 10 ^ 19 }
@@ -107,7 +105,7 @@ pub(crate) fn nanos_of(moment: Moment) -> u64
     ensures nanos { result ≡ moment * 1000 }
     ensures below { result < 10 ^ 19 }
 {
-    moment.micros() * MICRO
+    moment.micros() * NANOS_PER_MICRO
 }
 
 /// The moment of a nanosecond.
@@ -115,7 +113,7 @@ fn moment_of(nanos: u64) -> Moment
     requires { nanos < 10 ^ 19 }
     ensures { result ≡ moment_of nanos }
 {
-    match Moment::new(nanos / MICRO) {
+    match Moment::new(nanos / NANOS_PER_MICRO) {
         Ok(moment) => moment,
         Err(_) => unreachable!(),
     }

@@ -42,8 +42,8 @@ Messages of a session (socketcand's raw mode), in the order of a first run:
   < origin 0|1 >             End frames with `same NUMBER` if their sender has this interface, or `other NUMBER` (0)
   < stats >                  Write < stats QUEUED DROPPED TAKEN SENT DONE WAITING LOST REFUSED >
   < status >                 Write < status STATE TEC REC >, from the error counters of the interface
-  < load >                   Write < load PERMILLE MICROS >: how busy a bus of a server with --bitrate was, in the last
-                             whole second and in microseconds since its start; else 0 0
+  < load >                   Write < load PERMILLE MICROS BITRATE DBITRATE >: how busy a bus of a server was in the last
+                             whole second and in microseconds since its start, and its --bitrate and --dbitrate; else 0
   < restart >                Bring the interface back that is bus off, before --auto-restart does
   < close >                  Close the socket, and write < closed UNREAD DROPPED >
 Once an interface is taken, with a socket or without:

@@ -46,6 +46,6 @@ abbrev pub shifted_all : List ℕ → List ℕ → List ℕ → List ℕ
 shifted_all g [] r = r
 shifted_all g (b ∷ bits) r = shifted_all g bits (shifted g b r)
 
--- how many bits of an FD frame of so many bytes follow its data to the end of its CRC
+-- how many bits of an FD frame of this many bytes follow its data to the end of its CRC
 abbrev pub fd_check_width : ℕ → ℕ
 fd_check_width n = if nat_le n 16 then 27 else 32

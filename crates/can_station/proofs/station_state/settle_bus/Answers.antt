@@ -30,4 +30,4 @@ returns-clause-settled g c =
 pub returns-clause-gauges : goal.returns-clause-gauges
 returns-clause-gauges g c =
     subst (λ (left : Journal). AreTrue left c.args.gauges.items) (sym c.into_left.ensures.left)
-    (all_true c.args.keeper c.args.roll.number (g.B.Journaled.journal c.args.bus) c.args.gauges.items c.requires.published c.absorb_all.ensures.seen)
+    (all_true c.args.keeper c.args.roll.number (g.B.Journaled.journal c.args.bus) c.args.gauges.items c.requires.published c.take_back_gauges.ensures.seen)

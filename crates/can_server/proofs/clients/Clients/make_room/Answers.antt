@@ -1,4 +1,4 @@
-use Rattle.std.proofs.Common.{◌≡◌, ◌∙◌, length, option_map, ap, arith, rules}
+use Rattle.std.proofs.Common.{◌∙◌, length, option_map, ap, arith, rules}
 use Rattle.can_server.specs.Clients.{ClientsSeen, asked_for_room}
 use Rattle.can_server.proofs.Rooms.{map_next, map_all, seen_as}
 use Rattle.can_server.proofs.clients.Clients.make_room.Goals as goal

@@ -3,7 +3,7 @@ use Rattle.std.proofs.lemmas.List.Elements.{All-push, All-same}
 use Rattle.std.specs.Vec.Iter.{into_iter_items}
 use Rattle.can_meter.specs.Publications.{Ends}
 use Rattle.can_meter.specs.Readings.{Readings}
-use Rattle.can_station.proofs.gauges.absorb_all.Goals as goal
+use Rattle.can_station.proofs.gauges.take_back_gauges.Goals as goal
 
 pub loop-gauge-preserved : goal.loop-gauge-preserved
 loop-gauge-preserved g c =

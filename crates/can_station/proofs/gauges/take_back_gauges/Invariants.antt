@@ -1,7 +1,7 @@
 use Rattle.std.proofs.Common.{◌≡◌, ◌++◌, length}
 use Rattle.std.specs.Vec.Iter.{into_iter_items, into_iter_len}
 use Rattle.can_station.specs.Published.{AllSeen}
-use Rattle.can_station.proofs.gauges.absorb_all.Given as goal
+use Rattle.can_station.proofs.gauges.take_back_gauges.Given as goal
 
 abbrev pub invariant-loop-gauge : goal.invariant-loop-gauge
 invariant-loop-gauge g l =

@@ -1,0 +1,69 @@
+//! The time on the wire of a bus, as its driver shows it to sessions.
+ghost use Rattle.std.specs.Prelude.{◌≡◌};
+ghost use Rattle.can_hub.specs.Buses.{bit_rates};
+ghost use Rattle.can_wire.specs.Times.{rates_of};
+
+use can_frame::Moment;
+use can_proto::BusLoad;
+use can_wire::{Load, RecentLoad, Timing};
+use std::sync::atomic::{AtomicU64, Ordering};
+
+/// When the last attempt on a bus with bit rates is over, and how busy the bus is, where no lock is needed to know it. The
+/// words are written one after another, so that one may be newer than the others by an attempt. No contract speaks of
+/// them.
+#[derive(Drop)]
+pub(crate) struct ShownTime {
+    /// The moment of the last attempt, in microseconds: 0 before the first.
+    end: AtomicU64,
+    /// How busy it was in the last seconds, as the word of a `RecentLoad`.
+    recent: AtomicU64,
+    /// For how many microseconds it was busy since it started.
+    busy: AtomicU64,
+}
+
+impl ShownTime {
+    /// Before anything was shown.
+    pub(crate) fn none() -> ShownTime {
+        ShownTime {
+            end: AtomicU64::new(0),
+            recent: AtomicU64::new(0),
+            busy: AtomicU64::new(0),
+        }
+    }
+
+    /// Shows the moment of an attempt.
+    pub(crate) fn show_end(&self, moment: Moment) {
+        self.end.store(moment.micros(), Ordering::SeqCst);
+    }
+
+    /// The moment of the last attempt that was shown.
+    pub(crate) fn end(&self) -> Option<Moment> {
+        match self.end.load(Ordering::SeqCst) {
+            0 => None,
+            micros => Moment::new(micros).ok(),
+        }
+    }
+
+    /// Shows a load.
+    pub(crate) fn show_load(&self, load: Load) {
+        self.recent.store(load.recent().word(), Ordering::SeqCst);
+        self.busy.store(load.busy_micros(), Ordering::SeqCst);
+    }
+
+    /// The load that was shown last, seen at a moment, of a bus with these bit rates.
+    pub(crate) fn load_at(&self, moment: Moment, timing: Option<Timing>) -> BusLoad
+        ensures { rates_of result.bitrate result.dbitrate ≡ bit_rates timing }
+    {
+        let recent = RecentLoad::of_word(self.recent.load(Ordering::SeqCst));
+        let (bitrate, dbitrate) = match timing {
+            Some(timing) => (timing.nominal(), timing.fast()),
+            None => (0, 0),
+        };
+        BusLoad {
+            permille: recent.permille_at(moment),
+            micros: self.busy.load(Ordering::SeqCst),
+            bitrate,
+            dbitrate,
+        }
+    }
+}
