@@ -1,4 +1,4 @@
-ghost use Rattle.std.specs.Prelude.{◌≡◌, ◌<◌, ◌*◌, ◌+◌, ◌%◌, ◌≢◌, ℕ, List, Option, None, length, slice_index, IfSome, IsNone};
+ghost use Rattle.std.specs.Prelude.{◌≡◌, ◌<◌, ◌*◌, ◌+◌, ◌%◌, List, Option, None, length, slice_index, IfSome, IsNone};
 ghost use Rattle.std.specs.List.{AllPairs, remove};
 ghost use Rattle.std.specs.List.Sorted.{IsNonDecreasing};
 ghost use Rattle.can_arbiter.specs.Ranks.{GoesBefore, IsPutAmong, key_in, keys_in, length-keys_in};

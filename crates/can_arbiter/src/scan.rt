@@ -1,4 +1,4 @@
-ghost use Rattle.std.specs.Prelude.{◌≡◌, ℕ, List, Option, length};
+ghost use Rattle.std.specs.Prelude.{◌≡◌, Option, length};
 
 use crate::arbiter::Arbiter;
 use can_frame::Iface;

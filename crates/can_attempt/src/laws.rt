@@ -1,7 +1,7 @@
 ghost use Rattle.std.specs.Prelude.{◌≡◌, ◌≢◌, ◌<◌, ℕ, List, length, true, false};
 ghost use Rattle.can_frame.specs.Sets.{is_in};
 ghost use Rattle.can_confine.specs.Confinement.{is_off, is_passive, state_of};
-ghost use Rattle.can_attempt.specs.Attempts.{Transmission, SameToSixteen, SameToTheLive, is_among, set_of, state_at, receivers, hit, unhurt, is_global, class_of, accepted_in, counts_after, judged};
+ghost use Rattle.can_attempt.specs.Attempts.{Transmission, SameToSixteen, SameToTheLive, is_among, set_of, state_at, receivers, hit, is_global, class_of, accepted_in, counts_after, judged};
 ghost use Rattle.can_attempt.specs.declared.ack_mode.AckMode.TheVariants.{Peers};
 ghost use Rattle.can_attempt.specs.declared.class.Class.TheVariants.{Done, LastBit, Destroyed, NoAck};
 

@@ -12,7 +12,7 @@ use Rattle.can_bus.specs.Sockets.{places, open_sockets, is_open}
 use Rattle.can_bus.specs.Queues.{queued_to, taken_from, dropped_at}
 use Rattle.can_bus.specs.Legal.{legal_reply}
 use Rattle.can_bus.specs.State.{SocketState, Parts, kept_socket, kept_sockets, kept_interfaces, kept_keys, kept_nodes, kept_left, kept_parts}
-use Rattle.can_bus.specs.Changes.{StandsAt, Removes, Closes}
+use Rattle.can_bus.specs.Changes.{IsAt, Removes, Closes}
 use Rattle.can_bus.proofs.Keeping.{Follows, IsStill, map_same}
 use Rattle.can_bus.proofs.Lists.{filter_one, map-remove}
 use Rattle.can_bus.proofs.Opened.{IsThere-stands}
@@ -29,7 +29,7 @@ left-same c past s n o =
     let d = dropped_at-quiet c past (entry s (reply.Closed n)) o refl in
     cc
 
-sockets-closed : (c : BusConfig) (past : List Entry) (s : SocketId) (n : Closed) (k : ℕ) (v : SocketState) → StandsAt (kept_sockets c past) s.0 k v → remove (kept_sockets c past) k ≡ kept_sockets c (entry s (reply.Closed n) ∷ past)
+sockets-closed : (c : BusConfig) (past : List Entry) (s : SocketId) (n : Closed) (k : ℕ) (v : SocketState) → IsAt (kept_sockets c past) s.0 k v → remove (kept_sockets c past) k ≡ kept_sockets c (entry s (reply.Closed n) ∷ past)
 unfolding kept_sockets
 sockets-closed c past s n k v stands =
     let at = IsThere-stands c past (kept_sockets c past) s.0 k v refl stands in

@@ -6,7 +6,7 @@ use Rattle.std.proofs.lemmas.Bool.{eq-eqb}
 use Rattle.can_event.specs.declared.bus_config.BusConfig.{BusConfig}
 use Rattle.can_bus.specs.Sockets.{open_sockets, is_open}
 use Rattle.can_bus.specs.State.{SocketState, kept_socket, kept_sockets}
-use Rattle.can_bus.specs.Changes.{StandsAt, IsNowhere}
+use Rattle.can_bus.specs.Changes.{IsAt, IsNowhere}
 use Rattle.can_event.specs.declared.entry.Entry.{Entry}
 use Rattle.can_bus.proofs.Lists.{list_any_there}
 
@@ -28,7 +28,7 @@ there c past s k v (Some o) at is number =
       left = sym same ∙ ap (kept_socket c past) which;
     }
 
-pub IsThere-stands : (c : BusConfig) (past : List Entry) (sockets : List SocketState) (s k : ℕ) (v : SocketState) → sockets ≡ kept_sockets c past → StandsAt sockets s k v → IsThere c past s k v
+pub IsThere-stands : (c : BusConfig) (past : List Entry) (sockets : List SocketState) (s k : ℕ) (v : SocketState) → sockets ≡ kept_sockets c past → IsAt sockets s k v → IsThere c past s k v
 unfolding kept_sockets
 IsThere-stands c past sockets s k v are stands =
     there c past s k v (slice_get (open_sockets past) k) refl (sym (slice_get-map (kept_socket c past) (open_sockets past) k) ∙ ap (λ (l : List SocketState). slice_get l k) (sym are) ∙ stands.there) stands.number

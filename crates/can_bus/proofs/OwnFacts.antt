@@ -7,7 +7,7 @@ use Rattle.can_frame.specs.Sets.{is_in}
 use Rattle.can_fault.specs.declared.verdict.Verdict.{Verdict}
 use Rattle.can_attempt.specs.declared.class.Class.{Class}
 use Rattle.can_attempt.specs.declared.class.Class.TheVariants as class
-use Rattle.can_attempt.specs.Attempts.{Transmission, is_among, set_of, can_hear, is_named, unhurt, accepted_in, class_of}
+use Rattle.can_attempt.specs.Attempts.{Transmission, is_among, set_of, is_named, unhurt, accepted_in, class_of}
 use Rattle.can_attempt.proofs.Places.{is_among-unhurt}
 use Rattle.can_confine.specs.Confinement.{is_off}
 use Rattle.can_attempt.specs.Attempts as attempts

@@ -12,7 +12,7 @@ use Rattle.can_bus.specs.Sockets.{places, open_sockets, is_open}
 use Rattle.can_record.specs.Tapes.{tape}
 use Rattle.can_bus.specs.Legal.{legal_reply}
 use Rattle.can_bus.specs.State.{SocketState, Parts, kept_socket, kept_sockets, kept_parts}
-use Rattle.can_bus.specs.Changes.{StandsAt, FindsNone}
+use Rattle.can_bus.specs.Changes.{IsAt, FindsNone}
 use Rattle.can_bus.proofs.Lists.{map_one}
 use Rattle.can_bus.proofs.Opened.{IsThere-stands, closed-nowhere}
 use Rattle.can_bus.proofs.Rising.{open_sockets-rise}
@@ -24,7 +24,7 @@ length-kept_sockets c past = length-map (open_sockets past) (kept_socket c past)
 
 -- an entry that concerns one open socket
 pub kept_sockets-one : (c : BusConfig) (past : List Entry) (e : Entry) (old new : List SocketState) (s k : ℕ) (v : SocketState) (change : SocketState → SocketState)
-    → old ≡ kept_sockets c past → open_sockets (e ∷ past) ≡ open_sockets past → StandsAt old s k v
+    → old ≡ kept_sockets c past → open_sockets (e ∷ past) ≡ open_sockets past → IsAt old s k v
     → ((o : ℕ) → o ≢ s → kept_socket c (e ∷ past) o ≡ kept_socket c past o) → change (kept_socket c past s) ≡ kept_socket c (e ∷ past) s
     → new ≡ slice_set old k (change v) → new ≡ kept_sockets c (e ∷ past)
 unfolding kept_sockets

@@ -20,14 +20,14 @@ abbrev pub record_of : BusConfig → List Entry → Kept
 record_of c past = record { config = c; history = past; room = c.limit }
 
 -- these entries, the newest first, are a legal history, and the bus is as they leave it
-pub record Stands (b : Lean) (past : List Entry) : Type 0 where
+pub record IsAfter (b : Lean) (past : List Entry) : Type 0 where
   pub kept : IsKept (record_of b.config past) b.parts
   pub count : b.count ≡ length past
 
 -- some entries left it so
-pub record IsStanding (b : Lean) : Type 0 where
+pub record IsLegalLean (b : Lean) : Type 0 where
   pub past : List Entry
-  pub stands : Stands b past
+  pub stands : IsAfter b past
 
 -- some entries left these parts, and one more may come
 pub record IsReady (c : BusConfig) (parts : Parts) : Type 0 where

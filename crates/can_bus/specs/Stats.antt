@@ -9,7 +9,7 @@ use Rattle.can_bus.specs.Sockets.{is_open}
 use Rattle.can_bus.specs.Transmit.{sent_by, gone_count, done_count, lost_count, refused_count}
 use Rattle.can_bus.specs.Counters.{counts_of}
 use Rattle.can_bus.specs.Queues.{queued_to, dropped_at, taken_from}
-use Rattle.can_bus.specs.Changes.{StandsAt, IsNowhere}
+use Rattle.can_bus.specs.Changes.{IsAt, IsNowhere}
 use Rattle.can_bus.specs.State.{InterfaceState, SocketState}
 
 -- The counts that a bus reports without an event.
@@ -34,7 +34,7 @@ told_interface counts l = record { sent = l.sent; done = l.done; waiting = lengt
 pub record TellsOf (sockets : List SocketState) (s : ℕ) (stats : SocketStats) : Type 0 where
   pub place : ℕ
   pub socket : SocketState
-  pub stands : StandsAt sockets s place socket
+  pub stands : IsAt sockets s place socket
   pub told : stats ≡ record { queued = socket.taken + length socket.waiting; dropped = socket.dropped; taken = socket.taken }
 
 -- the counts of a socket, from what is kept: none where it is not open (own choice)

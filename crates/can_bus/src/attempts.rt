@@ -4,7 +4,7 @@ ghost use Rattle.can_confine.specs.Confinement.{at_start};
 ghost use Rattle.can_attempt.specs.Attempts.{counts_at};
 ghost use Rattle.can_bus.specs.Changes.{AreReady, Attempts, Restarts, Tries, after_auto_restart, begun_anew};
 
-use crate::outcomes::Attempted;
+use crate::attempted::Attempted;
 use crate::state::State;
 use crate::{interfaces, posting};
 use can_arbiter::Arbiter;

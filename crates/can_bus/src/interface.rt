@@ -1,4 +1,4 @@
-ghost use Rattle.std.specs.Prelude.{◌≡◌, ◌+◌, ◌<◌, ◌^◌, ◌≤◌, length, slice_get, IfOk, IfSome, IfNone, option_copied, Bool, Err, ◌↔◌};
+ghost use Rattle.std.specs.Prelude.{◌≡◌, ◌+◌, ◌<◌, ◌^◌, length, slice_get, IfOk, IfSome, IfNone, Err, ◌↔◌};
 ghost use Rattle.can_bus.specs.Changes.{settled, with_pending, with_refused};
 ghost use Rattle.can_bus.specs.State.{fresh_interface, key_in};
 

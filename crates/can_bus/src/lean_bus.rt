@@ -1,5 +1,5 @@
 ghost use Rattle.std.specs.Prelude.{◌≡◌, [], Err, List, IfOk, OnOk, ◌↔◌};
-ghost use Rattle.can_bus.specs.Lean.{Stands};
+ghost use Rattle.can_bus.specs.Lean.{IsAfter};
 ghost use Rattle.can_bus.specs.Run.{IsAnswer, history_after};
 ghost use Rattle.can_event.specs.Events.{IsLongConfig};
 ghost use Rattle.can_event.specs.Replies.{Enters, entry_of};
@@ -30,20 +30,20 @@ pub struct LeanBus<T: BoundedQueue<Pending>, R: BoundedQueue<Received>, A: Arbit
 pub type LeanRingBus = LeanBus<RingQueue<Pending>, RingQueue<Received>, IndexArbiter>;
 
 impl<T: BoundedQueue<Pending>, R: BoundedQueue<Received>, A: Arbiter> Model for LeanBus<T, R, A> {
-    ghost use Rattle.can_bus.specs.Lean.{IsStanding, Lean};
+    ghost use Rattle.can_bus.specs.Lean.{IsLegalLean, Lean};
 
     ghost Value = { Lean };
 
     ghost view = { λ b. record { config = b.config; count = b.count; parts = b.state } };
 
     ghost invariant = { λ b.
-        IsStanding (record { config = b.config; count = b.count; parts = b.state }) };
+        IsLegalLean (record { config = b.config; count = b.count; parts = b.state }) };
 }
 
 impl<T: BoundedQueue<Pending>, R: BoundedQueue<Received>, A: Arbiter> LeanBus<T, R, A> {
     /// A bus on which nothing was done.
     pub fn new(alloc: Global, config: BusConfig) -> Result<LeanBus<T, R, A>, BusFault>
-        ensures made { IfOk result (λ b. Stands b []) }
+        ensures made { IfOk result (λ b. IsAfter b []) }
         ensures config { IfOk result (λ b. b.config ≡ config) }
         ensures proper { OnOk result (IsLongConfig config) }
         ensures bad { (result ≡ Err BusFault.BadConfig) ↔ (¬ IsLongConfig config) }
@@ -66,10 +66,10 @@ impl<T: BoundedQueue<Pending>, R: BoundedQueue<Received>, A: Arbiter> LeanBus<T,
     ///
     /// It costs what the call on a bus costs.
     pub fn answer(&mut self, alloc: Global, event: &Event) -> Reply
-        ensures answer { (past : List AnEntry) → Stands self.old past →
+        ensures answer { (past : List AnEntry) → IsAfter self.old past →
             IsAnswer self.old.config past event.now result }
-        ensures after { (past : List AnEntry) → Stands self.old past →
-            Stands self.new (history_after event.now result past) }
+        ensures after { (past : List AnEntry) → IsAfter self.old past →
+            IsAfter self.new (history_after event.now result past) }
         ensures spelled { Enters result → IsSpelled self.old.config (entry_of event.now result) }
         ensures config { self.new.config ≡ self.old.config }
     {

@@ -6,6 +6,7 @@
 //! `run` carries that over every list of events.
 #![tactic(auto)]
 
+pub mod attempted;
 mod attempts;
 pub mod bus;
 mod countdown;
@@ -16,13 +17,13 @@ pub mod journaled;
 pub mod laws;
 pub mod lean_bus;
 pub mod long_bus;
-pub mod outcomes;
 mod posting;
 pub mod runs;
 mod socket;
 mod sockets;
 mod state;
 
+pub use attempted::Attempted;
 pub use attempts::begun_anew;
 pub use bus::{Bus, BusFault, ListBus, RingBus};
 pub use can_event::{
@@ -33,5 +34,4 @@ pub use can_record::{Entries, EntriesIter, EntryRef, PackedRecord, Record, Store
 pub use journaled::Journaled;
 pub use lean_bus::{LeanBus, LeanRingBus};
 pub use long_bus::{LongBus, LongEnd, LongRingBus, TAIL_SIZE};
-pub use outcomes::Attempted;
 pub use runs::{RunFault, run};

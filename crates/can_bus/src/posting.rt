@@ -6,7 +6,7 @@ ghost use Rattle.can_bus.specs.Posts.{restart_posts, auto_restart_posts, error_p
 ghost use Rattle.can_event.specs.Events.{tried_item};
 ghost use Rattle.can_bus.specs.State.{offered, reached};
 
-use crate::outcomes::{Attempted, is_posted};
+use crate::attempted::{Attempted, is_posted};
 use crate::socket::Socket;
 use can_errframe::restart_frame;
 use can_event::{Pending, Received, Tried};

@@ -1,4 +1,4 @@
-ghost use Rattle.std.specs.Prelude.{◌≡◌, ◌+◌, ◌<◌, ◌^◌, ◌≤◌, [], ◌∷◌, ◌++◌, length, slice_get, IfOk, Some, None, Err, ◌≢◌, false};
+ghost use Rattle.std.specs.Prelude.{◌≡◌, ◌+◌, ◌<◌, ◌^◌, [], ◌∷◌, length, slice_get, IfOk, Some, None, Err, ◌≢◌, false};
 ghost use Rattle.can_bus.specs.Changes.{fresh, relieved};
 ghost use Rattle.can_bus.specs.Legal.{lacks_fd};
 ghost use Rattle.can_event.specs.Events.{with_option};

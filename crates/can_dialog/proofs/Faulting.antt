@@ -1,5 +1,5 @@
 -- A message that was refused: the turn is the one that says so.
-use Rattle.std.proofs.Common.{◌≡◌, ℕ, Bool, true, false, IsTrue, List, Result, Ok, Err, refl, sym, ap, subst, ◌∙◌, arith}
+use Rattle.std.proofs.Common.{◌≡◌, ℕ, Bool, true, false, IsTrue, List, Result, Ok, Err, refl, sym, ap, subst, ◌∙◌}
 use Rattle.can_proto.specs.declared.message.Incoming.TheVariants.{Message}
 use Rattle.can_proto.specs.declared.command.Command.{Command}
 use Rattle.can_proto.specs.declared.command.Command.TheVariants as command

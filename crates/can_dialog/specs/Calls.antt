@@ -1,4 +1,4 @@
-use Rattle.std.specs.Prelude.{ℕ, Bool, List, Option, Result, Ok, Err}
+use Rattle.std.specs.Prelude.{ℕ, List, Option, Result, Ok, Err}
 use Rattle.can_frame.specs.Frames.{CanFrame}
 use Rattle.can_filter.specs.Filters.{CanFilter}
 use Rattle.can_fault.specs.declared.verdict.Verdict.{Verdict}

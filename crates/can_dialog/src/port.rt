@@ -204,7 +204,8 @@ pub trait Port {
     fn status(&mut self, iface: Iface) -> Counters
         ensures { step self.old (CountersOfIface iface) result self.new };
 
-    /// How busy the bus was at a moment, as far as the port knows. What it returns is for the port to say.
+    /// How busy the bus was at a moment, and its bit rates, as far as the port knows. What it returns is for the port to
+    /// say.
     fn load(&mut self, moment: Moment) -> BusLoad
         ensures { step self.old (LoadAt moment) result self.new };
 

@@ -7,7 +7,7 @@ use crate::refusal::Refusal;
 use crate::socket_id::SocketId;
 use can_frame::IfaceSet;
 
-/// What a closed socket leaves behind: items that nobody took, and items that found no room.
+/// What was left at a close of a socket: items that nobody took, and items that found no room.
 #[derive(Debug, Clone, Copy, PartialEq, Eq)]
 pub struct Closed {
     pub unread: u64,

@@ -1,4 +1,4 @@
-ghost use Rattle.std.specs.Prelude.{◌≡◌, ◌<◌, ◌^◌, ℕ, Bool, true, false, OkIff};
+ghost use Rattle.std.specs.Prelude.{◌≡◌, ◌<◌, ◌^◌, ℕ, true, false, OkIff};
 ghost use Rattle.can_frame.specs.Frames.{Identifier, IsIdentifier};
 
 use std::marker::Model;

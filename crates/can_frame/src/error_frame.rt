@@ -18,7 +18,7 @@ pub struct ErrorFrame {
 }
 
 impl Model for ErrorFrame {
-    ghost use Rattle.std.specs.Prelude.{ℕ, ◌<◌, ◌^◌};
+    ghost use Rattle.std.specs.Prelude.{◌<◌, ◌^◌};
     ghost use Rattle.can_frame.specs.Frames.{ErrorMessage};
 
     ghost Value = { ErrorMessage };

@@ -1,5 +1,5 @@
-ghost use Rattle.std.specs.Prelude.{◌≡◌, ◌<◌, ◌≤◌, ◌^◌, ℕ, Bool, true, false, List, IsTrue, OkIff, length, replicate, take, drop, ◌-◌};
-ghost use Rattle.can_frame.specs.Frames.{Identifier, Payload, CanFrame, word_of, is_remote, is_fd, is_fd_length, payload_len, payload_bytes, no_flags, payload_flags, is_flagged};
+ghost use Rattle.std.specs.Prelude.{◌≡◌, ◌<◌, ◌≤◌, true, false, IsTrue, OkIff, length, replicate, take, drop, ◌-◌};
+ghost use Rattle.can_frame.specs.Frames.{Payload, CanFrame, word_of, is_remote, is_fd, is_fd_length, payload_len, payload_bytes, no_flags, payload_flags, is_flagged};
 ghost use Rattle.can_frame.specs.Frames.Payload.{Data, Remote, Fd};
 
 use crate::can_id::CanId;

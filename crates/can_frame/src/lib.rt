@@ -10,10 +10,9 @@
 //! frames of one identifier and kind can have equal bits.
 //!
 //! `frame_text` writes an item in the shape of candump's logs, and `read_flagged_frame_text` reads it in either case:
-//! it answers an item exactly where the text spells one, and no text spells two; `read_frame_text` reads items without
-//! flags alone. A `Text` is a text kept in place, to
-//! which identifiers, moments, numbers and data are added; `read_decimal` and `read_hexadecimal` read words of digits, and
-//! `read_moment` a moment.
+//! it answers an item exactly where the text spells one, and no text spells two; `read_frame_text` reads only items
+//! without flags. A `Text` is a text kept in place, to which identifiers, moments, numbers and data are added;
+//! `read_decimal` and `read_hexadecimal` read words of digits, and `read_moment` a moment.
 #![tactic(auto)]
 
 pub mod arbitration;

@@ -1,4 +1,4 @@
-ghost use Rattle.std.specs.Prelude.{◌≡◌, ◌≤◌, ◌<◌, ◌^◌, length, IfSome};
+ghost use Rattle.std.specs.Prelude.{◌≡◌, ◌≤◌, ◌<◌, ◌^◌, IfSome};
 ghost use Rattle.can_frame.specs.Numbers.{digit_in, number_in};
 
 /// The value of 1 to `most` decimal digits; `None` for other words. `most` is at most 19.

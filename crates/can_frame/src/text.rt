@@ -36,6 +36,13 @@ impl<const N: usize> Text<N> {
         }
     }
 
+    /// Makes the text empty. Its bytes are not cleared, so that a room lent to a loop costs nothing in each turn.
+    pub fn clear(&mut self)
+        ensures { self.new ≡ [] }
+    {
+        self.len = 0;
+    }
+
     /// The bytes of the text.
     pub fn as_bytes(&self) -> &[u8]
         ensures { result.now ≡ self.now }

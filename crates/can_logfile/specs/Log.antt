@@ -12,7 +12,7 @@ use Rattle.can_event.specs.declared.reply.Reply.{Reply}
 use Rattle.can_event.specs.declared.reply.Reply.TheVariants as reply
 use Rattle.can_event.specs.declared.attempt.Tried.{Tried}
 use Rattle.can_record.specs.Tapes.{tape}
-use Rattle.can_logfile.specs.declared.tapes.LogFault.{LogFault}
+use Rattle.can_logfile.specs.declared.log_writing.LogFault.{LogFault}
 
 -- The log of a bus, in the shape of candump's log files (can-utils).
 

@@ -6,6 +6,6 @@
 #![tactic(auto)]
 
 mod lines;
-pub mod tapes;
+pub mod log_writing;
 
-pub use tapes::{LogFault, write_entries, write_tape};
+pub use log_writing::{LogFault, write_entries, write_tape};

@@ -1,4 +1,4 @@
-ghost use Rattle.std.specs.Prelude.{◌≡◌, ◌≤◌, ◌^◌, false, length, take};
+ghost use Rattle.std.specs.Prelude.{◌≡◌, ◌≤◌, false, length, take};
 ghost use Rattle.can_frame.specs.Frames.{is_fd};
 ghost use Rattle.can_record.specs.FrameWords.{identifier_in, frame_in};
 ghost use Rattle.can_record.specs.Moments.{moment_in};

@@ -37,19 +37,19 @@ pub record IsNeedless (text : List ℕ) : Type 0 where
 abbrev pub IsOfNoVersion : List ℕ → Type 0
 IsOfNoVersion text = LacksFirst text ⊎ IsNeedless text
 
--- no line of a bus stands here, in this version
+-- this is not the line of a bus, in this version
 abbrev pub LacksBus : Version → List ℕ → Type 0
 LacksBus v rest = (c : BusConfig) (more : List ℕ) → HasBusLine v c → rest ≢ spell (bus_words v c) more
 
--- no line of an entry of this bus stands here, in this version
+-- this is not the line of an entry of this bus, in this version
 abbrev pub LacksEntry : Version → BusConfig → List ℕ → Type 0
 LacksEntry v c rest = (e : Entry) (more : List ℕ) → HasLine v c e → rest ≢ entry_line e more
 
--- no end after so many entries stands here
+-- this is not the end after this many entries
 abbrev pub LacksEnd : ℕ → List ℕ → Type 0
 LacksEnd count rest = (more : List ℕ) → rest ≢ spell (end_words count) more
 
--- behind the first line of a version no line of a bus stands
+-- what follows the first line of a version is not the line of a bus
 pub record BusIsWrong (text : List ℕ) (n : ℕ) : Type 0 where
   pub version : Version
   pub rest : List ℕ
@@ -57,7 +57,7 @@ pub record BusIsWrong (text : List ℕ) (n : ℕ) : Type 0 where
   pub begins : text ≡ first_line version ++ rest
   pub wrong : LacksBus version rest
 
--- behind the lines of a bus and of entries stands neither an entry's line nor the end
+-- what follows the lines of a bus and of entries is neither an entry's line nor the end
 pub record LineIsWrong (text : List ℕ) (n : ℕ) : Type 0 where
   pub version : Version
   pub config : BusConfig
@@ -84,7 +84,7 @@ pub record GoesOn (text : List ℕ) (n : ℕ) : Type 0 where
 abbrev pub IsFirstWrong : List ℕ → ℕ → Type 0
 IsFirstWrong text n = BusIsWrong text n ⊎ LineIsWrong text n ⊎ GoesOn text n
 
--- what reading the end of a text answers, after so many entries
+-- what reading the end of a text answers, after this many entries
 abbrev pub Ends : {A : Type 0} → ℕ → List ℕ → Result A ReadFault → Type 0
 Ends count rest (Ok u) = rest ≡ spell (end_words count) []
 Ends count rest (Err (fault.BadLine n)) = ((n ≡ count + 3) × LacksEnd count rest) ⊎ ((n ≡ count + 4) × ((more : List ℕ) × (rest ≡ spell (end_words count) more) × (more ≢ [])))

@@ -39,7 +39,7 @@ abbrev pub gap_before : List (List ℕ) → ℕ
 gap_before [] = 10
 gap_before (w ∷ ws) = 32
 
--- a line of these words, one space between two of them and LF behind the last; and what follows the line
+-- a line of these words, one space between two of them and LF after the last; and what follows the line
 abbrev pub spell : List (List ℕ) → List ℕ → List ℕ
 spell [] rest = rest
 spell (w ∷ ws) rest = w ++ gap_before ws ∷ spell ws rest
@@ -236,7 +236,7 @@ is_needless version.Three needs = not needs.fd
 is_needless version.Four needs = false
 is_needless version.Five needs = not needs.flags
 
--- the version for a bus: 4 for a limit that only a long run has; else 5 where a flag of an FD frame stands in its record;
+-- the version for a bus: 4 for a limit that only a long run has; else 5 where its record has a flag of an FD frame;
 -- else 3 where an FD frame or the option for such does, and else 2 exactly where interfaces are restarted automatically
 abbrev pub version_for : BusConfig → Needs → Version
 version_for c needs = if nat_lt max_limit c.limit then version.Four else if needs.flags then version.Five else if needs.fd then version.Three else if c.auto_restart == 0 then version.One else version.Two

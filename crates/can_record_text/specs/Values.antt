@@ -92,7 +92,7 @@ abbrev pub HasLimit : Version → BusConfig → Type 0
 HasLimit version.Four c = max_limit < c.limit
 HasLimit v c = c.limit ≤ max_limit
 
--- interfaces are restarted automatically in version 2, in version 1 by a call alone, and in the others either way
+-- interfaces are restarted automatically in version 2, in version 1 only by a call, and in the others either way
 abbrev pub Restarts : Version → BusConfig → Type 0
 Restarts version.One c = c.auto_restart ≡ 0
 Restarts version.Two c = c.auto_restart ≢ 0

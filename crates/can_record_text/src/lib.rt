@@ -19,7 +19,7 @@ pub mod record_reading;
 pub mod record_writing;
 mod reply_reading;
 pub mod text_laws;
-pub mod values;
+mod values;
 pub mod version;
 mod words;
 

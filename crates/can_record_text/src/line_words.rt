@@ -11,7 +11,7 @@ use can_fault::{GlobalKind, LocalKind, Verdict};
 use can_frame::{ErrorFrame, Frame, IfaceSet, Item, Moment, Text, frame_text};
 
 /// Room for a line without filters: the words of an event have at most 166 bytes, and those of a reply 225.
-pub(crate) type LineText = Text<392>;
+pub type LineText = Text<392>;
 
 /// A decimal number, and the byte that ends it.
 pub(crate) fn push_number(line: &mut LineText, n: u64, gap: u8)

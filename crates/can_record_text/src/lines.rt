@@ -3,7 +3,7 @@ ghost use Rattle.can_event.specs.Spelled.{FitsReply};
 ghost use Rattle.can_record_text.specs.declared.fault.Unread.TheVariants as unread;
 ghost use Rattle.can_record_text.specs.Spelling.{spell, answered_line, auto_restart_words, bus_words, end_words, first_line};
 ghost use Rattle.can_record_text.specs.Texts.{DecidesLine, StartsWith, StartsWithBus, StartsWithEntry};
-ghost use Rattle.can_record_text.specs.Values.{HasLine, HasBusLine};
+ghost use Rattle.can_record_text.specs.Values.{HasLine, HasBusLine, HoldsEvent, HoldsReply};
 ghost use Rattle.can_record_text.specs.RecordFaults.{LacksBus, LacksEntry, LacksFirst};
 ghost use Rattle.can_record_text.specs.inner.Reading.{Gives, with_rest, ack_at, auto_restart_at, config_at, entry_at, moment_of};
 
@@ -12,7 +12,8 @@ use crate::event_reading::guess_event;
 use crate::fault::Unread;
 use crate::fields::{byte_field, set_field, short_field};
 use crate::filter_lines::put_filter_line;
-use crate::line_words::{LineText, push_ack, push_number, push_set};
+pub use crate::line_words::LineText;
+use crate::line_words::{push_ack, push_number, push_set};
 use crate::needs::Needs;
 use crate::reply_reading::reply_field;
 use crate::values::{hold_event, hold_reply};
@@ -36,21 +37,26 @@ pub fn put_answered(out: &mut Vec<u8>, event: &Event, reply: &Reply) -> Result<(
     put_filter_line(out, event, reply)
 }
 
-/// Whether a text begins with the line of an event with this reply.
+/// Whether a text begins with the line of an event with this reply, which is spelled in one of the two rooms. The values of
+/// both are in the ranges that a line can have.
 pub fn is_line_of(
-    buffer: &mut Vec<u8>,
+    short: &mut LineText,
+    long: &mut Vec<u8>,
     event: &Event,
     reply: &Reply,
     text: &[u8],
 ) -> Result<bool, AllocError>
     requires { FitsReply event.now reply.now }
-    ensures { DecidesLine event.now reply.now text.now result }
+    ensures line { DecidesLine event.now reply.now text.now result }
+    ensures values { HoldsEvent event.now × HoldsReply reply.now }
 {
-    let mut line = Text::new();
-    if push_answered(&mut line, event, reply) {
-        return Ok(begins(text, line.as_bytes()));
+    hold_event(event);
+    hold_reply(reply);
+    short.clear();
+    if push_answered(short, event, reply) {
+        return Ok(begins(text, short.as_bytes()));
     }
-    is_filter_line_of(buffer, event, reply, text)
+    is_filter_line_of(long, event, reply, text)
 }
 
 /// The same of an event that sets filters.

@@ -9,6 +9,7 @@ ghost use Rattle.can_record_text.specs.Spelling.{end_words, front_lines, record_
 ghost use Rattle.can_record.specs.StoredEntry.{entry_stored, IsStored};
 ghost use Rattle.can_record_text.specs.inner.StoredLines.{HasFittingReply, stored_line};
 
+use crate::line_words::LineText;
 use crate::lines::put_end;
 use crate::record_writing::{put_front, spell_stored};
 use crate::version::Version;
@@ -57,10 +58,11 @@ pub fn write_block<W: Write>(
     ensures { BlockGoesOut (W.contents writer.old) (W.contents writer.new)
         block.now.entries result }
 {
-    let mut line = Vec::new(alloc);
+    let mut short = Text::new();
+    let mut long = Vec::new(alloc);
     for place in 0..block.len() {
         let stored = block.stored(place).unwrap();
-        match write_stored(&mut line, &stored, writer) {
+        match write_stored(&mut short, &mut long, &stored, writer) {
             Ok(()) => {}
             Err(why) => {
                 return Err(Torn {
@@ -73,9 +75,11 @@ pub fn write_block<W: Write>(
     Ok(())
 }
 
-/// Writes the line of an entry as it is stored. After a fault only a proper front of it is out.
+/// Writes the line of an entry as it is stored, from one of the two rooms. After a fault only a proper front of it is
+/// out.
 fn write_stored<W: Write>(
-    line: &mut Vec<u8>,
+    short: &mut LineText,
+    long: &mut Vec<u8>,
     stored: &StoredEntry<'_>,
     writer: &mut W,
 ) -> io::Result<()>
@@ -84,8 +88,7 @@ fn write_stored<W: Write>(
     ensures { LineGoesOut (W.contents writer.old) (W.contents writer.new)
         (stored_line stored.now) result }
 {
-    let mut short = Text::new();
-    write_line(writer, spell_stored(&mut short, line, stored)?)
+    write_line(writer, spell_stored(short, long, stored)?)
 }
 
 /// Writes the last line of the record of a long run, which had this many entries.

@@ -83,9 +83,9 @@ fn write_lines<W: Write>(line: &mut Vec<u8>, record: &Record, writer: &mut W) ->
     ensures { OnOk result (Appends (W.contents writer.old) (W.contents writer.new)
         (lines_of «record».now)) }
 {
+    let mut short = Text::new();
     for place in 0..record.len() {
         let stored = record.stored(place).unwrap();
-        let mut short = Text::new();
         writer.write_all(spell_stored(&mut short, line, &stored)?)?;
     }
     Ok(())
@@ -97,11 +97,11 @@ pub(crate) fn spell_stored<'a>(
     long: &'a mut Vec<u8>,
     stored: &StoredEntry<'_>,
 ) -> Result<&'a [u8], AllocError>
-    requires empty { short.old ≡ [] }
     requires stored { IsStored stored.now }
     requires fits { HasFittingReply (entry_stored stored.now) }
     ensures { IfOk result (λ line. line.now ≡ stored_line stored.now) }
 {
+    short.clear();
     if push_stored(short, stored) {
         return Ok(short.as_bytes());
     }

@@ -12,7 +12,7 @@ use can_frame::{ErrorFrame, Frame, IfaceSet, Item};
 // of a parameter, and of a number that is read.
 
 /// The arguments of an event are within their types.
-pub fn hold_event(event: &Event)
+pub(crate) fn hold_event(event: &Event)
     ensures { HoldsEvent event.now }
 {
     match event {
@@ -104,7 +104,7 @@ fn hold_item(item: &Item)
 }
 
 /// The parts of a reply are within their types.
-pub fn hold_reply(reply: &Reply)
+pub(crate) fn hold_reply(reply: &Reply)
     ensures { HoldsReply reply.now }
 {
     match reply {

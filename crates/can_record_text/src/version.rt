@@ -8,7 +8,7 @@ use can_event::{BusConfig, MAX_LIMIT};
 /// A version of the text of a record. Each record is written in one.
 #[derive(Debug, Clone, Copy, PartialEq, Eq)]
 pub enum Version {
-    /// The record of a bus whose interfaces are restarted by a call alone.
+    /// The record of a bus whose interfaces are restarted only by a call.
     One,
     /// The record of a bus with automatic restart.
     Two,
@@ -102,7 +102,7 @@ impl Version {
         }
     }
 
-    /// Whether a bus may restart its interfaces as this one does: by a call alone in version 1, automatically in version 2,
+    /// Whether a bus may restart its interfaces as this one does: only by a call in version 1, automatically in version 2,
     /// and either way in the others.
     pub(crate) fn restarts(self, config: BusConfig) -> bool
         ensures yes { IsTrue result → Restarts self config }

@@ -10,8 +10,8 @@ use Rattle.can_event.specs.declared.received.Received.{Received}
 use Rattle.can_filter.specs.Filters.{CanFilter}
 use Rattle.can_filter.specs.declared.options.Options.{Options}
 use Rattle.can_bus.specs.Posts.{Post, posts_of}
-use Rattle.can_bus.specs.Queues.{passing, candidates_of, candidates_for, taken_from, queued_to, dropped_at}
-use Rattle.can_bus.specs.Sockets.{is_open, capacity_of, filters_of, options_of}
+use Rattle.can_bus.specs.Queues.{passing, candidates_of, candidates_for, queued_to, dropped_at}
+use Rattle.can_bus.specs.Sockets.{is_open, filters_of, options_of}
 use Rattle.can_reference.specs.inner.Noted.{room_after}
 use Rattle.can_replay.specs.Histories.{before, IsHistory}
 use Rattle.can_replay.proofs.Before.{before_more}

@@ -49,7 +49,7 @@ fn sender_in(pending: &Option<Pending>) -> Option<u32>
 }
 
 /// Adds the frame that was tried, where it comes to the interface.
-fn put_frame(
+fn add_frame_post(
     posts: &mut Vec<Post>,
     attempted: &Attempted,
     pending: &Option<Pending>,
@@ -109,7 +109,7 @@ fn attempt_posts(
 {
     let moment = attempted.tried().moment;
     let mut posts = Vec::new(alloc);
-    put_frame(&mut posts, attempted, &pending, iface)?;
+    add_frame_post(&mut posts, attempted, &pending, iface)?;
     if reporting.contains(iface) {
         put_error(&mut posts, iface, moment, attempted.fault_at(iface))?;
     }

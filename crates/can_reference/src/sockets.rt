@@ -48,7 +48,7 @@ pub fn iface_at(number: u8) -> Iface
 }
 
 impl Sockets {
-    ghost use Rattle.std.specs.Prelude.{◌≡◌, ◌==◌, length, slice_get};
+    ghost use Rattle.std.specs.Prelude.{◌≡◌, ◌==◌, slice_get};
     ghost use Rattle.std.specs.List.{list_any};
     ghost use Rattle.can_bus.specs.Sockets.{iface_in, capacity_in};
 

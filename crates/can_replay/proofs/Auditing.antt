@@ -8,7 +8,7 @@ use Rattle.can_event.specs.declared.event.Event.{Event}
 use Rattle.can_event.specs.declared.reply.Reply.{Reply}
 use Rattle.can_event.specs.declared.reply.Reply.TheVariants as reply
 use Rattle.can_event.specs.declared.refusal.Refusal.TheVariants as refusal
-use Rattle.can_bus.specs.Lean.{Lean, Stands}
+use Rattle.can_bus.specs.Lean.{Lean, IsAfter}
 use Rattle.can_event.specs.Events.{IsConfig}
 use Rattle.can_event.specs.Spelled.{FitsReply}
 use Rattle.can_bus.specs.Legal.{legal_reply, IsLegal}
@@ -78,8 +78,8 @@ pub record Turn (c : BusConfig) (es : List Entry) (k : ℕ) (e : Entry) (bus : L
   pub below : k < length es
   pub read : e ≡ get_or es k e
   pub config : bus.config ≡ c
-  pub stands : Stands bus (before es k)
-  pub answer : (past : List Entry) → Stands bus past → IsAnswer bus.config past e.event r
+  pub stands : IsAfter bus (before es k)
+  pub answer : (past : List Entry) → IsAfter bus past → IsAnswer bus.config past e.event r
 
 -- the bus answers otherwise
 pub blamed : (c : BusConfig) (es : List Entry) (k : ℕ) (e : Entry) (bus : Lean) (r : Reply) → Turn c es k e bus r → r ≢ e.reply → Blames c es (fault_at k r)
@@ -94,15 +94,15 @@ entered v (reply.Refused refusal.NoMemory) past fits = absurd (cc (fits))
 entered v r past fits = refl
 
 -- the bus answers as the entry says
-pub replayed_more : (es : List Entry) (k : ℕ) (e : Entry) (bus after : Lean) (r : Reply) → k < length es → e ≡ get_or es k e → FitsReply e.event e.reply → r ≡ e.reply → Stands bus (before es k)
-    → ((past : List Entry) → Stands bus past → Stands after (history_after e.event r past)) → Stands after (before es (k + 1))
+pub replayed_more : (es : List Entry) (k : ℕ) (e : Entry) (bus after : Lean) (r : Reply) → k < length es → e ≡ get_or es k e → FitsReply e.event e.reply → r ≡ e.reply → IsAfter bus (before es k)
+    → ((past : List Entry) → IsAfter bus past → IsAfter after (history_after e.event r past)) → IsAfter after (before es (k + 1))
 replayed_more es k e bus after r below read fits same so_far more =
     let noted : history_after e.event r (before es k) ≡ before es (k + 1) =
     ap (λ (q : Reply). history_after e.event q (before es k)) same ∙ entered e.event e.reply (before es k) fits ∙ sym (before_more es k e below read) in
-    subst (Stands after) noted (more (before es k) so_far)
+    subst (IsAfter after) noted (more (before es k) so_far)
 
 -- all entries are carried out
-pub all_legal : (c : BusConfig) (past : List Entry) (k : ℕ) (bus : Lean) → length past ≤ k → bus.config ≡ c → Stands bus (before (reverse past) k) → IsLegal c past
+pub all_legal : (c : BusConfig) (past : List Entry) (k : ℕ) (bus : Lean) → length past ≤ k → bus.config ≡ c → IsAfter bus (before (reverse past) k) → IsLegal c past
 all_legal c past k bus end config so_far =
     let whole : before (reverse past) k ≡ past = ap reverse (take_all k (reverse past) (omega (arith, length-reverse past, end))) ∙ reverse-reverse past in
     subst (IsLegal c) whole (subst (λ (d : BusConfig). IsLegal d (before (reverse past) k)) config so_far.kept.legal)

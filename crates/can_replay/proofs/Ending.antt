@@ -5,7 +5,7 @@ use Rattle.std.proofs.lemmas.List.Elements.{All-nil}
 use Rattle.std.proofs.lemmas.Option.{none-some}
 use Rattle.can_event.specs.declared.bus_config.BusConfig.{BusConfig}
 use Rattle.can_event.specs.declared.entry.Entry.{Entry}
-use Rattle.can_bus.specs.Lean.{Lean, Stands}
+use Rattle.can_bus.specs.Lean.{Lean, IsAfter}
 use Rattle.can_record_text.specs.declared.fault.ReadFault.{ReadFault}
 use Rattle.can_record_text.specs.declared.fault.ReadFault.TheVariants as fault
 use Rattle.can_record_text.specs.declared.needs.Needs.{Needs}
@@ -24,7 +24,7 @@ use Rattle.can_replay.specs.declared.text_fault.TextFault.TheVariants as found
 use Rattle.can_replay.specs.declared.text_fault.WrongLine.{WrongLine}
 use Rattle.can_replay.specs.TextAudits.{EndsNoLine, IsCutText, IsFrontOf, IsLegalText, IsLine, IsWrongCut, IsWrongText, MayFollow, Tells, TellsCut}
 use Rattle.can_replay.specs.inner.EntryAudits.{IsGoing, IsSettled, so_far}
-use Rattle.can_replay.specs.inner.Steps.{IsUnended, StandsEnd}
+use Rattle.can_replay.specs.inner.Steps.{IsUnended, IsEndLine}
 use Rattle.can_replay.proofs.LineEnds.{cut_bus, cut_end, lacks_bus, lacks_end, lacks_entry, torn_bus, torn_first}
 
 -- ---- the bus's line
@@ -33,7 +33,7 @@ front_alone : (v : Version) (c : BusConfig) → front_lines v c (entry_lines [] 
 unfolding entry_lines
 front_alone v c = refl
 
-pub begun : (v : Version) (c : BusConfig) (line rest : List ℕ) (bus : Lean) (needs : Needs) → HasBusLine v c → line ≡ spell (bus_words v c) [] ++ rest → Stands bus [] → bus.config ≡ c → needs ≡ no_needs → IsLine line
+pub begun : (v : Version) (c : BusConfig) (line rest : List ℕ) (bus : Lean) (needs : Needs) → HasBusLine v c → line ≡ spell (bus_words v c) [] ++ rest → IsAfter bus [] → bus.config ≡ c → needs ≡ no_needs → IsLine line
     → IsGoing (first_line v ++ line) (record { version = v; config = c; bus = bus; count = 0; needs = needs; wrong = None; is_ended = false })
 begun v c line rest bus needs good stands new config nothing is = record {
   read = record {
@@ -100,7 +100,7 @@ unended text line after b (fault.BadLine n) g going few may lacks h =
     }))
 
 -- the end
-ended : (text line : List ℕ) (b : EntryAudit) (bus : Lean) → IsGoing text b → b.is_ended ≡ false → b.count < 2 ^ 64 → IsLine line → StandsEnd b.count line → IsGoing (text ++ line) (record b { bus = bus; is_ended = true })
+ended : (text line : List ℕ) (b : EntryAudit) (bus : Lean) → IsGoing text b → b.is_ended ≡ false → b.count < 2 ^ 64 → IsLine line → IsEndLine b.count line → IsGoing (text ++ line) (record b { bus = bus; is_ended = true })
 ended text line b bus g going few is stands =
     let es = g.read.entries in
     let last : line ≡ spell (end_words (length es)) [] = cut_end b.count line (drop (length (spell (end_words b.count) [])) line) few is stands ∙ ap (λ (m : ℕ). spell (end_words m) []) g.read.counted in
@@ -118,12 +118,12 @@ ended text line b bus g going few is stands =
     }
 
 -- the end after what was no entry's line
-pub end_taken : (line : List ℕ) (old mid new : EntryAudit) (r : Result (Unit {0}) ReadFault) → mid ≡ record old { bus = mid.bus } → old.is_ended ≡ false → mid.count < 2 ^ 64 → OnOk r (new ≡ record mid { is_ended = true }) → OnOk r (StandsEnd mid.count line)
+pub end_taken : (line : List ℕ) (old mid new : EntryAudit) (r : Result (Unit {0}) ReadFault) → mid ≡ record old { bus = mid.bus } → old.is_ended ≡ false → mid.count < 2 ^ 64 → OnOk r (new ≡ record mid { is_ended = true }) → OnOk r (IsEndLine mid.count line)
     → OnOk r ((text : List ℕ) → IsGoing text old → IsLine line → IsGoing (text ++ line) new)
 end_taken line old mid new (Ok u) kept going few h end = λ text g is.
     let count : mid.count ≡ old.count = ap (λ (b : EntryAudit). b.count) kept in
     subst (IsGoing (text ++ line)) (sym (h ∙ ap (λ (b : EntryAudit). record b { is_ended = true }) kept))
-    (ended text line old mid.bus g going (subst (λ (n : ℕ). n < 2 ^ 64) count few) is (subst (λ (n : ℕ). StandsEnd n line) count end))
+    (ended text line old mid.bus g going (subst (λ (n : ℕ). n < 2 ^ 64) count few) is (subst (λ (n : ℕ). IsEndLine n line) count end))
 end_taken line old mid new (Err why) kept going few h end = tt
 
 pub end_lacks : (line : List ℕ) (old mid : EntryAudit) (r : Result (Unit {0}) ReadFault) → mid ≡ record old { bus = mid.bus } → old.is_ended ≡ false → mid.count < 2 ^ 64 → ((text : List ℕ) → IsGoing text old → old.is_ended ≡ false → LacksEntry old.version old.config line)

@@ -8,7 +8,7 @@ use Rattle.std.proofs.lemmas.Option.{get_or_from_slice_get, slice_get-get_or, sl
 use Rattle.can_event.specs.declared.bus_config.BusConfig.{BusConfig}
 use Rattle.can_event.specs.declared.entry.Entry.{Entry}
 use Rattle.can_event.specs.declared.reply.Reply.{Reply}
-use Rattle.can_bus.specs.Lean.{Lean, Stands}
+use Rattle.can_bus.specs.Lean.{Lean, IsAfter}
 use Rattle.can_bus.specs.Legal.{IsLegal, legal_reply}
 use Rattle.can_record_text.specs.declared.needs.Needs.{Needs}
 use Rattle.can_record_text.specs.declared.version.Version.{Version}
@@ -112,7 +112,7 @@ settled_none c es (Some w) is h = absurd cc
 
 -- the line of one more legal entry
 pub legal_more : (text line : List ℕ) (b : EntryAudit) (bus : Lean) (needs : Needs) → IsGoing text b → b.wrong ≡ None → b.is_ended ≡ false → IsLine line → bus.config ≡ b.bus.config
-    → ((past : List Entry) → Stands b.bus past → IsNext b.bus.config past line needs bus) → takes b.version needs ≡ true → IsGoing (text ++ line) (record b { bus = bus; count = b.count + 1; needs = both_needs b.needs needs })
+    → ((past : List Entry) → IsAfter b.bus past → IsNext b.bus.config past line needs bus) → takes b.version needs ≡ true → IsGoing (text ++ line) (record b { bus = bus; count = b.count + 1; needs = both_needs b.needs needs })
 unfolding read_more
 legal_more text line b bus needs g none going is config step may =
     let es = g.read.entries in
@@ -120,7 +120,7 @@ legal_more text line b bus needs g none going is config step may =
     let e = one.entry in
     let five : HasLine version.Five b.config e = subst (λ (d : BusConfig). HasLine version.Five d e) (g.config going) one.good in
     let good : HasLine b.version b.config e = line_in b.version b.config e five (ap (takes b.version) (sym one.needed) ∙ may) in
-    let after : Stands bus (reverse (es ++ e ∷ [])) = subst (Stands bus) (sym (reverse-append es (e ∷ []))) one.after in
+    let after : IsAfter bus (reverse (es ++ e ∷ [])) = subst (IsAfter bus) (sym (reverse-append es (e ∷ []))) one.after in
     let legal : IsLegal b.config (reverse (es ++ e ∷ [])) = subst (λ (d : BusConfig). IsLegal d (reverse (es ++ e ∷ []))) (config ∙ g.config going) after.kept.legal in
     record {
       read = read_more text line b bus needs b.wrong e g.read going good (cut_entry b.version b.config line one.rest e is good one.stands) one.needed (settled_none b.config (es ++ e ∷ []) b.wrong none legal);
@@ -178,7 +178,7 @@ takes_unread old bus line unread.Bad h = (refl, λ text g going. spells_none old
 takes_unread old bus line unread.NoMemory h = tt
 
 pub takes_blamed : (old new : EntryAudit) (bus : Lean) (line : List ℕ) (legal : Option Reply) (r : Result (Unit {0}) Unread) → old.wrong ≡ None → bus.config ≡ old.bus.config
-    → ((past : List Entry) → Stands old.bus past → IsOther old.bus.config past line legal) → ReportsWrong (record old { bus = bus }) new line legal r → Takes old new line r
+    → ((past : List Entry) → IsAfter old.bus past → IsOther old.bus.config past line legal) → ReportsWrong (record old { bus = bus }) new line legal r → Takes old new line r
 takes_blamed old new bus line legal (Ok u) none config other h = λ text g going is.
     let read : IsRead text (record old { bus = bus }) = record { entries = g.read.entries; good = g.read.good; begins = g.read.begins; counted = g.read.counted; needs = g.read.needs; settled = g.read.settled } in
     let past = reverse g.read.entries in

@@ -10,7 +10,7 @@ use Rattle.can_event.specs.declared.reply.Reply.TheVariants as reply
 use Rattle.can_event.specs.declared.refusal.Refusal.TheVariants as refusal
 use Rattle.can_event.specs.Replies.{Enters}
 use Rattle.can_event.specs.Spelled.{IsSpelled}
-use Rattle.can_bus.specs.Lean.{Lean, Stands}
+use Rattle.can_bus.specs.Lean.{Lean, IsAfter}
 use Rattle.can_bus.specs.Legal.{legal_reply}
 use Rattle.can_bus.specs.Run.{IsAnswer, history_after}
 use Rattle.can_bus.proofs.Answering.{entered_is_legal, history-entered}
@@ -62,12 +62,12 @@ other_past c past line ev r is answer v e rest good stands =
 
 -- the line of an event with the reply of a bus is that of the next entry
 pub next_is : (c : BusConfig) (past : List Entry) (line : List ℕ) (ev : Event) (r : Reply) (needs : Needs) (bus : Lean) → Enters r → IsSpelled c (record { event = ev; reply = r }) → HoldsEvent ev → HoldsReply r
-    → needs ≡ needs_of (record { event = ev; reply = r }) → line ≡ answered_line ev r (drop (length (answered_line ev r [])) line) → Stands bus (history_after ev r past) → IsNext c past line needs bus
+    → needs ≡ needs_of (record { event = ev; reply = r }) → line ≡ answered_line ev r (drop (length (answered_line ev r [])) line) → IsAfter bus (history_after ev r past) → IsNext c past line needs bus
 next_is c past line ev r needs bus enters spelled event reply needed stands after = record {
   entry = record { event = ev; reply = r };
   rest = drop (length (answered_line ev r [])) line;
   good = record { spelled = spelled; version = five_takes (needs_of (record { event = ev; reply = r })); event = event; reply = reply };
   needed = needed;
   stands = stands;
-  after = subst (Stands bus) (history-entered ev r past enters) after;
+  after = subst (IsAfter bus) (history-entered ev r past enters) after;
 }

@@ -12,7 +12,7 @@ use Rattle.can_replay.specs.Histories.{before}
 
 -- Whether entries, the oldest first, are a legal history, and if not where they go wrong.
 
--- entry k is the first wrong one: those before it are a legal history, and it stands past the limit or has
+-- entry k is the first wrong one: those before it are a legal history, and it is past the limit or has
 -- another reply than they give (own choice)
 pub record IsFirstWrong (c : BusConfig) (entries : List Entry) (k : ℕ) : Type 0 where
   pub entry : Entry

@@ -21,7 +21,7 @@ use Rattle.can_replay.specs.inner.EntryAudits.{IsGoing, IsWrongIn}
 
 -- What an audit of a text answers (own choice).
 
--- the text is that of a legal record with so many entries
+-- the text is that of a legal record with this many entries
 pub record IsLegalText (text : List ℕ) (count : ℕ) : Type 0 where
   pub config : BusConfig
   pub entries : List Entry
@@ -54,7 +54,7 @@ pub record IsFrontOf (text : List ℕ) (config : BusConfig) (entries : List Entr
   pub begins : text ≡ front_lines version config (entry_lines entries torn)
   pub unended : EndsNoLine torn
 
--- the text is cut off: it is the front of that of a legal record, up to the lines of so many entries
+-- the text is cut off: it is the front of that of a legal record, up to the lines of this many entries
 pub record IsCutText (text : List ℕ) (count : ℕ) : Type 0 where
   pub config : BusConfig
   pub entries : List Entry
@@ -76,7 +76,7 @@ TellsCut text (Ok (cut.Off count)) = IsCutText text count
 TellsCut text (Err (fault.Read why)) = Reads text (Err why)
 TellsCut text (Err (fault.Wrong w)) = IsWrongText text w ⊎ IsWrongCut text w
 
--- a line: LF stands at its end alone, or nowhere
+-- a line: LF is only at its end, or nowhere
 pub record IsLine (line : List ℕ) : Type 0 where
   pub some : line ≢ []
   pub stops : StopsAt line 10

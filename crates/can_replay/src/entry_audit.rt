@@ -3,16 +3,16 @@ ghost use Rattle.can_record_text.specs.Spelling.{first_line, both_needs};
 ghost use Rattle.can_record_text.specs.inner.Reading.{SeemsToBe};
 ghost use Rattle.can_replay.specs.TextAudits.{EndsNoLine, FailsAfter, FailsNext, IsLine, TakesOn, Tells, TellsCut};
 ghost use Rattle.can_replay.specs.inner.EntryAudits.{IsGoing};
-ghost use Rattle.can_replay.specs.inner.Steps.{ReportsWrong, IsUnended, StandsEnd, Takes};
+ghost use Rattle.can_replay.specs.inner.Steps.{ReportsWrong, IsUnended, IsEndLine, Takes};
 
 use crate::text_fault::{Cut, TextFault, WrongLine};
 use can_bus::{BusConfig, Event, LeanRingBus, Refusal, Reply};
+use can_frame::Text;
 use can_record_text::ReadFault;
 use can_record_text::event_reading::{attempt_front, guess_event, receive_front, send_front};
 use can_record_text::fault::Unread;
-use can_record_text::lines::{begins, is_line_of, put_end, read_bus, read_line};
+use can_record_text::lines::{LineText, begins, is_line_of, put_end, read_bus, read_line};
 use can_record_text::needs::Needs;
-use can_record_text::values::{hold_event, hold_reply};
 use can_record_text::version::Version;
 use std::alloc::Global;
 
@@ -30,11 +30,30 @@ pub struct EntryAudit {
     is_ended: bool,
 }
 
+/// Rooms in which lines are spelled, to be compared with those of the text.
+#[derive(Drop)]
+pub struct Rooms {
+    /// For the line that an entry should have, unless it sets filters.
+    short: LineText,
+    /// For any other line.
+    long: Vec<u8>,
+}
+
+impl Rooms {
+    /// Rooms in which nothing was spelled yet.
+    pub fn new(alloc: Global) -> Rooms {
+        Rooms {
+            short: Text::new(),
+            long: Vec::new(alloc),
+        }
+    }
+}
+
 impl EntryAudit {
     /// The second line, which is the bus's.
     pub fn read(
         alloc: Global,
-        buffer: &mut Vec<u8>,
+        rooms: &mut Rooms,
         version: Version,
         line: &[u8],
     ) -> Result<EntryAudit, ReadFault>
@@ -42,7 +61,7 @@ impl EntryAudit {
             IsLine line.now → IsGoing (first_line version ++ line.now) audit) }
         ensures fault { IfErr result (FailsAfter (first_line version) line.now) }
     {
-        let config = match read_bus(buffer, version, line) {
+        let config = match read_bus(&mut rooms.long, version, line) {
             Ok(config) => config,
             Err(Unread::Bad) => return Err(ReadFault::BadLine(2)),
             Err(Unread::NoMemory) => return Err(ReadFault::NoMemory),
@@ -62,12 +81,7 @@ impl EntryAudit {
     }
 
     /// The next line: an entry's, or the end. Nothing may follow the end.
-    pub fn carry(
-        &mut self,
-        alloc: Global,
-        buffer: &mut Vec<u8>,
-        line: &[u8],
-    ) -> Result<(), ReadFault>
+    pub fn carry(&mut self, alloc: Global, rooms: &mut Rooms, line: &[u8]) -> Result<(), ReadFault>
         ensures taken { OnOk result (TakesOn IsGoing self.old self.new line.now) }
         ensures fault { IfErr result (FailsNext IsGoing self.old line.now) }
     {
@@ -77,89 +91,74 @@ impl EntryAudit {
         if self.count == u32::MAX {
             return Err(ReadFault::NoMemory);
         }
-        match self.carry_entry(alloc, buffer, line) {
+        match self.carry_entry(alloc, rooms, line) {
             Ok(()) => Ok(()),
-            Err(Unread::Bad) => self.end(buffer, line),
+            Err(Unread::Bad) => self.end(rooms, line),
             Err(Unread::NoMemory) => Err(ReadFault::NoMemory),
         }
     }
 
     // An entry's line.
-    fn carry_entry(
-        &mut self,
-        alloc: Global,
-        buffer: &mut Vec<u8>,
-        line: &[u8],
-    ) -> Result<(), Unread>
+    fn carry_entry(&mut self, alloc: Global, rooms: &mut Rooms, line: &[u8]) -> Result<(), Unread>
         requires { self.old.count < 2 ^ 32 - 1 }
         ensures { Takes self.old self.new line.now result }
     {
         if self.wrong.is_some() {
-            self.read_on(alloc, buffer, line)
+            self.read_on(alloc, rooms, line)
         } else {
-            self.carry_out(alloc, buffer, line)
+            self.carry_out(alloc, rooms, line)
         }
     }
 
     // An entry's line while all were legal.
-    fn carry_out(&mut self, alloc: Global, buffer: &mut Vec<u8>, line: &[u8]) -> Result<(), Unread>
+    fn carry_out(&mut self, alloc: Global, rooms: &mut Rooms, line: &[u8]) -> Result<(), Unread>
         requires legal { self.old.wrong ≡ None }
         requires few { self.old.count < 2 ^ 32 - 1 }
         ensures { Takes self.old self.new line.now result }
     {
         match receive_front(line) {
-            Some(id) => self.carry_event(alloc, buffer, &Event::Receive(id), line),
-            None => self.carry_attempt(alloc, buffer, line),
+            Some(id) => self.carry_event(alloc, rooms, &Event::Receive(id), line),
+            None => self.carry_attempt(alloc, rooms, line),
         }
     }
 
     // The same of a line that is no receive's.
     #[inline(never)]
-    fn carry_attempt(
-        &mut self,
-        alloc: Global,
-        buffer: &mut Vec<u8>,
-        line: &[u8],
-    ) -> Result<(), Unread>
+    fn carry_attempt(&mut self, alloc: Global, rooms: &mut Rooms, line: &[u8]) -> Result<(), Unread>
         requires legal { self.old.wrong ≡ None }
         requires few { self.old.count < 2 ^ 32 - 1 }
         ensures { Takes self.old self.new line.now result }
     {
         match attempt_front(line) {
             Some((moment, verdict)) => {
-                self.carry_event(alloc, buffer, &Event::Attempt(moment, verdict), line)
+                self.carry_event(alloc, rooms, &Event::Attempt(moment, verdict), line)
             }
-            None => self.carry_send(alloc, buffer, line),
+            None => self.carry_send(alloc, rooms, line),
         }
     }
 
     // The same of a line that is no attempt's either.
     #[inline(never)]
-    fn carry_send(&mut self, alloc: Global, buffer: &mut Vec<u8>, line: &[u8]) -> Result<(), Unread>
+    fn carry_send(&mut self, alloc: Global, rooms: &mut Rooms, line: &[u8]) -> Result<(), Unread>
         requires legal { self.old.wrong ≡ None }
         requires few { self.old.count < 2 ^ 32 - 1 }
         ensures { Takes self.old self.new line.now result }
     {
         match send_front(line) {
-            Some((id, frame)) => self.carry_event(alloc, buffer, &Event::Send(id, frame), line),
-            None => self.carry_other(alloc, buffer, line),
+            Some((id, frame)) => self.carry_event(alloc, rooms, &Event::Send(id, frame), line),
+            None => self.carry_other(alloc, rooms, line),
         }
     }
 
     // The same of a line of any kind.
     #[inline(never)]
-    fn carry_other(
-        &mut self,
-        alloc: Global,
-        buffer: &mut Vec<u8>,
-        line: &[u8],
-    ) -> Result<(), Unread>
+    fn carry_other(&mut self, alloc: Global, rooms: &mut Rooms, line: &[u8]) -> Result<(), Unread>
         requires legal { self.old.wrong ≡ None }
         requires few { self.old.count < 2 ^ 32 - 1 }
         ensures { Takes self.old self.new line.now result }
     {
         match guess_event(alloc, line) {
-            Ok((event, _)) => self.carry_event(alloc, buffer, &event, line),
+            Ok((event, _)) => self.carry_event(alloc, rooms, &event, line),
             Err(why) => Err(why),
         }
     }
@@ -169,7 +168,7 @@ impl EntryAudit {
     fn carry_event(
         &mut self,
         alloc: Global,
-        buffer: &mut Vec<u8>,
+        rooms: &mut Rooms,
         event: &Event,
         line: &[u8],
     ) -> Result<(), Unread>
@@ -180,18 +179,16 @@ impl EntryAudit {
     {
         let reply = self.bus.answer(alloc, event);
         if is_past_limit(&reply) {
-            return self.report_wrong_past(alloc, buffer, line);
+            return self.report_wrong_past(alloc, rooms, line);
         }
         if !reply.enters() {
             return Err(Unread::NoMemory);
         }
-        match is_line_of(buffer, event, &reply, line) {
+        match is_line_of(&mut rooms.short, &mut rooms.long, event, &reply, line) {
             Ok(true) => {}
-            Ok(false) => return self.report_wrong_reply(alloc, buffer, line, reply),
+            Ok(false) => return self.report_wrong_reply(alloc, rooms, line, reply),
             Err(_) => return Err(Unread::NoMemory),
         }
-        hold_event(event);
-        hold_reply(&reply);
         let needs = Needs::of(event, &reply);
         if !self.version.takes(needs) {
             return Err(Unread::Bad);
@@ -205,14 +202,14 @@ impl EntryAudit {
     fn report_wrong_past(
         &mut self,
         alloc: Global,
-        buffer: &mut Vec<u8>,
+        rooms: &mut Rooms,
         line: &[u8],
     ) -> Result<(), Unread>
         requires legal { self.old.wrong ≡ None }
         requires few { self.old.count < 2 ^ 32 - 1 }
         ensures { ReportsWrong self.old self.new line.now None result }
     {
-        self.report_wrong(alloc, buffer, line, None)
+        self.report_wrong(alloc, rooms, line, None)
     }
 
     // The first line whose reply is not this one, which would be legal.
@@ -220,7 +217,7 @@ impl EntryAudit {
     fn report_wrong_reply(
         &mut self,
         alloc: Global,
-        buffer: &mut Vec<u8>,
+        rooms: &mut Rooms,
         line: &[u8],
         legal: Reply,
     ) -> Result<(), Unread>
@@ -228,14 +225,14 @@ impl EntryAudit {
         requires few { self.old.count < 2 ^ 32 - 1 }
         ensures { ReportsWrong self.old self.new line.now (Some legal) result }
     {
-        self.report_wrong(alloc, buffer, line, Some(legal))
+        self.report_wrong(alloc, rooms, line, Some(legal))
     }
 
     // The first entry's line that is not legal.
     fn report_wrong(
         &mut self,
         alloc: Global,
-        buffer: &mut Vec<u8>,
+        rooms: &mut Rooms,
         line: &[u8],
         legal: Option<Reply>,
     ) -> Result<(), Unread>
@@ -243,7 +240,7 @@ impl EntryAudit {
         requires few { self.old.count < 2 ^ 32 - 1 }
         ensures { ReportsWrong self.old self.new line.now legal result }
     {
-        let entry = read_line(buffer, alloc, self.version, self.config, line)?;
+        let entry = read_line(&mut rooms.long, alloc, self.version, self.config, line)?;
         let needs = Needs::of(&entry.event, &entry.reply);
         let place = self.count as usize;
         self.add(needs);
@@ -258,12 +255,12 @@ impl EntryAudit {
 
     // An entry's line after a wrong one.
     #[inline(never)]
-    fn read_on(&mut self, alloc: Global, buffer: &mut Vec<u8>, line: &[u8]) -> Result<(), Unread>
+    fn read_on(&mut self, alloc: Global, rooms: &mut Rooms, line: &[u8]) -> Result<(), Unread>
         requires wrong { IsSome self.old.wrong }
         requires few { self.old.count < 2 ^ 32 - 1 }
         ensures { Takes self.old self.new line.now result }
     {
-        let entry = read_line(buffer, alloc, self.version, self.config, line)?;
+        let entry = read_line(&mut rooms.long, alloc, self.version, self.config, line)?;
         self.add(Needs::of(&entry.event, &entry.reply));
         Ok(())
     }
@@ -282,18 +279,18 @@ impl EntryAudit {
     }
 
     // The line of the end.
-    fn end(&mut self, buffer: &mut Vec<u8>, line: &[u8]) -> Result<(), ReadFault>
+    fn end(&mut self, rooms: &mut Rooms, line: &[u8]) -> Result<(), ReadFault>
         ensures ended { OnOk result (self.new ≡ record self.old { is_ended = true }) }
-        ensures line { OnOk result (StandsEnd self.old.count line.now) }
+        ensures line { OnOk result (IsEndLine self.old.count line.now) }
         ensures fault { IfErr result (λ why. IsUnended self.old.count line.now why) }
         ensures few { self.old.count < 2 ^ 64 }
     {
-        buffer.clear();
-        match put_end(buffer, u64::from(self.count)) {
+        rooms.long.clear();
+        match put_end(&mut rooms.long, u64::from(self.count)) {
             Ok(()) => {}
             Err(_) => return Err(ReadFault::NoMemory),
         }
-        if !begins(line, buffer) {
+        if !begins(line, &rooms.long) {
             return Err(ReadFault::BadLine(u64::from(self.count) + 3));
         }
         self.is_ended = true;

@@ -5,7 +5,7 @@ ghost use Rattle.can_record_text.specs.Spelling.{first_line};
 ghost use Rattle.can_record_text.specs.Texts.{StartsWith};
 ghost use Rattle.can_replay.specs.TextAudits.{AreTaken, EndsNoLine, FailsAfter, FailsNext, HasFailed, IsLine, TakesOn, Tells, TellsCut, first_taken, has_ended};
 
-use crate::entry_audit::EntryAudit;
+use crate::entry_audit::{EntryAudit, Rooms};
 use crate::text_fault::{Cut, TextFault};
 use can_record_text::ReadFault;
 use can_record_text::lines::read_version;
@@ -32,7 +32,7 @@ enum Phase {
 #[derive(Drop)]
 pub struct TextAudit {
     phase: Phase,
-    buffer: Vec<u8>,
+    rooms: Rooms,
 }
 
 impl TextAudit {
@@ -42,7 +42,7 @@ impl TextAudit {
     {
         TextAudit {
             phase: Phase::Start,
-            buffer: Vec::new(alloc),
+            rooms: Rooms::new(alloc),
         }
     }
 
@@ -84,7 +84,7 @@ impl TextAudit {
                 let version = *version;
                 self.take_second(alloc, version, line)
             }
-            Phase::Entries(audit) => audit.carry(alloc, &mut self.buffer, line),
+            Phase::Entries(audit) => audit.carry(alloc, &mut self.rooms, line),
             Phase::Failed(why) => Err(*why),
         }
     }
@@ -106,7 +106,7 @@ impl TextAudit {
             (IsLine line.now → AreTaken (first_line version ++ line.now) self.new) }
         ensures fault { IfErr result (FailsAfter (first_line version) line.now) }
     {
-        self.phase = Phase::Entries(EntryAudit::read(alloc, &mut self.buffer, version, line)?);
+        self.phase = Phase::Entries(EntryAudit::read(alloc, &mut self.rooms, version, line)?);
         Ok(())
     }
 

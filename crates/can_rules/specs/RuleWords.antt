@@ -65,7 +65,7 @@ of_words id mask = if bit_and mask (2 ^ 29) == 0 then Some (record { id = id; ma
 unfoldable pub masked_spelling : List ℕ → List ℕ → Option CanFilter
 masked_spelling id mask = option_and_then (λ i. option_and_then (λ m. of_words i m) (number_in 16 8 mask)) (number_in 16 8 id)
 
--- an identifier alone: 3 hexadecimal digits or 8
+-- an identifier without a mask: 3 hexadecimal digits or 8
 unfoldable pub plain_spelling : List ℕ → Option CanFilter
 plain_spelling text =
     if length text == 3 then option_and_then of_standard (number_in 16 8 text) else if length text == 8 then option_and_then of_extended (number_in 16 8 text) else None
@@ -78,7 +78,7 @@ id_in text = before_first (λ b. b == 58) text
 abbrev pub mask_in : List ℕ → List ℕ
 mask_in text = after_first (λ b. b == 58) text
 
--- an identifier: with a colon and a mask after it, or alone
+-- an identifier, with or without a colon and a mask after it
 abbrev pub id_spelling : List ℕ → Option CanFilter
 id_spelling text = if length (mask_in text) == 0 then plain_spelling text else masked_spelling (id_in text) (mask_in text)
 
@@ -106,7 +106,7 @@ with_senders names rule text = if bytes_eq (word text) (codes "from") then (do
   senders ← as_word wrong.Senders (set_spelling names (second text))
   with_id names (record rule { senders = Some senders }) (beyond text)) else with_id names rule text
 
--- a rule for every attempt, good, that gives so many verdicts
+-- a rule for every attempt, good, that gives this many verdicts
 abbrev pub rule_of : Option ℕ → Rule
 rule_of left = record { senders = None; filter = everything; skip = 0; left = left; verdict = Good }
 

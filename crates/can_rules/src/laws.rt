@@ -1,4 +1,4 @@
-ghost use Rattle.std.specs.Prelude.{◌≡◌, ◌≤◌, ℕ, true, List, [], Option, None, Some, unwrap_or, slice_get};
+ghost use Rattle.std.specs.Prelude.{◌≡◌, ◌≤◌, ℕ, true, List, [], Option, None, Some, slice_get};
 ghost use Rattle.can_rules.specs.Rules.{Head, chosen, after_chosen, unused, verdicts, gives_at, times_given, AreSwapped};
 ghost use Rattle.can_rules.specs.Plans.{PlanSeen, given, plan_after};
 ghost use Rattle.can_frame.specs.Frames.{CanFrame};

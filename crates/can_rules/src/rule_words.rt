@@ -1,5 +1,5 @@
-ghost use Rattle.std.specs.Prelude.{◌≡◌, ◌<◌, IfSome, ◌^◌};
-ghost use Rattle.can_rules.specs.RuleWords.{is_rule, rule_of, rule_spelling, with_senders, with_id, skipping, ended, count_spelling, id_spelling, plain_spelling, masked_spelling, small_spelling, of_standard, of_extended, of_words, id_in, mask_in, word_of};
+ghost use Rattle.std.specs.Prelude.{◌≡◌, ◌<◌};
+ghost use Rattle.can_rules.specs.RuleWords.{is_rule, rule_of, rule_spelling, with_senders, with_id, skipping, ended, count_spelling, id_spelling, plain_spelling, masked_spelling, small_spelling, of_standard, of_extended, id_in, mask_in, word_of};
 
 use crate::rule::Rule;
 use can_fault::Verdict;

@@ -6,9 +6,9 @@ use Rattle.std.specs.Io.KnownBytes.{Consumes, Keeps, IsAtEnd, prepend_known}
 use Rattle.std.proofs.lemmas.Bool.{or_parts}
 use Rattle.std.proofs.lemmas.List.Sums.{sum_by-cons}
 use Rattle.std.proofs.lemmas.List.{take-append-drop, take_at, length-append, length-take-le}
-use Rattle.can_session.specs.declared.lines.LineFault.{LineFault}
-use Rattle.can_session.specs.declared.lines.LineFault.TheVariants.{LineTooLong, TooLong, Read}
-use Rattle.can_session.specs.Lines.{is_lf, with_byte, lines_of, whole_lines, spelled, Input, left_of, IsLine, IsLong, IsWithin, IsOver, Gives, TakesLine, FindsEnd, Waits, Overruns, Stops, GoesOn, Given, ReadsOn, ReadsOut, ReadsOver, ComesToLong, StopsBehind}
+use Rattle.can_session.specs.declared.lines.InputFault.{InputFault}
+use Rattle.can_session.specs.declared.lines.InputFault.TheVariants.{LineTooLong, TooLong, Read}
+use Rattle.can_session.specs.Lines.{is_lf, with_byte, lines_of, whole_lines, spelled, Input, left_of, IsLine, IsLong, IsWithin, IsOver, Gives, TakesLine, FindsEnd, Waits, Overruns, Stops, GoesOn, Given, ReadsOn, ReadsOut, ReadsOver, ComesToLong, StopsAfter}
 
 abbrev Unbroken : List ℕ → Type 0
 Unbroken line = list_any is_lf line ≡ false
@@ -225,7 +225,7 @@ comes_to_long text lines old new so waits long within =
       within = omega (arith, within.bytes, long.long, waits.given, so.counted);
     }
 
-pub stop : (text : List ℕ) (lines : List (List ℕ)) (old new : Input) (fault : LineFault) → Given text lines old → Stops fault old new → IsWithin new → StopsBehind fault text lines new
+pub stop : (text : List ℕ) (lines : List (List ℕ)) (old new : Input) (fault : InputFault) → Given text lines old → Stops fault old new → IsWithin new → StopsAfter fault text lines new
 stop text lines old new LineTooLong (inl so) (going, told, (waits, long)) within = comes_to_long text lines old new so waits long within
 stop text lines old new TooLong (inl so) (going, told, (line, inl spent)) within = inl (reads_out text lines old new so spent.0 spent.1 line within)
 stop text lines old new TooLong (inl so) (going, told, (line, inr over)) within = inr (reads_over text lines old new so over line)
@@ -240,7 +240,7 @@ same_length text a b (Some rest) h k =
     let two : length text ≡ length b + length rest = ap length k ∙ length-append b rest in
     omega (arith, one, two)
 
-pub apart : (text : List ℕ) (lines others : List (List ℕ)) (now : Input) → StopsBehind Read text lines now → ¬ StopsBehind TooLong text others now
+pub apart : (text : List ℕ) (lines others : List (List ℕ)) (now : Input) → StopsAfter Read text lines now → ¬ StopsAfter TooLong text others now
 apart text lines others now (on, few) (inl out) = omega (arith, few, out.reads)
 apart text lines others now (on, few) (inr over) =
     let same = same_length text on.read (over.read ++ over.byte ∷ []) now.coming on.taken over.taken in

@@ -7,8 +7,8 @@ use Rattle.std.proofs.lemmas.List.Elements.{All-nil, All-cons, All-append}
 use Rattle.std.specs.Prelude.{MatchBool}
 use Rattle.std.specs.Result.{IsErr, IsErrAnd}
 use Rattle.can_fault.specs.Sources.{VerdictMap}
-use Rattle.can_session.specs.declared.lines.LineFault.{LineFault}
-use Rattle.can_session.specs.declared.lines.LineFault.TheVariants as line
+use Rattle.can_session.specs.declared.lines.InputFault.{InputFault}
+use Rattle.can_session.specs.declared.lines.InputFault.TheVariants as line
 use Rattle.can_session.specs.declared.bench_run.BenchFault.{BenchFault}
 use Rattle.can_session.specs.declared.bench_run.BenchFault.TheVariants.{BadConfig, BadLine, TooLong, Read, Write, NoMemory}
 use Rattle.can_session.specs.Lines.{Input, unread, IsLine, IsWithin, FindsEnd, TakesLine, Given, Stops, Repeats, left_of, lines_of, spelled}
@@ -47,7 +47,7 @@ fine_behind old new fine (going, line, inl gives) = gives.fault ∙ fine
 fine_behind old new fine (going, line, inr last) = last.0.fault ∙ fine
 
 -- the fault of an input that had none is a new one
-pub first_fault : (old new : Input) (fault : LineFault) → old.fault ≡ None → Stops fault old new ⊎ Repeats fault old new → Stops fault old new
+pub first_fault : (old new : Input) (fault : InputFault) → old.fault ≡ None → Stops fault old new ⊎ Repeats fault old new → Stops fault old new
 first_fault old new fault fine (inl stops) = stops
 first_fault old new fault fine (inr again) = let no = again.0 in cc
 
@@ -107,7 +107,7 @@ is_next (Some text) lines old new h within k =
     let first = given_first text (lines ++ new.line ∷ []) new (next text lines old new h k) in
     (first.0, first.1 ∙ append_assoc lines (new.line ∷ []) first.0, within_behind text lines old new h k within)
 
-before_stop : (fault : LineFault) (input : Option (List ℕ)) (lines : List (List ℕ)) (old new : Input) → AreOf input lines old → IsWithin new → Stops fault old new → ComeBeforeStop fault input lines new
+before_stop : (fault : InputFault) (input : Option (List ℕ)) (lines : List (List ℕ)) (old new : Input) → AreOf input lines old → IsWithin new → Stops fault old new → ComeBeforeStop fault input lines new
 before_stop fault None lines old new h within why = why.1
 before_stop fault (Some text) lines old new h within why = (why.1, stop text lines old new fault h why within)
 

@@ -141,7 +141,7 @@ IsTriedIf is verdicts b text after = (one : IsTried verdicts b text after) × (t
 abbrev pub is_due : ℕ → BenchState → Bool
 is_due moment b = begins_before b.wire b.moment moment && is_some (head_on b.bus)
 
--- so many attempts, each of which was due and tries a frame; the last one is the last step
+-- this many attempts, each of which was due and tries a frame; the last one is the last step
 abbrev pub AreTried : VerdictMap → ℕ → ℕ → BenchState → List ℕ → BenchState → Type 0
 AreTried verdicts moment zero b text after = (text ≡ []) × (after ≡ b)
 AreTried verdicts moment (suc n) b text after = (before : List ℕ) × (mid : BenchState) × (last : List ℕ) × AreTried verdicts moment n b before mid × (is_due moment mid ≡ true) × IsTriedIf true verdicts mid last after × (text ≡ before ++ last)

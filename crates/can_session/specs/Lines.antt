@@ -1,8 +1,8 @@
 use Rattle.std.specs.Prelude.{◌≡◌, ℕ, ◌+◌, ◌<◌, ◌≤◌, Bool, true, false, MatchBool, ◌==◌, ◌⊎◌, if◌then◌else◌, List, [], ◌∷◌, ◌++◌, length, take, drop, count_by, Option, Some, None}
 use Rattle.std.specs.List.{list_any, flat_map, AllByRecursion}
 use Rattle.std.specs.Io.KnownBytes.{Consumes, Keeps, IsAtEnd, prepend_known}
-use Rattle.can_session.specs.declared.lines.LineFault.{LineFault}
-use Rattle.can_session.specs.declared.lines.LineFault.TheVariants.{LineTooLong, TooLong, Read}
+use Rattle.can_session.specs.declared.lines.InputFault.{InputFault}
+use Rattle.can_session.specs.declared.lines.InputFault.TheVariants.{LineTooLong, TooLong, Read}
 
 -- The lines of a text, and an input that is read line by line (own choice).
 
@@ -44,7 +44,7 @@ pub record Input : Type 0 where
   pub coming : Option (List ℕ)
   pub reads : ℕ
   pub ended : Bool
-  pub fault : Option LineFault
+  pub fault : Option InputFault
 
 -- an input of which nothing was read
 abbrev pub unread : Option (List ℕ) → Input
@@ -117,22 +117,22 @@ pub record Overruns (old new : Input) : Type 0 where
   pub full : new.given + length new.held ≡ 16777216
 
 -- a read that was not made or gave nothing of use: no read is left, a byte came too many, or a read that was left failed
-abbrev pub Fails : LineFault → Input → Input → Type 0
+abbrev pub Fails : InputFault → Input → Input → Type 0
 Fails LineTooLong old new = ⊥
 Fails TooLong old new = (Waits old new × (new.reads ≡ 16777216)) ⊎ Overruns old new
 Fails Read old new = Waits old new × (new.reads < 16777216)
 
 -- why there is no next line: what is held begins with too long a line, or it is no whole line and no more can be read
-abbrev pub Halts : LineFault → Input → Input → Type 0
+abbrev pub Halts : InputFault → Input → Input → Type 0
 Halts LineTooLong old new = Waits old new × IsLong new.held
 Halts fault old new = IsLine new.held × Fails fault old new
 
 -- the input had not ended, and there is no next line: the fault is returned
-abbrev pub Stops : LineFault → Input → Input → Type 0
+abbrev pub Stops : InputFault → Input → Input → Type 0
 Stops fault old new = (old.ended ≡ false) × (new.fault ≡ Some fault) × Halts fault old new
 
 -- the fault was returned before, and is returned again
-abbrev pub Repeats : LineFault → Input → Input → Type 0
+abbrev pub Repeats : InputFault → Input → Input → Type 0
 Repeats fault old new = (old.fault ≡ Some fault) × (new ≡ old)
 
 -- one read put this many bytes after what is held
@@ -203,7 +203,7 @@ pub record ComesToLong (text : List ℕ) (lines : List (List ℕ)) : Type 0 wher
 
 -- the lines that were given of a text before a fault: the one after them is too long, no more may be read, or the reader
 -- failed before that
-abbrev pub StopsBehind : LineFault → List ℕ → List (List ℕ) → Input → Type 0
-StopsBehind LineTooLong text lines now = ComesToLong text lines
-StopsBehind TooLong text lines now = ReadsOut text lines now ⊎ ReadsOver text lines now
-StopsBehind Read text lines now = ReadsOn text lines now × (now.reads < 16777216)
+abbrev pub StopsAfter : InputFault → List ℕ → List (List ℕ) → Input → Type 0
+StopsAfter LineTooLong text lines now = ComesToLong text lines
+StopsAfter TooLong text lines now = ReadsOut text lines now ⊎ ReadsOver text lines now
+StopsAfter Read text lines now = ReadsOn text lines now × (now.reads < 16777216)

@@ -8,11 +8,11 @@ use Rattle.can_event.specs.declared.bus_config.BusConfig.{BusConfig}
 use Rattle.can_record.specs.Journal.{Kept}
 use Rattle.can_event.specs.Events.{IsConfig, max_rx_capacity}
 use Rattle.can_wire.specs.Timings.{BusTiming}
-use Rattle.can_session.specs.declared.lines.LineFault.{LineFault}
-use Rattle.can_session.specs.declared.lines.LineFault.TheVariants as line
+use Rattle.can_session.specs.declared.lines.InputFault.{InputFault}
+use Rattle.can_session.specs.declared.lines.InputFault.TheVariants as line
 use Rattle.can_session.specs.declared.bench_run.BenchFault.{BenchFault}
 use Rattle.can_session.specs.declared.bench_run.BenchFault.TheVariants.{BadConfig, BadLine, TooLong, Read, Write, NoMemory}
-use Rattle.can_session.specs.Lines.{Input, IsLine, IsOver, FindsEnd, TakesLine, Stops, StopsBehind, lines_of, spelled}
+use Rattle.can_session.specs.Lines.{Input, IsLine, IsOver, FindsEnd, TakesLine, Stops, StopsAfter, lines_of, spelled}
 use Rattle.can_session.specs.declared.ignored_input.IgnoredInput.{IgnoredInput}
 use Rattle.can_session.specs.IgnoredInput.{none_ignored}
 use Rattle.can_session.specs.Orders.{order_of}
@@ -61,9 +61,9 @@ pub record ComesToRefused (input : Option (List ℕ)) (lines : List (List ℕ)) 
   pub refused : IsRefused (order_of now.line) b
 
 -- these lines were given of the input before this fault
-abbrev pub ComeBeforeStop : LineFault → Option (List ℕ) → List (List ℕ) → Input → Type 0
+abbrev pub ComeBeforeStop : InputFault → Option (List ℕ) → List (List ℕ) → Input → Type 0
 ComeBeforeStop fault None lines now = now.fault ≡ Some fault
-ComeBeforeStop fault (Some text) lines now = (now.fault ≡ Some fault) × StopsBehind fault text lines now
+ComeBeforeStop fault (Some text) lines now = (now.fault ≡ Some fault) × StopsAfter fault text lines now
 
 -- after these lines of the input comes one that the bench refuses, or one that is too long
 abbrev pub ComeBeforeBad : Option (List ℕ) → List (List ℕ) → Input → BenchState → Type 0
@@ -117,7 +117,7 @@ StepsOn {W} contents verdicts more old new b after out wrote =
     (FindsEnd old new × (after ≡ b) × Keeps (contents out) (contents wrote))
 
 -- how a fault at the next line, which has this number, is reported
-abbrev pub fault_of : ℕ → LineFault → BenchFault
+abbrev pub fault_of : ℕ → InputFault → BenchFault
 fault_of number line.LineTooLong = BadLine number
 fault_of number line.TooLong = TooLong
 fault_of number line.Read = Read

@@ -1,4 +1,4 @@
-ghost use Rattle.std.specs.Prelude.{◌≡◌, ◌≢◌, ◌+◌, ◌<◌, ◌≤◌, ◌↔◌, ◌⊎◌, Err, None, length, IfOk, IfErr, OnOk, OnErr};
+ghost use Rattle.std.specs.Prelude.{◌≡◌, ◌≢◌, ◌+◌, ◌<◌, ◌↔◌, ◌⊎◌, Err, None, length, IfOk, IfErr, OnOk, OnErr};
 ghost use Rattle.std.specs.Io.KnownBytes.{Appends, Keeps};
 ghost use Rattle.can_bus.specs.Headline.{Headline};
 ghost use Rattle.can_bus.specs.Legal.{IsLegal};
@@ -8,7 +8,7 @@ ghost use Rattle.can_session.specs.Runs.{IsBench, IsRecordOf, at_start, at_start
 
 use crate::bench_state::Bench;
 use crate::ignored_input::IgnoredInput;
-use crate::lines::{LineFault, Lines};
+use crate::lines::{InputFault, Lines};
 use can_bus::{BusConfig, Record};
 use can_fault::FaultSource;
 use can_frame::Names;
@@ -257,12 +257,12 @@ fn put<W: Write>(out: &mut W, said: &[u8]) -> Result<(), BenchFault>
 }
 
 /// How a fault of the input is reported, at the line of this number.
-fn told(fault: LineFault, number: u32) -> BenchFault
+fn told(fault: InputFault, number: u32) -> BenchFault
     ensures { result ≡ fault_of number fault }
 {
     match fault {
-        LineFault::LineTooLong => BenchFault::BadLine(number),
-        LineFault::TooLong => BenchFault::TooLong,
-        LineFault::Read => BenchFault::Read,
+        InputFault::LineTooLong => BenchFault::BadLine(number),
+        InputFault::TooLong => BenchFault::TooLong,
+        InputFault::Read => BenchFault::Read,
     }
 }

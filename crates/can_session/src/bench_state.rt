@@ -9,11 +9,11 @@ ghost use Rattle.can_session.specs.inner.Acts.{done_by, noted, noted_by, Puts};
 
 use crate::attempt_lines::put_attempt;
 use crate::bench_run::BenchFault;
+use crate::bench_start::{make_bus, no_sessions, the_start};
 use crate::bus_port::BusPort;
 use crate::ignored_input::IgnoredInput;
 use crate::line_prefix::{begin_output, end_output};
 use crate::order::{Order, SessionNumber, read_order};
-use crate::starts::{make_bus, no_sessions, the_start};
 use crate::turns::{self, Act, BenchPort};
 use crate::wire_times::{attempt_lasts, frame_lasts, unused_wire};
 use can_bus::{Attempt, BusConfig, Record, Refusal};

@@ -4,9 +4,9 @@ ghost use Rattle.can_event.specs.declared.attempt.Attempt.{Attempt};
 ghost use Rattle.can_event.specs.declared.refusal.Refusal.{Refusal};
 ghost use Rattle.can_session.specs.Benches.{BenchState, is_due, next_moment, passed, said_moment};
 ghost use Rattle.can_session.specs.Wires.{Wire, begin_of, wire_after};
-ghost use Rattle.can_session.specs.Lines.{FindsEnd, Given, Input, IsWithin, Stops, StopsBehind, TakesLine, left_of, lines_of};
-ghost use Rattle.can_session.specs.declared.lines.LineFault.{LineFault};
-ghost use Rattle.can_session.specs.declared.lines.LineFault.TheVariants.{TooLong, Read};
+ghost use Rattle.can_session.specs.Lines.{FindsEnd, Given, Input, IsWithin, Stops, StopsAfter, TakesLine, left_of, lines_of};
+ghost use Rattle.can_session.specs.declared.lines.InputFault.{InputFault};
+ghost use Rattle.can_session.specs.declared.lines.InputFault.TheVariants.{TooLong, Read};
 ghost use Rattle.can_session.specs.IgnoredInput.{AreInOrder, begun_after, has_outside};
 
 /// What the calls of `Lines` give together are the lines of the text that the reader had, in order. At a fault they
@@ -21,11 +21,11 @@ pub fn lines_given_are_those_of_the_text()
     ensures end { (text : List ℕ) (lines : List (List ℕ)) (old new : Input) →
         Given text lines old → FindsEnd old new →
         (lines ≡ lines_of text) × (new.given ≡ length text) }
-    ensures stop { (text : List ℕ) (lines : List (List ℕ)) (old new : Input) (fault : LineFault) →
+    ensures stop { (text : List ℕ) (lines : List (List ℕ)) (old new : Input) (fault : InputFault) →
         Given text lines old → Stops fault old new → IsWithin new →
-        StopsBehind fault text lines new }
+        StopsAfter fault text lines new }
     ensures apart { (text : List ℕ) (lines others : List (List ℕ)) (now : Input) →
-        StopsBehind Read text lines now → ¬ StopsBehind TooLong text others now }
+        StopsAfter Read text lines now → ¬ StopsAfter TooLong text others now }
 {}
 
 /// Nothing of a stream is outside messages exactly where it is messages with only blanks between them, of which the last

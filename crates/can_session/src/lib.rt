@@ -8,6 +8,7 @@
 
 mod attempt_lines;
 pub mod bench_run;
+mod bench_start;
 mod bench_state;
 pub mod bus_port;
 mod byte_search;
@@ -18,7 +19,6 @@ pub mod lines;
 mod numbers;
 pub mod order;
 mod read_buffer;
-mod starts;
 mod turns;
 mod wire_times;
 
@@ -27,5 +27,5 @@ pub use bus_port::BusPort;
 pub use can_dialog::{Dialog, Port, PortRefusal, RawSocket, Session, SessionFault, Stage};
 pub use can_proto::BusLoad;
 pub use ignored_input::IgnoredInput;
-pub use lines::{LineFault, Lines};
+pub use lines::{InputFault, Lines};
 pub use order::{Order, SessionNumber, read_order};

@@ -1,5 +1,5 @@
 //! What a session says in a line: its number, a space, its words and LF, or nothing at all.
-ghost use Rattle.std.specs.Prelude.{◌≡◌, ◌++◌, ◌∷◌, ◌<◌, ◌≤◌, [], length, OnOk, IfOk};
+ghost use Rattle.std.specs.Prelude.{◌≡◌, ◌++◌, ◌∷◌, ◌<◌, [], length, OnOk, IfOk};
 ghost use Rattle.std.specs.Fmt.{decimal};
 
 use crate::numbers::put_number;

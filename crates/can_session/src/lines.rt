@@ -1,4 +1,4 @@
-ghost use Rattle.std.specs.Prelude.{◌≡◌, ◌≤◌, ◌<◌, ◌+◌, ◌⊎◌, [], ◌∷◌, ◌++◌, true, false, length, take, drop, position, Some, None, IfOk, IfErr, IfSome, OnOk, OnErr, MatchBool};
+ghost use Rattle.std.specs.Prelude.{◌≡◌, ◌≤◌, ◌<◌, ◌+◌, ◌⊎◌, true, false, length, take, drop, position, Some, None, IfOk, IfErr, IfSome, OnOk, OnErr, MatchBool};
 ghost use Rattle.std.specs.List.{list_any};
 ghost use Rattle.std.specs.Io.KnownBytes.{IsAtEnd};
 ghost use Rattle.can_session.specs.Lines.{is_lf, unread, after_line, after_last, ComesNext, Fails, Fills, Halts, IsOver, IsWithin, Repeats, Stops, TakesLine};
@@ -18,7 +18,7 @@ pub const LONGEST_INPUT: usize = 16_777_216;
 
 /// Why there is no next line.
 #[derive(Debug, Clone, Copy, PartialEq, Eq)]
-pub enum LineFault {
+pub enum InputFault {
     /// The line has more than 4,096 bytes.
     LineTooLong,
     /// The input has more bytes than it may have, or needs more reads.
@@ -41,7 +41,7 @@ pub struct Lines<R: Read + Drop> {
     // How many reads gave bytes.
     reads: usize,
     is_over: bool,
-    fault: Option<LineFault>,
+    fault: Option<InputFault>,
 }
 
 impl<R: Read + Drop> Model for Lines<R> {
@@ -120,7 +120,7 @@ impl<R: Read + Drop> Lines<R> {
     /// whole line was read, so at a fault all whole lines before it were given: `LineTooLong` at the 4,097th byte
     /// of a line, `TooLong` at the byte or the read past the limit, `Read` where the reader failed. After a
     /// fault nothing more is read, and each call returns that fault.
-    pub fn next_line(&mut self) -> Result<bool, LineFault>
+    pub fn next_line(&mut self) -> Result<bool, InputFault>
         ensures ok { IfOk result (λ found. ComesNext found self.old self.new) }
         ensures fine { OnOk result (self.old.fault ≡ None) }
         ensures err { IfErr result (λ fault.
@@ -141,7 +141,7 @@ impl<R: Read + Drop> Lines<R> {
     }
 
     // Reads on to the next line.
-    fn read_line(&mut self) -> Result<bool, LineFault>
+    fn read_line(&mut self) -> Result<bool, InputFault>
         requires going { self.old.ended ≡ false }
         requires within { IsWithin self.old }
         ensures ok { IfOk result (λ found. ComesNext found self.old self.new) }
@@ -155,7 +155,7 @@ impl<R: Read + Drop> Lines<R> {
                     self.give(len, len + 1);
                     return Ok(true);
                 }
-                LineSearch::Long => return Err(LineFault::LineTooLong),
+                LineSearch::Long => return Err(InputFault::LineTooLong),
                 LineSearch::Begun => {}
             }
             searched = self.held().len();
@@ -167,14 +167,14 @@ impl<R: Read + Drop> Lines<R> {
     }
 
     // Returns the fault from now on.
-    fn stop(&mut self, fault: LineFault)
+    fn stop(&mut self, fault: InputFault)
         ensures within { IsWithin self.new }
         ensures told { self.new ≡ record self.old { fault = Some fault } }
     {
         self.fault = Some(fault);
     }
 
-    fn fault(&self) -> Option<LineFault>
+    fn fault(&self) -> Option<InputFault>
         ensures told { result ≡ self.now.fault }
         ensures within { IsWithin self.now }
     {
@@ -226,7 +226,7 @@ impl<R: Read + Drop> Lines<R> {
 
     // Reads once, and returns how many bytes came. The reader is asked for no byte past the input's limit, but for
     // the one that shows that the limit is passed.
-    fn fill(&mut self) -> Result<usize, LineFault>
+    fn fill(&mut self) -> Result<usize, InputFault>
         requires short { length self.old.held ≤ 4096 }
         requires going { self.old.ended ≡ false }
         ensures ok { IfOk result (λ n. Fills self.old self.new n) }
@@ -235,7 +235,7 @@ impl<R: Read + Drop> Lines<R> {
         ensures within { IsWithin self.new }
     {
         if self.reads == LONGEST_INPUT {
-            return Err(LineFault::TooLong);
+            return Err(InputFault::TooLong);
         }
         self.buffer.consume(self.width);
         self.line = 0;
@@ -243,11 +243,11 @@ impl<R: Read + Drop> Lines<R> {
         let held = self.buffer.as_slice().len();
         let left = LONGEST_INPUT - self.given - held;
         let Ok(read) = self.buffer.read_from(&mut self.input, left.max(1)) else {
-            return Err(LineFault::Read);
+            return Err(InputFault::Read);
         };
         if read > left {
             self.buffer.truncate(held);
-            return Err(LineFault::TooLong);
+            return Err(InputFault::TooLong);
         }
         if read > 0 {
             self.reads += 1;

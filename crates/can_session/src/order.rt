@@ -1,4 +1,4 @@
-ghost use Rattle.std.specs.Prelude.{◌≡◌, ◌≤◌, ◌<◌, ◌-◌, ◌^◌, ◌∷◌, length, option_map, option_and_then, IfSome};
+ghost use Rattle.std.specs.Prelude.{◌≡◌, ◌≤◌, ◌<◌, ◌-◌, ◌∷◌, option_map, option_and_then, IfSome};
 ghost use Rattle.can_session.specs.Orders.{Effect, effect_of, order_of, asked_by, fed_by, is_remark, session_number, session_of, parted};
 ghost use Rattle.can_frame.specs.Moments.{moment_in};
 ghost use Rattle.can_proto.specs.Verbs.{is_word};
@@ -93,7 +93,7 @@ pub fn read_order(line: &[u8]) -> Option<Order<'_>>
     if says_nothing(line) {
         return Some(Order::Nothing);
     }
-    if matches(line, b"attempt") {
+    if same_word(line, b"attempt") {
         return Some(Order::Attempt);
     }
     let (word, rest) = split_at_first(line, b' ')?;
@@ -104,19 +104,19 @@ pub fn read_order(line: &[u8]) -> Option<Order<'_>>
 fn read_asked<'a>(word: &[u8], rest: &'a [u8]) -> Option<Order<'a>>
     ensures { option_map effect_of result ≡ asked_by (word.now, rest.now) }
 {
-    if matches(word, b"at") {
+    if same_word(word, b"at") {
         read_at(rest)
-    } else if matches(word, b"session") {
+    } else if same_word(word, b"session") {
         Some(Order::Session(read_session(rest)?))
-    } else if matches(word, b"feed") {
+    } else if same_word(word, b"feed") {
         read_feed(rest)
-    } else if matches(word, b"drain") {
+    } else if same_word(word, b"drain") {
         read_drain(rest)
-    } else if matches(word, b"end") {
+    } else if same_word(word, b"end") {
         Some(Order::End(read_session(rest)?))
-    } else if matches(word, b"run") {
+    } else if same_word(word, b"run") {
         Some(Order::Run(read_moment(rest)?))
-    } else if matches(word, b"fault") {
+    } else if same_word(word, b"fault") {
         Some(Order::Fault(rest))
     } else {
         None
@@ -182,7 +182,7 @@ fn says_nothing(line: &[u8]) -> bool
     }
 }
 
-fn matches(word: &[u8], name: &[u8]) -> bool
+fn same_word(word: &[u8], name: &[u8]) -> bool
     ensures { result ≡ is_word word.now name.now }
 {
     word == name

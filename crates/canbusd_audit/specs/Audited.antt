@@ -24,7 +24,7 @@ use Rattle.canbusd_audit.specs.declared.buffered.Buffered.TheVariants as held
 
 -- What an audit of a text answers (own choice).
 
--- the line that tells how many entries a legal record has
+-- the line that says how many entries a legal record has
 abbrev pub entries_line : ℕ → List ℕ
 entries_line n = codes "ok " ++ decimal n ++ codes " entries" ++ 10 ∷ []
 
@@ -36,7 +36,7 @@ pub record IsAudited (text : List ℕ) (old new : Option (List ℕ)) : Type 0 wh
   pub legal : IsLegal config (reverse entries)
   pub wrote : Appends old new (entries_line (length entries))
 
--- the line that tells how many entries a record has that is cut off
+-- the line that says how many entries a record has that is cut off
 abbrev pub cut_line : ℕ → List ℕ
 cut_line n = codes "ok " ++ decimal n ++ codes " entries, then cut off" ++ 10 ∷ []
 
@@ -172,7 +172,7 @@ pub record IsUnderway (first now : Option (List ℕ)) (audit : TextAudit) : Type
 abbrev pub GoesOn : Option (List ℕ) → Option (List ℕ) → TextAudit → TextAudit → Type 0
 GoesOn old new before after = (first : Option (List ℕ)) → IsUnderway first old before → IsUnderway first new after
 
--- behind the lines that were taken, what a reader has left is at fault so
+-- after the lines that were taken, what a reader has left is at fault so
 abbrev pub IsAtFault : Option (List ℕ) → TextAudit → ReadFault → Type 0
 IsAtFault now audit why = (first : Option (List ℕ)) → IsUnderway first now audit → (text : List ℕ) × IsTextIn first text × Reads text (Err why)
 

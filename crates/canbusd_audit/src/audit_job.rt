@@ -1,12 +1,11 @@
-ghost use Rattle.std.specs.Prelude.{[], IfErr, IfOk, OnOk, map};
-ghost use Rattle.can_replay.specs.TextAudits.{EndsNoLine};
-ghost use Rattle.canbusd_audit.specs.Audited.{Audits, AuditsCut, AuditsFiles, FaultsCut, FaultsFiles, FaultsInput, IsInputTaken, IsOfFiles};
+ghost use Rattle.std.specs.Prelude.{IfErr, OnOk, map};
+ghost use Rattle.canbusd_audit.specs.Audited.{Audits, AuditsCut, AuditsFiles, FaultsCut, FaultsFiles, FaultsInput, IsOfFiles};
 
 use crate::ends::{tell_cut, tell_end};
 use crate::joined::Joined;
 use crate::line_taking::{take_last, take_lines};
 use can_replay::TextAudit;
-use canbusd_io::{FewReads, ProgramError, Report, open_file};
+use canbusd_io::{LimitedReads, ProgramError, Report, open_file};
 use canbusd_options::AuditOptions;
 use std::alloc::{AllocError, Global};
 use std::io::{BufRead, BufReader, Write};
@@ -45,7 +44,7 @@ fn open_files<'a, H: Files>(
     rt: &H,
     alloc: Global,
     paths: &[&'a str],
-) -> Result<Vec<FewReads<H::File>>, Report<'a>>
+) -> Result<Vec<LimitedReads<H::File>>, Report<'a>>
     ensures { IfErr result (λ failure. IsOfFiles (map (λ path. path.now) paths.now) failure.error) }
 {
     let mut files = Vec::new(alloc);

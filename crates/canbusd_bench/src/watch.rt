@@ -1,5 +1,5 @@
 //! A writer that looks for refusals among what goes through it.
-ghost use Rattle.std.specs.Prelude.{◌≡◌, ◌≢◌, ◌+◌, ◌<◌, ◌^◌, ◌⊎◌, [], false, true, length, IfNone, IfSome, IsSome, Some};
+ghost use Rattle.std.specs.Prelude.{◌≡◌, ◌≢◌, ◌+◌, ◌<◌, ◌^◌, ◌⊎◌, false, true, length, IfNone, IfSome, IsSome, Some};
 ghost use Rattle.canbusd_io.specs.declared.program_error.ProgramError.TheVariants as fault;
 ghost use Rattle.canbusd_bench.specs.inner.Watched.{seen_after as seen_after_byte, seen_in, told};
 

@@ -1,5 +1,5 @@
-use Rattle.std.specs.Prelude.{◌≡◌, ℕ, List, [], Option, Some, None, Result, Ok, Err}
-use Rattle.std.specs.Io.Buffered.{writer_buffer, writer_contents, writer_inner}
+use Rattle.std.specs.Prelude.{◌≡◌, ℕ, List, Option, Some, None, Result, Ok, Err}
+use Rattle.std.specs.Io.Buffered.{writer_contents}
 use Rattle.std.specs.Io.KnownBytes.{Appends, Keeps}
 use Rattle.std.specs.declared.io.buffered.BufWriter.{BufWriter}
 use Rattle.std.specs.declared.alloc.Global.{Global}

@@ -1,4 +1,4 @@
-use Rattle.std.specs.Prelude.{ℕ, List, [], Option, reverse}
+use Rattle.std.specs.Prelude.{ℕ, List, Option, reverse}
 use Rattle.can_event.specs.declared.entry.Entry.{Entry}
 use Rattle.can_logfile.specs.Log.{joined, log_lines}
 use Rattle.can_record_text.specs.Spelling.{front_lines}

@@ -3,7 +3,7 @@ ghost use Rattle.std.specs.Prelude.{◌≡◌, IfErr};
 ghost use Rattle.canbusd_io.specs.declared.program_error.ProgramError.TheVariants as fault;
 ghost use Rattle.canbusd_io.specs.Files.{IsOfFile, IsOfReading};
 
-use crate::few_reads::{FewReads, MOST_READS};
+use crate::limited_reads::{LimitedReads, MOST_READS};
 use crate::notes::reason_note;
 use crate::program_error::ProgramError;
 use crate::report::Report;
@@ -25,11 +25,11 @@ pub fn open_file<'a, H: Files>(
     rt: &H,
     alloc: Global,
     path: &'a str,
-) -> Result<FewReads<H::File>, Report<'a>>
+) -> Result<LimitedReads<H::File>, Report<'a>>
     ensures { IfErr result (λ failure. failure.error ≡ fault.CannotOpen path.entry) }
 {
     match fs::open(rt, path) {
-        Ok(file) => Ok(FewReads::new(alloc, file, MOST_READS)),
+        Ok(file) => Ok(LimitedReads::new(alloc, file, MOST_READS)),
         Err(error) => Err(open_failure(alloc, path, &error)),
     }
 }

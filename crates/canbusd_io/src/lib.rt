@@ -11,8 +11,8 @@
 
 mod buses;
 mod draft;
-mod few_reads;
 mod files;
+mod limited_reads;
 mod live;
 mod live_file;
 mod names;
@@ -27,10 +27,10 @@ mod whole_lines;
 
 pub use buses::{bus_config, limits_note, read_plan};
 pub use draft::Draft;
-pub use few_reads::FewReads;
 pub use files::{
     INPUT, OUTPUT, open_file, read_failure, read_file, read_text, utf8_note, write_failure,
 };
+pub use limited_reads::LimitedReads;
 pub use live::{LiveLog, LiveRecord, set_aside};
 pub use names::{has_name, read_names};
 pub use notes::{WITH_CR, fixed_note, line_of, reason_note};

@@ -117,11 +117,11 @@ IsListening contents address old new = (heard : List ℕ) × IsHeardAt address h
 abbrev pub AreConfigured : ServeOptions → List BusWord → List Journal → Type 0
 AreConfigured o buses ends = AllZip (λ bus j. j.config ≡ config_of o.settings (length (names_in bus.names.now))) buses ends
 
--- what a record tells of its bus
+-- what a record says of its bus
 abbrev pub record_journal : Kept → Journal
 record_journal r = record { config = r.config; history = r.history }
 
--- what is left of buses tells of these
+-- what is left of buses is of these
 abbrev pub journals : {L : Type 0} → (L → Journal) → List (Settled L) → List Journal
 journals journal settled = map (λ s. journal s.history) settled
 

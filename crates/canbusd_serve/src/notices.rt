@@ -72,7 +72,7 @@ fn bus_text(alloc: Global, name: &str, what: &str) -> Result<String, AllocError>
     format!(in alloc; "{name}: {what}")
 }
 
-/// What is reported of a bus whose driver was so many milliseconds late.
+/// What is reported of a bus whose driver was this many milliseconds late.
 pub fn late_text(alloc: Global, millis: u64) -> Result<String, AllocError> {
     let (seconds, tenths) = (millis / 1000, millis / 100 % 10);
     format!(in alloc; "{seconds}.{tenths} s behind its bit rate")

@@ -118,7 +118,7 @@ option_at t =
     else if bytes_eq (word t) (codes "errmask") then (mask_at (after t) >>= λ m. Some (opt.ErrMask m.0, m.1))
     else None
 
--- a set behind the front of a word of so many bytes
+-- a set after the first bytes of a word, of which there are this many
 unfoldable pub set_behind : ℕ → List ℕ → Option (IfaceSet × List ℕ)
 set_behind n t = set_at (drop n t)
 
@@ -188,7 +188,7 @@ error_at t = do
 abbrev pub behind_word : List ℕ → List ℕ
 behind_word t = drop (length (word t)) t
 
--- the interfaces that an attempt restarted, behind the reply's last word but these
+-- the interfaces that an attempt restarted, after the reply's other words
 unfoldable pub restarted_at : List ℕ → Option (IfaceSet × List ℕ)
 restarted_at t = if begins_with (codes " restarted ") (behind_word t) then set_behind 11 (behind_word t) else Some (no_ifaces, after t)
 
@@ -235,12 +235,12 @@ filter_at fs t = do
   m ← mask_at i.1
   if bit_and m.0 (2 ^ 29) == 0 then Some (fs ++ record { id = i.0; mask = m.0 } ∷ [], m.1) else None
 
--- so many filters more
+-- this many filters more
 unfoldable pub filters_at : List CanFilter → ℕ → List ℕ → Option (List CanFilter × List ℕ)
 filters_at fs zero t = Some (fs, t)
 filters_at fs (suc n) t = filter_at fs t >>= λ f. filters_at f.0 n f.1
 
--- filters were read behind those that were there, unless memory was refused
+-- filters were read after those that were there, unless memory was refused
 abbrev pub GivesFilters : Result (Bor (List ℕ)) Unread → List CanFilter → Option (List CanFilter × List ℕ) → Type 0
 GivesFilters (Ok rest) filters read = read ≡ Some (filters, rest.now)
 GivesFilters (Err unread.NoMemory) filters read = Unit {0}
@@ -271,11 +271,11 @@ plain_at w t =
     else if bytes_eq w (codes "send") then (socket_at t >>= λ s. frame_at s.1 >>= λ f. Some (Send s.0 f.0, f.1))
     else setting_at w t
 
--- the moment and the verdict of an attempt, behind its first word
+-- the moment and the verdict of an attempt, after its first word
 unfoldable pub attempted_in : List ℕ → Option (ℕ × Verdict)
 attempted_in t = moment_at t >>= λ m. verdict_at m.1 >>= λ v. Some (m.0, v.0)
 
--- the socket and the frame of a send, behind its first word
+-- the socket and the frame of a send, after its first word
 unfoldable pub sent_in : List ℕ → Option (SocketId × CanFrame)
 sent_in t = socket_at t >>= λ s. frame_at s.1 >>= λ f. Some (s.0, f.0)
 

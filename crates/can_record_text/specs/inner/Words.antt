@@ -16,12 +16,12 @@ unfoldable pub word : List ℕ → List ℕ
 word [] = []
 word (b ∷ bs) = if is_gap b then [] else b ∷ word bs
 
--- the bytes behind it
+-- the bytes after it
 unfoldable pub after : List ℕ → List ℕ
 after [] = []
 after (b ∷ bs) = if is_gap b then bs else after bs
 
--- words, a space behind each
+-- words, a space after each
 abbrev pub spaced : List (List ℕ) → List ℕ
 spaced [] = []
 spaced (w ∷ ws) = w ++ 32 ∷ [] ++ spaced ws

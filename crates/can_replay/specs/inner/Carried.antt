@@ -2,7 +2,7 @@ use Rattle.std.specs.Prelude.{◌≡◌, ◌≢◌, ◌≤◌, ℕ, ◌⊎◌, L
 use Rattle.can_event.specs.declared.bus_config.BusConfig.{BusConfig}
 use Rattle.can_event.specs.declared.entry.Entry.{Entry}
 use Rattle.can_event.specs.declared.reply.Reply.{Reply}
-use Rattle.can_bus.specs.Lean.{Lean, Stands}
+use Rattle.can_bus.specs.Lean.{Lean, IsAfter}
 use Rattle.can_bus.specs.Legal.{legal_reply}
 use Rattle.can_replay.specs.Audits.{allowed_after}
 use Rattle.can_record_text.specs.declared.needs.Needs.{Needs}
@@ -13,20 +13,20 @@ use Rattle.can_record_text.specs.Values.{HasLine}
 
 -- One entry's line against what a bus answers.
 
--- the line of the next legal entry stands here, of one that needs so much, and the bus carried its event out
+-- this is the line of the next legal entry, with what it needs of a version, and the bus carried its event out
 pub record IsNext (c : BusConfig) (past : List Entry) (line : List ℕ) (needs : Needs) (bus : Lean) : Type 0 where
   pub entry : Entry
   pub rest : List ℕ
   pub good : HasLine version.Five c entry
   pub needed : needs ≡ needs_of entry
   pub stands : line ≡ entry_line entry rest
-  pub after : Stands bus (entry ∷ past)
+  pub after : IsAfter bus (entry ∷ past)
 
 -- the entry is wrong after these, where this reply would be legal
 pub record IsWrongNext (c : BusConfig) (past : List Entry) (e : Entry) (legal : Option Reply) : Type 0 where
   pub wrong : (c.limit ≤ length past) ⊎ (e.reply ≢ legal_reply c past e.event)
   pub is_allowed : legal ≡ allowed_after c (length past) past e.event
 
--- where an entry's line stands here, the entry is wrong
+-- where this is an entry's line, the entry is wrong
 abbrev pub IsOther : BusConfig → List Entry → List ℕ → Option Reply → Type 0
 IsOther c past line legal = (v : Version) (e : Entry) (rest : List ℕ) → HasLine v c e → line ≡ entry_line e rest → IsWrongNext c past e legal

@@ -1,7 +1,7 @@
 use Rattle.std.specs.Prelude.{◌≡◌, ℕ, Bool, true, false, List, [], length, reverse, Option, Some, None}
 use Rattle.can_event.specs.declared.bus_config.BusConfig.{BusConfig}
 use Rattle.can_event.specs.declared.entry.Entry.{Entry}
-use Rattle.can_bus.specs.Lean.{Stands}
+use Rattle.can_bus.specs.Lean.{IsAfter}
 use Rattle.can_bus.specs.Legal.{IsLegal}
 use Rattle.can_record_text.specs.declared.version.Version.{Version}
 use Rattle.can_record_text.specs.Spelling.{entry_lines, front_lines, all_needs, text_in}
@@ -12,7 +12,7 @@ use Rattle.can_replay.specs.declared.text_fault.WrongLine.{WrongLine}
 
 -- What is known of the lines after the first.
 
--- the first wrong entry is this one, and the bus may have so many
+-- the first wrong entry is this one, and the bus may have this many entries
 pub record IsWrongIn (c : BusConfig) (entries : List Entry) (w : WrongLine) : Type 0 where
   pub told : IsToldWrong c entries w.place w.legal
   pub entry : w.entry ≡ told.first.entry
@@ -41,4 +41,4 @@ pub record IsRead (text : List ℕ) (b : EntryAudit) : Type 0 where
 pub record IsGoing (text : List ℕ) (b : EntryAudit) : Type 0 where
   pub read : IsRead text b
   pub config : b.is_ended ≡ false → b.bus.config ≡ b.config
-  pub stands : b.is_ended ≡ false → b.wrong ≡ None → Stands b.bus (reverse read.entries)
+  pub stands : b.is_ended ≡ false → b.wrong ≡ None → IsAfter b.bus (reverse read.entries)

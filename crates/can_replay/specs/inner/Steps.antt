@@ -14,7 +14,7 @@ use Rattle.can_replay.specs.TextAudits.{IsLine}
 
 -- One more line.
 
--- an entry's line was taken; or none stands there, and nothing was noted
+-- an entry's line was taken; or it is none, and nothing was noted
 abbrev pub Takes : {A : Type 0} → EntryAudit → EntryAudit → List ℕ → Result A Unread → Type 0
 Takes old new line (Ok u) = (text : List ℕ) → IsGoing text old → old.is_ended ≡ false → IsLine line → IsGoing (text ++ line) new
 Takes old new line (Err unread.Bad) = (new ≡ record old { bus = new.bus }) × ((text : List ℕ) → IsGoing text old → old.is_ended ≡ false → LacksEntry old.version old.config line)
@@ -26,9 +26,9 @@ ReportsWrong old new line legal (Ok u) = (text : List ℕ) (read : IsRead text o
 ReportsWrong old new line legal (Err unread.Bad) = (new ≡ old) × LacksEntry old.version old.config line
 ReportsWrong old new line legal (Err unread.NoMemory) = Unit {0}
 
--- the line of the end after so many entries stands here
-abbrev pub StandsEnd : ℕ → List ℕ → Type 0
-StandsEnd count line = StartsWith (spell (end_words count) []) line
+-- this is the line of the end after this many entries
+abbrev pub IsEndLine : ℕ → List ℕ → Type 0
+IsEndLine count line = StartsWith (spell (end_words count) []) line
 
 -- it does not, unless memory was refused
 abbrev pub IsUnended : ℕ → List ℕ → ReadFault → Type 0

@@ -1,4 +1,4 @@
-use Rattle.std.proofs.Common.{◌≡◌, ◌++◌, List, slice_get, reverse, sym, ap, ◌∙◌}
+use Rattle.std.proofs.Common.{◌≡◌, ◌++◌, List, slice_get, reverse, ap, ◌∙◌}
 use Rattle.can_event.specs.declared.event.Event.TheVariants.{Attempt}
 use Rattle.can_event.specs.declared.pending.Pending.{Pending}
 use Rattle.can_event.specs.declared.reply.Reply.TheVariants as reply

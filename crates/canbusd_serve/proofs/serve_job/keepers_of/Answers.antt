@@ -1,7 +1,6 @@
-use Rattle.std.proofs.Common.{◌≡◌, ◌+◌, ◌∷◌, ◌++◌, ◌∙◌, ℕ, suc, List, [], All, ap, arith, length, length-append, subst, sym}
+use Rattle.std.proofs.Common.{◌≡◌, ◌+◌, ◌∷◌, ◌∙◌, ℕ, suc, List, [], ap, arith, length, length-append, subst, sym}
 use Rattle.std.specs.Vec.Iter.{into_iter_items}
 use Rattle.std.proofs.lemmas.List.Elements.{All-head, All-tail}
-use Rattle.can_roll.specs.Seen.{ScrollSeen}
 use Rattle.can_hub.specs.Settling.{AreNewScrolls}
 use Rattle.canbusd_serve.specs.LongRuns.{AreBegun, HaveLines}
 use Rattle.canbusd_serve.specs.declared.live_files.LiveFiles.{LiveFiles}

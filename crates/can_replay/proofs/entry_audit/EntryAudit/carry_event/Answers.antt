@@ -24,7 +24,7 @@ returns-in-Ok-false c =
     takes_blamed c.args.self.now c.report_wrong_reply.new.self c.answer-reply.new.self c.args.line.now (Some c.answer-reply.result) c.report_wrong_reply.result c.requires.legal c.answer-reply.ensures.config
     (λ past stands v e rest good is.
     other_reply v c.args.self.now.bus.config past c.args.line.now rest c.requires.seems.0 e c.args.event.now c.answer-reply.result good is c.requires.seems.1 enters (c.answer-reply.ensures.answer past stands)
-    (λ same. never c.in-Ok-false.field-0 (c.in-Ok-false.ensures.1 (starts-with-line c.args.event.now c.answer-reply.result c.args.line.now rest same)) c.in-Ok-false.field-0-test)) c.report_wrong_reply.ensures
+    (λ same. never c.in-Ok-false.field-0 (c.in-Ok-false.ensures.line.1 (starts-with-line c.args.event.now c.answer-reply.result c.args.line.now rest same)) c.in-Ok-false.field-0-test)) c.report_wrong_reply.ensures
 
 pub returns-then-not-takes : goal.returns-then-not-takes
 returns-then-not-takes c = (
@@ -36,8 +36,8 @@ returns-then-not-takes c = (
       let test : IsTrue c.enters.result = grind (arith, c.if-not-enters.false) in
       let enters : Enters c.answer-reply.result = subst IsTrue c.enters.ensures test in
       let one : IsNext old.bus.config past line c.of-needs.result c.answer-reply.new.self =
-      next_is old.bus.config past line c.args.event.now c.answer-reply.result c.of-needs.result c.answer-reply.new.self enters (c.answer-reply.ensures.spelled enters) c.hold_event.ensures c.hold_reply.ensures c.of-needs.ensures
-      (c.in-Ok-true.ensures.0 c.in-Ok-true.field-0-test) (c.answer-reply.ensures.after past (g.stands going c.requires.legal)) in
+      next_is old.bus.config past line c.args.event.now c.answer-reply.result c.of-needs.result c.answer-reply.new.self enters (c.answer-reply.ensures.spelled enters) c.is_line_of.ensures.values.0 c.is_line_of.ensures.values.1 c.of-needs.ensures
+      (c.in-Ok-true.ensures.line.0 c.in-Ok-true.field-0-test) (c.answer-reply.ensures.after past (g.stands going c.requires.legal)) in
       not_taken old.version old.config past line c.of-needs.result c.answer-reply.new.self (subst (λ (d : BusConfig). IsNext d past line c.of-needs.result c.answer-reply.new.self) (g.config going) one) (sym c.takes.ensures ∙ c.if-not-takes.true),
 )
 
@@ -50,6 +50,6 @@ returns c = λ text g going is.
     subst (IsGoing (text ++ line)) (sym c.add.ensures)
     (legal_more text line old c.answer-reply.new.self c.of-needs.result g c.requires.legal going is c.answer-reply.ensures.config
     (λ past stands.
-    next_is old.bus.config past line c.args.event.now c.answer-reply.result c.of-needs.result c.answer-reply.new.self enters (c.answer-reply.ensures.spelled enters) c.hold_event.ensures c.hold_reply.ensures c.of-needs.ensures
-    (c.in-Ok-true.ensures.0 c.in-Ok-true.field-0-test) (c.answer-reply.ensures.after past stands))
+    next_is old.bus.config past line c.args.event.now c.answer-reply.result c.of-needs.result c.answer-reply.new.self enters (c.answer-reply.ensures.spelled enters) c.is_line_of.ensures.values.0 c.is_line_of.ensures.values.1 c.of-needs.ensures
+    (c.in-Ok-true.ensures.line.0 c.in-Ok-true.field-0-test) (c.answer-reply.ensures.after past stands))
     (sym c.takes.ensures ∙ c.if-not-takes.false))

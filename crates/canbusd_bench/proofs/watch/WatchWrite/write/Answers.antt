@@ -1,4 +1,4 @@
-use Rattle.std.proofs.Common.{sym, subst, ap, take, ◌∙◌}
+use Rattle.std.proofs.Common.{sym, subst, ap, take}
 use Rattle.std.specs.Io.KnownBytes.{Appends}
 use Rattle.canbusd_bench.proofs.Watching.{looked}
 use Rattle.canbusd_bench.proofs.watch.WatchWrite.write.Goals as goal

@@ -1,11 +1,10 @@
-use Rattle.std.proofs.Common.{◌≡◌, ◌+◌, ◌∷◌, ◌++◌, ◌∙◌, ℕ, List, [], ap, arith, length, length-append, subst, sym}
+use Rattle.std.proofs.Common.{◌≡◌, ◌+◌, ◌∷◌, ◌++◌, ◌∙◌, List, [], ap, arith, length, length-append, subst, sym}
 use Rattle.can_event.specs.declared.entry.Entry.{Entry}
 use Rattle.can_roll.specs.Seen.{ScrollSeen}
 use Rattle.canbusd_serve.specs.LongRuns.{AllGiven}
 use denote.Exit.{yes}
 use denote.Param.{param}
 use denote.Param.Send.{IsSend, IsSync, arg_send, param_send, sendable}
-use Rattle.std.proofs.Crossing.{crosses}
 use Rattle.std.proofs.fs.File.TheSendSync as file
 use Rattle.std.specs.contracts.fs.File as file_row
 use Rattle.std.specs.contracts.fs.FileWrite.TheImpl as written

@@ -6,7 +6,7 @@ use Rattle.can_attempt.specs.Attempts.{counts_at, counts_after}
 use Rattle.can_attempt.specs.declared.judgement.Judgement.{Judgement}
 use Rattle.can_errframe.specs.ErrorMessages.{state_message}
 use Rattle.can_bus.specs.Attempted.{Outcome, outcome_of, transmission_of}
-use Rattle.can_bus.proofs.outcomes.Attempted.state_change_at.Goals as goal
+use Rattle.can_bus.proofs.attempted.Attempted.state_change_at.Goals as goal
 
 pub returns : goal.returns
 returns c =

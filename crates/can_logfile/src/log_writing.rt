@@ -80,7 +80,7 @@ pub fn blocks_make_the_log()
         log_lines names (reverse (entries_in blocks)) ≡ lines_of_blocks names blocks }
 {}
 
-/// Writes the line of a frame that was tried, after so many whole lines. Returns how many there are with it.
+/// Writes the line of a frame that was tried, after this many whole lines. Returns how many there are with it.
 fn write_tried<W: Write>(
     names: &Names,
     tried: &Tried,

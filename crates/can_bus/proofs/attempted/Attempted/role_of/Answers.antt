@@ -6,7 +6,7 @@ use Rattle.can_attempt.specs.declared.judgement.Judgement.{Judgement}
 use Rattle.can_bus.specs.Attempted.{Outcome, outcome_of, transmission_of}
 use Rattle.can_bus.specs.Posts.{role_at}
 use Rattle.can_bus.proofs.Roles.{role-named, role-other, role-beyond, role-off}
-use Rattle.can_bus.proofs.outcomes.Attempted.role_of.Goals as goal
+use Rattle.can_bus.proofs.attempted.Attempted.role_of.Goals as goal
 
 pub returns-then-contains : goal.returns-then-contains
 returns-then-contains c =

@@ -5,8 +5,8 @@ use Rattle.std.proofs.lemmas.List.{length-reverse}
 use Rattle.can_event.specs.declared.attempt.Tried.{Tried}
 use Rattle.can_logfile.specs.Log.{log_line, log_lines, joined, TornAfter}
 use Rattle.can_logfile.proofs.Fronts.{seen_in, torn, count-more, line-more, same-tape}
-use Rattle.can_logfile.proofs.tapes.write_entries.Goals.{in-Some+in-Ok, in_default}
-use Rattle.can_logfile.proofs.tapes.write_entries.Goals as goal
+use Rattle.can_logfile.proofs.log_writing.write_entries.Goals.{in-Some+in-Ok, in_default}
+use Rattle.can_logfile.proofs.log_writing.write_entries.Goals as goal
 
 pub returns-in-Err : goal.returns-in-Err
 returns-in-Err g c =

@@ -4,8 +4,8 @@ use Rattle.std.specs.Io.KnownBytes.{Appends}
 use Rattle.can_event.specs.declared.attempt.Tried.{Tried}
 use Rattle.can_logfile.specs.Log.{log_line, log_lines, joined, TornAfter}
 use Rattle.can_logfile.proofs.Fronts.{seen, torn, count-more, line-more, same-tape}
-use Rattle.can_logfile.proofs.tapes.write_tape.Goals.{in-Some+in-Ok, in_default}
-use Rattle.can_logfile.proofs.tapes.write_tape.Goals as goal
+use Rattle.can_logfile.proofs.log_writing.write_tape.Goals.{in-Some+in-Ok, in_default}
+use Rattle.can_logfile.proofs.log_writing.write_tape.Goals as goal
 
 pub returns-in-Err : goal.returns-in-Err
 returns-in-Err g c =

@@ -1,5 +1,5 @@
 use Rattle.can_logfile.proofs.Fronts.{blocks-log}
-use Rattle.can_logfile.proofs.tapes.blocks_make_the_log.Goals as goal
+use Rattle.can_logfile.proofs.log_writing.blocks_make_the_log.Goals as goal
 
 pub returns : goal.returns
 returns c = blocks-log

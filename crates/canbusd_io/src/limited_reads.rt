@@ -10,17 +10,17 @@ pub(crate) const MOST_READS: u32 = LONGEST_INPUT as u32;
 
 /// A reader that is read at most this many times. One more is a fault that says how many there were.
 #[derive(Drop)]
-pub struct FewReads<R> {
+pub struct LimitedReads<R> {
     reader: R,
     alloc: Global,
     most: u32,
     made: u32,
 }
 
-impl<R> FewReads<R> {
+impl<R> LimitedReads<R> {
     /// The reader, before its first read.
-    pub fn new(alloc: Global, reader: R, most: u32) -> FewReads<R> {
-        FewReads {
+    pub fn new(alloc: Global, reader: R, most: u32) -> LimitedReads<R> {
+        LimitedReads {
             reader,
             alloc,
             most,
@@ -29,7 +29,7 @@ impl<R> FewReads<R> {
     }
 }
 
-impl<R: Read> Read for FewReads<R> {
+impl<R: Read> Read for LimitedReads<R> {
     fn read(&mut self, buf: &mut [u8]) -> io::Result<usize> {
         if self.made >= self.most {
             return Err(too_many(self.alloc, self.most));
