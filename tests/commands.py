@@ -1,9 +1,12 @@
 """Commands that are run, and the records of the examples."""
 
+import contextlib
 import os
 import re
 import shutil
+import socket
 import subprocess
+import threading
 
 from serving import ROOT, program
 
@@ -33,6 +36,26 @@ def call(*words, **more):
 def run_line(line, text="", **more):
     """The status, the output and the errors of the program with the words of a line and this input."""
     return call(program(), *line.split(), stdin=None, input=text, **more)
+
+
+def run_bytes(line, text):
+    """The same, where each read of the input gives one byte."""
+    ours, theirs = socket.socketpair(socket.AF_UNIX, socket.SOCK_SEQPACKET)
+    words = [program(), *line.split()]
+    with subprocess.Popen(words, stdin=theirs, stdout=subprocess.PIPE, stderr=subprocess.PIPE, text=True) as running:
+        theirs.close()
+        sender = threading.Thread(target=send_bytes, args=(ours, text.encode()))
+        sender.start()
+        output, errors = running.communicate(timeout=120)
+        sender.join()
+    return running.returncode, output, errors
+
+
+def send_bytes(stream, text):
+    """Sends a byte a packet, as far as somebody reads."""
+    with stream, contextlib.suppress(BrokenPipeError, ConnectionResetError):
+        for place in range(len(text)):
+            stream.send(text[place : place + 1])
 
 
 def is_clean(fault):

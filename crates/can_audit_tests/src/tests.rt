@@ -49,7 +49,3 @@ fn moment(micros: u64) -> Result<Moment, Fail> {
 fn open(number: u8, capacity: u32) -> Result<Event, Fail> {
     Ok(Event::Open(iface(number)?, capacity))
 }
-
-fn receive(socket: u32) -> Event {
-    Event::Receive(SocketId(socket))
-}

@@ -56,7 +56,7 @@ fn main(rt: HostRuntime) -> ExitCode {
     ExitCode::from(status)
 }
 
-/// Whether a trial goes well. Where memory was refused to a call that leaves nothing behind, it begins anew.
+/// Whether a trial goes well. Where memory was refused to a call that changes nothing, it begins anew.
 fn is_as_ever(alloc: Global, trial: Trial) -> bool {
     match carry_out(alloc, trial) {
         Ok(()) => true,

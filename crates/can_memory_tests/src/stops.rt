@@ -12,7 +12,7 @@ use std::alloc::AllocError;
 pub enum Stop {
     /// Memory was refused.
     NoMemory,
-    /// An answer is not the one of ample memory, or a refused call left something behind.
+    /// An answer is not the one of ample memory, or a refused call changed something.
     Wrong,
 }
 

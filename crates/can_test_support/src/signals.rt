@@ -1,4 +1,4 @@
-//! What the threads of a test tell each other.
+//! What the threads of a test signal to each other.
 use std::sync::atomic::{AtomicBool, AtomicU64, Ordering};
 use std::thread;
 use std::time::{Clock, Duration};
@@ -17,7 +17,7 @@ pub fn reaches<C: Clock>(clock: &C, count: &AtomicU64, goal: u64) -> bool {
     false
 }
 
-/// What a gate and its test tell each other: how often a thread was held, how often it was let go, and whether the gate
+/// What a gate and its test signal to each other: how often a thread was held, how often it was let go, and whether the gate
 /// gave up waiting.
 #[derive(Drop)]
 pub struct Signals {

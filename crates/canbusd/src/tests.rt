@@ -1,4 +1,3 @@
-mod lines;
 mod restarts;
 mod serving;
 mod streams;

@@ -182,36 +182,94 @@ pub fn mixed_with_flags(rt: &impl AllocGlobal, seed: u64, count: u64) -> Result<
     Ok(events)
 }
 
+/// A step of a list of events.
+#[derive(Clone, Copy)]
+pub enum Step {
+    /// A socket is opened on this interface, with this capacity.
+    Opens(u8, u32),
+    Sets(u32, Opt),
+    Sends(u32, Frame),
+    /// An attempt at each of these microseconds, from the first on, without the last.
+    Tries(u64, u64, Verdict),
+    Receives(u32),
+    Closes(u32),
+}
+
+fn put_attempts(
+    events: &mut Vec<Event>,
+    first: u64,
+    last: u64,
+    verdict: Verdict,
+) -> Result<(), Fail> {
+    for micros in first..last {
+        events.push(Event::Attempt(moment(micros)?, verdict))?;
+    }
+    Ok(())
+}
+
+fn put_step(events: &mut Vec<Event>, step: Step) -> Result<(), Fail> {
+    let event = match step {
+        Step::Opens(number, capacity) => open(number, capacity)?,
+        Step::Sets(socket, option) => Event::SetOption(SocketId(socket), option),
+        Step::Sends(socket, frame) => Event::Send(SocketId(socket), frame),
+        Step::Tries(first, last, verdict) => return put_attempts(events, first, last, verdict),
+        Step::Receives(socket) => Event::Receive(SocketId(socket)),
+        Step::Closes(socket) => Event::Close(SocketId(socket)),
+    };
+    Ok(events.push(event)?)
+}
+
+/// These events, after others.
+fn put_steps(events: &mut Vec<Event>, steps: &[Step]) -> Result<(), Fail> {
+    for step in steps {
+        put_step(events, *step)?;
+    }
+    Ok(())
+}
+
+/// These events.
+pub fn events_of(rt: &impl AllocGlobal, steps: &[Step]) -> Result<Vec<Event>, Fail> {
+    let mut events = Vec::new(rt.alloc());
+    put_steps(&mut events, steps)?;
+    Ok(events)
+}
+
 /// Interface 0 goes bus off in the 32nd attempt, while a frame of interface 1 waits; then it sends again.
 pub fn going_off(rt: &impl AllocGlobal) -> Result<Vec<Event>, Fail> {
     let mut events = opened(rt.alloc())?;
-    events.push(Event::Send(SocketId(0), frame(0x123, &[])?))?;
-    events.push(Event::Send(SocketId(1), frame(0x124, &[])?))?;
-    for micros in 0..33u64 {
-        let verdict = Verdict::Global(GlobalKind::Bit);
-        events.push(Event::Attempt(moment(micros)?, verdict))?;
-    }
-    for micros in 33..39u64 {
-        events.push(Event::Attempt(moment(micros)?, Verdict::Good))?;
-    }
-    events.push(Event::Send(SocketId(3), frame(0x125, &[])?))?;
-    events.push(Event::Attempt(moment(39)?, Verdict::Good))?;
-    for _ in 0..4u8 {
-        events.push(receive(0))?;
-        events.push(receive(3))?;
-    }
+    let steps = [
+        Step::Sends(0, frame(0x123, &[])?),
+        Step::Sends(1, frame(0x124, &[])?),
+        Step::Tries(0, 33, Verdict::Global(GlobalKind::Bit)),
+        Step::Tries(33, 39, Verdict::Good),
+        Step::Sends(3, frame(0x125, &[])?),
+        Step::Tries(39, 40, Verdict::Good),
+        Step::Receives(0),
+        Step::Receives(3),
+        Step::Receives(0),
+        Step::Receives(3),
+        Step::Receives(0),
+        Step::Receives(3),
+        Step::Receives(0),
+        Step::Receives(3),
+    ];
+    put_steps(&mut events, &steps)?;
     Ok(events)
 }
 
 /// A frame reaches socket 1, which has room for one item and takes it before its close.
 pub fn first_frame(rt: &impl AllocGlobal) -> Result<Vec<Event>, Fail> {
-    let mut events = Vec::new(rt.alloc());
-    events.push(open(0, 256)?)?;
-    events.push(open(1, 1)?)?;
-    events.push(Event::Send(SocketId(0), frame(0x123, &[0x01, 0xFF])?))?;
-    events.push(Event::Attempt(moment(1)?, Verdict::Good))?;
-    events.push(receive(1))?;
-    events.push(receive(1))?;
-    events.push(Event::Close(SocketId(1)))?;
-    Ok(events)
+    let sent = frame(0x123, &[0x01, 0xFF])?;
+    events_of(
+        rt,
+        &[
+            Step::Opens(0, 256),
+            Step::Opens(1, 1),
+            Step::Sends(0, sent),
+            Step::Tries(1, 2, Verdict::Good),
+            Step::Receives(1),
+            Step::Receives(1),
+            Step::Closes(1),
+        ],
+    )
 }

@@ -1,6 +1,7 @@
 // Records with flags of FD frames: version 5 of the text.
 
 use super::auditing::audited;
+use super::events::{Step, events_of};
 use super::texts::{bad_line, bus_text, carried_out, fault, legal_lines, made, read, stays};
 use super::*;
 use can_audit::ReadFault;
@@ -36,16 +37,21 @@ fn with_flags(brs: bool, esi: bool) -> Result<Frame, Fail> {
 
 /// What is done in the text above.
 fn flagged(rt: &impl AllocGlobal) -> Result<Vec<Event>, Fail> {
-    let mut events = Vec::with_capacity(rt.alloc(), 8)?;
-    events.push(open(0, 256)?)?;
-    events.push(open(1, 256)?)?;
-    events.push(Event::Send(SocketId(0), with_flags(true, true)?))?;
-    events.push(Event::SetOption(SocketId(0), Opt::FdFrames(true)))?;
-    events.push(Event::SetOption(SocketId(1), Opt::FdFrames(true)))?;
-    events.push(Event::Send(SocketId(0), with_flags(true, false)?))?;
-    events.push(Event::Attempt(moment(1)?, Verdict::Good))?;
-    events.push(receive(1))?;
-    Ok(events)
+    let refused = with_flags(true, true)?;
+    let sent = with_flags(true, false)?;
+    events_of(
+        rt,
+        &[
+            Step::Opens(0, 256),
+            Step::Opens(1, 256),
+            Step::Sends(0, refused),
+            Step::Sets(0, Opt::FdFrames(true)),
+            Step::Sets(1, Opt::FdFrames(true)),
+            Step::Sends(0, sent),
+            Step::Tries(1, 2, Verdict::Good),
+            Step::Receives(1),
+        ],
+    )
 }
 
 #[test]

@@ -1,6 +1,7 @@
 // Records with FD frames: version 3 of the text.
 
 use super::auditing::audited;
+use super::events::{Step, events_of};
 use super::replying::compared;
 use super::texts::{
     are_refused, bad_line, bus_text, carried_out, fault, legal_lines, made, read, stay, stays,
@@ -53,19 +54,22 @@ fn changed(rt: &impl AllocGlobal, text: &str, from: &str, to: &str) -> Result<St
 fn fd_frame(rt: &impl AllocGlobal) -> Result<Vec<Event>, Fail> {
     let bytes = [1, 2, 3, 4, 5, 6, 7, 8, 9, 10, 11, 12];
     let frame = Frame::fd(CanId::standard(0x123)?, &bytes)?;
-    let mut events = Vec::with_capacity(rt.alloc(), 11)?;
-    events.push(open(0, 256)?)?;
-    events.push(open(1, 256)?)?;
-    events.push(open(1, 256)?)?;
-    events.push(Event::Send(SocketId(0), frame))?;
-    events.push(Event::SetOption(SocketId(0), Opt::FdFrames(true)))?;
-    events.push(Event::SetOption(SocketId(1), Opt::FdFrames(true)))?;
-    events.push(Event::Send(SocketId(0), frame))?;
-    events.push(Event::Attempt(moment(1)?, Verdict::Good))?;
-    events.push(receive(1))?;
-    events.push(receive(1))?;
-    events.push(receive(2))?;
-    Ok(events)
+    events_of(
+        rt,
+        &[
+            Step::Opens(0, 256),
+            Step::Opens(1, 256),
+            Step::Opens(1, 256),
+            Step::Sends(0, frame),
+            Step::Sets(0, Opt::FdFrames(true)),
+            Step::Sets(1, Opt::FdFrames(true)),
+            Step::Sends(0, frame),
+            Step::Tries(1, 2, Verdict::Good),
+            Step::Receives(1),
+            Step::Receives(1),
+            Step::Receives(2),
+        ],
+    )
 }
 
 #[test]

@@ -1,5 +1,6 @@
 // What reached a socket, of a record.
 
+use super::events::{Step, events_of};
 use super::*;
 use can_audit::{candidates, projected, queued};
 use can_bus::{Bus, ListBus, Received, run};
@@ -10,17 +11,21 @@ use std::process::Abort;
 
 /// Two more frames, before the socket's close and after it.
 fn more_frames(rt: &impl AllocGlobal) -> Result<Vec<Event>, Fail> {
-    let mut events = Vec::new(rt.alloc());
-    events.push(open(0, 256)?)?;
-    events.push(open(1, 1)?)?;
-    for micros in 1..4 {
-        if micros == 3 {
-            events.push(Event::Close(SocketId(1)))?;
-        }
-        events.push(Event::Send(SocketId(0), frame(0x123, &[0x01, 0xFF])?))?;
-        events.push(Event::Attempt(moment(micros)?, Verdict::Good))?;
-    }
-    Ok(events)
+    let sent = frame(0x123, &[0x01, 0xFF])?;
+    events_of(
+        rt,
+        &[
+            Step::Opens(0, 256),
+            Step::Opens(1, 1),
+            Step::Sends(0, sent),
+            Step::Tries(1, 2, Verdict::Good),
+            Step::Sends(0, sent),
+            Step::Tries(2, 3, Verdict::Good),
+            Step::Closes(1),
+            Step::Sends(0, sent),
+            Step::Tries(3, 4, Verdict::Good),
+        ],
+    )
 }
 
 fn bus_after(rt: &impl AllocGlobal, events: &[Event]) -> Result<ListBus, Fail> {

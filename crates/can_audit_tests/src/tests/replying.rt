@@ -224,7 +224,7 @@ fn no_bus_answers_outside_its_limits(rt: HostRuntime) {
     assert!(rt; !is_bad(&rt, config(16, 16_777_216)));
 }
 
-/// The one frame that is sent is done, and interface 1 alone accepts it.
+/// The one frame that is sent is done, and only interface 1 accepts it.
 fn first_attempt() -> Result<Tried, Fail> {
     Ok(Tried {
         moment: moment(1)?,

@@ -1,15 +1,15 @@
 // Record texts, written and read.
 
+use super::events::first_frame;
 use super::{same, same_at};
 use can_attempt::AckMode;
 use can_audit::{
     ReadFault, TextAudit, TextFault, read_record, read_record_bytes, record_text, write_record,
 };
-use can_bus::{Bus, BusConfig, Event, ListBus, Record, SocketId, run};
-use can_fault::Verdict;
-use can_frame::{CanId, Frame, Iface, IfaceSet, Moment};
+use can_bus::{Bus, BusConfig, Event, ListBus, Record, run};
+use can_frame::IfaceSet;
 use can_record_text::text_laws::read_back;
-use can_test_support::{ONE_FRAME, iface, joined};
+use can_test_support::{ONE_FRAME, joined};
 use std::alloc::AllocGlobal;
 use std::io;
 use std::io::Write;
@@ -114,20 +114,6 @@ pub fn are_refused(
     Ok(())
 }
 
-/// What is done in that record.
-fn one_frame(rt: &impl AllocGlobal) -> Result<Vec<Event>, Fail> {
-    let frame = Frame::data(CanId::standard(0x123)?, &[0x01, 0xFF])?;
-    let mut events = Vec::with_capacity(rt.alloc(), 7)?;
-    events.push(Event::Open(iface(0)?, 256))?;
-    events.push(Event::Open(iface(1)?, 1))?;
-    events.push(Event::Send(SocketId(0), frame))?;
-    events.push(Event::Attempt(Moment::new(1)?, Verdict::Good))?;
-    events.push(Event::Receive(SocketId(1)))?;
-    events.push(Event::Receive(SocketId(1)))?;
-    events.push(Event::Close(SocketId(1)))?;
-    Ok(events)
-}
-
 #[test]
 fn a_buss_record_has_this_text(rt: HostRuntime) -> Result<(), Fail> {
     let config = BusConfig {
@@ -139,7 +125,7 @@ fn a_buss_record_has_this_text(rt: HostRuntime) -> Result<(), Fail> {
         auto_restart: 0,
     };
     let mut bus = made(&rt, config)?;
-    carried_out(&rt, &mut bus, &one_frame(&rt)?)?;
+    carried_out(&rt, &mut bus, &first_frame(&rt)?)?;
     assert!(rt; bus_text(&rt, &bus)?.as_slice() == ONE_FRAME.as_bytes());
     Ok(())
 }

@@ -42,7 +42,7 @@ impl LongRun {
     }
 }
 
-/// A block has the entries from this place on. Returns the place behind them.
+/// A block has the entries from this place on. Returns the place after them.
 fn follow(rt: &impl Abort, block: &PackedRecord, from: usize, entries: &[Entry]) -> usize {
     let mut place = from;
     for at in 0..block.len() {

@@ -1,6 +1,7 @@
 // What the tests of a server share: what it runs on, its host, its acceptors and its clients.
 
 ghost use Rattle.std.specs.Prelude.{◌≡◌, length};
+ghost use Rattle.can_hub.specs.Benches.{NamedFrom};
 
 use super::*;
 use can_server::{Acceptor, Conn, Listener, Notice, serve};
@@ -12,21 +13,19 @@ use std::os::unix::net as unix;
 use std::os::unix::net::{UnixListener, UnixStream};
 use std::rt::{Env, Files};
 use std::sync::atomic::{AtomicBool, AtomicU64, Ordering};
-use std::thread::Threads;
+use std::thread::{Threads, join};
 use std::time::{Clock, Duration};
 use std::{env, io, net, thread};
 
-/// What a server of a test runs on.
-pub trait Machine: Threads
-    + Wait
-    + Abort
-    + Clock
-    + Net<Listener = TcpListener, Stream = TcpStream>
-    + Sync {}
+/// What a client of a test runs on.
+pub trait Guest: Abort + Clock + Net<Listener = TcpListener, Stream = TcpStream> {}
 
-impl<
-    R: Threads + Wait + Abort + Clock + Net<Listener = TcpListener, Stream = TcpStream> + Sync,
-> Machine for R {}
+impl<R: Abort + Clock + Net<Listener = TcpListener, Stream = TcpStream>> Guest for R {}
+
+/// What a server of a test runs on.
+pub trait Machine: Guest + Threads + Wait + Sync {}
+
+impl<R: Guest + Threads + Wait + Sync> Machine for R {}
 
 /// How many seconds a client waits for a text.
 const PATIENCE: u64 = 20;
@@ -85,7 +84,7 @@ pub enum Address {
 }
 
 impl Address {
-    fn connect<R: Machine>(&self, rt: &R) -> io::Result<Conn> {
+    fn connect<R: Guest>(&self, rt: &R) -> io::Result<Conn> {
         match self {
             Address::Tcp(address) => {
                 let stream = TcpStream::connect(rt, *address)?;
@@ -97,7 +96,7 @@ impl Address {
     }
 
     /// A client that comes to it.
-    pub fn come<'a, R: Machine>(&self, rt: &'a R, alloc: Global) -> Client<'a, R> {
+    pub fn come<'a, R: Guest>(&self, rt: &'a R, alloc: Global) -> Client<'a, R> {
         let Ok(conn) = self.connect(rt) else {
             panic!(rt; "no connection");
         };
@@ -105,7 +104,7 @@ impl Address {
     }
 
     /// Looks until nobody can come to it any more, a millisecond apart. Whether it came to that.
-    pub fn closes<R: Machine>(&self, rt: &R) -> bool {
+    pub fn closes<R: Guest>(&self, rt: &R) -> bool {
         for _ in 0..TURNS {
             if self.connect(rt).is_err() {
                 return true;
@@ -150,8 +149,22 @@ impl Entrance {
     }
 
     /// A client that comes to it.
-    pub fn admit<'a, R: Machine>(&self, rt: &'a R, alloc: Global) -> Client<'a, R> {
+    pub fn admit<'a, R: Guest>(&self, rt: &'a R, alloc: Global) -> Client<'a, R> {
         self.address.come(rt, alloc)
+    }
+
+    /// This many clients that come to it, one after the other.
+    pub fn admit_many<'a, R: Guest>(
+        &self,
+        rt: &'a R,
+        alloc: Global,
+        count: u32,
+    ) -> Vec<Client<'a, R>> {
+        let mut clients = Vec::new(alloc);
+        for _ in 0..count {
+            assert!(rt; clients.push(self.admit(rt, alloc)).is_ok());
+        }
+        clients
     }
 
     /// Two clients that come to it, one after the other, and the acceptors of a server that has no other.
@@ -259,19 +272,52 @@ impl<'a, R: Abort> Client<'a, R> {
     }
 }
 
+/// What clients do while a server serves them.
+pub trait Visit: Send {
+    fn visit(self);
+}
+
+/// A line of a dialogue: the number of a client, what it says, and what it hears then. Either may be no text.
+pub type Line<'t> = (usize, &'t str, &'t str);
+
+/// Clients that go through a dialogue.
+#[derive(Drop)]
+struct Dialogue<'a, R: Abort> {
+    rt: &'a R,
+    clients: Vec<Client<'a, R>>,
+    lines: &'a [Line<'a>],
+}
+
+impl<R: Guest + Sync> Visit for Dialogue<'_, R> {
+    fn visit(self) {
+        let Dialogue {
+            rt,
+            mut clients,
+            lines,
+        } = self;
+        for (number, said, heard) in lines {
+            let Some(client) = clients.get_mut(*number) else {
+                panic!(rt; "no client");
+            };
+            client.ask(said, heard);
+        }
+    }
+}
+
 /// Serves to the end, and hands the passes back.
-pub fn serves<N, F, G, R>(
+pub fn serves<N, F, G, H, R>(
     rt: &R,
     alloc: Global,
     hub: &Hub<N, F, G>,
     acceptors: &[Acceptor],
-    host: &Host,
+    host: &H,
     until: Option<&UnixStream>,
 ) -> Vec<Vec<Pass<N>>>
 where
     N: RollName + MeterName + Send + Sync,
     F: FaultSource + Drop + Send,
     G: Gate + Drop + Send + Sync,
+    H: can_server::Clock + Sync,
     R: Machine,
 {
     let Ok(passes) = serve(rt, alloc, hub, acceptors, host, until) else {
@@ -307,20 +353,61 @@ where
     buses
 }
 
-/// What the one bus of a hub leaves. All of its passes were handed back.
-pub fn settled_bus<N, F, G, R>(
+/// Serves clients while they visit: what each bus leaves.
+pub fn served<
+    N: RollName + MeterName + Send + Sync,
+    F: FaultSource + Drop + Send,
+    G: Gate + Drop + Send + Sync,
+    H: can_server::Clock + Sync,
+    V: Visit + Drop,
+    R: Machine,
+>(
     rt: &R,
     alloc: Global,
-    hub: Hub<N, F, G>,
-    passes: Vec<Vec<Pass<N>>>,
-) -> Settled
-where
-    N: RollName + MeterName,
-    F: FaultSource + Drop,
-    G: Gate + Drop,
-    R: Machine,
+    benches: Vec<Bench<F, G>>,
+    acceptors: &[Acceptor],
+    host: &H,
+    until: Option<&UnixStream>,
+    visit: V,
+) -> Vec<Settled>
+    requires { NamedFrom N.roll N.meter 0 benches.items }
 {
-    let mut buses = settled(rt, alloc, hub, passes);
+    let hub = made::<N, _, _, _>(rt, alloc, benches);
+    let ((), passes) = join(
+        rt,
+        || visit.visit(),
+        || serves(rt, alloc, &hub, acceptors, host, until),
+    );
+    settled(rt, alloc, hub, passes)
+}
+
+/// The same of this many clients that go through a dialogue, where nobody else may come.
+pub fn talks<
+    N: RollName + MeterName + Send + Sync,
+    F: FaultSource + Drop + Send,
+    G: Gate + Drop + Send + Sync,
+    H: can_server::Clock + Sync,
+    R: Machine,
+>(
+    rt: &R,
+    alloc: Global,
+    benches: Vec<Bench<F, G>>,
+    entrance: Entrance,
+    host: &H,
+    count: u32,
+    lines: &[Line<'_>],
+) -> Vec<Settled>
+    requires { NamedFrom N.roll N.meter 0 benches.items }
+{
+    let clients = entrance.admit_many(rt, alloc, count);
+    let acceptors = entrance.into_acceptors(rt, alloc);
+    let dialogue = Dialogue { rt, clients, lines };
+    served::<N, _, _, _, _, _>(rt, alloc, benches, &acceptors, host, None, dialogue)
+}
+
+/// The one bus of a server.
+pub fn only<R: Abort>(rt: &R, buses: Vec<Settled>) -> Settled {
+    let mut buses = buses;
     assert!(rt; buses.len() == 1);
     let Some(bus) = buses.pop() else {
         panic!(rt; "no bus");

@@ -61,6 +61,35 @@ impl<'a, N: RollName + MeterName, R: Wait + Abort> Conversation<'a, N, R> {
     }
 }
 
+/// Two sessions of one bus.
+#[derive(Drop)]
+struct Both<'a, N: RollName + MeterName, R: Wait> {
+    alloc: Global,
+    first: Conversation<'a, N, R>,
+    second: Conversation<'a, N, R>,
+}
+
+impl<'a, N: RollName + MeterName, R: Wait + Abort> Both<'a, N, R> {
+    fn new(rt: &'a R, alloc: Global, hub: &'a Hub<N, Perfect, Open>) -> Both<'a, N, R> {
+        Both {
+            alloc,
+            first: Conversation::new(rt, alloc, hub),
+            second: Conversation::new(rt, alloc, hub),
+        }
+    }
+
+    /// One of them is told these, the first or the second.
+    fn are_told(&mut self, pieces: &[(u8, &str, &str)]) {
+        for (number, piece, wanted) in pieces {
+            if *number == 1 {
+                self.first.is_told(self.alloc, piece, wanted);
+            } else {
+                self.second.is_told(self.alloc, piece, wanted);
+            }
+        }
+    }
+}
+
 /// Two sessions that report each count: of items that are queued, dropped and taken, and of frames that are sent, done,
 /// waiting, lost and refused.
 fn counts<N: RollName + MeterName, R: Wait + Abort>(
@@ -71,35 +100,36 @@ fn counts<N: RollName + MeterName, R: Wait + Abort>(
     requires { NamedFrom N.roll N.meter 0 benches.items }
 {
     let hub = made::<N, _, _, _>(rt, alloc, benches);
-    let mut first = Conversation::new(rt, alloc, &hub);
-    let mut second = Conversation::new(rt, alloc, &hub);
-    first.is_told(alloc, "< open can0 >< rawmode >", "< ok >< ok >");
-    second.is_told(alloc, "< open can1 >< rawmode >", "< ok >< ok >");
-    // Each call but a send and a receive needs the lock that the send before it has taken.
-    first.is_told(
-        alloc,
-        "< send 123 0 >< stats >< filter 0 >< errmask 0 >< send 123 0 >< restart >< stats >< send 123 0 >",
-        "< stats 0 0 0 1 0 1 0 0 >< ok >< ok >< error not bus off >< stats 0 0 0 2 0 2 0 0 >< error no buffers >",
-    );
-    first.sees_two_attempts(alloc);
-    first.is_told(
-        alloc,
-        "< send 123 0 >< stats >",
-        "< stats 0 0 0 3 2 1 0 1 >",
-    );
-    second.is_told(alloc, "< stats >", "< stats 1 1 0 0 0 0 0 0 >");
-    second.is_given(alloc);
-    second.is_told(alloc, "< stats >", "< stats 1 1 1 0 0 0 0 0 >");
-    first.is_told(
-        alloc,
-        "< send 123 0 >< fault next 1 good >< send 123 0 >< faults >< send 123 0 >< nofaults >",
-        "< ok >< error no buffers >< faults 1 >< error no buffers >< ok >",
-    );
-    first.is_told(
-        alloc,
-        "< send 123 0 >< close >",
-        "< error no buffers >< closed 0 0 >",
-    );
+    let mut both = Both::new(rt, alloc, &hub);
+    both.are_told(&[
+        (1, "< open can0 >< rawmode >", "< ok >< ok >"),
+        (2, "< open can1 >< rawmode >", "< ok >< ok >"),
+        // Each call but a send and a receive needs the lock that the send before it has taken.
+        (
+            1,
+            "< send 123 0 >< stats >< filter 0 >< errmask 0 >< send 123 0 >< restart >< stats >< send 123 0 >",
+            "< stats 0 0 0 1 0 1 0 0 >< ok >< ok >< error not bus off >< stats 0 0 0 2 0 2 0 0 >< error no buffers >",
+        ),
+    ]);
+    both.first.sees_two_attempts(alloc);
+    both.are_told(&[
+        (1, "< send 123 0 >< stats >", "< stats 0 0 0 3 2 1 0 1 >"),
+        (2, "< stats >", "< stats 1 1 0 0 0 0 0 0 >"),
+    ]);
+    both.second.is_given(alloc);
+    both.are_told(&[
+        (2, "< stats >", "< stats 1 1 1 0 0 0 0 0 >"),
+        (
+            1,
+            "< send 123 0 >< fault next 1 good >< send 123 0 >< faults >< send 123 0 >< nofaults >",
+            "< ok >< error no buffers >< faults 1 >< error no buffers >< ok >",
+        ),
+        (
+            1,
+            "< send 123 0 >< close >",
+            "< error no buffers >< closed 0 0 >",
+        ),
+    ]);
 }
 
 #[test]

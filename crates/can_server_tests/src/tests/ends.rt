@@ -9,15 +9,29 @@ use std::io;
 use std::marker::Brand;
 use std::os::unix::net::UnixStream;
 use std::sync::atomic::Ordering;
-use std::thread::join;
 
-/// One client is raw and one has only been greeted when the server is told to end.
-fn report_end<R: Abort>(mut first: Client<'_, R>, mut second: Client<'_, R>, until: UnixStream) {
-    first.ask("< open can0 >< rawmode >", "< hi >< ok >< ok >");
-    second.hear("< hi >");
-    drop(until);
-    first.hear_end();
-    second.hear_end();
+/// Two clients of a server that is told to end.
+#[derive(Drop)]
+struct Ended<'a, R: Abort> {
+    first: Client<'a, R>,
+    second: Client<'a, R>,
+    until: UnixStream,
+}
+
+impl<R: Guest + Sync> Visit for Ended<'_, R> {
+    /// One client is raw and one has only been greeted when the server is told to end.
+    fn visit(self) {
+        let Ended {
+            mut first,
+            mut second,
+            until,
+        } = self;
+        first.ask("< open can0 >< rawmode >", "< hi >< ok >< ok >");
+        second.hear("< hi >");
+        drop(until);
+        first.hear_end();
+        second.hear_end();
+    }
 }
 
 /// A server with two sessions at work, which waits for a third.
@@ -31,16 +45,16 @@ fn ends<N: RollName + MeterName + Send + Sync, R: Machine>(
 )
     requires { NamedFrom N.roll N.meter 0 benches.items }
 {
-    let hub = made::<N, _, _, _>(rt, alloc, benches);
     let host = Host::new(rt);
     let (first, second, acceptors) = entrance.into_two(rt, alloc);
-    let ((), passes) = join(
-        rt,
-        || report_end(first, second, until),
-        || serves(rt, alloc, &hub, &acceptors, &host, Some(&told)),
-    );
-    let bus = settled_bus(rt, alloc, hub, passes);
-    assert!(rt; bus.passes == 2);
+    let ended = Ended {
+        first,
+        second,
+        until,
+    };
+    let told = Some(&told);
+    let buses = served::<N, _, _, _, _, _>(rt, alloc, benches, &acceptors, &host, told, ended);
+    assert!(rt; only(rt, buses).passes == 2);
 }
 
 #[test]
@@ -51,13 +65,7 @@ fn a_server_that_is_told_ends_all_sessions(rt: HostRuntime) -> io::Result<()> {
     Ok(())
 }
 
-/// A client sends a frame that nobody acknowledges, and goes away.
-fn send_in_vain<R: Abort>(mut only: Client<'_, R>) {
-    only.ask("< open can0 >< rawmode >", "< hi >< ok >< ok >");
-    only.say("< send 123 0 >");
-}
-
-/// The driver of its bus ends before the record is full.
+/// A client sends a frame that nobody acknowledges, and goes away. The driver of its bus ends before the record is full.
 fn ends_in_vain<N: RollName + MeterName + Send + Sync, R: Machine>(
     rt: &R,
     alloc: Global,
@@ -66,17 +74,14 @@ fn ends_in_vain<N: RollName + MeterName + Send + Sync, R: Machine>(
 )
     requires { NamedFrom N.roll N.meter 0 benches.items }
 {
-    let hub = made::<N, _, _, _>(rt, alloc, benches);
     let host = Host::new(rt);
-    let only = entrance.admit(rt, alloc);
-    let acceptors = entrance.into_acceptors(rt, alloc);
-    let ((), passes) = join(
-        rt,
-        || send_in_vain(only),
-        || serves(rt, alloc, &hub, &acceptors, &host, None),
-    );
+    let lines = [
+        (0, "< open can0 >< rawmode >", "< hi >< ok >< ok >"),
+        (0, "< send 123 0 >", ""),
+    ];
+    let buses = talks::<N, _, _, _, _>(rt, alloc, benches, entrance, &host, 1, &lines);
     assert!(rt; host.told.load(Ordering::SeqCst) == 0);
-    assert!(rt; settled(rt, alloc, hub, passes).len() == 1);
+    assert!(rt; buses.len() == 1);
 }
 
 #[test]

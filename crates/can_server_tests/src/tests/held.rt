@@ -149,15 +149,7 @@ impl<C: Clock> Gate for Meeting<'_, C> {
     }
 }
 
-/// Both open an interface, before either hears the answer.
-fn open_both<R: Abort>(mut first: Client<'_, R>, mut second: Client<'_, R>) {
-    first.say("< open can0 >< rawmode >");
-    second.say("< open can0 >< rawmode >");
-    first.hear("< hi >< ok >< ok >");
-    second.hear("< hi >< ok >< ok >");
-}
-
-/// Two sessions of one bus meet after their answers.
+/// Two sessions of one bus meet after their answers: both open an interface, before either hears the answer.
 fn sessions_meet<N: RollName + MeterName + Send + Sync, R: Machine>(
     rt: &R,
     alloc: Global,
@@ -167,16 +159,16 @@ fn sessions_meet<N: RollName + MeterName + Send + Sync, R: Machine>(
 )
     requires { NamedFrom N.roll N.meter 0 benches.items }
 {
-    let hub = made::<N, _, _, _>(rt, alloc, benches);
     let host = Host::new(rt);
-    let (first, second, acceptors) = entrance.into_two(rt, alloc);
-    let ((), passes) = join(
-        rt,
-        || open_both(first, second),
-        || serves(rt, alloc, &hub, &acceptors, &host, None),
-    );
+    let lines = [
+        (0, "< open can0 >< rawmode >", ""),
+        (1, "< open can0 >< rawmode >", ""),
+        (0, "", "< hi >< ok >< ok >"),
+        (1, "", "< hi >< ok >< ok >"),
+    ];
+    let buses = talks::<N, _, _, _, _>(rt, alloc, benches, entrance, &host, 2, &lines);
     assert!(rt; !signals.late.load(Ordering::SeqCst));
-    assert!(rt; settled(rt, alloc, hub, passes).len() == 1);
+    assert!(rt; buses.len() == 1);
 }
 
 #[test]
@@ -220,18 +212,30 @@ impl<C: Clock> Gate for Watching<'_, C> {
     }
 }
 
-/// While the first step is held the other client asks for something that takes the lock.
-fn ask_meanwhile<R: Machine>(
-    rt: &R,
-    signals: &Signals,
-    mut first: Client<'_, R>,
-    mut second: Client<'_, R>,
-) {
-    first.ask("< open can0 >< rawmode >", "< hi >< ok >< ok >");
-    second.hear("< hi >");
-    first.say("< send 123 0 >");
-    assert!(rt; reaches(rt, &signals.held, 1));
-    second.ask("< open can1 >", "< ok >");
+/// Two clients of a bus whose first step is held.
+#[derive(Drop)]
+struct Asking<'a, R: Abort> {
+    rt: &'a R,
+    signals: &'a Signals,
+    first: Client<'a, R>,
+    second: Client<'a, R>,
+}
+
+impl<R: Guest + Sync> Visit for Asking<'_, R> {
+    /// While the first step is held the other client asks for something that takes the lock.
+    fn visit(self) {
+        let Asking {
+            rt,
+            signals,
+            mut first,
+            mut second,
+        } = self;
+        first.ask("< open can0 >< rawmode >", "< hi >< ok >< ok >");
+        second.hear("< hi >");
+        first.say("< send 123 0 >");
+        assert!(rt; reaches(rt, &signals.held, 1));
+        second.ask("< open can1 >", "< ok >");
+    }
 }
 
 /// A server of one bus whose first step is held.
@@ -244,16 +248,17 @@ fn step_has_the_lock<N: RollName + MeterName + Send + Sync, R: Machine>(
 )
     requires { NamedFrom N.roll N.meter 0 benches.items }
 {
-    let hub = made::<N, _, _, _>(rt, alloc, benches);
     let host = Host::new(rt);
     let (first, second, acceptors) = entrance.into_two(rt, alloc);
-    let ((), passes) = join(
+    let asking = Asking {
         rt,
-        || ask_meanwhile(rt, signals, first, second),
-        || serves(rt, alloc, &hub, &acceptors, &host, None),
-    );
+        signals,
+        first,
+        second,
+    };
+    let buses = served::<N, _, _, _, _, _>(rt, alloc, benches, &acceptors, &host, None, asking);
     assert!(rt; !signals.late.load(Ordering::SeqCst));
-    assert!(rt; settled(rt, alloc, hub, passes).len() == 1);
+    assert!(rt; buses.len() == 1);
 }
 
 /// A step that asks its gate before it takes the lock would let the call in.

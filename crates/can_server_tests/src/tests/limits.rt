@@ -7,27 +7,38 @@ use super::clients::*;
 use super::*;
 use std::marker::Brand;
 use std::sync::atomic::Ordering;
-use std::thread::join;
 
 /// How many sessions a server has at once.
 const MOST: u32 = 64;
 
-/// Each hears the greeting, and the one that comes last that it is one too many. It was the last that the acceptor takes.
-fn crowd<R: Machine>(
-    rt: &R,
-    address: &Address,
-    clients: Vec<Client<'_, R>>,
-    mut last: Client<'_, R>,
-) {
-    let mut clients = clients;
-    for client in clients.iter_mut() {
-        client.hear("< hi >");
-    }
-    last.hear("< error too many sessions >");
-    last.hear_end();
-    assert!(rt; address.closes(rt));
-    for client in clients.iter_mut() {
-        client.ask("< open can0 >", "< ok >");
+/// As many clients as a server has sessions at once, and one that comes last.
+#[derive(Drop)]
+struct Crowd<'a, R: Abort> {
+    rt: &'a R,
+    address: Address,
+    clients: Vec<Client<'a, R>>,
+    last: Client<'a, R>,
+}
+
+impl<R: Guest + Sync> Visit for Crowd<'_, R> {
+    /// Each hears the greeting, and the one that comes last that it is one too many. It was the last that the acceptor
+    /// takes.
+    fn visit(self) {
+        let Crowd {
+            rt,
+            address,
+            mut clients,
+            mut last,
+        } = self;
+        for client in clients.iter_mut() {
+            client.hear("< hi >");
+        }
+        last.hear("< error too many sessions >");
+        last.hear_end();
+        assert!(rt; address.closes(rt));
+        for client in clients.iter_mut() {
+            client.ask("< open can0 >", "< ok >");
+        }
     }
 }
 
@@ -40,21 +51,18 @@ fn fills<N: RollName + MeterName + Send + Sync, R: Machine>(
 )
     requires { NamedFrom N.roll N.meter 0 benches.items }
 {
-    let hub = made::<N, _, _, _>(rt, alloc, benches);
     let host = Host::new(rt);
-    let mut clients = Vec::new(alloc);
-    for _ in 0..MOST {
-        assert!(rt; clients.push(entrance.admit(rt, alloc)).is_ok());
-    }
+    let clients = entrance.admit_many(rt, alloc, MOST);
     let last = entrance.admit(rt, alloc);
     let (acceptors, address) = entrance.into_parts(rt, alloc);
-    let ((), passes) = join(
+    let crowd = Crowd {
         rt,
-        || crowd(rt, &address, clients, last),
-        || serves(rt, alloc, &hub, &acceptors, &host, None),
-    );
-    let bus = settled_bus(rt, alloc, hub, passes);
-    assert!(rt; bus.passes == MOST + 1);
+        address,
+        clients,
+        last,
+    };
+    let buses = served::<N, _, _, _, _, _>(rt, alloc, benches, &acceptors, &host, None, crowd);
+    assert!(rt; only(rt, buses).passes == MOST + 1);
 }
 
 #[test]
@@ -66,29 +74,43 @@ fn the_65th_session_at_once_is_refused(rt: HostRuntime) {
 /// How many connections nothing is heard of.
 const SILENT: u32 = 63;
 
-/// All places are taken, all but one by silent clients. A minute later the next client is served, and the one in raw
-/// mode goes on.
-fn make_room<R: Machine>(
-    rt: &R,
+/// One client that is at work, and silent ones.
+#[derive(Drop)]
+struct Silent<'a, R: Abort> {
+    rt: &'a R,
     alloc: Global,
-    host: &Host,
-    address: &Address,
-    mut first: Client<'_, R>,
-    mut silent: Vec<Client<'_, R>>,
-) {
-    first.ask("< open can0 >< rawmode >", "< hi >< ok >< ok >");
-    for client in silent.iter_mut() {
-        client.hear("< hi >");
+    host: &'a Host,
+    address: Address,
+    first: Client<'a, R>,
+    silent: Vec<Client<'a, R>>,
+}
+
+impl<R: Guest + Sync> Visit for Silent<'_, R> {
+    /// All places are taken, all but one by silent clients. A minute later the next client is served, and the one in raw
+    /// mode goes on.
+    fn visit(self) {
+        let Silent {
+            rt,
+            alloc,
+            host,
+            address,
+            mut first,
+            mut silent,
+        } = self;
+        first.ask("< open can0 >< rawmode >", "< hi >< ok >< ok >");
+        for client in silent.iter_mut() {
+            client.hear("< hi >");
+        }
+        let mut refused = address.come(rt, alloc);
+        refused.hear("< error too many sessions >");
+        host.is_later.store(true, Ordering::SeqCst);
+        let mut next = address.come(rt, alloc);
+        next.ask("< open can1 >< rawmode >", "< hi >< ok >< ok >");
+        for client in silent.iter_mut() {
+            client.hear_end();
+        }
+        first.ask("< echo >", "< echo >");
     }
-    let mut refused = address.come(rt, alloc);
-    refused.hear("< error too many sessions >");
-    host.is_later.store(true, Ordering::SeqCst);
-    let mut next = address.come(rt, alloc);
-    next.ask("< open can1 >< rawmode >", "< hi >< ok >< ok >");
-    for client in silent.iter_mut() {
-        client.hear_end();
-    }
-    first.ask("< echo >", "< echo >");
 }
 
 /// A server of as many sessions as it has at once, and two more.
@@ -100,21 +122,20 @@ fn lets_in<N: RollName + MeterName + Send + Sync, R: Machine>(
 )
     requires { NamedFrom N.roll N.meter 0 benches.items }
 {
-    let hub = made::<N, _, _, _>(rt, alloc, benches);
     let host = Host::new(rt);
     let first = entrance.admit(rt, alloc);
-    let mut silent = Vec::new(alloc);
-    for _ in 0..SILENT {
-        assert!(rt; silent.push(entrance.admit(rt, alloc)).is_ok());
-    }
+    let silent = entrance.admit_many(rt, alloc, SILENT);
     let (acceptors, address) = entrance.into_parts(rt, alloc);
-    let ((), passes) = join(
+    let silent = Silent {
         rt,
-        || make_room(rt, alloc, &host, &address, first, silent),
-        || serves(rt, alloc, &hub, &acceptors, &host, None),
-    );
-    let bus = settled_bus(rt, alloc, hub, passes);
-    assert!(rt; bus.passes == 3);
+        alloc,
+        host: &host,
+        address,
+        first,
+        silent,
+    };
+    let buses = served::<N, _, _, _, _, _>(rt, alloc, benches, &acceptors, &host, None, silent);
+    assert!(rt; only(rt, buses).passes == 3);
 }
 
 #[test]
@@ -123,23 +144,8 @@ fn silent_clients_make_room_after_a_minute(rt: HostRuntime) {
     lets_in::<Brand, _>(&rt, rt.alloc(), benches, Entrance::new(&rt, MOST + 2));
 }
 
-/// A call that the record has no room for is refused; what makes none is answered.
-fn meet_full_record<R: Abort>(mut first: Client<'_, R>, mut second: Client<'_, R>) {
-    first.ask("< open can0 >< rawmode >", "< hi >< ok >< ok >");
-    for _ in 0..2 {
-        first.ask("< send 123 0 >", "< error record full >");
-        first.ask("< filter 0 >", "< error record full >");
-    }
-    first.ask("< echo >", "< echo >");
-    first.ask("< stats >", "< stats 0 0 0 0 0 0 0 0 >");
-    second.ask(
-        "< open can1 >< rawmode >",
-        "< hi >< ok >< error record full >",
-    );
-    second.ask("< echo >", "< echo >");
-}
-
-/// A server over a bus whose record holds one entry, and a host that is notified of it once.
+/// A server over a bus whose record holds one entry, and a host that is notified of it once. A call that the record has no
+/// room for is refused; what makes none is answered.
 fn is_full<N: RollName + MeterName + Send + Sync, R: Machine>(
     rt: &R,
     alloc: Global,
@@ -148,17 +154,26 @@ fn is_full<N: RollName + MeterName + Send + Sync, R: Machine>(
 )
     requires { NamedFrom N.roll N.meter 0 benches.items }
 {
-    let hub = made::<N, _, _, _>(rt, alloc, benches);
     let host = Host::new(rt);
-    let (first, second, acceptors) = entrance.into_two(rt, alloc);
-    let ((), passes) = join(
-        rt,
-        || meet_full_record(first, second),
-        || serves(rt, alloc, &hub, &acceptors, &host, None),
-    );
+    let refused = "< error record full >";
+    let lines = [
+        (0, "< open can0 >< rawmode >", "< hi >< ok >< ok >"),
+        (0, "< send 123 0 >", refused),
+        (0, "< filter 0 >", refused),
+        (0, "< send 123 0 >", refused),
+        (0, "< filter 0 >", refused),
+        (0, "< echo >", "< echo >"),
+        (0, "< stats >", "< stats 0 0 0 0 0 0 0 0 >"),
+        (
+            1,
+            "< open can1 >< rawmode >",
+            "< hi >< ok >< error record full >",
+        ),
+        (1, "< echo >", "< echo >"),
+    ];
+    let buses = talks::<N, _, _, _, _>(rt, alloc, benches, entrance, &host, 2, &lines);
     assert!(rt; host.told.load(Ordering::SeqCst) == 1);
-    let bus = settled_bus(rt, alloc, hub, passes);
-    assert!(rt; bus.history.len() == 1);
+    assert!(rt; only(rt, buses).history.len() == 1);
 }
 
 #[test]

@@ -5,11 +5,10 @@ ghost use Rattle.can_hub.specs.Benches.{NamedFrom};
 
 use super::clients::*;
 use super::*;
-use can_server::{Clock, Notice, serve};
+use can_server::{Clock, Notice};
 use can_test_support::DESTROYED;
 use std::marker::Brand;
 use std::sync::atomic::{AtomicU64, Ordering};
-use std::thread::join;
 
 /// A host that counts its notices.
 #[derive(Drop)]
@@ -82,23 +81,9 @@ fn add(count: &AtomicU64, more: u64) {
     count.fetch_add(more, Ordering::SeqCst);
 }
 
-/// The first client's interface goes off, it sends in vain, restarts the interface, which it can't do again, and sends two
-/// frames, of which the second client's socket holds one.
-fn talk<R: Abort>(mut first: Client<'_, R>, mut second: Client<'_, R>) {
-    second.ask("< open can1 >< rawmode >", "< hi >< ok >< ok >");
-    first.ask(
-        "< open can0 >< rawmode >< errmask 40 >",
-        "< hi >< ok >< ok >< ok >",
-    );
-    first.ask("< send 123 0 >", "< error 040 23.424242 >");
-    first.ask("< send 123 0 >", "< error bus off >");
-    first.ask("< restart >", "< ok >");
-    first.ask("< restart >", "< error not bus off >");
-    first.say("< send 123 0 >< send 124 0 >");
-    second.hear("< frame 123 23.424242  >");
-}
-
-/// A server of two clients, and the notices that its host got of them.
+/// A server of two clients, and the notices that its host got of them. The first client's interface goes off, it sends in
+/// vain, restarts the interface, which it can't do again, and sends two frames, of which the second client's socket holds
+/// one.
 fn told<N: RollName + MeterName + Send + Sync, R: Machine>(
     rt: &R,
     alloc: Global,
@@ -107,17 +92,24 @@ fn told<N: RollName + MeterName + Send + Sync, R: Machine>(
 )
     requires { NamedFrom N.roll N.meter 0 benches.items }
 {
-    let hub = made::<N, _, _, _>(rt, alloc, benches);
     let host = Counting::new(rt);
-    let (first, second, acceptors) = entrance.into_two(rt, alloc);
-    let ((), served) = join(
-        rt,
-        || talk(first, second),
-        || serve(rt, alloc, &hub, &acceptors, &host, None).is_ok(),
-    );
-    assert!(rt; served);
-    let counts = [&host.came, &host.opened, &host.went];
-    for count in counts {
+    let lines = [
+        (1, "< open can1 >< rawmode >", "< hi >< ok >< ok >"),
+        (
+            0,
+            "< open can0 >< rawmode >< errmask 40 >",
+            "< hi >< ok >< ok >< ok >",
+        ),
+        (0, "< send 123 0 >", "< error 040 23.424242 >"),
+        (0, "< send 123 0 >", "< error bus off >"),
+        (0, "< restart >", "< ok >"),
+        (0, "< restart >", "< error not bus off >"),
+        (0, "< send 123 0 >< send 124 0 >", ""),
+        (1, "", "< frame 123 23.424242  >"),
+    ];
+    let buses = talks::<N, _, _, _, _>(rt, alloc, benches, entrance, &host, 2, &lines);
+    assert!(rt; buses.len() == 1);
+    for count in [&host.came, &host.opened, &host.went] {
         assert!(rt; count.load(Ordering::SeqCst) == 2);
     }
     for count in [&host.refused, &host.dropped, &host.off, &host.restarted] {

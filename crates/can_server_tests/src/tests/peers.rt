@@ -6,27 +6,38 @@ ghost use Rattle.can_hub.specs.Benches.{NamedFrom};
 use super::clients::*;
 use super::*;
 use std::marker::Brand;
-use std::thread::join;
 use std::{env, fs, io, process};
 
 /// How many frames the other clients exchange, more than the socket of one that never reads holds.
 const MANY: u32 = 2_000;
 
-/// Two clients talk on, though one more goes away within its first message and one within a message in raw mode.
-fn outlive<R: Abort>(
-    mut first: Client<'_, R>,
-    mut second: Client<'_, R>,
-    mut third: Client<'_, R>,
-    mut fourth: Client<'_, R>,
-) {
-    second.ask("< open can1 >< rawmode >", "< hi >< ok >< ok >");
-    first.ask("< open can0 >< rawmode >", "< hi >< ok >< ok >");
-    third.ask("< open can1 ", "< hi >");
-    fourth.ask("< open can1 >< rawmode >< send 12", "< hi >< ok >< ok >");
-    drop(third);
-    drop(fourth);
-    first.say("< send 123 0 >");
-    second.hear("< frame 123 23.424242  >");
+/// Four clients, of whom two go away.
+#[derive(Drop)]
+struct Four<'a, R: Abort> {
+    first: Client<'a, R>,
+    second: Client<'a, R>,
+    third: Client<'a, R>,
+    fourth: Client<'a, R>,
+}
+
+impl<R: Guest + Sync> Visit for Four<'_, R> {
+    /// Two clients talk on, though one more goes away within its first message and one within a message in raw mode.
+    fn visit(self) {
+        let Four {
+            mut first,
+            mut second,
+            mut third,
+            mut fourth,
+        } = self;
+        second.ask("< open can1 >< rawmode >", "< hi >< ok >< ok >");
+        first.ask("< open can0 >< rawmode >", "< hi >< ok >< ok >");
+        third.ask("< open can1 ", "< hi >");
+        fourth.ask("< open can1 >< rawmode >< send 12", "< hi >< ok >< ok >");
+        drop(third);
+        drop(fourth);
+        first.say("< send 123 0 >");
+        second.hear("< frame 123 23.424242  >");
+    }
 }
 
 /// A server of four clients, of whom two go away.
@@ -38,18 +49,18 @@ fn serves_on<N: RollName + MeterName + Send + Sync, R: Machine>(
 )
     requires { NamedFrom N.roll N.meter 0 benches.items }
 {
-    let hub = made::<N, _, _, _>(rt, alloc, benches);
     let host = Host::new(rt);
     let (first, second) = (entrance.admit(rt, alloc), entrance.admit(rt, alloc));
     let (third, fourth) = (entrance.admit(rt, alloc), entrance.admit(rt, alloc));
     let acceptors = entrance.into_acceptors(rt, alloc);
-    let ((), passes) = join(
-        rt,
-        || outlive(first, second, third, fourth),
-        || serves(rt, alloc, &hub, &acceptors, &host, None),
-    );
-    let bus = settled_bus(rt, alloc, hub, passes);
-    assert!(rt; bus.passes == 4);
+    let four = Four {
+        first,
+        second,
+        third,
+        fourth,
+    };
+    let buses = served::<N, _, _, _, _, _>(rt, alloc, benches, &acceptors, &host, None, four);
+    assert!(rt; only(rt, buses).passes == 4);
 }
 
 #[test]
@@ -58,18 +69,29 @@ fn sessions_outlive_one_whose_client_goes_away(rt: HostRuntime) {
     serves_on::<Brand, _>(&rt, rt.alloc(), benches, Entrance::new(&rt, 4));
 }
 
-/// Many frames go from the first to the second, and to one that reads none.
-fn exchange<R: Abort>(
-    mut first: Client<'_, R>,
-    mut second: Client<'_, R>,
-    mut silent: Client<'_, R>,
-) {
-    silent.ask("< open can1 >< rawmode >", "< hi >< ok >< ok >");
-    second.ask("< open can1 >< rawmode >", "< hi >< ok >< ok >");
-    first.ask("< open can0 >< rawmode >", "< hi >< ok >< ok >");
-    for _ in 0..MANY {
-        first.say("< send 123 0 >");
-        second.hear("< frame 123 23.424242  >");
+/// Three clients, of whom one never reads.
+#[derive(Drop)]
+struct Three<'a, R: Abort> {
+    first: Client<'a, R>,
+    second: Client<'a, R>,
+    silent: Client<'a, R>,
+}
+
+impl<R: Guest + Sync> Visit for Three<'_, R> {
+    /// Many frames go from the first to the second, and to one that reads none.
+    fn visit(self) {
+        let Three {
+            mut first,
+            mut second,
+            mut silent,
+        } = self;
+        silent.ask("< open can1 >< rawmode >", "< hi >< ok >< ok >");
+        second.ask("< open can1 >< rawmode >", "< hi >< ok >< ok >");
+        first.ask("< open can0 >< rawmode >", "< hi >< ok >< ok >");
+        for _ in 0..MANY {
+            first.say("< send 123 0 >");
+            second.hear("< frame 123 23.424242  >");
+        }
     }
 }
 
@@ -82,17 +104,17 @@ fn serves_silent<N: RollName + MeterName + Send + Sync, R: Machine>(
 )
     requires { NamedFrom N.roll N.meter 0 benches.items }
 {
-    let hub = made::<N, _, _, _>(rt, alloc, benches);
     let host = Host::new(rt);
     let (first, second) = (entrance.admit(rt, alloc), entrance.admit(rt, alloc));
     let silent = entrance.admit(rt, alloc);
     let acceptors = entrance.into_acceptors(rt, alloc);
-    let ((), passes) = join(
-        rt,
-        || exchange(first, second, silent),
-        || serves(rt, alloc, &hub, &acceptors, &host, None),
-    );
-    assert!(rt; settled(rt, alloc, hub, passes).len() == 1);
+    let three = Three {
+        first,
+        second,
+        silent,
+    };
+    let buses = served::<N, _, _, _, _, _>(rt, alloc, benches, &acceptors, &host, None, three);
+    assert!(rt; buses.len() == 1);
 }
 
 #[test]

@@ -10,20 +10,9 @@ use can_bus::{Record, Reply};
 use can_test_support::DESTROYED;
 use std::marker::Brand;
 use std::sync::atomic::Ordering;
-use std::thread::join;
 
-/// The first client is told that its interface went off and came back, and sends once more.
-fn talk<R: Abort>(mut first: Client<'_, R>, mut second: Client<'_, R>) {
-    second.ask("< open can1 >< rawmode >", "< hi >< ok >< ok >");
-    let raw = "< open can0 >< rawmode >< errmask 140 >";
-    first.ask(raw, "< hi >< ok >< ok >< ok >");
-    let told = "< error 040 23.424242 >< error 100 23.424242 >";
-    first.ask("< send 123 0 >", told);
-    first.say("< send 123 0 >");
-    second.hear("< frame 123 23.424242  >");
-}
-
-/// The record of a bus of can0 and can1 whose two clients talk, and whose host is told that can0 went off and came back.
+/// The record of a bus of can0 and can1, whose host is told that can0 went off and came back. So is the first of its two
+/// clients, and sends once more.
 fn record<N: RollName + MeterName + Send + Sync, R: Machine>(
     rt: &R,
     alloc: Global,
@@ -32,18 +21,27 @@ fn record<N: RollName + MeterName + Send + Sync, R: Machine>(
 ) -> Record
     requires { NamedFrom N.roll N.meter 0 benches.items }
 {
-    let hub = made::<N, _, _, _>(rt, alloc, benches);
     let host = Host::new(rt);
-    let (first, second, acceptors) = entrance.into_two(rt, alloc);
-    let ((), passes) = join(
-        rt,
-        || talk(first, second),
-        || serves(rt, alloc, &hub, &acceptors, &host, None),
-    );
+    let lines = [
+        (1, "< open can1 >< rawmode >", "< hi >< ok >< ok >"),
+        (
+            0,
+            "< open can0 >< rawmode >< errmask 140 >",
+            "< hi >< ok >< ok >< ok >",
+        ),
+        (
+            0,
+            "< send 123 0 >",
+            "< error 040 23.424242 >< error 100 23.424242 >",
+        ),
+        (0, "< send 123 0 >", ""),
+        (1, "", "< frame 123 23.424242  >"),
+    ];
+    let buses = talks::<N, _, _, _, _>(rt, alloc, benches, entrance, &host, 2, &lines);
     for count in [&host.off, &host.restarted] {
         assert!(rt; count.load(Ordering::SeqCst) == 1);
     }
-    settled_bus(rt, alloc, hub, passes).history
+    only(rt, buses).history
 }
 
 /// The reply of the attempt with this place, of 35: 32 are destroyed, the last of which takes can0 off; then one is idle,

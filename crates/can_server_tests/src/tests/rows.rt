@@ -9,19 +9,10 @@ use can_bus::Record;
 use can_logfile::write_tape;
 use can_test_support::Output;
 use std::marker::Brand;
-use std::thread::join;
 use std::time::{Duration, Instant};
 use std::{env, fs, io, process};
 
-/// The first client sends once the second listens.
-fn talk<R: Abort>(mut first: Client<'_, R>, mut second: Client<'_, R>) {
-    second.ask("< open can1 >< rawmode >", "< hi >< ok >< ok >");
-    first.ask("< open can0 >< rawmode >", "< hi >< ok >< ok >");
-    first.say("< send 123 4 11 22 33 44 >");
-    second.hear("< frame 123 23.424242 11223344 >");
-}
-
-/// The record of a bus of can0 and can1 whose two clients talk.
+/// The record of a bus of can0 and can1. The first of its two clients sends once the second listens.
 fn record<N: RollName + MeterName + Send + Sync, R: Machine>(
     rt: &R,
     alloc: Global,
@@ -30,15 +21,15 @@ fn record<N: RollName + MeterName + Send + Sync, R: Machine>(
 ) -> Record
     requires { NamedFrom N.roll N.meter 0 benches.items }
 {
-    let hub = made::<N, _, _, _>(rt, alloc, benches);
     let host = Host::new(rt);
-    let (first, second, acceptors) = entrance.into_two(rt, alloc);
-    let ((), passes) = join(
-        rt,
-        || talk(first, second),
-        || serves(rt, alloc, &hub, &acceptors, &host, None),
-    );
-    settled_bus(rt, alloc, hub, passes).history
+    let lines = [
+        (1, "< open can1 >< rawmode >", "< hi >< ok >< ok >"),
+        (0, "< open can0 >< rawmode >", "< hi >< ok >< ok >"),
+        (0, "< send 123 4 11 22 33 44 >", ""),
+        (1, "", "< frame 123 23.424242 11223344 >"),
+    ];
+    let buses = talks::<N, _, _, _, _>(rt, alloc, benches, entrance, &host, 2, &lines);
+    only(rt, buses).history
 }
 
 /// The log of a record of can0 and can1, with this many frames.
@@ -82,21 +73,46 @@ const FIVE: &str = "\
 (0000000023.424242) can0 126#\n\
 (0000000023.424242) can0 127#\n";
 
-/// Two frames that were sent in one piece, and how long it takes until both are there. Then the first client sends three
-/// more, and both go away.
-fn time_two<R: Machine>(rt: &R, mut first: Client<'_, R>, mut second: Client<'_, R>) -> Duration {
-    second.ask("< open can1 >< rawmode >", "< hi >< ok >< ok >");
-    first.ask("< open can0 >< rawmode >", "< hi >< ok >< ok >");
-    let Ok(before) = Instant::now(rt) else {
+/// Two clients of a bus whose driver rests after each step.
+#[derive(Drop)]
+struct Paced<'a, R: Abort> {
+    rt: &'a R,
+    first: Client<'a, R>,
+    second: Client<'a, R>,
+}
+
+impl<R: Guest + Sync> Visit for Paced<'_, R> {
+    /// Two frames that were sent in one piece, which takes a rest until both are there. Then the first client sends three
+    /// more, and both go away.
+    fn visit(self) {
+        let Paced {
+            rt,
+            mut first,
+            mut second,
+        } = self;
+        second.ask("< open can1 >< rawmode >", "< hi >< ok >< ok >");
+        first.ask("< open can0 >< rawmode >", "< hi >< ok >< ok >");
+        let before = now(rt);
+        first.say("< send 123 0 >< send 124 0 >");
+        second.hear("< frame 123 23.424242  >< frame 124 23.424242  >");
+        rested_since(rt, before);
+        first.say("< send 125 0 >< send 126 0 >< send 127 0 >");
+    }
+}
+
+fn now<R: Guest>(rt: &R) -> Instant {
+    let Ok(now) = Instant::now(rt) else {
         panic!(rt; "no clock");
     };
-    first.say("< send 123 0 >< send 124 0 >");
-    second.hear("< frame 123 23.424242  >< frame 124 23.424242  >");
+    now
+}
+
+/// It is at least a rest later.
+fn rested_since<R: Guest>(rt: &R, before: Instant) {
     let Ok(taken) = before.elapsed(rt) else {
         panic!(rt; "no clock");
     };
-    first.say("< send 125 0 >< send 126 0 >< send 127 0 >");
-    taken
+    assert!(rt; taken >= Duration::from_millis(u64::from(PACE_MS)));
 }
 
 fn keeps_pace<N: RollName + MeterName + Send + Sync, R: Machine>(
@@ -107,18 +123,13 @@ fn keeps_pace<N: RollName + MeterName + Send + Sync, R: Machine>(
 )
     requires { NamedFrom N.roll N.meter 0 benches.items }
 {
-    let hub = made::<N, _, _, _>(rt, alloc, benches);
     let host = Host::new(rt);
     let (first, second, acceptors) = entrance.into_two(rt, alloc);
-    let (taken, passes) = join(
-        rt,
-        || time_two(rt, first, second),
-        || serves(rt, alloc, &hub, &acceptors, &host, None),
-    );
-    assert!(rt; taken >= Duration::from_millis(u64::from(PACE_MS)));
-    let bus = settled_bus(rt, alloc, hub, passes);
+    let paced = Paced { rt, first, second };
+    let buses = served::<N, _, _, _, _, _>(rt, alloc, benches, &acceptors, &host, None, paced);
     // The driver ended once no frame waited.
-    assert!(rt; log(rt, alloc, &bus.history, 5).as_slice() == FIVE.as_bytes());
+    let record = only(rt, buses).history;
+    assert!(rt; log(rt, alloc, &record, 5).as_slice() == FIVE.as_bytes());
 }
 
 #[test]

@@ -5,7 +5,7 @@ ghost use Rattle.can_hub.specs.Benches.{NamedFrom};
 
 use super::local_clients::*;
 use super::*;
-use can_wire::Load;
+use can_wire::{Load, Timing};
 use std::marker::Brand;
 
 /// A client asks for its status before it has opened a bus, before it is raw, and after it sent a frame.
@@ -22,13 +22,24 @@ fn asks_load<N: RollName + MeterName, R: Wait + Abort>(
     client: &mut LocalClient<'_, N, Script, R>,
     hub: &Hub<N, Script, Open>,
 ) {
-    client.ask("< load >", "< load 0 0 >");
+    client.ask("< load >", "< load 0 0 500000 2000000 >");
     let mut load = Load::none();
     load.note(22_000_000_000, 22_250_000_000);
     hub.buses().show_load(1, load);
-    client.ask("< load >", "< load 0 0 >");
+    client.ask("< load >", "< load 0 0 500000 2000000 >");
     hub.buses().show_load(0, load);
-    client.ask("< load >", "< load 250 250000 >");
+    client.ask("< load >", "< load 250 250000 500000 2000000 >");
+}
+
+/// The counters after a fault in the last bit, and after the good attempt that follows.
+fn asks_after_each_attempt<N: RollName + MeterName, R: Wait + Abort>(
+    first: &mut LocalClient<'_, N, Script, R>,
+) {
+    let mut driver = first.driver();
+    driver.try_frame();
+    first.ask("< status >", "< status active 8 0 >");
+    driver.try_frame();
+    first.ask("< status >", "< status active 7 0 >");
 }
 
 /// A fault in the last bit and the good attempt after it, by the counters that two sessions report.
@@ -45,11 +56,7 @@ fn last_bit<N: RollName + MeterName, R: Wait + Abort>(
     assert!(rt; first.counts(0) == (0, 0));
     second.ask("< open can1 >< rawmode >", "< ok >< ok >");
     asks_too_early(&mut first);
-    let mut driver = first.driver();
-    driver.try_frame();
-    first.ask("< status >", "< status active 8 0 >");
-    driver.try_frame();
-    first.ask("< status >", "< status active 7 0 >");
+    asks_after_each_attempt(&mut first);
     second.ask("< status >", "< status active 0 0 >");
     assert!(rt; second.counts(0) == (7, 0) && second.counts(2) == (0, 0));
     asks_load(&mut second, &hub);
@@ -63,6 +70,8 @@ fn a_session_is_told_its_error_counters(rt: HostRuntime) {
         names(&rt, alloc, "can0,can1"),
         script(&rt, alloc, "0 lastbit"),
     );
-    let benches = one(&rt, alloc, held_bench(&rt, alloc, names, faults, Open));
+    let mut bench = held_bench(&rt, alloc, names, faults, Open);
+    bench.timing = Timing::new(500_000, Some(2_000_000)).ok();
+    let benches = one(&rt, alloc, bench);
     last_bit::<Brand, _>(&rt, alloc, benches);
 }

@@ -3,7 +3,7 @@ use can_attempt::AckMode;
 use can_bus::BusConfig;
 use can_fault::Script;
 use can_frame::Names;
-use can_session::{BenchConfig, BenchFault, LineFault, Lines, bench, bench_lines};
+use can_session::{BenchConfig, BenchFault, InputFault, Lines, bench, bench_lines};
 use can_test_support::{Closed, Part, Pieces, config, joined, script as script_of, text_of, times};
 use std::alloc::Global;
 use std::process::Abort;
@@ -436,13 +436,13 @@ fn a_run_leaves_its_record(rt: HostRuntime) -> Result<(), Fail> {
 #[test]
 fn a_bench_over_lines_leaves_them_where_it_ended(rt: HostRuntime) -> Result<(), Fail> {
     let alloc = rt.alloc();
-    let table: [(&[u8], bool, Option<BenchFault>, Result<bool, LineFault>); 3] = [
+    let table: [(&[u8], bool, Option<BenchFault>, Result<bool, InputFault>); 3] = [
         (b"session 1\nattempt", false, None, Ok(false)),
         (
             b"session 1\nsession",
             true,
             Some(BenchFault::Read),
-            Err(LineFault::Read),
+            Err(InputFault::Read),
         ),
         (
             b"session 1\nend 2\nattempt\n",

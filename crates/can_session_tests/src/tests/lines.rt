@@ -1,5 +1,5 @@
 use super::same;
-use can_session::{LineFault, Lines, Order, read_order};
+use can_session::{InputFault, Lines, Order, read_order};
 use can_test_support::Pieces;
 use std::alloc::{AllocError, Global};
 use std::io::Read;
@@ -8,7 +8,7 @@ use std::io::Read;
 fn count_lines<R: Read + Drop>(
     alloc: Global,
     input: R,
-) -> Result<(usize, Option<LineFault>), AllocError> {
+) -> Result<(usize, Option<InputFault>), AllocError> {
     let mut lines = Lines::new(alloc, input)?;
     for count in 0..5000 {
         match lines.next_line() {
@@ -52,7 +52,7 @@ fn lines_end_with_lf_and_the_last_may_lack_it(rt: HostRuntime) {
 
 #[test]
 fn a_line_has_at_most_4096_bytes(rt: HostRuntime) -> Result<(), AllocError> {
-    let long = Some(LineFault::LineTooLong);
+    let long = Some(InputFault::LineTooLong);
     let table = [
         (4096, b"\n".as_slice(), 1, None),
         (4096, b"", 1, None),
@@ -75,7 +75,7 @@ fn an_input_has_limits(rt: HostRuntime) -> Result<(), AllocError> {
     for _ in 0..4097 {
         text.extend_from_slice(&line)?;
     }
-    let long = Some(LineFault::TooLong);
+    let long = Some(InputFault::TooLong);
     // How many bytes, in pieces of how many. A byte a read: the last read gives the end of the last line, and none is left to
     // find the end.
     let table = [
@@ -107,14 +107,19 @@ fn whole_lines_come_before_a_read_fault(rt: HostRuntime) -> Result<(), AllocErro
         };
         let (count, found) = count_lines(rt.alloc(), input)?;
         same(&rt, count, 2);
-        same(&rt, found, Some(LineFault::Read));
+        same(&rt, found, Some(InputFault::Read));
     }
     Ok(())
 }
 
+/// What a line asks for, without the clauses.
+fn order_of(line: &[u8]) -> Option<Order<'_>> {
+    read_order(line)
+}
+
 /// A letter for what a line asks for, with the session or the microseconds, and how many bytes are fed or spell a rule.
 fn told(line: &[u8]) -> (char, u64, usize) {
-    let order = read_order(line);
+    let order = order_of(line);
     match &order {
         None => ('?', 0, 0),
         Some(Order::Nothing) => ('n', 0, 0),
@@ -197,7 +202,7 @@ fn a_fault_is_told_again(rt: HostRuntime) -> Result<(), AllocError> {
     let long = times(rt.alloc(), b'#', 4097, b"\nattempt\n")?;
     let mut lines = Lines::new(rt.alloc(), long.as_slice())?;
     for _ in 0..2 {
-        same(&rt, lines.next_line(), Err(LineFault::LineTooLong));
+        same(&rt, lines.next_line(), Err(InputFault::LineTooLong));
     }
     Ok(())
 }

@@ -87,6 +87,8 @@ impl Port for Counting {
         BusLoad {
             permille: 7,
             micros: 8,
+            bitrate: 9,
+            dbitrate: 10,
         }
     }
 
@@ -135,6 +137,27 @@ fn bus_of(alloc: Global, names: &str, ack: AckMode) -> Option<ListPort> {
     Some(BusPort::new(alloc, names, bus))
 }
 
+// The calls, without their clauses: a test runs them, and its proof has nothing to say of them.
+
+fn fed<P: Port>(
+    session: &mut Session,
+    alloc: Global,
+    piece: &[u8],
+    moment: Moment,
+    port: &mut P,
+    out: &mut Output,
+) -> Result<(), SessionFault> {
+    session.feed(alloc, piece, moment, port, out)
+}
+
+fn delivered<P: Port>(
+    session: &mut Session,
+    port: &mut P,
+    out: &mut Output,
+) -> Result<bool, SessionFault> {
+    session.deliver(port, out)
+}
+
 /// What a session writes for a piece, at a moment in microseconds.
 fn told<P: Port>(
     session: &mut Session,
@@ -145,7 +168,7 @@ fn told<P: Port>(
 ) -> Option<Vec<u8>> {
     let mut out = Output::new(alloc, 10_000);
     let moment = Moment::new(micros).ok()?;
-    session.feed(alloc, piece, moment, port, &mut out).ok()?;
+    fed(session, alloc, piece, moment, port, &mut out).ok()?;
     if out.writes > 1 {
         return None;
     }
@@ -156,7 +179,7 @@ fn told<P: Port>(
 fn drained<P: Port>(session: &mut Session, alloc: Global, port: &mut P) -> Option<Vec<u8>> {
     let mut out = Output::new(alloc, 10_000);
     for _ in 0..100 {
-        if !session.deliver(port, &mut out).ok()? {
+        if !delivered(session, port, &mut out).ok()? {
             return Some(out.text);
         }
     }
@@ -198,24 +221,12 @@ fn told_in_pieces<P: Port>(
     let mut out = Output::new(alloc, 10_000);
     let moment = Moment::new(0).ok()?;
     session.greet(&mut out).ok()?;
-    session
-        .feed(
-            alloc,
-            &stream[..cut.min(stream.len())],
-            moment,
-            port,
-            &mut out,
-        )
-        .ok()?;
-    session
-        .feed(
-            alloc,
-            &stream[cut.min(stream.len())..],
-            moment,
-            port,
-            &mut out,
-        )
-        .ok()?;
+    for piece in [
+        &stream[..cut.min(stream.len())],
+        &stream[cut.min(stream.len())..],
+    ] {
+        fed(&mut session, alloc, piece, moment, port, &mut out).ok()?;
+    }
     Some(out.text)
 }
 
@@ -339,7 +350,7 @@ fn a_load_is_asked_of_the_port_in_raw_mode(rt: HostRuntime) {
         (b"< load >", b"< error wrong state >"),
         (b"< rawmode >", b"< ok >"),
         (b"< load 1 >", b"< error bad word count >"),
-        (b"< load >", b"< load 7 8 >"),
+        (b"< load >", b"< load 7 8 9 10 >"),
     ];
     let mut port = Counting::new();
     let mut session = Session::new(rt.alloc(), 256).expect(&rt, "memory");
@@ -358,7 +369,7 @@ fn a_load_is_asked_of_the_port_in_raw_mode(rt: HostRuntime) {
         b"< load >",
         0,
         &mut port,
-        b"< load 0 0 >",
+        b"< load 0 0 0 0 >",
     );
 }
 
@@ -409,44 +420,65 @@ fn attempt(port: &mut ListPort, micros: u64, verdict: Verdict) -> bool {
     }
 }
 
+/// Two sessions in raw mode on one bus, the first on can0 and the second on can1.
+#[derive(Drop)]
+struct Two<'r, R: Abort + AllocGlobal> {
+    rt: &'r R,
+    port: ListPort,
+    one: Session,
+    two: Session,
+}
+
+impl<R: Abort + AllocGlobal> Two<'_, R> {
+    fn new(rt: &R) -> Two<'_, R> {
+        let alloc = rt.alloc();
+        let mut port = bus_of(alloc, "can0,can1", AckMode::Always).expect(rt, "a bus");
+        let one = raw_on(alloc, b"< open can0 >< rawmode >", &mut port).expect(rt, "raw");
+        let two = raw_on(alloc, b"< open can1 >< rawmode >", &mut port).expect(rt, "raw");
+        Two { rt, port, one, two }
+    }
+
+    /// The first sends a frame, which is tried.
+    fn sends(&mut self) {
+        let send = b"< send 123 4 11 22 33 44 >";
+        says(self.rt, &mut self.one, send, 0, &mut self.port, b"");
+        assert!(self.rt; attempt(&mut self.port, 23_424_242, Verdict::Good));
+    }
+
+    /// The second writes this for a piece.
+    fn says(&mut self, piece: &[u8], want: &[u8]) {
+        says(self.rt, &mut self.two, piece, 0, &mut self.port, want);
+    }
+
+    /// They write these until there is no item more.
+    fn drain(&mut self, two: &[u8], one: &[u8]) {
+        drains(self.rt, &mut self.two, &mut self.port, two);
+        drains(self.rt, &mut self.one, &mut self.port, one);
+    }
+
+    /// The second is over: it writes nothing more.
+    fn is_silent(&mut self) {
+        let alloc = self.rt.alloc();
+        same(self.rt, self.two.stage(), Stage::Ended);
+        assert!(self.rt; drained(&mut self.two, alloc, &mut self.port).is_none());
+        assert!(self.rt; told(&mut self.two, alloc, b"< echo >", 0, &mut self.port).is_none());
+    }
+}
+
 #[test]
 fn a_frame_goes_from_one_session_to_another(rt: HostRuntime) {
-    let mut port = bus_of(rt.alloc(), "can0,can1", AckMode::Always).expect(&rt, "a bus");
-    let mut one = raw_on(rt.alloc(), b"< open can0 >< rawmode >", &mut port).expect(&rt, "raw");
-    let mut two = raw_on(rt.alloc(), b"< open can1 >< rawmode >", &mut port).expect(&rt, "raw");
-    let send = b"< send 123 4 11 22 33 44 >";
-    says(&rt, &mut one, send, 0, &mut port, b"");
-    assert!(rt; attempt(&mut port, 23_424_242, Verdict::Good));
-    drains(
-        &rt,
-        &mut two,
-        &mut port,
-        b"< frame 123 23.424242 11223344 >",
-    );
-    drains(&rt, &mut one, &mut port, b"");
-    says(
-        &rt,
-        &mut two,
-        b"< stats >",
-        0,
-        &mut port,
-        b"< stats 1 0 1 0 0 0 0 0 >",
-    );
+    let mut both = Two::new(&rt);
+    both.sends();
+    both.drain(b"< frame 123 23.424242 11223344 >", b"");
+    both.says(b"< stats >", b"< stats 1 0 1 0 0 0 0 0 >");
 }
 
 #[test]
 fn nothing_follows_a_close(rt: HostRuntime) {
-    let mut port = bus_of(rt.alloc(), "can0,can1", AckMode::Always).expect(&rt, "a bus");
-    let mut one = raw_on(rt.alloc(), b"< open can0 >< rawmode >", &mut port).expect(&rt, "raw");
-    let mut two = raw_on(rt.alloc(), b"< open can1 >< rawmode >", &mut port).expect(&rt, "raw");
-    let send = b"< send 123 4 11 22 33 44 >";
-    told(&mut one, rt.alloc(), send, 0, &mut port).expect(&rt, "memory");
-    assert!(rt; attempt(&mut port, 23_424_242, Verdict::Good));
-    let close = b"< close >< echo >";
-    says(&rt, &mut two, close, 0, &mut port, b"< closed 1 0 >");
-    same(&rt, two.stage(), Stage::Ended);
-    assert!(rt; drained(&mut two, rt.alloc(), &mut port).is_none());
-    assert!(rt; told(&mut two, rt.alloc(), b"< echo >", 0, &mut port).is_none());
+    let mut both = Two::new(&rt);
+    both.sends();
+    both.says(b"< close >< echo >", b"< closed 1 0 >");
+    both.is_silent();
 }
 
 #[test]
@@ -518,8 +550,8 @@ fn is_over<P: Port>(session: &mut Session, alloc: Global, port: &mut P) -> bool 
     let Ok(moment) = Moment::new(0) else {
         return false;
     };
-    let fed = session.feed(alloc, b"< echo >", moment, port, &mut out);
-    let delivered = session.deliver(port, &mut out);
+    let fed = fed(session, alloc, b"< echo >", moment, port, &mut out);
+    let delivered = delivered(session, port, &mut out);
     let ended = session.end(port);
     let greeted = session.greet(&mut out);
     matches!(fed, Err(SessionFault::Ended))
@@ -544,7 +576,7 @@ fn deliver<P: Port>(
     room: usize,
     port: &mut P,
 ) -> Result<bool, SessionFault> {
-    session.deliver(port, &mut Output::new(alloc, room))
+    delivered(session, port, &mut Output::new(alloc, room))
 }
 
 #[test]
@@ -587,7 +619,14 @@ fn a_piece_whose_text_is_not_taken_ends_the_session(rt: HostRuntime) {
     );
     let mut out = Output::new(rt.alloc(), 3);
     let moment = Moment::new(0).expect(&rt, "a moment");
-    let fed = session.feed(rt.alloc(), b"< echo >", moment, &mut port, &mut out);
+    let fed = fed(
+        &mut session,
+        rt.alloc(),
+        b"< echo >",
+        moment,
+        &mut port,
+        &mut out,
+    );
     same(&rt, fed, Err(SessionFault::Write));
     closed(&rt, &mut session, &mut port, 5);
 }

@@ -22,6 +22,67 @@ fn counters(tec: u16, rec: u16) -> Counters
     }
 }
 
+// The calls of gauges, of which later ones ask for the number alone.
+
+fn two_of<N: MeterName>(rt: &impl Abort, gauge: Gauge<N>) -> (Gauge<N>, Gauge<N>)
+    ensures { (result.0.number ≡ gauge.number) × (result.1.number ≡ gauge.number) }
+{
+    let Ok(both) = gauge.split() else {
+        panic!(rt; "no second gauge");
+    };
+    both
+}
+
+fn one_of<N: MeterName>(first: Gauge<N>, second: Gauge<N>) -> Gauge<N>
+    requires { second.number ≡ first.number }
+    ensures { result.number ≡ first.number }
+{
+    first.join(second)
+}
+
+fn another_of<N: MeterName>(rt: &impl Abort, gauge: &mut Gauge<N>) -> Gauge<N>
+    ensures this { gauge.new.number ≡ gauge.old.number }
+    ensures another { result.number ≡ gauge.old.number }
+{
+    let Ok(another) = gauge.another() else {
+        panic!(rt; "no other gauge");
+    };
+    another
+}
+
+/// Two gauges read what the one has read that they were.
+fn are_split<N: MeterName>(rt: &impl Abort, gauge: Gauge<N>) -> (Gauge<N>, Gauge<N>)
+    ensures { (result.0.number ≡ gauge.number) × (result.1.number ≡ gauge.number) }
+{
+    let (mut first, mut second) = two_of(rt, gauge);
+    reads(rt, &mut first, 0, (4, 8, 0));
+    reads(rt, &mut second, 0, (4, 8, 0));
+    (first, second)
+}
+
+/// One gauge in place of two reads what the second has read.
+fn are_joined<N: MeterName>(rt: &impl Abort, first: Gauge<N>, mut second: Gauge<N>) -> Gauge<N>
+    requires { second.number ≡ first.number }
+    ensures { result.number ≡ first.number }
+{
+    reads(rt, &mut second, 0, (5, 7, 1));
+    let mut joined = one_of(first, second);
+    reads(rt, &mut joined, 0, (5, 7, 1));
+    reads(rt, &mut joined, 1, (0, 0, 0));
+    joined
+}
+
+/// What was published of both interfaces is read by another gauge, too.
+fn is_read_by_another<N: MeterName>(rt: &impl Abort, joined: &mut Gauge<N>) -> Gauge<N>
+    ensures this { joined.new.number ≡ joined.old.number }
+    ensures another { result.number ≡ joined.old.number }
+{
+    let mut another = another_of(rt, joined);
+    reads(rt, &mut another, 1, (u32::MAX, 263, 255));
+    reads(rt, &mut another, 0, (5, 7, 1));
+    another
+}
+
 fn a_gauge_reads_what_was_published<N: MeterName>(rt: &impl Abort, alloc: Global, blank: MeterBlank)
     requires { (blank ≡ N.meter 3) × (blank.words ≡ 2) }
 {
@@ -35,23 +96,12 @@ fn a_gauge_reads_what_was_published<N: MeterName>(rt: &impl Abort, alloc: Global
     keeper.publish(0, 4, counters(8, 0));
     reads(rt, &mut gauge, 0, (4, 8, 0));
 
-    let Ok((mut first, mut second)) = gauge.split() else {
-        panic!(rt; "no second gauge");
-    };
-    reads(rt, &mut first, 0, (4, 8, 0));
-    reads(rt, &mut second, 0, (4, 8, 0));
+    let (first, second) = are_split(rt, gauge);
     keeper.publish(0, 5, counters(7, 1));
-    reads(rt, &mut second, 0, (5, 7, 1));
-    let mut joined = first.join(second);
-    reads(rt, &mut joined, 0, (5, 7, 1));
-    reads(rt, &mut joined, 1, (0, 0, 0));
+    let mut joined = are_joined(rt, first, second);
 
     keeper.publish(1, u32::MAX, counters(263, 255));
-    let Ok(mut another) = joined.another() else {
-        panic!(rt; "no other gauge");
-    };
-    reads(rt, &mut another, 1, (u32::MAX, 263, 255));
-    reads(rt, &mut another, 0, (5, 7, 1));
+    let another = is_read_by_another(rt, &mut joined);
     keeper.absorb(joined);
     keeper.absorb(another);
 }

@@ -469,17 +469,30 @@ fn statuses_are_written(rt: HostRuntime) {
 
 #[test]
 fn loads_are_written(rt: HostRuntime) {
-    let cases: [(u16, u64, &[u8]); 3] = [
-        (0, 0, b"< load 0 0 >"),
-        (7, 12_345_678, b"< load 7 12345678 >"),
+    let cases: [(u16, u64, u32, u32, &[u8]); 3] = [
+        (0, 0, 0, 0, b"< load 0 0 0 0 >"),
+        (
+            7,
+            12_345_678,
+            500_000,
+            2_000_000,
+            b"< load 7 12345678 500000 2000000 >",
+        ),
         (
             1_000,
             18_446_744_073_709_551_615,
-            b"< load 1000 18446744073709551615 >",
+            1_000_000,
+            4_294_967_295,
+            b"< load 1000 18446744073709551615 1000000 4294967295 >",
         ),
     ];
-    for (permille, micros, text) in cases {
-        let load = BusLoad { permille, micros };
+    for (permille, micros, bitrate, dbitrate, text) in cases {
+        let load = BusLoad {
+            permille,
+            micros,
+            bitrate,
+            dbitrate,
+        };
         same(&rt, reply_text(Answer::Load(load)).as_bytes(), text);
     }
 }

@@ -2,7 +2,7 @@
 use super::support::{Sockets, run_over, runs, same};
 use can_test_support::{Closed, Pieces};
 use canbusd_audit::audit_lines;
-use canbusd_io::{FewReads, ProgramError, read_text};
+use canbusd_io::{LimitedReads, ProgramError, read_text};
 use std::fs;
 use std::io::BufReader;
 use std::test::Fail;
@@ -61,7 +61,7 @@ fn reads_files_in_so_many_reads(rt: HostRuntime) -> Result<(), Fail> {
             size: 1,
             is_broken,
         };
-        let mut file = FewReads::new(alloc, file, most_reads);
+        let mut file = LimitedReads::new(alloc, file, most_reads);
         match read_text(alloc, "f.rec", &mut file) {
             Ok(text) => {
                 same(&rt, text.as_str(), "abc");
@@ -87,7 +87,7 @@ fn reads_records_in_so_many_reads(rt: HostRuntime) -> Result<(), Fail> {
             size: 1,
             is_broken: false,
         };
-        let mut input = BufReader::new(alloc, FewReads::new(alloc, file, most_reads))?;
+        let mut input = BufReader::new(alloc, LimitedReads::new(alloc, file, most_reads))?;
         let mut output = Vec::new(alloc);
         match audit_lines(alloc, "f.rec", &mut input, &mut output) {
             Ok(()) => same(&rt, output.as_slice(), b"ok 0 entries\n"),

@@ -1,14 +1,13 @@
 //! A command line carried out over an input, and what it wrote.
 use crate::program::run_words;
-use can_test_support::joined;
 use canbusd_serve::ServerRuntime;
 use std::alloc::{AllocGlobal, Global};
 use std::fmt::Debug;
+use std::fs;
 use std::io::{BufWriter, Read, Write};
 use std::net::{TcpListener, TcpStream};
 use std::process::Abort;
 use std::test::Fail;
-use std::{fs, io};
 
 /// An input with no bytes.
 pub const NOTHING: &[u8] = b"";
@@ -19,34 +18,6 @@ pub type Sockets = Option<(TcpListener, TcpStream)>;
 /// Both are alike. Where they are not, the test ends and says what differs.
 pub fn same<T: PartialEq + Debug + Drop>(rt: &impl Abort, got: T, expected: T) {
     assert_eq!(rt; got, expected);
-}
-
-/// A reader of a text that it owns, in pieces of this many bytes.
-#[derive(Drop)]
-struct Owned {
-    text: String,
-    read: usize,
-    size: usize,
-}
-
-impl Owned {
-    fn new(text: String, size: usize) -> Owned {
-        Owned {
-            text,
-            read: 0,
-            size,
-        }
-    }
-}
-
-impl Read for Owned {
-    fn read(&mut self, buf: &mut [u8]) -> io::Result<usize> {
-        let rest = self.text.as_bytes().get(self.read..).unwrap_or(b"");
-        let size = self.size.min(rest.len()).min(buf.len());
-        buf[..size].copy_from_slice(&rest[..size]);
-        self.read = self.read.saturating_add(size);
-        Ok(size)
-    }
 }
 
 /// What a command line ended with.
@@ -149,25 +120,5 @@ pub fn leaves_record(
     let told = format!(in alloc; "ok {entries} entries\n")?;
     runs(rt, alloc, &line, NOTHING, (&told, "", 0))?;
     fs::remove_file(rt, path)?;
-    Ok(())
-}
-
-pub const TWO_SESSIONS: &str =
-    "session 1\nsession 2\nfeed 1 < open can0 >< rawmode >\nfeed 2 < open can1 >< rawmode >\n";
-
-pub const TWO_STARTED: &str = "1 < hi >\n2 < hi >\n1 < ok >< ok >\n2 < ok >< ok >\n";
-
-/// As `runs`, over an input that comes a byte at a time, and over one that comes as a whole.
-pub fn runs_however_cut(
-    rt: &(impl Abort + ServerRuntime),
-    alloc: Global,
-    line: &str,
-    input: &str,
-    wanted: (&str, &str, u8),
-) -> Result<(), Fail> {
-    for size in [1, 4096] {
-        let input = Owned::new(String::from_str(alloc, input)?, size);
-        runs(rt, alloc, line, input, wanted)?;
-    }
     Ok(())
 }

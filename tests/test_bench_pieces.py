@@ -1,0 +1,106 @@
+"""Inputs of a bench that come as a whole and a byte at a time: what is reported of their lines and messages."""
+
+import pytest
+
+from commands import TWO_SESSIONS, TWO_STARTED, run_bytes, run_line
+
+OUTSIDE = "note: session 2: bytes outside < and > were skipped\n"
+BEGUN = "note: session 1: the last message has no >\n"
+# What follows the two sessions, what they write then, and what is reported after the run.
+NOTED = [
+    ("feed 1 < echo >  < echo >\t\nfeed 1 < ec\nfeed 1 ho >\n", "1 < echo >< echo >\n1 < echo >\n", ""),
+    ("feed 2 echo\n", "", OUTSIDE),
+    ("feed 2 echo >\nfeed 2 < echo >\n", "2 < echo >\n", OUTSIDE),
+    (
+        "feed 2 x>< send< send 80000123 1 0A >y< send 123 0 >\nattempt\ndrain 1\n",
+        "tried can1 0 done can0 -\n1 < frame 00000123 0.000000 0A >\n",
+        OUTSIDE,
+    ),
+    ("feed 2 < send 123 0 < echo >\n", "2 < echo >\n", OUTSIDE),
+    ("feed 1 < echo >< send 123 0\n", "1 < echo >\n", BEGUN),
+    ("feed 1 <", "", BEGUN),
+    ("feed 1 <\nfeed 2 echo\n", "", BEGUN + OUTSIDE),
+]
+# What follows the two sessions, what they write then, and how the first piece with a refusal is shown.
+REFUSED = [
+    ("feed 1 < send 123 2 1122 >\n", "1 < error bad word count >\n", "error bad word count >\n"),
+    (
+        "feed 1 < send 123 0 >< echo >< x >\nfeed 2 < y >\n",
+        "1 < echo >< error unknown command >\n2 < error unknown command >\n",
+        "echo >< error unknown command >\n",
+    ),
+    ("feed 1 < restart >", "1 < error not bus off >\n", "error not bus off >\n"),
+]
+AT = "  at SECONDS.MICROS: 1 to 10 digits, a point, 6 digits, as at 1.500000\n"
+ATTEMPT = "  nothing may follow attempt: each line makes one attempt\n"
+NUMBER = "  a session is 1 to 64 without leading zeros, after one space\n"
+MISSING = "  no line before it starts session 3\n"
+WITH_CR = "  this line ends with CR and LF: lines end with LF alone\n"
+OTHER = "  a line begins with at, session, feed, drain, end, fault or attempt; see canbusd help bench\n"
+# A line that is refused, how it is shown, and what is reported of it.
+FAULTY = [
+    ("at 10000000000.000000", "at 10000000000.000000", AT),
+    ("at 1.00000", "at 1.00000", AT),
+    ("at 1.0000000", "at 1.0000000", AT),
+    ("at .000000", "at .000000", AT),
+    ("at 1,000000", "at 1,000000", AT),
+    ("attempt ", "attempt ", ATTEMPT),
+    ("attempt\r", "attempt?", WITH_CR),
+    (" ", " ", OTHER),
+    ("Attempt", "Attempt", OTHER),
+    ("\x1b[2J\xe9", "?[2J??", OTHER),
+    ("session 1", "session 1", "  session 1 was started before: a number is used once\n"),
+    ("session 0", "session 0", NUMBER),
+    ("session 03", "session 03", NUMBER),
+    ("session 65", "session 65", NUMBER),
+    ("drain 3", "drain 3", MISSING),
+    ("drain  1", "drain  1", NUMBER),
+    ("feed 3 < open can0 >", "feed 3 < open can0 >", MISSING),
+    (
+        "feed 1",
+        "feed 1",
+        "  feed S BYTES: S is 1 to 64 without leading zeros, and one space comes before BYTES\n",
+    ),
+    ("end 3", "end 3", MISSING),
+]
+
+
+def runs(line, text, wanted):
+    """The words of a line end with this status, output and errors, however the input is cut."""
+    for run in (run_line, run_bytes):
+        assert run(line, text) == wanted
+
+
+@pytest.mark.parametrize("rest, written, noted", NOTED)
+def test_what_is_in_no_message_is_noted(rest, written, noted):
+    runs("bench can0,can1", TWO_SESSIONS + rest, (0, TWO_STARTED + written, noted))
+
+
+@pytest.mark.parametrize("rest, written, shown", REFUSED)
+def test_a_strict_bench_wants_no_refusal(rest, written, shown):
+    errors = f"canbusd: message refused\n  standard output, byte 48: 1 < {shown}"
+    runs("bench --strict can0,can1", TWO_SESSIONS + rest, (1, TWO_STARTED + written, errors))
+    runs("bench can0,can1", TWO_SESSIONS + rest, (0, TWO_STARTED + written, ""))
+
+
+@pytest.mark.parametrize("line, shown, note", FAULTY)
+def test_lines_that_are_refused(line, shown, note):
+    errors = f"canbusd: line 5: bad line\n  standard input:5: {shown}\n{note}"
+    runs("bench can0,can1", f"{TWO_SESSIONS}{line}\nattempt\n", (1, TWO_STARTED, errors))
+
+
+@pytest.mark.parametrize("count", [0, 1, 1023, 1024, 1025, 2048, 2049, 5000])
+def test_a_line_far_down_is_refused(count):
+    """this many lines of 8 bytes come before it: more than are kept"""
+    line = count + 1
+    errors = (
+        f"canbusd: line {line}: bad line\n  standard input:{line}: drain 64\n  no line before it starts session 64\n"
+    )
+    runs("bench can0", count * "# seven\n" + "drain 64\n# seven\n", (1, "", errors))
+
+
+def test_a_line_of_4097_bytes_is_refused():
+    """it would be good if it were shorter, and 72 bytes of it are shown"""
+    first = "canbusd: line 1: bad line\n  standard input:1: feed 1 "
+    errors = f"{first}{65 * 'x'}..\n  a line has at most 4096 bytes\n"
+    runs("bench can0", f"feed 1 {4090 * 'x'}\n", (1, "", errors))
