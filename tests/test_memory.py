@@ -66,17 +66,17 @@ class Refusing:
         self.environment = {**os.environ, "LD_PRELOAD": str(library), "REFUSE": str(plan)}
 
     def asked(self):
-        """How often it has asked."""
+        """How many times it has asked for memory."""
         return struct.unpack("=Q", self.plan[:8])[0]
 
     def refuse(self, first, last, asked=0):
-        """Refuses it from the first to the last time, where it has asked so often."""
+        """Refuses it from the first to the last time, `asked` being how many there were before."""
         self.plan[8:] = struct.pack("=2Q", 1, 0)
         self.plan[:8] = struct.pack("=Q", asked)
         self.plan[8:] = struct.pack("=2Q", first, last)
 
     def refuse_soon(self, first, last):
-        """Refuses it the so manieth time from now on, to the last: how often it will have asked then."""
+        """Refuses it from the first to the last time, counted from now on; the number of the first."""
         asked = self.settled()
         self.plan[8:] = struct.pack("=2Q", asked + first, min(asked + last, FOREVER))
         return asked + first

@@ -296,9 +296,11 @@ def test_kill():
 def test_pipes():
     """a bridge holds no pipe: who reads to its end sees it once the program has ended"""
     with serving("can0,can1") as server:
-        script = 'python3 -c "$1" & sleep 0.5; kill -STOP $!; echo done'
-        with started(server, "bash", "-c", f"({script})", "sh", WAITING_READER) as child:
+        script = 'python3 -c "$1" & read -r _; kill -STOP $!; echo done'
+        with started(server, "bash", "-c", f"({script})", "sh", WAITING_READER, stdin=subprocess.PIPE) as child:
             assert child.stdout.readline() == "ready\n", child.stderr.read()
+            child.stdin.write("\n")
+            child.stdin.flush()
             assert child.stdout.readline() == "done\n"
             for number in bridges(environment(server)["CANBUSD_ADDRESS"]):
                 held = {os.readlink(f"/proc/{number}/fd/{fd}") for fd in os.listdir(f"/proc/{number}/fd")}

@@ -25,7 +25,7 @@ EIGHT_BYTES = Frame.read("123#1122334455667788")
 
 
 class TooBusy(Exception):
-    """The machine did so much that a server was too late."""
+    """The machine was too busy, and a server too late."""
 
 
 def patiently(test: Callable[..., None]) -> Callable[..., None]:

@@ -115,7 +115,7 @@ def test_faults_of_records(tmp_path):
         "binary": os.urandom(4096),
         "cut in a line": text[:200],
         "cut after a line": text[: text.index(b"attempt")],
-        "first line alone": b"canbus record 1\n",
+        "only the first line": b"canbus record 1\n",
         "without its end": text[: text.rindex(b"end")],
         "text after it": text + b"x\n",
         "no bus": text.replace(b"bus 2", b"bus 17"),

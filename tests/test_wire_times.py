@@ -39,7 +39,7 @@ ENDINGS = {
     Ending.AFTER_CRC: ("destroyed", "global-form"),
 }
 
-# Attempts that fail: whether interfaces acknowledge alone, the verdict, what the line says, and where the flag comes.
+# Attempts that fail: `--ack`, the verdict, what the line says, and where the flag comes.
 FAILED = [
     ("always", "lastbit", "lastbit can1 -", Ending.LAST_BIT),
     ("always", "global bit", "destroyed - -", Ending.AFTER_DATA),

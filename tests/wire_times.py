@@ -95,7 +95,7 @@ def attempt_bits(frame: Frame, ending: Ending) -> tuple[int, int]:
 
 @dataclasses.dataclass(frozen=True)
 class Release:
-    """A frame that a node queues at some time, so late after it was due; the frames of a node go in their order."""
+    """A frame that a node queues at `time`, `late` after it was due; the frames of a node go in their order."""
 
     time: int
     node: int

@@ -137,7 +137,7 @@ static void handle_input(struct session *session) {
     session->have = (size_t)(end - at);
     memmove(session->input, at, session->have);
     if (session->have == sizeof session->input) {
-        session->have = 0; /* No message is so long: this is no canbusd. */
+        session->have = 0; /* Longer than any message: this is no canbusd. */
     }
 }
 

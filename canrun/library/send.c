@@ -21,7 +21,7 @@ static ssize_t can_sendmsg(int fd, enum wire_protocol protocol, const struct msg
         length += message->msg_iov[i].iov_len;
     }
     if (length > WIRE_LARGEST) {
-        return refuse("write", EINVAL, "no message is so long");
+        return refuse("write", EINVAL, "the message is too long");
     }
     if (message->msg_name && protocol != WIRE_ISOTP) {
         struct sockaddr_can can = {0};

@@ -549,7 +549,17 @@ def test_a_bench_counts_no_load():
             session = bench.open("can0")
             session.send(0x123)
             bench.run()
-            assert session.load() == (0, 0)
+            assert session.load() == (0, 0, 0, 0)
+
+
+def test_an_answer_of_another_program(monkeypatch):
+    with Bench("can0") as bench:
+        session = bench.open("can0")
+        for word, answer in (("load", "load 0 0"), ("status", "status off"), ("stats", "ok"), ("faults", "stats 1")):
+            monkeypatch.setattr(session, "call", lambda message: [answer] if message == word else [])
+            ask = {"faults": session.rules_left}.get(word) or getattr(session, word)
+            with pytest.raises(Refused, match=f"^another version of canbusd answers: {answer.removeprefix('ok')}$"):
+                ask()
 
 
 def test_a_run_to_a_moment_that_is_refused():

@@ -212,9 +212,9 @@ def test_a_full_transmit_queue(full):
 
 def test_a_burst_waits_for_room(pair):
     can0, can1 = pair
-    for number in range(300):
+    for number in range(200):
         can0.send(message(number), timeout=WAIT)
-    assert [can1.recv(WAIT).arbitration_id for _ in range(300)] == list(range(300))
+    assert [can1.recv(WAIT).arbitration_id for _ in range(200)] == list(range(200))
 
 
 @pytest.mark.parametrize("window", [10, 3, 1, 64])
@@ -426,7 +426,7 @@ def test_values_given_as_texts(server):
         ("address", "127.0.0.1:99999"), ("address", "::1:29536"), ("fd", "maybe"), ("receive_own_messages", 2),
         ("local_loopback", "x"), ("error_frames", "all"), ("error_frames", -1), ("error_frames", 1 << 32),
         ("join_filters", None), ("timeout", 0), ("timeout", "soon"), ("timeout", -1), ("host", "127.0.0.1"),
-        ("port", 1),
+        ("port", 1), ("bitrate", "fast"), ("bitrate", 5e5), ("data_bitrate", ""),
     ],
 )  # fmt: skip
 def test_a_wrong_argument_is_named(argument, value):

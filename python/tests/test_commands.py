@@ -325,16 +325,17 @@ def test_status_of_interfaces():
     ]
 
 
-def test_status_has_the_load_of_busy_buses():
+def test_status_has_the_load_of_buses_with_a_bit_rate():
     rows = [("can0", "active", 0, 0, 1200, 1190, 10, 0, 3), ("can1", "off", 256, 0, 1, 0, 0, 1, 0)]
     rows.append(("body0", "active", 0, 7, 0, 0, 0, 0, 0))
-    assert table_of(rows, [Load(432, 1_080_000), Load(1000, 2_000_000), Load(0, 5_000)]) == [
+    busy = [(432, 1_080_000), (1000, 2_000_000), (0, 5_000)]
+    assert table_of(rows, [Load(*each, 500_000, 500_000) for each in busy]) == [
         "interface  state   TEC  REC  sent  done  waiting  lost  refused            bus load",
         "can0       active    0    0  1200  1190       10     0        3   43.2 % ####......",
         "can1       off     256    0     1     0        0     1        0  100.0 % ##########",
-        "body0      active    0    7     0     0        0     0        0",
+        "body0      active    0    7     0     0        0     0        0    0.0 % ..........",
     ]
-    assert table_of(rows[:1], [Load(0, 1_080_000)]) == [
+    assert table_of(rows[:1], [Load(0, 0, 0, 0)]) == [
         "interface  state   TEC  REC  sent  done  waiting  lost  refused",
         "can0       active    0    0  1200  1190       10     0        3",
     ]

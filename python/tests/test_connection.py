@@ -28,7 +28,7 @@ class Played:
         self.address, self._greeting, self._cut = str(path), greeting, cut
         self.answers = {"echo": "< echo >"}
         if old:
-            self.answers.update({"ack": UNKNOWN, "origin": UNKNOWN, "interfaces": UNKNOWN, "send": "", "sendrtr": ""})
+            self.answers.update(dict.fromkeys(["ack", "origin", "interfaces", "load"], UNKNOWN), send="", sendrtr="")
         self.seen, self._accepted = [], 0
         self.peer = None
         self._listener = socket.socket(socket.AF_UNIX)
@@ -161,6 +161,48 @@ def test_an_older_server_has_no_list_of_interfaces(play, monkeypatch):
         interfaces(play(old=True).address)
     monkeypatch.setenv("CANBUSD_ADDRESS", play(old=True).address)
     assert can.detect_available_configs("canbusd") == []
+
+
+@pytest.mark.parametrize(
+    "answer, given, said",
+    [
+        ("load 0 0 500000 2000000", {"bitrate": 500_000, "data_bitrate": "2000000"}, []),
+        ("load 0 0 500000 500000", {"bitrate": "250000"}, ["bitrate 250000 is left out: that of the server is 500000"]),
+        (
+            "load 0 0 500000 500000",
+            {"bitrate": 500_000, "data_bitrate": 2_000_000},
+            ["data_bitrate 2000000 is left out: that of the server is 500000"],
+        ),
+        (
+            "load 0 0 0 0",
+            {"bitrate": 500_000},
+            ["bitrate 500000 is left out: the server has none, and frames take no time"],
+        ),
+        # Older servers do not say.
+        ("load 0 0", {"bitrate": 500_000}, []),
+        ("error unknown command", {"bitrate": 500_000, "data_bitrate": 500_000}, []),
+    ],
+)
+def test_bit_rates_that_are_not_those_of_the_server(play, caplog, answer, given, said):
+    played = play()
+    played.answers["load"] = f"< {answer} >"
+    can.Bus(interface="canbusd", channel="can0", address=played.address, **given).shutdown()
+    assert caplog.messages == [f"can0: {one}" for one in said] and played.seen.count("load") == 1
+
+
+def test_a_server_is_asked_for_no_bit_rates_where_none_is_given(play, caplog):
+    played = play()
+    can.Bus(interface="canbusd", channel="can0", address=played.address).shutdown()
+    assert not caplog.records and "load" not in played.seen
+
+
+@pytest.mark.parametrize("answer", ["load 432 1080000", "error unknown command"])
+def test_the_load_of_an_older_server(play, answer):
+    played = play()
+    played.answers["load"] = f"< {answer} >"
+    said = f"^another version of canbusd answers: {answer.removeprefix('error ')}$"
+    with CanbusdBus("can0", address=played.address) as bus, pytest.raises(can.CanOperationError, match=said):
+        bus.load()
 
 
 def test_whose_a_frame_is(play):

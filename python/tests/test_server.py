@@ -201,7 +201,8 @@ def test_the_options_reach_the_program():
 def test_the_bit_rates_reach_the_program(caplog):
     frames = [message(1, b"\x55" * 4), message(2, bytes(64), is_fd=True, bitrate_switch=True), message(3)]
     with Server("can0,can1", bitrate=5_000, dbitrate=20_000) as server:
-        with server.bus("can0", bitrate=5_000, fd=True) as can0, server.bus("can1", fd=True) as can1:
+        rates = {"bitrate": 5_000, "data_bitrate": 20_000}
+        with server.bus("can0", fd=True, **rates) as can0, server.bus("can1", fd=True) as can1:
             can0.send_many(frames)
             received = [can1.recv(WAIT) for _ in frames]
         assert not caplog.records
@@ -228,21 +229,21 @@ def test_the_load_of_a_bus():
                 can0.send_many([frame] * (size - can0.stats().waiting), timeout=WAIT)
                 return can0.load().permille >= 990
 
-            assert can0.load() == car0.load() == Load(0, 0)
+            assert can0.load() == car0.load() == Load(0, 0, 50_000, 50_000)
             server.wait_for(is_full, timeout=WAIT)
             assert can1.load().permille >= 990 and can1.load().micros >= 990_000
-            assert car0.load() == Load(0, 0)
+            assert car0.load() == Load(0, 0, 50_000, 50_000)
             server.wait_for(lambda: can0.stats().waiting == 0 and can0.load().permille == 0, timeout=WAIT)
             load, done = can0.load(), can0.stats().done
         lasts = Wire(Rates(50_000)).times("001#0000000000000000", "done", "good").attempt
-        assert load == Load(0, done * lasts // 1000)
+        assert load == Load(0, done * lasts // 1000, 50_000, 50_000)
 
 
 def test_without_a_bit_rate_there_is_no_load():
     with Server("can0,can1") as server, server.bus("can0") as can0, server.bus("can1") as can1:
         can0.send_many([message(1)] * 10)
         assert [can1.recv(WAIT) for _ in range(10)]
-        assert can0.load() == Load(0, 0)
+        assert can0.load() == Load(0, 0, 0, 0)
 
 
 def test_what_a_server_says_of_a_full_record():

@@ -59,6 +59,7 @@ def test_the_sender_is_the_interface_that_has_sent_the_frame():
     """though identifiers are the same, and one of the bus is not watched"""
     with Server("can0,can1,can2") as server:
         watcher = Watcher(["can0", "can1"], server.address)
+        assert watcher.wire is None
         for sender in ("can0", "can1", "can2", "can1", "can0"):
             with server.bus(sender, receive_own_messages=True) as bus:
                 bus.send(can.Message(arbitration_id=0x100, is_extended_id=False))
@@ -70,8 +71,10 @@ def test_the_sender_is_the_interface_that_has_sent_the_frame():
 
 
 def test_the_load_and_how_long_frames_took():
-    with Server("can0,can1", bitrate=5_000, txqueue=1_000) as server, server.bus("can0") as bus:
-        watcher = Watcher(["can0", "can1"], server.address, rates=Rates(5_000))
+    rates = Rates(5_000, 20_000)
+    with Server("can0,can1", bitrate=5_000, dbitrate=20_000, txqueue=1_000) as server, server.bus("can0") as bus:
+        watcher = Watcher(["can0", "can1"], server.address)
+        assert watcher.wire.rates == rates
         # 26 seconds of frames.
         bus.send_many([can.Message(arbitration_id=1, data=bytes(8), is_extended_id=False)] * 1_000)
         server.wait_for(lambda: bus.load().permille >= 990, timeout=WAIT)
@@ -79,9 +82,7 @@ def test_the_load_and_how_long_frames_took():
         for one in watcher.buses:
             one.shutdown()
     assert all(990 <= load <= 1_000 for load in tick["loads"]) and len(tick["loads"]) == 2
-    assert rows and {row[5] for row in rows} == {
-        Wire(Rates(5_000)).times("001#0000000000000000", "done", "good").attempt
-    }
+    assert rows and {row[5] for row in rows} == {Wire(rates).times("001#0000000000000000", "done", "good").attempt}
 
 
 def test_a_page_that_reads_slowly_begins_anew():
@@ -311,6 +312,29 @@ def test_the_page(tmp_path):
             assert browser.run("document.documentElement.scrollWidth") == 500
             server.stop()
             browser.until("at('facts').textContent.startsWith('The server has ended')")
+            assert browser.faults == []
+        finally:
+            browser.close()
+
+
+@pytest.mark.skipif(PROGRAM is None, reason="no chromium on the PATH")
+def test_the_page_of_a_server_with_a_bit_rate(tmp_path):
+    """It has the load of an idle bus too, and which share of the time an identifier takes."""
+    with Server("can0,can1", bitrate=5_000) as server, Watch(server, "can0", "can1") as watch:
+        browser = Browser(tmp_path)
+        try:
+            browser.size(1200)
+            browser.open(watch.url)
+            browser.until("ticks.length > 0")
+            browser.settle()
+            rows = browser.run("[...at('ifaces').rows].map(row => row.cells[9]?.textContent)")
+            assert rows == ["bus load", " 0.0 %", " 0.0 %"]
+            with server.bus("can0", bitrate=5_000) as bus:
+                bus.send(message(0x123))
+                browser.until("byIdentifier.has('123')")
+            browser.run("showTab('tab-identifiers')")
+            browser.settle()
+            assert "100.0 %" in browser.run("at('identifiers').innerText")
             assert browser.faults == []
         finally:
             browser.close()

@@ -1,13 +1,15 @@
 """Rules of faults for a bus that runs: what every session can do, and a session that is opened for nothing else."""
 
-from collections.abc import Iterable
+from collections.abc import Callable, Iterable
 from types import TracebackType
-from typing import Optional
+from typing import Optional, TypeVar
 
 from canbusd._connection import Connection
 from canbusd._protocol import refusal_in, rules_left_of
 from canbusd.faults import Script, rules_of
 from canbusd.rules import Rule
+
+T = TypeVar("T")
 
 #: Seconds in which a server has to answer.
 TIMEOUT = 5.0
@@ -28,6 +30,13 @@ class InjectsFaults:
         """What is raised for a refusal."""
         return Refused(text)
 
+    def _parsed(self, answer: str, read: Callable[[str], Optional[T]]) -> T:
+        """What an answer says, by the function that reads it; an exception where that is none of this version."""
+        found = read(answer)
+        if found is None:
+            raise self._refusal(f"another version of canbusd answers: {answer}")
+        return found
+
     def inject(self, faults: Script) -> None:
         """Gives the bus of the interface these rules, after those that it has, from the next attempt on.
 
@@ -44,11 +53,7 @@ class InjectsFaults:
 
     def rules_left(self) -> int:
         """Returns how many rules the bus of the interface has that are not used up, those without end too."""
-        answer = self._answer("faults")
-        left = rules_left_of(answer)
-        if left is None:
-            raise self._refusal(answer)
-        return left
+        return self._parsed(self._answer("faults"), rules_left_of)
 
     def end_rules(self) -> None:
         """Ends all rules of the bus, whoever gave them; lines of a script by the numbers of attempts stay."""

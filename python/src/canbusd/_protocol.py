@@ -55,12 +55,16 @@ class Stats(NamedTuple):
 
 
 class Load(NamedTuple):
-    """How busy a bus of a server with a bit rate is; of any other bus both are 0."""
+    """How busy a bus of a server with a bit rate is, and its bit rates; of any other bus all are 0."""
 
     #: How long the wire was busy in the last whole second, in thousandths of it: 1000 is a full bus.
     permille: int
     #: How long it was busy since the server began, in microseconds.
     micros: int
+    #: The nominal bit rate, in bits a second.
+    bitrate: int
+    #: That of the data of FD frames with the bit rate switch; the nominal one where the server has no other.
+    data_bitrate: int
 
 
 def refusal_in(answer: str) -> str:
@@ -85,11 +89,11 @@ def stats_of(answer: str) -> Optional[Stats]:
 
 
 def load_of(answer: str) -> Optional[Load]:
-    """Returns what the answer `load 432 1080000` says; None for another message."""
+    """Returns what the answer `load 432 1080000 500000 2000000` says; None for another message."""
     words = answer.split()
-    if len(words) != 3 or words[0] != "load":
+    if len(words) != 5 or words[0] != "load":
         return None
-    return Load(int(words[1]), int(words[2]))
+    return Load(*map(int, words[1:]))
 
 
 def rules_left_of(answer: str) -> Optional[int]:

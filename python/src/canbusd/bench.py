@@ -154,21 +154,15 @@ class Session(InjectsFaults):
 
     def status(self) -> ErrorCounters:
         """Returns the state of the interface and its error counts."""
-        counters = counters_of(self.call("status")[0])
-        assert counters is not None
-        return counters
+        return self._parsed(self._answer("status"), counters_of)
 
     def stats(self) -> Stats:
         """Returns the counts of the socket and of its interface."""
-        stats = stats_of(self.call("stats")[0])
-        assert stats is not None
-        return stats
+        return self._parsed(self._answer("stats"), stats_of)
 
     def load(self) -> Load:
-        """Returns `Load(0, 0)`: only a server counts how busy its buses are."""
-        load = load_of(self.call("load")[0])
-        assert load is not None
-        return load
+        """Returns `Load(0, 0, 0, 0)`: only a server counts how busy its buses are."""
+        return self._parsed(self._answer("load"), load_of)
 
     def set_filters(self, filters: Optional[Filters] = None) -> None:
         """Sets the filters of the socket, in python-can's form; None receives everything."""

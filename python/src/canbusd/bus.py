@@ -10,7 +10,7 @@ import functools
 import logging
 import threading
 import time
-from collections.abc import Callable, Iterable, Iterator, Sequence
+from collections.abc import Iterable, Iterator, Mapping, Sequence
 from math import isfinite
 from typing import TYPE_CHECKING, Any, Optional, TypeVar, Union, cast
 
@@ -53,7 +53,6 @@ if TYPE_CHECKING:
     from can.typechecking import AutoDetectedConfig
 
 Self = TypeVar("Self", bound="CanbusdBus")
-T = TypeVar("T")
 
 LOG = logging.getLogger("can.canbusd")
 NO_BUFFERS, BUS_OFF, NOT_BUS_OFF = "no buffers", "bus off", "not bus off"
@@ -107,17 +106,17 @@ def seconds(name: str, value: object) -> float:
     return found
 
 
+def bit_rates(**rates: object) -> dict[str, int]:
+    """Returns those of these bit rates that are given; each may be a text."""
+    try:
+        return {name: int(str(rate)) for name, rate in rates.items() if rate is not None}
+    except ValueError:
+        raise ValueError(f"{' and '.join(rates)} are whole numbers, of bits a second, not {rates!r}") from None
+
+
 def refusal(text: str, after: str = "") -> CanOperationError:
     """The exception for what the server refused; its `error_code` is that of the system's own CAN sockets."""
     return CanOperationError(f"{text}{after}{CURES.get(text, '')}", ERROR_CODES.get(text))
-
-
-def parsed(answer: str, read: Callable[[str], Optional[T]]) -> T:
-    """Returns what an answer says, by the function that reads it; CanOperationError where it is a refusal."""
-    found = read(answer)
-    if found is None:
-        raise refusal(answer)
-    return found
 
 
 def interfaces(address: Optional[str] = None, timeout: float = 5.0) -> list[str]:
@@ -179,7 +178,9 @@ class CanbusdBus(InjectsFaults, BusABC):
     :param error_frames: receive error message frames; true, false or a mask of their classes
     :param join_filters: receive what matches all filters, not only one
     :param timeout: seconds in which the server has to reply
-    :param kwargs: what python-can hands to all interfaces, such as a bit rate, which has no meaning here
+    :param bitrate: the nominal bit rate; it is the server's, and where that has another or none, a warning is logged
+    :param data_bitrate: likewise that of the data of FD frames with ``bitrate_switch``
+    :param kwargs: what python-can hands to all interfaces, and has no meaning here
 
     It may be used by several threads at once. Each value may be a text, as in can.conf.
     """
@@ -196,6 +197,8 @@ class CanbusdBus(InjectsFaults, BusABC):
         error_frames: Union[bool, int, str] = True,
         join_filters: Union[bool, str] = False,
         timeout: Union[float, str] = 5.0,
+        bitrate: Union[int, str, None] = None,
+        data_bitrate: Union[int, str, None] = None,
         **kwargs: Any,
     ) -> None:
         # python-can 4.3 warns of a bus that is not shut down, also where it never came to be.
@@ -208,6 +211,7 @@ class CanbusdBus(InjectsFaults, BusABC):
         self._join = truth("join_filters", join_filters)
         self._timeout = seconds("timeout", timeout)
         self._receives_own = truth("receive_own_messages", receive_own_messages)
+        rates = bit_rates(bitrate=bitrate, data_bitrate=data_bitrate)
         messages = options(
             fd=self._fd,
             receive_own_messages=self._receives_own,
@@ -222,6 +226,7 @@ class CanbusdBus(InjectsFaults, BusABC):
         self._connection = self._open(messages)
         with self._closed_on_a_fault():
             super().__init__(channel=self.channel, can_filters=can_filters)  # type: ignore[arg-type]
+            self._compare(rates)
         self._is_shutdown = False
 
     @contextlib.contextmanager
@@ -247,6 +252,18 @@ class CanbusdBus(InjectsFaults, BusABC):
         self._filters_here = False
         self._unfiltered = 0
         self._lock_send_periodic = threading.Lock()
+
+    def _compare(self, rates: Mapping[str, int]) -> None:
+        """Logs which of these bit rates are not the server's; it is not asked where there are none."""
+        load = load_of(self._call("load")) if rates else None
+        if load is None:
+            # An older server does not say.
+            return
+        for name, rate in rates.items():
+            own = getattr(load, name)
+            if own != rate:
+                said = f"that of the server is {own}" if own else "the server has none, and frames take no time"
+                LOG.warning("%s: %s %s is left out: %s", self.channel, name, rate, said)
 
     def __enter__(self: Self) -> Self:
         # That of python-can 4.1 has no type.
@@ -294,7 +311,7 @@ class CanbusdBus(InjectsFaults, BusABC):
                 stats = self._departure(stats, deadline, f" after {total - len(rest)} of {total} messages")
                 room = max(1, window - stats.waiting)
             answers = self._calls([*rest[:room], "stats"])
-            stats = parsed(answers.pop(), stats_of)
+            stats = self._parsed(answers.pop(), stats_of)
             refused = [command for command, answer in zip(rest, answers) if answer]
             rest[: len(answers)] = refused
             fault = next((answer for answer in answers if answer not in ("", NO_BUFFERS)), None)
@@ -336,15 +353,15 @@ class CanbusdBus(InjectsFaults, BusABC):
 
     def error_counters(self) -> ErrorCounters:
         """Returns the state of the interface and its error counts."""
-        return parsed(self._call("status"), counters_of)
+        return self._parsed(self._call("status"), counters_of)
 
     def stats(self) -> Stats:
         """Returns the counts of this socket and of its interface."""
-        return parsed(self._call("stats"), stats_of)
+        return self._parsed(self._call("stats"), stats_of)
 
     def load(self) -> Load:
-        """Returns how busy the bus was, with bit rates; without them `Load(0, 0)`."""
-        return parsed(self._call("load"), load_of)
+        """Returns how busy the bus was, and its bit rates; without them `Load(0, 0, 0, 0)`."""
+        return self._parsed(self._call("load"), load_of)
 
     def fileno(self) -> int:
         """Returns a file descriptor that is readable where `recv` has something to return or to raise.

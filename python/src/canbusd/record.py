@@ -169,7 +169,7 @@ def names_of(record: RecordText, path: Optional[Path], given: Optional[Sequence[
 
 
 def members_of(verdict: str, names: Sequence[str]) -> list[str]:
-    """Returns the names of the interfaces that alone see the fault of a verdict: can1 of `local-crc:0002`."""
+    """Returns the names of the only interfaces that see the fault of a verdict: can1 of `local-crc:0002`."""
     _, _, digits = verdict.partition(":")
     return [name for number, name in enumerate(names) if digits and int(digits, 16) >> number & 1]
 

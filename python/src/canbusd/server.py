@@ -6,7 +6,6 @@
     assert len(server.log("can0")) == 2
 """
 
-import logging
 import os
 import re
 import select
@@ -34,7 +33,6 @@ if TYPE_CHECKING:
     from canbusd._observer import Observer
     from canbusd.bus import CanbusdBus
 
-LOG = logging.getLogger("can.canbusd")
 #: Seconds in which a server has to listen, and to end. Long records take their time.
 START, END = 10.0, 60.0
 ENTRIES = re.compile(r"bus (\S+) entries (\d+)")
@@ -197,9 +195,6 @@ class Server(Expectations, ProgramRun):
             raise CanInitializationError(
                 f"{channel}: the server has ended; stop(), {self._ends_too}audit(), report() and its with block end it"
             )
-        own = self._rates.bitrate if self._rates else None
-        if kwargs.get("bitrate", own) != own:
-            LOG.warning("%s: bitrate %s is left out: that of the server is %s", channel, kwargs["bitrate"], own)
         bus = CanbusdBus(channel, address=self.address, **kwargs)
         bus.window = self._txqueue
         return bus

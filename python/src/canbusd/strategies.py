@@ -67,7 +67,7 @@ def fd_frames(extended: Optional[bool] = None) -> SearchStrategy[Frame]:
 
 
 def bytes_of(lengths: Sequence[int]) -> SearchStrategy[bytes]:
-    """Bytes of these lengths, each as often."""
+    """Bytes of these lengths, each equally likely."""
     return st.sampled_from(lengths).flatmap(lambda length: st.binary(min_size=length, max_size=length))
 
 

@@ -13,7 +13,7 @@ from canbusd.commands import NOTHING, add_address
 EPILOG = """\
 TEC and REC are the transmit and the receive error count: error warning from 96, error passive from 128, bus off from
 256. `sent` is what was accepted for sending: done, waiting, or lost at bus off. `refused` found the transmit queue
-full. Where a bus with a bit rate was busy in the last whole second, `bus load` is how much of that.
+full. Of a server with a bit rate `bus load` is how much of the last whole second the bus was busy.
 
   python3 -m canbusd status
   python3 -m canbusd status --watch can0 can1
@@ -56,11 +56,10 @@ def run(options: argparse.Namespace) -> None:
 
 
 def table_of(rows: Sequence[Row], loads: Sequence[Load]) -> list[str]:
-    """The lines of the table, which has the load of each interface's bus where there is any."""
-    if not any(load.permille for load in loads):
+    """The lines of the table, which has the load of each interface's bus where there is a bit rate."""
+    if not any(load.bitrate for load in loads):
         return table(rows)
-    words = [load_words(load.permille) if load.permille else "" for load in loads]
-    return table([(*row, one) for row, one in zip(rows, words)], (*HEADINGS, "bus load"))
+    return table([(*row, load_words(load.permille)) for row, load in zip(rows, loads)], (*HEADINGS, "bus load"))
 
 
 def row_of(name: str, bus: CanbusdBus) -> Row:

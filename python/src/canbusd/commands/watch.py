@@ -20,7 +20,7 @@ from can.exceptions import CanOperationError
 
 from canbusd._wire import Rates, Wire
 from canbusd.bus import CanbusdBus, interfaces, seconds
-from canbusd.commands import add_address, add_database, add_rates, database_of, rates_of
+from canbusd.commands import add_address, add_database, database_of
 from canbusd.frames import SENDING, Frame, frame_like
 from canbusd.report import filled
 from canbusd.signals import Database
@@ -29,12 +29,11 @@ EPILOG = """\
 The page is served on 127.0.0.1 only. It shows on a time line how many frames each interface sent, its state, error
 counts and queue; and lists the last frames, with the watched interfaces that sent them, changes of state, and each
 identifier with its last data. Destroyed and unacknowledged frames are shown where the server was started with --report.
-Of a server with a bit rate it has the bus load; where --bitrate says that rate here too, also what each identifier takes
-of it.
+Of a server with a bit rate it has the bus load, and what each identifier takes of it.
 A session on each interface receives everything: each frame that it gets is an entry of the record.
 
   python3 -m canbusd watch
-  python3 -m canbusd watch --port 0 -a ./bench.socket --bitrate 500000 can0
+  python3 -m canbusd watch --port 0 -a ./bench.socket can0
 """
 # How much a page gets that is opened later: ticks, and frames.
 MOST_TICKS, MOST_FRAMES = 2400, 4000
@@ -192,19 +191,15 @@ class Watched(CanbusdBus):
 class Watcher:
     """The sessions on the interfaces."""
 
-    def __init__(
-        self,
-        names: Sequence[str],
-        address: Optional[str],
-        database: Optional[Database] = None,
-        rates: Optional[Rates] = None,
-    ) -> None:
+    def __init__(self, names: Sequence[str], address: Optional[str], database: Optional[Database] = None) -> None:
         self.database = database
-        self.wire = None if rates is None else Wire(rates)
         self.buses = [Watched(name, address=address, fd=True, receive_own_messages=True) for name in names]
+        # A server has the same bit rates on all its buses.
+        loads = [bus.load() for bus in self.buses]
+        self.wire = next((Wire(Rates(load.bitrate, load.data_bitrate)) for load in loads if load.bitrate), None)
 
     def tick(self, seconds: float) -> tuple[Json, list[Row]]:
-        """Collects frames for so long; then how the interfaces are, and the frames."""
+        """Returns how the interfaces are after these seconds, and the frames that came in them."""
         rows: dict[tuple[float, str, int], Row] = {}
         faults = [[0, 0, 0] for _ in self.buses]
         deadline = time.monotonic() + seconds
@@ -249,7 +244,7 @@ class Watcher:
         return str(decoded) if decoded is not None else frame.meaning
 
     def busy(self, frame: Frame) -> int:
-        """How many nanoseconds a frame took the wire, with those that follow it; 0 where no bit rate is known."""
+        """How many nanoseconds a frame took the wire, with those that follow it; 0 where there is no bit rate."""
         if self.wire is None or frame.is_error_frame:
             return 0
         return self.wire.times(str(frame), "done", "good").attempt
@@ -285,7 +280,6 @@ def add_arguments(parser: argparse.ArgumentParser) -> None:
         metavar="S",
         help="seconds between two looks at the counts (default 0.25)",
     )
-    add_rates(parser, "the page has what each identifier takes of the bus load")
     add_database(parser)
     add_address(parser)
 
@@ -296,7 +290,7 @@ def run(options: argparse.Namespace) -> None:
     if not 0 <= options.port <= 65535:
         raise ValueError(f"--port is a number from 0 to 65535, not {options.port}")
     names: list[str] = options.interfaces or interfaces(options.address)
-    watcher, board = Watcher(names, options.address, database_of(options), rates_of(options)), Board()
+    watcher, board = Watcher(names, options.address, database_of(options)), Board()
     known = {
         "names": names,
         "source": watcher.buses[0].address,

@@ -246,16 +246,16 @@ function showList(name) {
 }
 function showIfaces() {
   const heads = ["node", "state", "transmit count", "receive count", "sent", "done", "waiting", "lost", "refused"];
-  const { ifaces, loads } = ticks.length ? ticks[ticks.length - 1] : { ifaces: [], loads: [] }, isBusy = loads.some(one => one);
-  if (isBusy) heads.push("bus load");
+  const { ifaces, loads } = ticks.length ? ticks[ticks.length - 1] : { ifaces: [], loads: [] };
+  if (isTimed) heads.push("bus load");
   at("ifaces").replaceChildren(...rowsOf(heads, ifaces.map(([state, ...counts], i) => [names[i],
     element("td", stateWords(state), { className: state === "active" ? "" : "bad" }),
-    ...counts.slice(0, 5), ...counts.slice(5).map(loss), ...isBusy ? [loadCell(loads[i])] : []])));
+    ...counts.slice(0, 5), ...counts.slice(5).map(loss), ...isTimed ? [loadCell(loads[i])] : []])));
 }
 // A load with a small bar.
 function loadCell(permille) {
   const bar = element("meter", [], { max: 1000, value: permille, title: "of the last whole second" });
-  return element("td", permille ? [bar, ` ${percent(permille)}`] : "", { className: "number" });
+  return element("td", [bar, ` ${percent(permille)}`], { className: "number" });
 }
 function showMoment() {
   const made = [];
