@@ -194,9 +194,9 @@ class Watcher:
     def __init__(self, names: Sequence[str], address: Optional[str], database: Optional[Database] = None) -> None:
         self.database = database
         self.buses = [Watched(name, address=address, fd=True, receive_own_messages=True) for name in names]
-        # A server has the same bit rates on all its buses.
-        loads = [bus.load() for bus in self.buses]
-        self.wire = next((Wire(Rates(load.bitrate, load.data_bitrate)) for load in loads if load.bitrate), None)
+        # A server has the same bit rates on all its buses, so one is asked.
+        load = next((bus.load() for bus in self.buses), None)
+        self.wire = Wire(Rates(load.bitrate, load.data_bitrate)) if load and load.bitrate else None
 
     def tick(self, seconds: float) -> tuple[Json, list[Row]]:
         """Returns how the interfaces are after these seconds, and the frames that came in them."""
