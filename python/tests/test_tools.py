@@ -102,23 +102,25 @@ def test_can_player(installed, tmp_path):
     chosen = random.Random(32)
     frames = [
         message(chosen.randrange(0x800), chosen.randbytes(chosen.randrange(9)), timestamp=number / 10000)
-        for number in range(900)
+        for number in range(9000)
     ] + [
-        message(chosen.randrange(0x20000000), chosen.randbytes(8), extended=True, timestamp=0.09 + number / 10000)
-        for number in range(100)
+        message(chosen.randrange(0x20000000), chosen.randbytes(8), extended=True, timestamp=0.9 + number / 10000)
+        for number in range(1000)
     ]
-    with CanutilsLogWriter(str(tmp_path / "run.log")) as log:
-        for frame in frames:
-            log(frame)
-    # All fit into the queues, since the player does not send again what found no room.
-    with Server("can0,can1", pace_ms=0, txqueue=1024, rxqueue=1024) as server, server.bus("can0") as can0:
-        player = tool("player", f"--address={server.address}", "--gap=0", tmp_path / "run.log", env=installed)
-        got = []
-        while len(got) < len(frames) and (one := can0.recv(WAIT)):
-            got.append(shape(one))
-        _, errors = player.communicate(timeout=WAIT)
-        assert (player.returncode, errors) == (0, "")
-        assert got == [shape(frame) for frame in frames]
+    with Server("can0,can1", pace_ms=0, txqueue=1024, rxqueue=65536) as server, server.bus("can0") as can0:
+        # As many at once as the transmit queue has room for, since the player does not send again what found none.
+        for start in range(0, len(frames), 1000):
+            part = frames[start : start + 1000]
+            with CanutilsLogWriter(str(tmp_path / "run.log")) as log:
+                for frame in part:
+                    log(frame)
+            player = tool("player", f"--address={server.address}", "--gap=0", tmp_path / "run.log", env=installed)
+            got = []
+            while len(got) < len(part) and (one := can0.recv(WAIT)):
+                got.append(shape(one))
+            _, errors = player.communicate(timeout=WAIT)
+            assert (player.returncode, errors) == (0, "")
+            assert got == [shape(frame) for frame in part]
         assert can0.recv(0.1) is None
 
 
