@@ -7,10 +7,10 @@
 #![tactic(auto)]
 
 pub mod arbiter;
-pub mod index;
+pub mod index_arbiter;
 pub mod laws;
-pub mod scan;
+pub mod scan_arbiter;
 
 pub use arbiter::Arbiter;
-pub use index::IndexArbiter;
-pub use scan::ScanArbiter;
+pub use index_arbiter::IndexArbiter;
+pub use scan_arbiter::ScanArbiter;

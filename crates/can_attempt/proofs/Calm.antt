@@ -18,7 +18,7 @@ use Rattle.can_attempt.specs.declared.ack_mode.AckMode.TheVariants.{Always, Peer
 use Rattle.can_attempt.specs.declared.class.Class.{Class}
 use Rattle.can_attempt.specs.declared.judgement.Judgement.{Judgement}
 use Rattle.can_attempt.specs.declared.nodes.Nodes.{Nodes}
-use Rattle.can_attempt.specs.Attempts.{Transmission, accepted_in, attempt_between, can_hear, class_of, class_when, counts_after, counts_at, counts_in, hit, is_acknowledged, is_always, is_among, is_named, judged, receivers, receiver_step, set_of, state_at, steps_in, unhurt, winner_step}
+use Rattle.can_attempt.specs.Attempts.{Transmission, accepted_in, attempt_between, can_hear, class_of, class_when, counts_after, counts_at, counts_in, hit, is_acknowledged, is_always, is_among, is_struck, judged, receivers, receiver_step, set_of, state_at, steps_in, unhurt, winner_step}
 use Rattle.can_attempt.proofs.Judged.{same_judgement}
 use Rattle.can_attempt.proofs.Places.{bits_where_below, is_among-unhurt}
 use Rattle.can_attempt.proofs.Standing.{bit_at-bits_where}
@@ -49,7 +49,7 @@ stays s false false named plain = refl
 pub calm_stays : (t : Transmission) (i : ℕ) → t.verdict ≡ verdict.Good → t.counts i ≡ at_start → counts_in class.Done t i ≡ at_start
 calm_stays t i good calm =
     ap (λ (c : ErrorCounts). all_stepped c (steps_in class.Done t i)) calm
-    ∙ stays (state_at t i) (i == t.winner) (is_among i (receivers t)) (is_named t.verdict i) (ap (λ (v : Verdict). is_named v i) good)
+    ∙ stays (state_at t i) (i == t.winner) (is_among i (receivers t)) (is_struck t.verdict i) (ap (λ (v : Verdict). is_struck v i) good)
 
 -- the bits of all places below c but one
 pub bits-others : (c w : ℕ) → w < c → bit_xor (2 ^ c - 1) (2 ^ w) ≡ bits_where (λ i. not (i == w)) c
@@ -121,7 +121,7 @@ module _ (nodes : Nodes) (w : ℕ) (zeros : All (λ c. c ≡ at_start) nodes.cou
   acknowledged Peers some = heard Peers (grind (arith, some))
 
   none_hit : (a : AckMode) → hit (attempt_between nodes w verdict.Good a) ≡ []
-  none_hit a = filter_never (is_named verdict.Good) (λ i. refl) (receivers (attempt_between nodes w verdict.Good a))
+  none_hit a = filter_never (is_struck verdict.Good) (λ i. refl) (receivers (attempt_between nodes w verdict.Good a))
 
   -- a calm attempt is done
   pub calm_class : (a : AckMode) → IsTrue (is_always a || nat_lt 1 nodes.count) → class_of (attempt_between nodes w verdict.Good a) ≡ class.Done

@@ -4,7 +4,7 @@ use Rattle.std.specs.List.{list_any, range_with_len}
 use Rattle.std.proofs.lemmas.Map.Views.{any-filter_same}
 use Rattle.can_frame.specs.Sets.{bits_where}
 use Rattle.can_attempt.specs.declared.class.Class.{Class}
-use Rattle.can_attempt.specs.Attempts.{is_among, Transmission, can_hear, receivers, hit, unhurt, is_named, steps_in, counts_in, receiver_step}
+use Rattle.can_attempt.specs.Attempts.{is_among, Transmission, can_hear, receivers, hit, unhurt, is_struck, steps_in, counts_in, receiver_step}
 
 -- Lists of interfaces, and the bits of the sets that they make.
 
@@ -48,7 +48,7 @@ pub is_among-receivers : (t : Transmission) (i : ℕ) → is_among i (receivers 
 is_among-receivers t i = rw (is_among-filter (can_hear t) i (range_with_len 0 t.count), is_among-range i 0 t.count) (grind arith)
 
 -- a receiver takes a receiver's step
-pub steps_in-receiver : (c : Class) (t : Transmission) (i : ℕ) → (i == t.winner) ≡ false → can_hear t i ≡ true → i < t.count → steps_in c t i ≡ receiver_step c (is_named t.verdict i)
+pub steps_in-receiver : (c : Class) (t : Transmission) (i : ℕ) → (i == t.winner) ≡ false → can_hear t i ≡ true → i < t.count → steps_in c t i ≡ receiver_step c (is_struck t.verdict i)
 steps_in-receiver c t i other hears there =
     let among : is_among i (receivers t) ≡ true = rw (is_among-receivers t i, hears) (grind arith) in
     rw (other, among) refl
@@ -71,12 +71,12 @@ counts_in-beyond c t i within past =
     false_on_the_right x y fails = rw fails (grind arith)
 
 -- who is hit
-pub is_among-hit : (t : Transmission) (i : ℕ) → is_among i (hit t) ≡ (is_named t.verdict i && (can_hear t i && nat_lt i t.count))
-is_among-hit t i = is_among-filter (is_named t.verdict) i (receivers t) ∙ ap (λ b. is_named t.verdict i && b) (is_among-receivers t i)
+pub is_among-hit : (t : Transmission) (i : ℕ) → is_among i (hit t) ≡ (is_struck t.verdict i && (can_hear t i && nat_lt i t.count))
+is_among-hit t i = is_among-filter (is_struck t.verdict) i (receivers t) ∙ ap (λ b. is_struck t.verdict i && b) (is_among-receivers t i)
 
 -- who got every bit right
-pub is_among-unhurt : (t : Transmission) (i : ℕ) → is_among i (unhurt t) ≡ (not (is_named t.verdict i) && (can_hear t i && nat_lt i t.count))
-is_among-unhurt t i = is_among-filter (λ k. not (is_named t.verdict k)) i (receivers t) ∙ ap (λ b. not (is_named t.verdict i) && b) (is_among-receivers t i)
+pub is_among-unhurt : (t : Transmission) (i : ℕ) → is_among i (unhurt t) ≡ (not (is_struck t.verdict i) && (can_hear t i && nat_lt i t.count))
+is_among-unhurt t i = is_among-filter (λ k. not (is_struck t.verdict k)) i (receivers t) ∙ ap (λ b. not (is_struck t.verdict i) && b) (is_among-receivers t i)
 
 -- one of them passes
 pub any_among : (p : ℕ → Bool) (i : ℕ) (xs : List ℕ) → is_among i xs ≡ true → p i ≡ true → list_any p xs ≡ true

@@ -4,7 +4,7 @@ use Rattle.can_confine.specs.Confinement.{ErrorCounts, all_stepped, is_off, is_p
 use Rattle.can_fault.specs.declared.verdict.Verdict.{Verdict}
 use Rattle.can_attempt.specs.declared.class.Class.{Class}
 use Rattle.can_attempt.specs.declared.ack_mode.AckMode.{AckMode}
-use Rattle.can_attempt.specs.Attempts.{Transmission, SameToTheLive, is_among, state_at, can_hear, receivers, hit, unhurt, is_named, is_global, is_last_bit, is_always, is_destroyed, is_acknowledged, class_of, class_when, winner_step, receiver_step, counts_after}
+use Rattle.can_attempt.specs.Attempts.{Transmission, SameToTheLive, is_among, state_at, can_hear, receivers, hit, unhurt, is_struck, is_global, is_last_bit, is_always, is_destroyed, is_acknowledged, class_of, class_when, winner_step, receiver_step, counts_after}
 use Rattle.can_attempt.proofs.Places.{any_same, filter_same, below_among, is_among-hit}
 
 -- Attempts that are the same to the live interfaces.
@@ -16,10 +16,10 @@ same_receivers t u s =
     ∙ ap (λ (n : ℕ). filter (can_hear u) (range_with_len 0 n)) s.count
 
 pub same_hit : (t u : Transmission) → SameToTheLive t u → hit t ≡ hit u
-same_hit t u s = ap (λ (v : Verdict). filter (is_named v) (receivers t)) s.verdict ∙ ap (filter (is_named u.verdict)) (same_receivers t u s)
+same_hit t u s = ap (λ (v : Verdict). filter (is_struck v) (receivers t)) s.verdict ∙ ap (filter (is_struck u.verdict)) (same_receivers t u s)
 
 pub same_unhurt : (t u : Transmission) → SameToTheLive t u → unhurt t ≡ unhurt u
-same_unhurt t u s = ap (λ (v : Verdict). filter (λ i. not (is_named v i)) (receivers t)) s.verdict ∙ ap (filter (λ i. not (is_named u.verdict i))) (same_receivers t u s)
+same_unhurt t u s = ap (λ (v : Verdict). filter (λ i. not (is_struck v i)) (receivers t)) s.verdict ∙ ap (filter (λ i. not (is_struck u.verdict i))) (same_receivers t u s)
 
 live_hit : (n o w m : Bool) → (n && ((w && not o) && m)) ≡ true → o ≡ false
 live_hit n false w m among = refl
@@ -35,8 +35,8 @@ same_class t u s =
     let active : list_any (λ i. not (is_passive (state_at t i))) (hit t) ≡ list_any (λ i. not (is_passive (state_at u i))) (hit t) =
     any_same (λ i. not (is_passive (state_at t i))) (λ i. not (is_passive (state_at u i))) (hit t)
     (λ i among. ap (λ (k : ErrorCounts). not (is_passive (state_of k)))
-    (let struck_there : (is_named t.verdict i && (can_hear t i && nat_lt i t.count)) ≡ true = sym (is_among-hit t i) ∙ among in
-    s.live i (hit_below (is_named t.verdict i) (can_hear t i) i t.count struck_there) (live_hit (is_named t.verdict i) (is_off (state_at t i)) (not (i == t.winner)) (nat_lt i t.count) struck_there))) in
+    (let struck_there : (is_struck t.verdict i && (can_hear t i && nat_lt i t.count)) ≡ true = sym (is_among-hit t i) ∙ among in
+    s.live i (hit_below (is_struck t.verdict i) (can_hear t i) i t.count struck_there) (live_hit (is_struck t.verdict i) (is_off (state_at t i)) (not (i == t.winner)) (nat_lt i t.count) struck_there))) in
     let destroyed : is_destroyed t ≡ is_destroyed u =
     ap (λ (b : Bool). is_global t.verdict || b) (active ∙ ap (list_any (λ i. not (is_passive (state_at u i)))) struck)
     ∙ ap (λ (v : Verdict). is_global v || list_any (λ i. not (is_passive (state_at u i))) (hit u)) s.verdict in
@@ -49,7 +49,7 @@ same_class t u s =
 
 -- the counts of i after an attempt, from what they hang on
 abbrev counts_from : ErrorCounts → ℕ → Class → List ℕ → Verdict → ℕ → ErrorCounts
-counts_from c w k rs v i = all_stepped c (if i == w then winner_step k (state_of c) else if is_among i rs then receiver_step k (is_named v i) else [])
+counts_from c w k rs v i = all_stepped c (if i == w then winner_step k (state_of c) else if is_among i rs then receiver_step k (is_struck v i) else [])
 
 -- the counts after two attempts of one kind, of an interface that had the same counts
 pub same_counts : (t u : Transmission) → SameToTheLive t u → (i : ℕ) → t.counts i ≡ u.counts i → counts_after t i ≡ counts_after u i

@@ -6,7 +6,7 @@ use Rattle.can_frame.specs.Sets.{is_in, bits_where}
 use Rattle.can_confine.specs.Confinement.{ErrorCounts, all_stepped, is_off, state_of}
 use Rattle.can_attempt.specs.declared.class.Class.{Class}
 use Rattle.can_attempt.specs.declared.class.Class.TheVariants.{Done, LastBit, Destroyed, NoAck}
-use Rattle.can_attempt.specs.Attempts.{Transmission, state_at, is_among, set_of, receivers, is_named, receiver_step, class_of, counts_after}
+use Rattle.can_attempt.specs.Attempts.{Transmission, state_at, is_among, set_of, receivers, is_struck, receiver_step, class_of, counts_after}
 
 -- Who stands in a set, and who goes off the bus.
 
@@ -69,4 +69,4 @@ others_stay false k b c = refl
 pub winner-alone-off : (t : Transmission) (i : ℕ) → i ≢ t.winner → is_off (state_of (counts_after t i)) ≡ is_off (state_at t i)
 winner-alone-off t i other =
     let apart : (i == t.winner) ≡ false = ne_eqb i t.winner other in
-    rw apart (others_stay (is_among i (receivers t)) (class_of t) (is_named t.verdict i) (t.counts i))
+    rw apart (others_stay (is_among i (receivers t)) (class_of t) (is_struck t.verdict i) (t.counts i))

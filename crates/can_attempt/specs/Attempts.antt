@@ -57,17 +57,17 @@ is_last_bit verdict.LastBit = true
 is_last_bit _ = false
 
 -- a local fault strikes this interface
-abbrev pub is_named : Verdict → ℕ → Bool
-is_named (verdict.Local set kind) i = is_in i set
-is_named _ i = false
+abbrev pub is_struck : Verdict → ℕ → Bool
+is_struck (verdict.Local set kind) i = is_in i set
+is_struck _ i = false
 
 -- the receivers that a local fault strikes
 abbrev pub hit : Transmission → List ℕ
-hit t = filter (is_named t.verdict) (receivers t)
+hit t = filter (is_struck t.verdict) (receivers t)
 
 -- the receivers that got every bit right
 abbrev pub unhurt : Transmission → List ℕ
-unhurt t = filter (λ i. not (is_named t.verdict i)) (receivers t)
+unhurt t = filter (λ i. not (is_struck t.verdict i)) (receivers t)
 
 -- a receiver that is hit is not error passive
 abbrev pub is_hit_active : Transmission → Bool
@@ -126,7 +126,7 @@ receiver_step class.NoAck is_hit = if is_hit then ReceiveError ∷ [] else []
 
 -- what an attempt of this class does to interface i
 abbrev pub steps_in : Class → Transmission → ℕ → List Step
-steps_in c t i = if i == t.winner then winner_step c (state_at t i) else if is_among i (receivers t) then receiver_step c (is_named t.verdict i) else []
+steps_in c t i = if i == t.winner then winner_step c (state_at t i) else if is_among i (receivers t) then receiver_step c (is_struck t.verdict i) else []
 
 -- the error counts of interface i after an attempt of this class
 abbrev pub counts_in : Class → Transmission → ℕ → ErrorCounts

@@ -9,7 +9,7 @@ use crate::ack_mode::AckMode;
 use crate::class::Class;
 use crate::judgement::Judgement;
 use crate::nodes::Nodes;
-use crate::survey::{Survey, can_hear, is_named, survey_of};
+use crate::survey::{Survey, can_hear, is_struck, survey_of};
 use can_confine::Counters;
 use can_fault::Verdict;
 use can_frame::{Iface, IfaceSet};
@@ -72,7 +72,7 @@ fn counters_after(
     if iface == winner {
         winner_after(class, counters)
     } else if can_hear(nodes, winner, iface) {
-        receiver_after(class, is_named(verdict, iface), counters)
+        receiver_after(class, is_struck(verdict, iface), counters)
     } else {
         counters
     }

@@ -1,5 +1,5 @@
 ghost use Rattle.std.specs.Prelude.{◌≡◌, ◌≤◌};
-ghost use Rattle.can_attempt.specs.Attempts.{attempt_between, can_hear, is_named};
+ghost use Rattle.can_attempt.specs.Attempts.{attempt_between, can_hear, is_struck};
 ghost use Rattle.can_attempt.specs.Surveys.{IsSurveyOf};
 ghost use Rattle.can_attempt.specs.declared.ack_mode.AckMode.{AckMode};
 
@@ -29,8 +29,8 @@ pub(crate) fn can_hear(nodes: &Nodes, winner: Iface, iface: Iface) -> bool
 }
 
 /// Whether a local fault of the verdict strikes the interface.
-pub(crate) fn is_named(verdict: Verdict, iface: Iface) -> bool
-    ensures { result ≡ is_named verdict iface }
+pub(crate) fn is_struck(verdict: Verdict, iface: Iface) -> bool
+    ensures { result ≡ is_struck verdict iface }
 {
     match verdict {
         Verdict::Local(named, _) => named.contains(iface),
@@ -52,7 +52,7 @@ pub(crate) fn survey_of(nodes: &Nodes, winner: Iface, verdict: Verdict) -> Surve
         if !can_hear(nodes, winner, iface) {
             continue;
         }
-        if is_named(verdict, iface) {
+        if is_struck(verdict, iface) {
             hit = hit.with(iface);
             if !nodes.counters_of(iface).state().is_passive() {
                 is_hit_active = true;

@@ -9,7 +9,7 @@ use Rattle.can_confine.specs.declared.state.State.{State}
 use Rattle.can_fault.specs.declared.verdict.Verdict.{Verdict}
 use Rattle.can_attempt.specs.declared.class.Class.{Class}
 use Rattle.can_attempt.specs.declared.class.Class.TheVariants as class
-use Rattle.can_attempt.specs.Attempts.{Transmission, is_among, is_named, receivers, class_of, steps_at, counts_after, winner_step, receiver_step, is_done}
+use Rattle.can_attempt.specs.Attempts.{Transmission, is_among, is_struck, receivers, class_of, steps_at, counts_after, winner_step, receiver_step, is_done}
 use Rattle.can_attempt.specs.Attempts as attempts
 use Rattle.can_event.specs.declared.entry.Entry.{Entry}
 use Rattle.can_event.specs.declared.event.Event.{Event}
@@ -122,7 +122,7 @@ rises-tried c past i m v t legal few w waits same =
     let tr = transmission c past t.winner v in
     let stays : ((t.winner == i) && is_done t.class) ≡ false = not-gone (sent_count past i) (gone_count past i) (is_in i t.off) ((t.winner == i) && is_done t.class) waits same in
     let stays' : ((i == t.winner) && is_done (class_of tr)) ≡ false = ap (λ b. b && is_done (class_of tr)) (same-other i t.winner) ∙ ap (λ k. (t.winner == i) && is_done k) (sym (class-is c past m v t w)) ∙ stays in
-    let le : transmit_count c past i ≤ (counts_after tr i).tec = not-lowered (i == t.winner) (is_among i (receivers tr)) (is_named tr.verdict i) (class_of tr) (attempts.state_at tr i) (counts_of c past i) stays' in
+    let le : transmit_count c past i ≤ (counts_after tr i).tec = not-lowered (i == t.winner) (is_among i (receivers tr)) (is_struck tr.verdict i) (class_of tr) (attempts.state_at tr i) (counts_of c past i) stays' in
     subst (λ n. transmit_count c past i ≤ n) (sym (count-tried c past i m v t (not-restarted c past m v t i legal w (waits-live c past i legal few waits)))) le
 
 was-off : (b off : Bool) → reply.Done ≡ (if b then reply.Refused refusal.NoInterface else if off then reply.Done else reply.Refused refusal.NotBusOff) → off ≡ true

@@ -9,7 +9,7 @@ use Rattle.can_event.specs.declared.reply.Reply.TheVariants as reply
 use Rattle.can_event.specs.declared.attempt.Tried.{Tried}
 use Rattle.can_bus.specs.Attempts.{winner, tried_head, attempt_reply}
 use Rattle.can_bus.specs.AutoRestart.{restarted_next}
-use Rattle.can_bus.specs.Heads.{with_frame, head_at, next_head, IsNext, TellsNext}
+use Rattle.can_bus.specs.Heads.{with_frame, head_at, next_head, IsNext, ReportsNext}
 use Rattle.can_bus.specs.Legal.{legal_reply, IsLegal}
 use Rattle.can_bus.specs.State.{InterfaceState, kept_interfaces, kept_parts}
 use Rattle.can_bus.specs.Transmit.{sent_by, gone_count, head_of}
@@ -27,7 +27,7 @@ head-kept c past head next =
     ap (with_frame head.0) oldest ∙ ap (λ (f : CanFrame). Some (head.0, f)) (sym next.frame)
 
 -- what the state tells of the next attempt is what the history says
-pub told_head : (c : BusConfig) (past : List Entry) (head : Option (ℕ × CanFrame)) → IsLegal c past → c.ifaces ≤ 16 → TellsNext (kept_parts c past) head → head ≡ next_head c past
+pub told_head : (c : BusConfig) (past : List Entry) (head : Option (ℕ × CanFrame)) → IsLegal c past → c.ifaces ≤ 16 → ReportsNext (kept_parts c past) head → head ≡ next_head c past
 told_head c past None legal few idle = ap (head_at past) (sym (idle-is c past few idle))
 told_head c past (Some head) legal few next =
     sym (ap (head_at past) (winner-is c past legal few head.0 next.wins) ∙ head-kept c past head next)

@@ -28,10 +28,10 @@ there c past s k v (Some o) at is number =
       left = sym same ∙ ap (kept_socket c past) which;
     }
 
-pub IsThere-stands : (c : BusConfig) (past : List Entry) (sockets : List SocketState) (s k : ℕ) (v : SocketState) → sockets ≡ kept_sockets c past → IsAt sockets s k v → IsThere c past s k v
+pub IsThere-at : (c : BusConfig) (past : List Entry) (sockets : List SocketState) (s k : ℕ) (v : SocketState) → sockets ≡ kept_sockets c past → IsAt sockets s k v → IsThere c past s k v
 unfolding kept_sockets
-IsThere-stands c past sockets s k v are stands =
-    there c past s k v (slice_get (open_sockets past) k) refl (sym (slice_get-map (kept_socket c past) (open_sockets past) k) ∙ ap (λ (l : List SocketState). slice_get l k) (sym are) ∙ stands.there) stands.number
+IsThere-at c past sockets s k v are is_at =
+    there c past s k v (slice_get (open_sockets past) k) refl (sym (slice_get-map (kept_socket c past) (open_sockets past) k) ∙ ap (λ (l : List SocketState). slice_get l k) (sym are) ∙ is_at.there) is_at.number
 
 list_any_map : (c : BusConfig) (past : List Entry) (s : ℕ) (os : List ℕ) → list_any (λ (v : SocketState). v.number == s) (map (kept_socket c past) os) ≡ list_any (λ n. n == s) os
 list_any_map c past s [] = refl

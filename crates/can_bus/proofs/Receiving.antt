@@ -20,7 +20,7 @@ use Rattle.can_bus.specs.State.{SocketState, Parts, kept_socket, kept_sockets, k
 use Rattle.can_bus.specs.Changes.{Gives, Receives, relieved}
 use Rattle.can_bus.proofs.Keeping.{Follows, IsStill}
 use Rattle.can_bus.proofs.Lists.{slice_get-drop}
-use Rattle.can_bus.proofs.Opened.{IsThere-stands}
+use Rattle.can_bus.proofs.Opened.{IsThere-at}
 use Rattle.can_bus.proofs.Quiet.{queued_to-quiet, dropped_at-quiet}
 use Rattle.can_bus.proofs.SocketFacts.{kept_sockets-one, follows_at_sockets, none_follows}
 
@@ -58,7 +58,7 @@ still c past s item = record { of_interfaces = refl; of_keys = refl; of_nodes = 
 
 reply-given : (c : BusConfig) (past : List Entry) (s : SocketId) (item : Option Received) (new : Parts) → Gives (kept_parts c past) s.0 item new → reply.Received item ≡ legal_reply c past (Receive s)
 reply-given c past s item new gives =
-    let at = IsThere-stands c past (kept_sockets c past) s.0 gives.place gives.socket refl gives.stands in
+    let at = IsThere-at c past (kept_sockets c past) s.0 gives.place gives.socket refl gives.is_at in
     let oldest : item ≡ slice_get (queued_to c past s.0) (length (taken_from past s.0)) = gives.oldest ∙ ap (λ (v : SocketState). slice_get v.waiting 0) at.left ∙ slice_get-drop (length (taken_from past s.0)) (queued_to c past s.0) in
     ap (λ (i : Option Received). reply.Received i) oldest ∙ sym (cond-true (is_open past s.0) _ _ at.is_there)
 
@@ -66,7 +66,7 @@ reply-given c past s item new gives =
 pub received_follows : (c : BusConfig) (past : List Entry) (s : SocketId) (r : Reply) (new : Parts) → Receives (kept_parts c past) s.0 r new → Follows c past (entry_of (Receive s) r) new
 received_follows c past s (reply.Received item) new gives =
     follows_at_sockets c past (given s item) new _ _ (reply-given c past s item new gives) (still c past s item) refl refl
-    (kept_sockets-one c past (given s item) (kept_sockets c past) _ s.0 gives.place gives.socket (relieved item) refl refl gives.stands (other c past s item) (same c past s item) refl)
+    (kept_sockets-one c past (given s item) (kept_sockets c past) _ s.0 gives.place gives.socket (relieved item) refl refl gives.is_at (other c past s item) (same c past s item) refl)
     gives.after
 received_follows c past s (reply.Refused why) new none = none_follows c past (Receive s) s.0 _ why new refl tt none
 received_follows c past s _ new never = absurd never

@@ -25,7 +25,7 @@ use Rattle.can_bus.proofs.Lawful.{gone-le-sent, open-iface}
 use Rattle.can_bus.proofs.InterfaceFacts.{IsInterface-at, kept_interfaces-one}
 use Rattle.can_bus.proofs.Lists.{slice_get-drop}
 use Rattle.can_bus.proofs.NodeFacts.{is_off_at-kept}
-use Rattle.can_bus.proofs.Opened.{IsThere-stands, closed-nowhere}
+use Rattle.can_bus.proofs.Opened.{IsThere-at, closed-nowhere}
 
 abbrev pub entry : SocketId → CanFrame → Result ℕ Refusal → Entry
 entry s f r = record { event = Send s f; reply = told reply.Sent r }
@@ -44,7 +44,7 @@ record IsSender (c : BusConfig) (past : List Entry) (s : ℕ) (v : SocketState) 
 
 sender : (c : BusConfig) (past : List Entry) (s : ℕ) (v : SocketState) (l : InterfaceState) → IsInterfaceOf (kept_parts c past) s v l → IsSender c past s v l
 sender c past s v l is_interface =
-    let at = IsThere-stands c past (kept_sockets c past) s is_interface.place v refl is_interface.stands in
+    let at = IsThere-at c past (kept_sockets c past) s is_interface.place v refl is_interface.is_at in
     let iface : v.iface ≡ iface_of past s = ap (λ (w : SocketState). w.iface) at.left in
     let interface = IsInterface-at c past (kept_interfaces c past) (iface_of past s) l refl (ap (slice_get (kept_interfaces c past)) (sym iface) ∙ is_interface.interface) in
     record { there = at.is_there; socket = at.left; iface = iface; below = interface.below; interface = interface.left }
@@ -221,7 +221,7 @@ full_follows c past s f new proper full =
 
 reply-off : (c : BusConfig) (past : List Entry) (s : SocketId) (f : CanFrame) → IsLongConfig c → IsLegal c past → IsOffFor (kept_parts c past) s.0 (pending_of f s) → reply.Refused refusal.BusOff ≡ legal_reply c past (Send s f)
 reply-off c past s f proper legal off =
-    let at = IsThere-stands c past (kept_sockets c past) s.0 off.place off.socket refl off.stands in
+    let at = IsThere-at c past (kept_sockets c past) s.0 off.place off.socket refl off.is_at in
     let below = open-iface c past legal off.place s.0 at.listed in
     let few : iface_of past s.0 < 16 = omega (arith, below, proper.few_ifaces) in
     let dead : is_off (state_at c past (iface_of past s.0)) ≡ true = sym (off-is c past off.socket.iface (iface_of past s.0) (ap (λ (w : SocketState). w.iface) at.left) few) ∙ off.off in
@@ -231,7 +231,7 @@ reply-off c past s f proper legal off =
 
 reply-fd-off : (c : BusConfig) (past : List Entry) (s : SocketId) (f : CanFrame) → IsFdOffFor (kept_parts c past) s.0 (pending_of f s) → reply.Refused refusal.FdOff ≡ legal_reply c past (Send s f)
 reply-fd-off c past s f off =
-    let at = IsThere-stands c past (kept_sockets c past) s.0 off.place off.socket refl off.stands in
+    let at = IsThere-at c past (kept_sockets c past) s.0 off.place off.socket refl off.is_at in
     sym (cond-true (lacks_fd f (options_of past s.0)) _ _ (may-send c past s.0 f off.socket true at.left off.lacks)) ∙ sym (cond-true (is_open past s.0) _ _ at.is_there)
 
 -- a frame that was sent, or a refusal, leaves what its entry leaves

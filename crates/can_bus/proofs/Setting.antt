@@ -17,7 +17,7 @@ use Rattle.can_bus.specs.Legal.{legal_reply}
 use Rattle.can_bus.specs.State.{SocketState, Parts, kept_socket, kept_sockets, kept_interfaces, kept_keys, kept_nodes, kept_left, kept_parts}
 use Rattle.can_bus.specs.Changes.{Sets}
 use Rattle.can_bus.proofs.Keeping.{Follows, IsStill, IsUncounted}
-use Rattle.can_bus.proofs.Opened.{IsThere-stands}
+use Rattle.can_bus.proofs.Opened.{IsThere-at}
 use Rattle.can_bus.proofs.Quiet.{queued_to-quiet, dropped_at-quiet}
 use Rattle.can_bus.proofs.SocketFacts.{kept_sockets-one, follows_at_sockets, none_follows}
 
@@ -39,9 +39,9 @@ record IsSetting (c : BusConfig) (past : List Entry) (e : Event) (s : ℕ) (chan
 
 set_follows : (c : BusConfig) (past : List Entry) (e : Event) (s : ℕ) (change : SocketState → SocketState) (r : Reply) (new : Parts) → IsSetting c past e s change → Sets (kept_parts c past) s change r new → Follows c past (entry e r) new
 set_follows c past e s change reply.Done new is alters =
-    let at = IsThere-stands c past (kept_sockets c past) s alters.place alters.socket refl alters.stands in
+    let at = IsThere-at c past (kept_sockets c past) s alters.place alters.socket refl alters.is_at in
     follows_at_sockets c past (done_entry e) new _ _ (sym (is.answers ∙ cond-true (is_open past s) _ _ at.is_there)) is.still refl (ap length (sym is.of_places))
-    (kept_sockets-one c past (done_entry e) (kept_sockets c past) _ s alters.place alters.socket change refl is.of_open alters.stands is.others is.here refl)
+    (kept_sockets-one c past (done_entry e) (kept_sockets c past) _ s alters.place alters.socket change refl is.of_open alters.is_at is.others is.here refl)
     alters.after
 set_follows c past e s change (reply.Refused why) new is none = none_follows c past e s _ why new is.answers (is.uncounted why) none
 set_follows c past e s change _ new is sets = absurd sets

@@ -6,7 +6,7 @@ use Rattle.can_confine.specs.Confinement.{all_stepped, at_start, is_off}
 use Rattle.can_fault.specs.declared.verdict.Verdict.{Verdict}
 use Rattle.can_attempt.specs.declared.class.Class.{Class}
 use Rattle.can_attempt.specs.declared.class.Class.TheVariants as class
-use Rattle.can_attempt.specs.Attempts.{Transmission, is_among, set_of, can_hear, is_named, receivers, unhurt, accepted_in, class_of, steps_at}
+use Rattle.can_attempt.specs.Attempts.{Transmission, is_among, set_of, can_hear, is_struck, receivers, unhurt, accepted_in, class_of, steps_at}
 use Rattle.can_attempt.specs.Attempts as attempts
 use Rattle.can_attempt.proofs.Places.{is_among-unhurt, is_among-receivers}
 use Rattle.can_event.specs.declared.entry.Entry.{Entry}
@@ -41,7 +41,7 @@ no_receiver : (t : Transmission) (i : ℕ) → is_off (attempts.state_at t i) �
 no_receiver t i off = is_among-receivers t i ∙ and_left (can_hear t i) (nat_lt i t.count) (cannot_hear t i off)
 
 not_unhurt : (t : Transmission) (i : ℕ) → is_off (attempts.state_at t i) ≡ true → is_among i (unhurt t) ≡ false
-not_unhurt t i off = is_among-unhurt t i ∙ and_right (not (is_named t.verdict i)) (can_hear t i && nat_lt i t.count) (and_left (can_hear t i) (nat_lt i t.count) (cannot_hear t i off))
+not_unhurt t i off = is_among-unhurt t i ∙ and_right (not (is_struck t.verdict i)) (can_hear t i && nat_lt i t.count) (and_left (can_hear t i) (nat_lt i t.count) (cannot_hear t i off))
 
 off-not-accepted : (k : Class) (t : Transmission) (i : ℕ) → is_off (attempts.state_at t i) ≡ true → is_in i (set_of (accepted_in k t)) ≡ false
 off-not-accepted class.Done t i off = is_in-of (unhurt t) i ∙ and_right (nat_lt i 16) (is_among i (unhurt t)) (not_unhurt t i off)

@@ -14,7 +14,7 @@ use Rattle.can_bus.specs.Legal.{legal_reply}
 use Rattle.can_bus.specs.State.{SocketState, Parts, kept_socket, kept_sockets, kept_parts}
 use Rattle.can_bus.specs.Changes.{IsAt, FindsNone}
 use Rattle.can_bus.proofs.Lists.{map_one}
-use Rattle.can_bus.proofs.Opened.{IsThere-stands, closed-nowhere}
+use Rattle.can_bus.proofs.Opened.{IsThere-at, closed-nowhere}
 use Rattle.can_bus.proofs.Rising.{open_sockets-rise}
 use Rattle.can_bus.proofs.Keeping.{Follows, IsStill, IsUncounted, refused, follows_refused, parts-are}
 
@@ -28,8 +28,8 @@ pub kept_sockets-one : (c : BusConfig) (past : List Entry) (e : Entry) (old new 
     → ((o : ℕ) → o ≢ s → kept_socket c (e ∷ past) o ≡ kept_socket c past o) → change (kept_socket c past s) ≡ kept_socket c (e ∷ past) s
     → new ≡ slice_set old k (change v) → new ≡ kept_sockets c (e ∷ past)
 unfolding kept_sockets
-kept_sockets-one c past e old new s k v change are same_open stands others here after =
-    let at = IsThere-stands c past old s k v are stands in
+kept_sockets-one c past e old new s k v change are same_open is_at others here after =
+    let at = IsThere-at c past old s k v are is_at in
     let set = map_one (kept_socket c past) (kept_socket c (e ∷ past)) s k 0 (length (places past)) (open_sockets past) at.listed (open_sockets-rise past) others in
     after
     ∙ ap (λ (vs : List SocketState). slice_set vs k (change v)) are

@@ -17,12 +17,12 @@ use Rattle.can_bus.specs.Queues.{queued_to, taken_from, dropped_at}
 use Rattle.can_bus.specs.Sockets.{is_open}
 use Rattle.can_bus.specs.Transmit.{sent_by, gone_count}
 use Rattle.can_bus.specs.State.{SocketState, kept_interface, kept_interfaces, kept_nodes, kept_sockets}
-use Rattle.can_bus.specs.Stats.{TellsSocket, socket_stats_of, told_interface, iface_stats_of}
+use Rattle.can_bus.specs.Stats.{ReportsSocket, socket_stats_of, told_interface, iface_stats_of}
 use Rattle.can_bus.proofs.Lawful.{taken_from-le-queued}
 use Rattle.can_bus.proofs.InterfaceFacts.{length-kept_interfaces}
 use Rattle.can_bus.proofs.Lists.{slice_get-range}
 use Rattle.can_bus.proofs.NodeFacts.{counts_at-kept}
-use Rattle.can_bus.proofs.Opened.{IsThere-stands, closed-nowhere}
+use Rattle.can_bus.proofs.Opened.{IsThere-at, closed-nowhere}
 
 -- What the counts that are kept tell is what the history says.
 
@@ -31,10 +31,10 @@ use Rattle.can_bus.proofs.Opened.{IsThere-stands, closed-nowhere}
 abbrev counted : SocketState → SocketStats
 counted v = record { queued = v.taken + length v.waiting; dropped = v.dropped; taken = v.taken }
 
-pub told_socket : (c : BusConfig) (past : List Entry) (s : ℕ) (stats : Option SocketStats) → IsLegal c past → TellsSocket (kept_sockets c past) s stats → stats ≡ socket_stats_of c past s
+pub told_socket : (c : BusConfig) (past : List Entry) (s : ℕ) (stats : Option SocketStats) → IsLegal c past → ReportsSocket (kept_sockets c past) s stats → stats ≡ socket_stats_of c past s
 told_socket c past s None legal nowhere = sym (cond-false (is_open past s) _ _ (closed-nowhere c past (kept_sockets c past) s refl nowhere))
 told_socket c past s (Some stats) legal tells =
-    let at = IsThere-stands c past (kept_sockets c past) s tells.place tells.socket refl tells.stands in
+    let at = IsThere-at c past (kept_sockets c past) s tells.place tells.socket refl tells.is_at in
     let all : length (taken_from past s) + length (drop (length (taken_from past s)) (queued_to c past s)) ≡ length (queued_to c past s) = omega (arith, length-drop (length (taken_from past s)) (queued_to c past s), taken_from-le-queued c past legal s) in
     let told : stats ≡ record { queued = length (queued_to c past s); dropped = length (dropped_at c past s); taken = length (taken_from past s) } =
     tells.told ∙ ap counted at.left ∙ ap (λ (n : ℕ). record { queued = n; dropped = length (dropped_at c past s); taken = length (taken_from past s) }) all in

@@ -54,7 +54,7 @@ relieved (Some r) v = record v { waiting = drop 1 v.waiting; taken = v.taken + 1
 pub record Alters (old : Parts) (s : ℕ) (change : SocketState → SocketState) (new : Parts) : Type 0 where
   pub place : ℕ
   pub socket : SocketState
-  pub stands : IsAt old.sockets s place socket
+  pub is_at : IsAt old.sockets s place socket
   pub after : new ≡ record old { sockets = slice_set old.sockets place (change socket) }
 
 -- a socket's filters or options are set
@@ -72,7 +72,7 @@ Refilters old s filters r new = Sets old s (λ v. record v { filters = filters }
 pub record Gives (old : Parts) (s : ℕ) (item : Option Received) (new : Parts) : Type 0 where
   pub place : ℕ
   pub socket : SocketState
-  pub stands : IsAt old.sockets s place socket
+  pub is_at : IsAt old.sockets s place socket
   pub oldest : item ≡ slice_get socket.waiting 0
   pub after : new ≡ record old { sockets = slice_set old.sockets place (relieved item socket) }
 
@@ -86,7 +86,7 @@ Receives old s _ new = ⊥
 pub record Removes (old : Parts) (s : ℕ) (c : Closed) (new : Parts) : Type 0 where
   pub place : ℕ
   pub socket : SocketState
-  pub stands : IsAt old.sockets s place socket
+  pub is_at : IsAt old.sockets s place socket
   pub counts : c ≡ record { unread = length socket.waiting; dropped = socket.dropped }
   pub after : new ≡ record old { sockets = remove old.sockets place }
 
@@ -122,7 +122,7 @@ Opens old i capacity _ new = ⊥
 -- the interface of a socket
 pub record IsInterfaceOf (old : Parts) (s : ℕ) (v : SocketState) (l : InterfaceState) : Type 0 where
   pub place : ℕ
-  pub stands : IsAt old.sockets s place v
+  pub is_at : IsAt old.sockets s place v
   pub interface : slice_get old.interfaces v.iface ≡ Some l
 
 -- interface i is bus off (own choice)
@@ -160,14 +160,14 @@ pub record Takes (old : Parts) (s n : ℕ) (pending : SocketState → Pending) (
 pub record IsFdOffFor (old : Parts) (s : ℕ) (pending : SocketState → Pending) : Type 0 where
   pub place : ℕ
   pub socket : SocketState
-  pub stands : IsAt old.sockets s place socket
+  pub is_at : IsAt old.sockets s place socket
   pub lacks : lacks_fd (pending socket).frame socket.options ≡ true
 
 -- the socket is open, and its interface is bus off (own choice)
 pub record IsOffFor (old : Parts) (s : ℕ) (pending : SocketState → Pending) : Type 0 where
   pub place : ℕ
   pub socket : SocketState
-  pub stands : IsAt old.sockets s place socket
+  pub is_at : IsAt old.sockets s place socket
   pub may : lacks_fd (pending socket).frame socket.options ≡ false
   pub off : is_off_at old.nodes socket.iface ≡ true
 

@@ -34,6 +34,6 @@ pub record IsNext (parts : Parts) (head : ℕ × CanFrame) : Type 0 where
   pub frame : head.1 ≡ pending.frame
 
 -- what the next attempt tries, from what is kept: nothing where no interface competes
-abbrev pub TellsNext : Parts → Option (ℕ × CanFrame) → Type 0
-TellsNext parts None = IsIdle parts.keys
-TellsNext parts (Some head) = IsNext parts head
+abbrev pub ReportsNext : Parts → Option (ℕ × CanFrame) → Type 0
+ReportsNext parts None = IsIdle parts.keys
+ReportsNext parts (Some head) = IsNext parts head

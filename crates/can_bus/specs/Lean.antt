@@ -27,7 +27,7 @@ pub record IsAfter (b : Lean) (past : List Entry) : Type 0 where
 -- some entries left it so
 pub record IsLegalLean (b : Lean) : Type 0 where
   pub past : List Entry
-  pub stands : IsAfter b past
+  pub is_after : IsAfter b past
 
 -- some entries left these parts, and one more may come
 pub record IsReady (c : BusConfig) (parts : Parts) : Type 0 where

@@ -31,13 +31,13 @@ abbrev pub told_interface : ErrorCounts → InterfaceState → IfaceStats
 told_interface counts l = record { sent = l.sent; done = l.done; waiting = length l.waiting; lost = l.gone - l.done; refused = l.refused; counters = counts }
 
 -- these are the counts of an open socket, from what is kept of it (own choice)
-pub record TellsOf (sockets : List SocketState) (s : ℕ) (stats : SocketStats) : Type 0 where
+pub record ReportsOf (sockets : List SocketState) (s : ℕ) (stats : SocketStats) : Type 0 where
   pub place : ℕ
   pub socket : SocketState
-  pub stands : IsAt sockets s place socket
+  pub is_at : IsAt sockets s place socket
   pub told : stats ≡ record { queued = socket.taken + length socket.waiting; dropped = socket.dropped; taken = socket.taken }
 
 -- the counts of a socket, from what is kept: none where it is not open (own choice)
-abbrev pub TellsSocket : List SocketState → ℕ → Option SocketStats → Type 0
-TellsSocket sockets s None = IsNowhere sockets s
-TellsSocket sockets s (Some stats) = TellsOf sockets s stats
+abbrev pub ReportsSocket : List SocketState → ℕ → Option SocketStats → Type 0
+ReportsSocket sockets s None = IsNowhere sockets s
+ReportsSocket sockets s (Some stats) = ReportsOf sockets s stats

@@ -34,7 +34,7 @@ pub fn make<T: BoundedQueue<Pending>>(
     Ok(interfaces)
 }
 
-/// Tells the arbiter which key an interface competes with, if any.
+/// Reports the arbiter which key an interface competes with, if any.
 pub fn set_key<A: Arbiter>(arbiter: &mut A, iface: Iface, key: Option<u32>)
     ensures { A.keys_of arbiter.new ≡ slice_set (A.keys_of arbiter.old) iface key }
 {

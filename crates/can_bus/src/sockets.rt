@@ -3,7 +3,7 @@ ghost use Rattle.std.specs.List.{list_any};
 ghost use Rattle.can_bus.specs.Changes.{Receives, Sets, Refilters, Closes, Opens};
 ghost use Rattle.can_event.specs.Events.{with_option};
 ghost use Rattle.can_event.specs.Replies.{receive_reply};
-ghost use Rattle.can_bus.specs.Stats.{TellsSocket};
+ghost use Rattle.can_bus.specs.Stats.{ReportsSocket};
 
 use crate::socket::Socket;
 use crate::state::State;
@@ -125,7 +125,7 @@ impl<T: BoundedQueue<Pending>, R: BoundedQueue<Received>, A: Arbiter> State<T, R
     /// The counts of an open socket.
     pub fn socket_stats(&self, id: SocketId) -> Option<SocketStats>
         requires { All (λ v. v.taken + length v.waiting < 2 ^ 64) self.now.sockets }
-        ensures { TellsSocket self.now.sockets id.0 result }
+        ensures { ReportsSocket self.now.sockets id.0 result }
     {
         let Some(k) = find(&self.sockets, id) else {
             return None;

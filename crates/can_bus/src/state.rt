@@ -2,7 +2,7 @@ ghost use Rattle.std.specs.Prelude.{◌≡◌, ◌<◌, [], List, length, IfOk, 
 ghost use Rattle.can_arbiter.specs.Keys.{IsWinner, IsIdle};
 ghost use Rattle.std.specs.List.{list_any};
 ghost use Rattle.can_bus.specs.Changes.{AreReady};
-ghost use Rattle.can_bus.specs.Heads.{TellsNext};
+ghost use Rattle.can_bus.specs.Heads.{ReportsNext};
 ghost use Rattle.can_bus.specs.Lean.{Carries, IsReady, record_of};
 ghost use Rattle.can_bus.specs.State.{IsKept, kept_parts};
 ghost use Rattle.can_event.specs.declared.entry.Entry.{Entry as AnEntry};
@@ -123,7 +123,7 @@ impl<T: BoundedQueue<Pending>, R: BoundedQueue<Received>, A: Arbiter> State<T, R
     /// The interface that wins the bus, with the frame at the head of its queue, if any competes.
     pub fn next_head(&self) -> Option<(Iface, Frame)>
         requires { AreReady self.now }
-        ensures { TellsNext self.now result }
+        ensures { ReportsNext self.now result }
     {
         let winner = self.arbiter.winner()?;
         let interface = &self.interfaces[winner.number() as usize];

@@ -54,8 +54,8 @@ abbrev pub CarriesOut : {P : Type 0} → (P → (call : Call) → Reply call →
 CarriesOut {P} step moment d command p q text after = (forgot : Bool) × Plays step (answering moment d (read_as forgot (Ok command))) p q text after
 
 -- a list of names is told, with this text, or memory was refused for that
-abbrev pub TellsNames : {P : Type 0} → (P → (call : Call) → Reply call → P → Type 0) → P → List ℕ → Type 0
-TellsNames {P} step p text = ((names : List (List ℕ)) × step p Names names p × (text ≡ interfaces_text names)) ⊎ (text ≡ reply_text (Refused NoMemory))
+abbrev pub ReportsNames : {P : Type 0} → (P → (call : Call) → Reply call → P → Type 0) → P → List ℕ → Type 0
+ReportsNames {P} step p text = ((names : List (List ℕ)) × step p Names names p × (text ≡ interfaces_text names)) ⊎ (text ≡ reply_text (Refused NoMemory))
 
 -- the session ends over the port, and says nothing
 abbrev pub Finishes : {P : Type 0} → (P → (call : Call) → Reply call → P → Type 0) → Dialog → P → P → Dialog → Type 0

@@ -1,7 +1,7 @@
 ghost use Rattle.std.specs.Prelude.{◌≡◌, ◌≢◌, ◌+◌, ◌*◌, ◌≤◌, ◌++◌, [], List, ℕ, length, vec_capacity, IsTrue, false, OnOk, OnErr, IfOk};
 ghost use Rattle.can_proto.specs.Spelling.{reply_text, interfaces_text};
 ghost use Rattle.can_dialog.specs.Calls.Call.{Names};
-ghost use Rattle.can_dialog.specs.Sessions.{begun, TellsNames, Wrote};
+ghost use Rattle.can_dialog.specs.Sessions.{begun, ReportsNames, Wrote};
 
 use crate::port::Port;
 use can_frame::count_of;
@@ -43,7 +43,7 @@ pub fn say(said: &mut Vec<u8>, answer: Answer)
 /// this is said.
 pub fn say_names<P: Port>(said: &mut Vec<u8>, alloc: Global, port: &P, left: usize)
     requires { length said.old.items + (left + 1) * 256 ≤ vec_capacity said.old }
-    ensures names { (text : List ℕ) × TellsNames P.step port.now text
+    ensures names { (text : List ℕ) × ReportsNames P.step port.now text
         × (said.new.items ≡ said.old.items ++ text) }
     ensures room { length said.new.items + left * 256 ≤ vec_capacity said.new }
 {

@@ -3,7 +3,7 @@ use Rattle.std.specs.List.{list_any}
 use Rattle.std.proofs.lemmas.Bool.{true≢false}
 use Rattle.can_fault.specs.declared.verdict.Verdict.{Verdict}
 use Rattle.can_fault.specs.declared.verdict.Verdict.TheVariants as verdict
-use Rattle.can_attempt.specs.Attempts.{Transmission, is_global, is_named, is_destroyed, receivers}
+use Rattle.can_attempt.specs.Attempts.{Transmission, is_global, is_struck, is_destroyed, receivers}
 
 -- Which faults destroy a frame.
 
@@ -12,7 +12,7 @@ abbrev pub is_local : Verdict → Bool
 is_local (verdict.Local set kind) = true
 is_local _ = false
 
-destroyed_by : (v : Verdict) (p : ℕ → Bool) (xs : List ℕ) → is_global v ≡ false → is_local v ≡ false → (is_global v || list_any p (filter (is_named v) xs)) ≡ false
+destroyed_by : (v : Verdict) (p : ℕ → Bool) (xs : List ℕ) → is_global v ≡ false → is_local v ≡ false → (is_global v || list_any p (filter (is_struck v) xs)) ≡ false
 destroyed_by verdict.Good p [] global local = refl
 destroyed_by verdict.Good p (k ∷ ks) global local = destroyed_by verdict.Good p ks global local
 destroyed_by verdict.LastBit p [] global local = refl

@@ -10,7 +10,7 @@ use Rattle.can_fault.specs.declared.verdict.LocalKind.{LocalKind}
 use Rattle.can_fault.specs.declared.verdict.LocalKind.TheVariants as local
 use Rattle.can_attempt.specs.declared.class.Class.{Class}
 use Rattle.can_attempt.specs.declared.class.Class.TheVariants as class
-use Rattle.can_attempt.specs.Attempts.{Transmission, is_named}
+use Rattle.can_attempt.specs.Attempts.{Transmission, is_struck}
 use Rattle.can_errframe.specs.declared.side.Side.{Side}
 use Rattle.can_errframe.specs.declared.side.Side.TheVariants as side
 use Rattle.can_errframe.specs.declared.role.Role.{Role}
@@ -111,7 +111,7 @@ fault_message c v r = option_map (λ codes. record { class = fault_class c r; by
 
 -- the part of receiver i
 abbrev pub receiver_role : Transmission → ℕ → Role
-receiver_role t i = if is_named t.verdict i then Named else Other
+receiver_role t i = if is_struck t.verdict i then Named else Other
 
 -- these steps are a receive error
 abbrev pub is_receive_error : List Step → Bool

@@ -109,12 +109,12 @@ fn frame(id: CanId, text: &[u8]) -> Option<Item>
 fn remote_frame(id: CanId, text: &[u8]) -> Option<Frame>
     ensures { result ≡ option_map (λ len. record { id = id; payload = Remote len }) (request_in text.now) }
 {
-    Frame::remote(id, request(text)?).ok()
+    Frame::remote(id, requested_len(text)?).ok()
 }
 
 /// The length that a remote frame asks for.
 #[tactic(auto, unfolding(crate::specs::FrameGuess::request_in))]
-fn request(text: &[u8]) -> Option<u8>
+fn requested_len(text: &[u8]) -> Option<u8>
     ensures value { result ≡ request_in text.now }
     ensures small { IfSome result (λ len. len ≤ 8) }
 {

@@ -138,6 +138,7 @@ fn spells(text: &[u8], item: &Item) -> bool
     text == written.as_bytes()
 }
 
+/// Whether an item is a remote frame of length 0, whose text may have the length or leave it out.
 fn asks_for_nothing(item: &Item) -> bool
     ensures { IsTrue result ↔ AsksForNothing item.now }
 {

@@ -13,7 +13,7 @@ use Rattle.can_frame.proofs.names.Names.TheSendSync as names
 use Rattle.can_queue.specs.declared.bounded_queue.BoundedQueue as queue
 use Rattle.can_queue.proofs.ring_queue.RingQueue.TheSendSync as ring
 use Rattle.can_arbiter.specs.declared.arbiter.Arbiter as arbiter
-use Rattle.can_arbiter.proofs.index.IndexArbiter.TheSendSync as index
+use Rattle.can_arbiter.proofs.index_arbiter.IndexArbiter.TheSendSync as index
 use Rattle.can_fault.specs.declared.fault_source.FaultSource as source
 use Rattle.can_event.specs.declared.pending.Pending.{Pending}
 use Rattle.can_event.specs.declared.received.Received.{Received}

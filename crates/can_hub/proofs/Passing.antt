@@ -24,7 +24,7 @@ use Rattle.can_station.specs.declared.refusals.StationRefusal.TheVariants as sta
 use Rattle.can_proto.specs.declared.answer.BusLoad.{BusLoad}
 use Rattle.can_wire.specs.Times.{rates_of}
 use Rattle.can_hub.specs.Buses.{BusSeen, IsFirstNamed, config_on, items_on, names_on, rates_on}
-use Rattle.can_hub.specs.PassSteps.{EnteredSeen, PortSeen, PassStep, CountsSocket, CountsIface, entered_with, passed_on, refused_as, room_in, with_room, is_shared, OnPort, SomeNamed, SomeNamedFull, Attaches, GaugeTells, TellsCounters, TellsRates, InjectsNamed, Injects, RulesLeft}
+use Rattle.can_hub.specs.PassSteps.{EnteredSeen, PortSeen, PassStep, CountsSocket, CountsIface, entered_with, passed_on, refused_as, room_in, with_room, is_shared, OnPort, SomeNamed, SomeNamedFull, Attaches, GaugeReports, ReportsCounters, ReportsRates, InjectsNamed, Injects, RulesLeft}
 
 -- the calls of a port over the station that was entered
 abbrev over : List BusSeen → EnteredSeen → PortSeen
@@ -111,11 +111,11 @@ shared e room is = refl
 
 -- what its gauge returns is returned by the port
 pub on_gauge : (old : PortSeen) (buses : List BusSeen) (inside : Option EnteredSeen) (now : EnteredSeen) (gauge : Readings) (iface : ℕ) (answer : ErrorCounts)
-    → ◌≡◌ {A = PortSeen} (record { buses = buses; entered = inside }) old → inside ≡ Some now → GaugeTells now.gauge iface answer gauge
-    → TellsCounters old.entered iface answer (Some (record now { gauge = gauge })) × (buses ≡ old.buses)
+    → ◌≡◌ {A = PortSeen} (record { buses = buses; entered = inside }) old → inside ≡ Some now → GaugeReports now.gauge iface answer gauge
+    → ReportsCounters old.entered iface answer (Some (record now { gauge = gauge })) × (buses ≡ old.buses)
 on_gauge old buses inside now gauge iface answer seen is tells =
-    subst (λ (o : PortSeen). TellsCounters o.entered iface answer (Some (record now { gauge = gauge })) × (buses ≡ o.buses)) seen
-    (subst (λ (o : Option EnteredSeen). TellsCounters o iface answer (Some (record now { gauge = gauge }))) (sym is) (gauge, tells, refl), refl)
+    subst (λ (o : PortSeen). ReportsCounters o.entered iface answer (Some (record now { gauge = gauge })) × (buses ≡ o.buses)) seen
+    (subst (λ (o : Option EnteredSeen). ReportsCounters o iface answer (Some (record now { gauge = gauge }))) (sym is) (gauge, tells, refl), refl)
 
 -- the counts that the station that was entered returns are returned by the port
 pub counted : (F : Type 0) (old : PortSeen) (buses : List BusSeen) (inside : Option EnteredSeen) (now : EnteredSeen) (socket iface : ℕ) (counts : Option SocketStats × Option IfaceStats)
@@ -153,9 +153,9 @@ injected F old buses inside now rule found answer seen is named came =
 
 -- a load with the bit rates of the bus that was entered is one of the port
 pub rates_told : (old : PortSeen) (buses : List BusSeen) (inside : Option EnteredSeen) (now : EnteredSeen) (load : BusLoad)
-    → ◌≡◌ {A = PortSeen} (record { buses = buses; entered = inside }) old → inside ≡ Some now → rates_of load.bitrate load.dbitrate ≡ rates_on (slice_get buses now.station.number) → TellsRates old.buses old.entered load
+    → ◌≡◌ {A = PortSeen} (record { buses = buses; entered = inside }) old → inside ≡ Some now → rates_of load.bitrate load.dbitrate ≡ rates_on (slice_get buses now.station.number) → ReportsRates old.buses old.entered load
 rates_told old buses inside now load seen is rates =
-    subst (λ (o : PortSeen). TellsRates o.buses o.entered load) (ap (λ (i : Option EnteredSeen). record { buses = buses; entered = i }) (sym is) ∙ seen) rates
+    subst (λ (o : PortSeen). ReportsRates o.buses o.entered load) (ap (λ (i : Option EnteredSeen). record { buses = buses; entered = i }) (sym is) ∙ seen) rates
 
 -- how many rules the station that was entered has is how many the port has
 pub rules_left : (F : Type 0) (old : PortSeen) (buses : List BusSeen) (inside : Option EnteredSeen) (now : EnteredSeen) (count : ℕ)

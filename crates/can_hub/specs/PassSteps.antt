@@ -103,22 +103,22 @@ Attaches F old name (Err _) new = ⊥
 
 -- a gauge returns the error counters that it now knows as the last published of an interface, and knows no less than
 -- before; of an interface that its meter has not it returns 0/0
-abbrev pub GaugeTells : Readings → ℕ → ErrorCounts → Readings → Type 0
-GaugeTells old iface answer new =
+abbrev pub GaugeReports : Readings → ℕ → ErrorCounts → Readings → Type 0
+GaugeReports old iface answer new =
     ((iface < old.ifaces)
     × (answer ≡ (newest (published new.lists iface)).counters) × IsSuffix (published old.lists iface) (published new.lists iface)
     × (new ≡ knowing_of old iface (published new.lists iface)))
     ⊎ ((old.ifaces ≤ iface) × (answer ≡ at_start) × (new ≡ old))
 
 -- the gauge of the station that was entered returns the error counters of an interface; where none was, they are 0/0
-abbrev pub TellsCounters : Option EnteredSeen → ℕ → ErrorCounts → Option EnteredSeen → Type 0
-TellsCounters None iface answer new = (answer ≡ at_start) × (new ≡ None)
-TellsCounters (Some old) iface answer new = (gauge : Readings) × GaugeTells old.gauge iface answer gauge × (new ≡ Some (record old { gauge = gauge }))
+abbrev pub ReportsCounters : Option EnteredSeen → ℕ → ErrorCounts → Option EnteredSeen → Type 0
+ReportsCounters None iface answer new = (answer ≡ at_start) × (new ≡ None)
+ReportsCounters (Some old) iface answer new = (gauge : Readings) × GaugeReports old.gauge iface answer gauge × (new ≡ Some (record old { gauge = gauge }))
 
 -- a load has the bit rates of the bus that was entered (how busy it was is not said); where none was, all is 0
-abbrev pub TellsRates : List BusSeen → Option EnteredSeen → BusLoad → Type 0
-TellsRates buses None answer = answer ≡ no_load
-TellsRates buses (Some e) answer = rates_of answer.bitrate answer.dbitrate ≡ rates_on (slice_get buses e.station.number)
+abbrev pub ReportsRates : List BusSeen → Option EnteredSeen → BusLoad → Type 0
+ReportsRates buses None answer = answer ≡ no_load
+ReportsRates buses (Some e) answer = rates_of answer.bitrate answer.dbitrate ≡ rates_on (slice_get buses e.station.number)
 
 -- counts that a socket with this number has in some state of the station that was entered (which is not said); where
 -- none was, it is not open
@@ -161,8 +161,8 @@ PassStep F old (Restart iface moment) answer new = OnPort done_reply old (event.
 PassStep F old (Attempt moment verdict) answer new = OnPort told_attempt old (event.Attempt moment verdict) answer new
 PassStep F old (CountsOfSocket socket) answer new = CountsSocket F old.entered socket.0 answer × (new ≡ old)
 PassStep F old (CountsOfIface iface) answer new = CountsIface F old.entered iface answer × (new ≡ old)
-PassStep F old (CountersOfIface iface) answer new = TellsCounters old.entered iface answer new.entered × (new.buses ≡ old.buses)
-PassStep F old (LoadAt moment) answer new = TellsRates old.buses old.entered answer × (new ≡ old)
+PassStep F old (CountersOfIface iface) answer new = ReportsCounters old.entered iface answer new.entered × (new.buses ≡ old.buses)
+PassStep F old (LoadAt moment) answer new = ReportsRates old.buses old.entered answer × (new ≡ old)
 PassStep F old (Inject rule) answer new = Injects F old.buses old.entered rule answer × (new ≡ old)
 PassStep F old CountsRules answer new = RulesLeft F old.entered answer × (new ≡ old)
 PassStep F old EndsRules answer new = new ≡ old

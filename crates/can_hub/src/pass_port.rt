@@ -1,5 +1,5 @@
 ghost use Rattle.std.specs.Prelude.{◌≡◌, IfOk, IfSome, OnErr};
-ghost use Rattle.can_hub.specs.PassSteps.{GaugeTells, passed_on, with_room};
+ghost use Rattle.can_hub.specs.PassSteps.{GaugeReports, passed_on, with_room};
 ghost use Rattle.can_station.specs.Passes.{HadNoPassLeft};
 
 use crate::buses::Buses;
@@ -177,7 +177,7 @@ pub(crate) fn pass_on<V>(outcome: Result<V, StationRefusal>) -> Result<V, PortRe
 
 /// The error counters that a gauge reads of an interface: 0/0 where its meter has none.
 fn read_gauge<N: MeterName>(gauge: &mut Gauge<N>, iface: Iface) -> Counters
-    ensures { GaugeTells gauge.old iface result gauge.new }
+    ensures { GaugeReports gauge.old iface result gauge.new }
 {
     let place = usize::from(iface.number());
     if place >= gauge.ifaces() {

@@ -231,7 +231,7 @@ impl Record {
     }
 }
 
-/// Whether the text of a record has a line for each of these entries.
+/// Whether the record of this bus may have these entries: the text has a line for each.
 fn are_spelled(config: BusConfig, entries: &[Entry]) -> bool
     ensures { IsTrue result ↔ All (IsSpelled config) entries.now }
 {

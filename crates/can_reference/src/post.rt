@@ -241,7 +241,7 @@ fn is_wanted(filters: &FilterSet, options: &Options, id: SocketId, post: &Post) 
 }
 
 /// The posts that pass these filters and options.
-pub fn passing(
+pub fn passing_posts(
     alloc: Global,
     filters: &FilterSet,
     options: &Options,

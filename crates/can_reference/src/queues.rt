@@ -5,7 +5,7 @@ ghost use Rattle.can_reference.specs.Histories.{OnHistory, OnRecord, Returns, Re
 ghost use Rattle.can_reference.specs.inner.Noted.{room_after};
 ghost use Rattle.can_reference.specs.inner.Posted.{ReturnsCandidates};
 
-use crate::post::{passing, posts_of};
+use crate::post::{passing_posts, posts_of};
 use crate::sockets::{filters_of, options_of, sockets_of};
 use can_bus::{BusConfig, Entry, Event, Received, Record, Reply, SocketId};
 use can_frame::{Iface, Item};
@@ -29,7 +29,7 @@ fn candidates_of(
     }
     let posts = posts_of(alloc, config, past, sockets.iface_of(id), entry)?;
     let filters = filters_of(alloc, past, id)?;
-    passing(alloc, &filters, &options_of(past, id), id, &posts)
+    passing_posts(alloc, &filters, &options_of(past, id), id, &posts)
 }
 
 /// All that these entries offered a socket, in order.

@@ -238,7 +238,7 @@ fn next_line<R: Read + Drop, W: Write>(
     }
     match lines.next_line() {
         Ok(more) => Ok(more),
-        Err(fault) => Err(told(fault, number)),
+        Err(fault) => Err(bench_fault(fault, number)),
     }
 }
 
@@ -257,7 +257,7 @@ fn put<W: Write>(out: &mut W, said: &[u8]) -> Result<(), BenchFault>
 }
 
 /// How a fault of the input is reported, at the line of this number.
-fn told(fault: InputFault, number: u32) -> BenchFault
+fn bench_fault(fault: InputFault, number: u32) -> BenchFault
     ensures { result ≡ fault_of number fault }
 {
     match fault {

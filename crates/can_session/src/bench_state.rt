@@ -182,7 +182,7 @@ impl Bench {
         if self.sessions[place].is_some() {
             return Ok(false);
         }
-        let speaker = turns::begin(self.alloc, self.capacity, session, said)?;
+        let speaker = turns::start_session(self.alloc, self.capacity, session, said)?;
         self.sessions[place] = Some(speaker);
         Ok(true)
     }

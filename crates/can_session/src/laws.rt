@@ -21,8 +21,8 @@ pub fn lines_given_are_those_of_the_text()
     ensures end { (text : List ℕ) (lines : List (List ℕ)) (old new : Input) →
         Given text lines old → FindsEnd old new →
         (lines ≡ lines_of text) × (new.given ≡ length text) }
-    ensures stop { (text : List ℕ) (lines : List (List ℕ)) (old new : Input) (fault : InputFault) →
-        Given text lines old → Stops fault old new → IsWithin new →
+    ensures stop { (text : List ℕ) (lines : List (List ℕ)) (old new : Input) →
+        (fault : InputFault) → Given text lines old → Stops fault old new → IsWithin new →
         StopsAfter fault text lines new }
     ensures apart { (text : List ℕ) (lines others : List (List ℕ)) (now : Input) →
         StopsAfter Read text lines now → ¬ StopsAfter TooLong text others now }

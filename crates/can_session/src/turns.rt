@@ -29,7 +29,7 @@ pub enum Act<'a> {
 }
 
 /// Starts a session with this number, and keeps what it says in its first line.
-pub fn begin(
+pub fn start_session(
     alloc: Global,
     capacity: u32,
     number: SessionNumber,

@@ -66,10 +66,10 @@ abbrev pub SuitsAttempt : Reply → Type 0
 SuitsAttempt r = (moment : ℕ) × (verdict : Verdict) × Suits (event.Attempt moment verdict) r
 
 -- what the caller gets of a reply: its value, or why the bus refuses
-abbrev pub Tells : {A : Type 0} → (A → Reply) → Result A StationRefusal → Reply → Type 0
-Tells told (Ok a) r = r ≡ told a
-Tells told (Err (station.Bus why)) r = r ≡ reply.Refused why
-Tells told (Err station.WrongStation) r = ⊥
+abbrev pub Reports : {A : Type 0} → (A → Reply) → Result A StationRefusal → Reply → Type 0
+Reports told (Ok a) r = r ≡ told a
+Reports told (Err (station.Bus why)) r = r ≡ reply.Refused why
+Reports told (Err station.WrongStation) r = ⊥
 
 -- what is in a pass's list, the newest first, if it keeps one
 abbrev pub calls_listed : Option ListedEntries → Option (List Entry)

@@ -1,6 +1,6 @@
 ghost use Rattle.std.specs.Prelude.{◌≡◌, IfOk};
 ghost use Rattle.can_record.specs.Outcomes.{told_attempt};
-ghost use Rattle.can_station.specs.Passes.{SuitsAttempt, Tells, without_verdict};
+ghost use Rattle.can_station.specs.Passes.{SuitsAttempt, Reports, without_verdict};
 
 use crate::refusals::StationRefusal;
 use can_bus::{Attempt, Reply};
@@ -9,7 +9,7 @@ use can_fault::Verdict;
 /// What the caller of an attempt gets of its reply.
 pub(crate) fn attempt_in(reply: Reply) -> Result<Attempt, StationRefusal>
     requires { SuitsAttempt reply }
-    ensures { Tells told_attempt result reply }
+    ensures { Reports told_attempt result reply }
 {
     match reply {
         Reply::Tried(tried) => Ok(Attempt::Tried(tried)),

@@ -25,7 +25,7 @@ stays text b r = record {
   before = r.before;
   letter = r.letter;
   after = r.after ++ b ∷ [];
-  stands = ap (λ l. l ++ b ∷ []) r.stands ∙ append_assoc r.before (front ++ r.letter ∷ r.after) (b ∷ []);
+  text_is = ap (λ l. l ++ b ∷ []) r.text_is ∙ append_assoc r.before (front ++ r.letter ∷ r.after) (b ∷ []);
   least = r.least;
   most = r.most;
 }
@@ -34,24 +34,24 @@ begun : (text : List ℕ) (b : ℕ) → b ≡ 60 → Saw 1 (text ++ b ∷ [])
 begun text b is = inr (omega arith, text, ap (λ x. text ++ x ∷ []) is)
 
 letter_came : (seen : ℕ) (text before : List ℕ) (b : ℕ) → seen ≡ 8 → 97 ≤ b → b ≤ 122 → text ≡ before ++ take seen front → HasRefusal (text ++ b ∷ [])
-letter_came seen text before b is least most stands = record {
+letter_came seen text before b is least most text_is = record {
   before = before;
   letter = b;
   after = [];
-  stands = ap (λ l. l ++ b ∷ []) (stands ∙ ap (λ n. before ++ take n front) is) ∙ append_assoc before front (b ∷ []);
+  text_is = ap (λ l. l ++ b ∷ []) (text_is ∙ ap (λ n. before ++ take n front) is) ∙ append_assoc before front (b ∷ []);
   least = least;
   most = most;
 }
 
 longer : (seen : ℕ) (text before : List ℕ) (b : ℕ) → seen < 8 → get_or front seen 60 ≡ b → text ≡ before ++ take seen front → text ++ b ∷ [] ≡ before ++ take (seen + 1) front
-longer seen text before b few is stands =
-    ap (λ l. l ++ b ∷ []) stands ∙ append_assoc before (take seen front) (b ∷ [])
+longer seen text before b few is text_is =
+    ap (λ l. l ++ b ∷ []) text_is ∙ append_assoc before (take seen front) (b ∷ [])
     ∙ ap (λ l. before ++ l) (ap (λ x. take seen front ++ x ∷ []) (sym is) ∙ sym (take_more front seen 60 few))
 
 -- after one byte more
 more : (seen : ℕ) (text : List ℕ) (b : ℕ) → Saw seen text → Saw (seen_after seen b) (text ++ b ∷ [])
 more seen text b (inl (is, r)) = subst (λ n. Saw (seen_after n b) (text ++ b ∷ [])) (sym is) (inl (refl, stays text b r))
-more seen text b (inr (few, before, stands)) =
+more seen text b (inr (few, before, text_is)) =
     by_tests (seen == 9) (b == 60) (seen == 8) (nat_le 97 b) (nat_le b 122) (get_or front seen 60 == b) refl refl refl refl refl refl
   where
     at_end : (seen == 8) ≡ true → (b == 60) ≡ false → (get_or front seen 60 == b) ≡ true → Saw (seen + 1) (text ++ b ∷ [])
@@ -64,12 +64,12 @@ more seen text b (inr (few, before, stands)) =
         → Saw (if nine then 9 else if opens then 1 else if eight && (least && most) then 9 else if next then seen + 1 else 0) (text ++ b ∷ [])
     by_tests true opens eight least most next nine-is o e l m n = let s : seen ≡ 9 = eqb-true _ _ nine-is in absurd (omega arith)
     by_tests false true eight least most next nine-is o e l m n = begun text b (eqb-true _ _ o)
-    by_tests false false true true true next nine-is o e l m n = inl (refl, letter_came seen text before b (eqb-true _ _ e) (leb-true _ _ l) (leb-true _ _ m) stands)
+    by_tests false false true true true next nine-is o e l m n = inl (refl, letter_came seen text before b (eqb-true _ _ e) (leb-true _ _ l) (leb-true _ _ m) text_is)
     by_tests false false true true false true nine-is o e l m n = at_end e o n
     by_tests false false true false most true nine-is o e l m n = at_end e o n
     by_tests false false true true false false nine-is o e l m n = none
     by_tests false false true false most false nine-is o e l m n = none
-    by_tests false false false least most true nine-is o e l m n = let s : seen ≢ 8 = λ i. absurd (true≢false (sym (ap (λ k. k == 8) i) ∙ e)) in inr (omega arith, before, longer seen text before b (omega arith) (eqb-true _ _ n) stands)
+    by_tests false false false least most true nine-is o e l m n = let s : seen ≢ 8 = λ i. absurd (true≢false (sym (ap (λ k. k == 8) i) ∙ e)) in inr (omega arith, before, longer seen text before b (omega arith) (eqb-true _ _ n) text_is)
     by_tests false false false least most false nine-is o e l m n = none
 
 -- after many

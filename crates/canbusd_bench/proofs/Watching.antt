@@ -123,7 +123,7 @@ behind_front m letter after least most = elim (decide (m == 9)) [
 
 found : (text : List ℕ) → HasRefusal text → seen_in 0 text ≡ 9
 found text r =
-    ap (seen_in 0) r.stands ∙ fold-append seen_after 0 r.before (codes "< error " ++ r.letter ∷ r.after) ∙ behind_front (seen_in 0 r.before) r.letter r.after r.least r.most
+    ap (seen_in 0) r.text_is ∙ fold-append seen_after 0 r.before (codes "< error " ++ r.letter ∷ r.after) ∙ behind_front (seen_in 0 r.before) r.letter r.after r.least r.most
 
 -- a watcher that is on saw all that was written
 saw_all : (name is w s : ℕ) (bytes after text : List ℕ) → Appends (told name true 0 0 (Some bytes)) (told is true w s (Some after)) text → (after ≡ bytes ++ text) × (seen_in 0 text ≡ s)

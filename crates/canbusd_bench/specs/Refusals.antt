@@ -8,7 +8,7 @@ pub record HasRefusal (text : List ℕ) : Type 0 where
   pub before : List ℕ
   pub letter : ℕ
   pub after : List ℕ
-  pub stands : text ≡ before ++ (codes "< error " ++ letter ∷ after)
+  pub text_is : text ≡ before ++ (codes "< error " ++ letter ∷ after)
   pub least : 97 ≤ letter
   pub most : letter ≤ 122
 

@@ -124,6 +124,7 @@ pub fn look_at_lock<H: Files<File = File>>(rt: &H, path: &str) -> io::Result<()>
     }
 }
 
+// Makes a file that is not there yet, for appending, and locks it for this process.
 fn make_new<H: Files<File = File>>(rt: &H, path: &str) -> io::Result<File> {
     let file = OpenOptions::new()
         .append(true)

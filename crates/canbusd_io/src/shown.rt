@@ -63,7 +63,7 @@ pub struct SourceLine<'a> {
 }
 
 impl<'a> SourceLine<'a> {
-    /// The line of this number, from 1.
+    /// The line of this number, from 1, of a file, as errors show it.
     pub fn new(file: &'a str, number: u64, text: &'a [u8]) -> SourceLine<'a> {
         SourceLine { file, number, text }
     }

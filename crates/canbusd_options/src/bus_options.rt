@@ -1,4 +1,4 @@
-//! The words that say what a bus is like, which bench and serve share.
+//! The words that say what a bus is like, which bench and serve share, and how an option's text or number is taken.
 ghost use Rattle.std.specs.Prelude.{◌≡◌, ◌≤◌, ◌^◌, codes, false, IfErr, IfNone, IfOk, IfSome};
 ghost use Rattle.std.specs.Str.Parse.{IsNumeral, digits_value};
 ghost use Rattle.clap.specs.Words.{app_of, kind_of, rule_of};

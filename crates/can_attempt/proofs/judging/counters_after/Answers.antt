@@ -10,8 +10,8 @@ returns-then-can_hear c a =
     let other : (c.args.iface == c.args.winner) ≡ false = sym c.eq.ensures ∙ c.if-eq.false in
     let hears : can_hear t c.args.iface ≡ true = sym (c.can_hear.ensures c.args.verdict a) ∙ c.if-can_hear.true in
     c.receiver_after.ensures
-    ∙ ap (λ (k : ErrorCounts). all_stepped k (receiver_step c.args.class c.is_named.result)) c.counters_of-counters.ensures
-    ∙ ap (λ n. all_stepped (counts_at c.args.nodes.now c.args.iface) (receiver_step c.args.class n)) c.is_named.ensures
+    ∙ ap (λ (k : ErrorCounts). all_stepped k (receiver_step c.args.class c.is_struck.result)) c.counters_of-counters.ensures
+    ∙ ap (λ n. all_stepped (counts_at c.args.nodes.now c.args.iface) (receiver_step c.args.class n)) c.is_struck.ensures
     ∙ ap (λ (s : List Step). all_stepped (counts_at c.args.nodes.now c.args.iface) s) (sym (steps_in-receiver c.args.class t c.args.iface other hears c.requires.there))
 
 pub returns-else-can_hear : goal.returns-else-can_hear

@@ -2,7 +2,7 @@ use Rattle.std.proofs.Common.{◌≡◌, ℕ, Bool, true, false, not, nat_lt, �
 use Rattle.std.proofs.lemmas.Bool.{false≢true}
 use Rattle.can_attempt.specs.declared.class.Class.{Class}
 use Rattle.can_attempt.specs.declared.class.Class.TheVariants.{Done, LastBit, Destroyed, NoAck}
-use Rattle.can_attempt.specs.Attempts.{Transmission, is_among, unhurt, can_hear, is_named, class_of, accepted_in}
+use Rattle.can_attempt.specs.Attempts.{Transmission, is_among, unhurt, can_hear, is_struck, class_of, accepted_in}
 use Rattle.can_attempt.proofs.Places.{is_among-hit, is_among-unhurt}
 use Rattle.can_attempt.proofs.laws.accepted_and_hit_are_apart.Goals as goal
 
@@ -18,7 +18,7 @@ apart true h both = absurd (false≢true both)
 apart false h both = refl
 
 pub returns-clause-apart : goal.returns-clause-apart
-returns-clause-apart c t i among = is_among-hit t i ∙ apart (is_named t.verdict i) (can_hear t i && nat_lt i t.count) (sym (is_among-unhurt t i) ∙ accepted_unhurt (class_of t) t i among)
+returns-clause-apart c t i among = is_among-hit t i ∙ apart (is_struck t.verdict i) (can_hear t i && nat_lt i t.count) (sym (is_among-unhurt t i) ∙ accepted_unhurt (class_of t) t i among)
 
 -- the winner doesn't hear itself
 deaf : (t : Transmission) → can_hear t t.winner ≡ false
@@ -28,7 +28,7 @@ not_both : (n : Bool) → (n && false) ≡ false
 not_both n = grind arith
 
 unhurt_winner : (t : Transmission) → is_among t.winner (unhurt t) ≡ false
-unhurt_winner t = is_among-unhurt t t.winner ∙ rw (deaf t) (not_both (not (is_named t.verdict t.winner)))
+unhurt_winner t = is_among-unhurt t t.winner ∙ rw (deaf t) (not_both (not (is_struck t.verdict t.winner)))
 
 accepted_winner : (k : Class) (t : Transmission) → is_among t.winner (accepted_in k t) ≡ false
 accepted_winner Done t = unhurt_winner t
@@ -40,4 +40,4 @@ pub returns-clause-accepted : goal.returns-clause-accepted
 returns-clause-accepted c t = accepted_winner (class_of t) t
 
 pub returns-clause-hit : goal.returns-clause-hit
-returns-clause-hit c t = is_among-hit t t.winner ∙ rw (deaf t) (not_both (is_named t.verdict t.winner))
+returns-clause-hit c t = is_among-hit t t.winner ∙ rw (deaf t) (not_both (is_struck t.verdict t.winner))

@@ -2,7 +2,7 @@ use Rattle.std.proofs.Common.{◌≡◌, ℕ, ◌<◌, ◌==◌, nat_lt, Bool, t
 use Rattle.std.proofs.lemmas.Bool.{false≢true, true≢false}
 use Rattle.can_fault.specs.declared.verdict.Verdict.{Verdict}
 use Rattle.can_fault.specs.declared.verdict.Verdict.TheVariants as verdict
-use Rattle.can_attempt.specs.Attempts.{class_when, class_of, is_global, is_named, is_last_bit, is_destroyed, is_acknowledged, receiver_step, can_hear}
+use Rattle.can_attempt.specs.Attempts.{class_when, class_of, is_global, is_struck, is_last_bit, is_destroyed, is_acknowledged, receiver_step, can_hear}
 use Rattle.can_attempt.proofs.Places.{is_among-receivers, steps_in-receiver}
 use Rattle.can_errframe.specs.ErrorMessages.{fault_message, is_receive_error}
 use Rattle.can_errframe.specs.declared.role.Role.TheVariants.{Named, Other}
@@ -32,7 +32,7 @@ told (verdict.Local set kind) false false false broken whole named = refl
 or_true : (x y : Bool) → x ≡ true → (x || y) ≡ true
 or_true x y left = rw left refl
 
-not_named : (v : Verdict) (i : ℕ) → is_local v ≡ false → is_named v i ≡ false
+not_named : (v : Verdict) (i : ℕ) → is_local v ≡ false → is_struck v i ≡ false
 not_named verdict.Good i local = refl
 not_named verdict.LastBit i local = refl
 not_named (verdict.Global kind) i local = refl
@@ -44,5 +44,5 @@ returns c t i among =
     let hears : can_hear t i ≡ true = grind (arith, there) in
     let below : i < t.count = grind (arith, there) in
     let other : (i == t.winner) ≡ false = grind (arith, hears) in
-    told t.verdict (is_destroyed t) (is_acknowledged t) (is_named t.verdict i) (or_true (is_global t.verdict) _) (not_destroyed t) (not_named t.verdict i)
+    told t.verdict (is_destroyed t) (is_acknowledged t) (is_struck t.verdict i) (or_true (is_global t.verdict) _) (not_destroyed t) (not_named t.verdict i)
     ∙ ap is_receive_error (sym (steps_in-receiver (class_of t) t i other hears below))

@@ -15,4 +15,4 @@ returns c = λ h.
     let past = reverse c.args.past.now in
     let on = is-on past c.in_ok-sockets.sockets.numbers.items c.in_ok-sockets.sockets.places.items c.args.id.0 c.iface_of.result c.is_open.result c.in_ok-sockets.ensures.open c.in_ok-sockets.ensures.places c.is_open.ensures c.if-not-is_open.false c.iface_of.ensures in
     let are = candidates-are c.args.config past c.args.id.0 c.args.entry.now.event c.args.entry.now.reply c.iface_of.result _ _ _ on c.in_ok-filters.ensures c.options_of.ensures (c.deref.ensures.value ∙ c.in_ok-posts.ensures h) in
-    subst (λ (xs : List Received). IfOk c.passing.result (λ rs. rs.items ≡ xs)) are c.passing.ensures
+    subst (λ (xs : List Received). IfOk c.passing_posts.result (λ rs. rs.items ≡ xs)) are c.passing_posts.ensures

@@ -2,18 +2,18 @@ use Rattle.std.proofs.Common.{◌≡◌, ◌+◌, ◌<◌, ◌^◌, [], ◌∷�
 use Rattle.can_filter.specs.declared.options.Options.{Options}
 use Rattle.can_bus.specs.Changes.{pending_of}
 use Rattle.can_bus.specs.State.{InterfaceState}
-use Rattle.can_bus.proofs.Reading.{stands-at, fd-off-for, off-for, on-interface, of-interface, interface-of, found_full, took}
+use Rattle.can_bus.proofs.Reading.{found-at, fd-off-for, off-for, on-interface, of-interface, interface-of, found_full, took}
 use Rattle.can_bus.proofs.state.State.send.Goals as goal
 
 pub returns-then-lacks_fd : goal.returns-then-lacks_fd
 returns-then-lacks_fd g c =
-    let stands = stands-at _ _ _ _ _ c.deref.ensures.value c.in-Some.ensures.within c.in-Some.ensures.found c.index-socket.ensures in
-    (fd-off-for _ _ _ _ (pending_of c.args.frame c.args.id) _ c.self.view_is stands (sym c.lacks_fd.ensures ∙ c.if-lacks_fd.true), refl)
+    let is_at = found-at _ _ _ _ _ c.deref.ensures.value c.in-Some.ensures.within c.in-Some.ensures.found c.index-socket.ensures in
+    (fd-off-for _ _ _ _ (pending_of c.args.frame c.args.id) _ c.self.view_is is_at (sym c.lacks_fd.ensures ∙ c.if-lacks_fd.true), refl)
 
 pub returns-then-is_off : goal.returns-then-is_off
 returns-then-is_off g c =
-    let stands = stands-at _ _ _ _ _ c.deref.ensures.value c.in-Some.ensures.within c.in-Some.ensures.found c.index-socket.ensures in
-    (off-for _ _ _ _ _ (pending_of c.args.frame c.args.id) _ c.self.view_is stands c.iface-iface.ensures (sym c.lacks_fd.ensures ∙ c.if-lacks_fd.false) (sym c.is_off.ensures ∙ c.if-is_off.true), refl)
+    let is_at = found-at _ _ _ _ _ c.deref.ensures.value c.in-Some.ensures.within c.in-Some.ensures.found c.index-socket.ensures in
+    (off-for _ _ _ _ _ (pending_of c.args.frame c.args.id) _ c.self.view_is is_at c.iface-iface.ensures (sym c.lacks_fd.ensures ∙ c.if-lacks_fd.false) (sym c.is_off.ensures ∙ c.if-is_off.true), refl)
 
 pub index_mut-interface-requires : goal.index_mut-interface-requires
 index_mut-interface-requires g c =
@@ -32,18 +32,18 @@ send-requires-clause-refused g c =
 
 pub returns-in_default-send : goal.returns-in_default-send
 returns-in_default-send g c =
-    let stands = stands-at _ _ _ _ _ c.deref.ensures.value c.in-Some.ensures.within c.in-Some.ensures.found c.index-socket.ensures in
+    let is_at = found-at _ _ _ _ _ c.deref.ensures.value c.in-Some.ensures.within c.in-Some.ensures.found c.index-socket.ensures in
     let within = on-interface _ _ _ _ _ _ _ c.self.view_is c.requires.known c.deref.ensures.value c.in-Some.ensures.within c.index-socket.ensures c.number.ensures.number c.iface-iface.ensures in
-    let is_interface = interface-of _ _ _ _ _ _ _ stands c.number.ensures.number c.iface-iface.ensures within c.index_mut-interface.ensures.value in
+    let is_interface = interface-of _ _ _ _ _ _ _ is_at c.number.ensures.number c.iface-iface.ensures within c.index_mut-interface.ensures.value in
     let full = c.in_default-send.ensures.full in
     found_full _ _ _ _ _ (pending_of c.args.frame c.args.id) _ _ _ c.self.view_is is_interface c.number.ensures.number c.iface-iface.ensures (sym c.lacks_fd.ensures ∙ c.if-lacks_fd.false) (sym c.is_off.ensures ∙ c.if-is_off.false) full.0 full.1
 
 pub returns : goal.returns
 returns g c =
     let l = c.index_mut-interface.result.now in
-    let stands = stands-at _ _ _ _ _ c.deref.ensures.value c.in-Some.ensures.within c.in-Some.ensures.found c.index-socket.ensures in
+    let is_at = found-at _ _ _ _ _ c.deref.ensures.value c.in-Some.ensures.within c.in-Some.ensures.found c.index-socket.ensures in
     let within = on-interface _ _ _ _ _ _ _ c.self.view_is c.requires.known c.deref.ensures.value c.in-Some.ensures.within c.index-socket.ensures c.number.ensures.number c.iface-iface.ensures in
-    let is_interface = interface-of _ _ _ _ _ _ _ stands c.number.ensures.number c.iface-iface.ensures within c.index_mut-interface.ensures.value in
+    let is_interface = interface-of _ _ _ _ _ _ _ is_at c.number.ensures.number c.iface-iface.ensures within c.index_mut-interface.ensures.value in
     let sent = c.in-Some-send.ensures.sent in
     let taken : c.send.new.self ≡ record l { waiting = l.waiting ++ pending_of c.args.frame c.args.id c.index-socket.result.now ∷ []; sent = l.sent + 1 } =
     sent.2 ∙ ap (λ (o : Options). record l { waiting = l.waiting ++ record { frame = c.args.frame; socket = c.args.id; loopback = o.loopback } ∷ []; sent = l.sent + 1 }) c.options.ensures in

@@ -4,7 +4,7 @@ use Rattle.std.proofs.lemmas.List.Sorted.{IsPartitionPoint-from_clause}
 use Rattle.can_arbiter.specs.Ranks.{IsPutAmong}
 use Rattle.can_arbiter.proofs.Ranking.{sets, has_room, order_put}
 use Rattle.can_arbiter.proofs.Moving.{others_rise, moves_in, keeps_absent, belongs}
-use Rattle.can_arbiter.proofs.index.IndexArbiterArbiter.set.Goals as goal
+use Rattle.can_arbiter.proofs.index_arbiter.IndexArbiterArbiter.set.Goals as goal
 
 pub put_over-requires-clause-in_order : goal.put_over-requires-clause-in_order
 put_over-requires-clause-in_order c =

@@ -1,6 +1,6 @@
 use Rattle.std.proofs.Common.{length, ◌-◌, ◌≡◌, ◌<◌, ◌≤◌, get_or}
 use Rattle.std.specs.List.{insert, remove}
-use Rattle.can_arbiter.proofs.index.put_over.Given as goal
+use Rattle.can_arbiter.proofs.index_arbiter.put_over.Given as goal
 
 abbrev pub invariant-loop-at : goal.invariant-loop-at
 invariant-loop-at l = record {

@@ -1,6 +1,6 @@
 use Rattle.std.proofs.Common.{rules}
 use Rattle.can_arbiter.proofs.Ranking.{answers_first, answers_some, answers_none}
-use Rattle.can_arbiter.proofs.index.IndexArbiterArbiter.winner.Goals as goal
+use Rattle.can_arbiter.proofs.index_arbiter.IndexArbiterArbiter.winner.Goals as goal
 
 pub returns-in_err-first-clause-none : goal.returns-in_err-first-clause-none
 returns-in_err-first-clause-none c = (λ none. answers_none _ (search rules), λ idle. search rules)

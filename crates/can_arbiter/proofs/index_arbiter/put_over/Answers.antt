@@ -2,8 +2,8 @@ use Rattle.std.proofs.Common.{arith, length, ap, refl, ◌+◌, ◌-◌, ◌<◌
 use Rattle.std.specs.List.{remove}
 use Rattle.std.proofs.lemmas.List.Edits.{length-insert, length-remove}
 use Rattle.can_arbiter.proofs.Moving.{put_first, steps_before, steps_behind, below_at, below_next, put_among}
-use Rattle.can_arbiter.proofs.index.put_over.Goals as goal
-use Rattle.can_arbiter.proofs.index.put_over.Goals.{then-loop-at-test+else-rank-row, else-loop-at-test}
+use Rattle.can_arbiter.proofs.index_arbiter.put_over.Goals as goal
+use Rattle.can_arbiter.proofs.index_arbiter.put_over.Goals.{then-loop-at-test+else-rank-row, else-loop-at-test}
 
 pub loop-at-init : goal.loop-at-init
 loop-at-init c = record {

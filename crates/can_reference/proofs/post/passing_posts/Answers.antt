@@ -1,8 +1,8 @@
 use Rattle.std.proofs.Common.{◌++◌, ◌∷◌, [], ap, ◌∙◌}
 use Rattle.can_event.specs.declared.received.Received.{Received}
 use Rattle.can_reference.proofs.Passing.{passing_more, pushed, left_out}
-use Rattle.can_reference.proofs.post.passing.Goals as goal
-use Rattle.can_reference.proofs.post.passing.Goals.{then-is_wanted+in_ok-push, else-is_wanted}
+use Rattle.can_reference.proofs.post.passing_posts.Goals as goal
+use Rattle.can_reference.proofs.post.passing_posts.Goals.{then-is_wanted+in_ok-push, else-is_wanted}
 
 pub loop-post-preserved : goal.loop-post-preserved
 loop-post-preserved c =

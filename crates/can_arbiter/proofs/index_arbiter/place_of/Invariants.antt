@@ -1,5 +1,5 @@
 use Rattle.std.proofs.Common.{◌≡◌, ◌≢◌, ◌<◌, ◌%◌, ℕ, get_or}
-use Rattle.can_arbiter.proofs.index.place_of.Given as goal
+use Rattle.can_arbiter.proofs.index_arbiter.place_of.Given as goal
 
 abbrev pub invariant-loop-place : goal.invariant-loop-place
 invariant-loop-place l = record {

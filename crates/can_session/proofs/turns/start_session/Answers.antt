@@ -1,6 +1,6 @@
 use Rattle.can_dialog.specs.Turns.{greeting}
 use Rattle.can_session.proofs.Speaking.{ends_spoken}
-use Rattle.can_session.proofs.turns.begin.Goals as goal
+use Rattle.can_session.proofs.turns.start_session.Goals as goal
 
 pub returns : goal.returns
 returns c =
