@@ -1,11 +1,8 @@
--- Words of a line that have a bound: the text of a data frame, and the word for how an attempt ended.
+-- The text of a data frame has a bound.
 use Rattle.std.proofs.Common.{◌≡◌, ◌≤◌, false, length, refl, arith}
 use Rattle.can_frame.specs.Frames.{Payload, is_remote, is_fd, payload_len, payload_bytes}
 use Rattle.can_frame.specs.Frames.Payload.{Data, Remote, Fd}
 use Rattle.can_frame.specs.FrameText.{pairs, payload_text}
-use Rattle.can_attempt.specs.declared.class.Class.{Class}
-use Rattle.can_attempt.specs.declared.class.Class.TheVariants as class
-use Rattle.can_attempt.specs.Words.{class_word}
 
 pub data_text : (p : Payload) → is_remote p ≡ false → is_fd p ≡ false → payload_text p ≡ pairs (payload_bytes p)
 data_text (Data bytes) h k = refl
@@ -16,9 +13,3 @@ pub data_short : (p : Payload) → is_remote p ≡ false → payload_len p ≤ 8
 data_short (Data bytes) h k = k
 data_short (Remote len) h k = absurd cc
 data_short (Fd flags bytes) h k = k
-
-pub class_short : (c : Class) → length (class_word c) ≤ 9
-class_short class.Done = omega arith
-class_short class.LastBit = omega arith
-class_short class.Destroyed = omega arith
-class_short class.NoAck = omega arith

@@ -4,6 +4,8 @@ use Rattle.std.specs.Prelude.{All, slice_get}
 use Rattle.std.proofs.lemmas.Bool.{and_parts, eqb-true, eqb-false, ne_eqb}
 use Rattle.std.proofs.lemmas.Option.{slice_get_within, get_or_from_slice_get}
 use Rattle.std.proofs.lemmas.List.Elements.{All-cons, All-head, All-nil, All-tail}
+use Rattle.can_frame.specs.Frames.{CanFrame, Payload, is_fd, is_flagged}
+use Rattle.can_frame.specs.Frames.Payload.{Data, Remote, Fd}
 use Rattle.can_record.specs.FrameWords.{frame_in}
 use Rattle.can_event.specs.declared.bus_config.BusConfig.{BusConfig}
 use Rattle.can_event.specs.declared.entry.Entry.{Entry}
@@ -53,6 +55,15 @@ pub needs_more : (es : List Entry) (k : ℕ) (e : Entry) → slice_get es k ≡ 
 needs_more es k e there =
     needs_at es k e (slice_get_within es k e there)
     ∙ ap (λ (x : Entry). both_needs (all_needs (take k es)) (needs_of x)) (get_or_from_slice_get es k e e there)
+
+-- a frame that is no FD frame
+pub classic_frame : (f : CanFrame) → is_fd f.payload ≡ false → frame_needs f ≡ no_needs
+classic_frame f h = of_payload f.payload h
+  where
+    of_payload : (p : Payload) → is_fd p ≡ false → ◌≡◌ {A = Needs} (record { fd = is_fd p; flags = is_flagged p }) no_needs
+    of_payload (Data bytes) h = refl
+    of_payload (Remote len) h = refl
+    of_payload (Fd flags bytes) h = absurd cc
 
 -- a frame of a word, a length and eight bytes is no FD frame
 pub classic : (word len : ℕ) (bytes : List ℕ) → frame_needs (frame_in word len bytes) ≡ no_needs

@@ -193,14 +193,14 @@ fn filter_field<'a>(filters: &mut Vec<Filter>, text: &'a [u8]) -> Result<&'a [u8
     let Ok(filter) = Filter::new(id, mask) else {
         return Err(Unread::Bad);
     };
-    match keep(filters, filter) {
+    match push_filter(filters, filter) {
         Ok(()) => Ok(rest),
         Err(_) => Err(Unread::NoMemory),
     }
 }
 
-/// Keeps a filter.
-fn keep(filters: &mut Vec<Filter>, filter: Filter) -> Result<(), AllocError>
+/// Adds a filter that was read.
+fn push_filter(filters: &mut Vec<Filter>, filter: Filter) -> Result<(), AllocError>
     ensures { OnOk result (filters.new.items ≡ filters.old.items ++ filter ∷ []) }
 {
     filters.push(filter)?;

@@ -18,6 +18,7 @@ mod packed_lines;
 pub mod record_reading;
 pub mod record_writing;
 mod reply_reading;
+pub mod rooms;
 pub mod text_laws;
 mod values;
 pub mod version;

@@ -155,14 +155,17 @@ fn push_bytes(line: &mut LineText, bytes: &[u8])
 }
 
 /// The word for how an attempt ended, and a space.
-#[tactic(auto, using(crate::proofs::Short::class_short))]
 pub(crate) fn push_class(line: &mut LineText, class: Class)
     requires { length line.old + 10 ≤ 392 }
     ensures text { line.new ≡ line.old ++ (class_word class ++ 32 ∷ []) }
     ensures len { length line.new ≤ length line.old + 10 }
 {
-    line.push_all(class.word());
-    line.push(b' ');
+    match class {
+        Class::Done => line.push_all(b"done "),
+        Class::LastBit => line.push_all(b"lastbit "),
+        Class::Destroyed => line.push_all(b"destroyed "),
+        Class::NoAck => line.push_all(b"noack "),
+    }
 }
 
 /// A switch, and a space.

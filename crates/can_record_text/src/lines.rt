@@ -12,10 +12,10 @@ use crate::event_reading::guess_event;
 use crate::fault::Unread;
 use crate::fields::{byte_field, set_field, short_field};
 use crate::filter_lines::put_filter_line;
-pub use crate::line_words::LineText;
-use crate::line_words::{push_ack, push_number, push_set};
+use crate::line_words::{LineText, push_ack, push_number, push_set};
 use crate::needs::Needs;
 use crate::reply_reading::reply_field;
+use crate::rooms::Rooms;
 use crate::values::{hold_event, hold_reply};
 use crate::version::Version;
 pub use crate::words::begins;
@@ -37,11 +37,10 @@ pub fn put_answered(out: &mut Vec<u8>, event: &Event, reply: &Reply) -> Result<(
     put_filter_line(out, event, reply)
 }
 
-/// Whether a text begins with the line of an event with this reply, which is spelled in one of the two rooms. The values of
+/// Whether a text begins with the line of an event with this reply, which is spelled in one of the rooms. The values of
 /// both are in the ranges that a line can have.
 pub fn is_line_of(
-    short: &mut LineText,
-    long: &mut Vec<u8>,
+    rooms: &mut Rooms,
     event: &Event,
     reply: &Reply,
     text: &[u8],
@@ -52,11 +51,11 @@ pub fn is_line_of(
 {
     hold_event(event);
     hold_reply(reply);
-    short.clear();
-    if push_answered(short, event, reply) {
-        return Ok(begins(text, short.as_bytes()));
+    rooms.short.clear();
+    if push_answered(&mut rooms.short, event, reply) {
+        return Ok(begins(text, rooms.short.as_bytes()));
     }
-    is_filter_line_of(long, event, reply, text)
+    is_filter_line_of(&mut rooms.long, event, reply, text)
 }
 
 /// The same of an event that sets filters.

@@ -9,12 +9,11 @@ ghost use Rattle.can_record_text.specs.Spelling.{end_words, front_lines, record_
 ghost use Rattle.can_record.specs.StoredEntry.{entry_stored, IsStored};
 ghost use Rattle.can_record_text.specs.inner.StoredLines.{HasFittingReply, stored_line};
 
-use crate::line_words::LineText;
 use crate::lines::put_end;
 use crate::record_writing::{put_front, spell_stored};
+use crate::rooms::Rooms;
 use crate::version::Version;
 use can_event::BusConfig;
-use can_frame::Text;
 use can_lines::write_line;
 use can_record::{PackedRecord, StoredEntry};
 use std::alloc::Global;
@@ -58,11 +57,10 @@ pub fn write_block<W: Write>(
     ensures { BlockGoesOut (W.contents writer.old) (W.contents writer.new)
         block.now.entries result }
 {
-    let mut short = Text::new();
-    let mut long = Vec::new(alloc);
+    let mut rooms = Rooms::new(alloc);
     for place in 0..block.len() {
         let stored = block.stored(place).unwrap();
-        match write_stored(&mut short, &mut long, &stored, writer) {
+        match write_stored(&mut rooms, &stored, writer) {
             Ok(()) => {}
             Err(why) => {
                 return Err(Torn {
@@ -75,11 +73,10 @@ pub fn write_block<W: Write>(
     Ok(())
 }
 
-/// Writes the line of an entry as it is stored, from one of the two rooms. After a fault only a proper front of it is
+/// Writes the line of an entry as it is stored, from one of the rooms. After a fault only a proper front of it is
 /// out.
 fn write_stored<W: Write>(
-    short: &mut LineText,
-    long: &mut Vec<u8>,
+    rooms: &mut Rooms,
     stored: &StoredEntry<'_>,
     writer: &mut W,
 ) -> io::Result<()>
@@ -88,7 +85,7 @@ fn write_stored<W: Write>(
     ensures { LineGoesOut (W.contents writer.old) (W.contents writer.new)
         (stored_line stored.now) result }
 {
-    write_line(writer, spell_stored(short, long, stored)?)
+    write_line(writer, spell_stored(rooms, stored)?)
 }
 
 /// Writes the last line of the record of a long run, which had this many entries.

@@ -1,4 +1,4 @@
-ghost use Rattle.std.specs.Prelude.{◌≡◌, ◌≤◌, length, reverse};
+ghost use Rattle.std.specs.Prelude.{◌≡◌, ◌≤◌, false, length, reverse};
 ghost use Rattle.can_event.specs.Replies.{entry_of};
 ghost use Rattle.can_record.specs.PackedEntry.{entry_in, frames_needed, IsSmall};
 ghost use Rattle.can_record.specs.StoredEntry.{entry_stored, IsStored};
@@ -38,8 +38,20 @@ impl Needs {
         }
     }
 
-    /// What the line of an event with this reply needs.
+    /// What the line of an event with this reply needs: of most lines nothing.
     pub fn of(event: &Event, reply: &Reply) -> Needs
+        ensures { result ≡ needs_of (entry_of event.now reply.now) }
+    {
+        if is_of_fd(event) || is_of_fd_frame(reply) {
+            Needs::of_words(event, reply)
+        } else {
+            Needs::nothing()
+        }
+    }
+
+    /// The same, of any line.
+    #[inline(never)]
+    fn of_words(event: &Event, reply: &Reply) -> Needs
         ensures { result ≡ needs_of (entry_of event.now reply.now) }
     {
         Needs::of_event(event).and(Needs::of_reply(reply))
@@ -152,5 +164,40 @@ impl Needs {
             needs = needs.and(Needs::of(&entry.event, &entry.reply));
         }
         needs
+    }
+}
+
+/// Whether an event is the send of an FD frame, or sets the option for such.
+#[tactic(auto, using(crate::proofs::Versioning::classic_frame))]
+fn is_of_fd(event: &Event) -> bool
+    ensures { result ≡ false → event_needs event.now ≡ no_needs }
+{
+    match event {
+        Event::SetOption(_, Opt::FdFrames(_)) => true,
+        Event::Send(_, frame) => frame.is_fd(),
+        _ => false,
+    }
+}
+
+/// Whether a reply has an FD frame.
+#[tactic(auto, using(crate::proofs::Versioning::classic_frame))]
+fn is_of_fd_frame(reply: &Reply) -> bool
+    ensures { result ≡ false → reply_needs reply.now ≡ no_needs }
+{
+    match reply {
+        Reply::Received(Some(received)) => is_fd_item(&received.item),
+        Reply::Tried(tried) => tried.frame.is_fd(),
+        _ => false,
+    }
+}
+
+/// Whether an item is an FD frame.
+#[tactic(auto, using(crate::proofs::Versioning::classic_frame))]
+fn is_fd_item(item: &Item) -> bool
+    ensures { result ≡ false → item_needs item.now ≡ no_needs }
+{
+    match item {
+        Item::Data(frame) => frame.is_fd(),
+        Item::Error(_) => false,
     }
 }

@@ -32,7 +32,7 @@ pub(crate) fn push_entry(line: &mut LineText, kept: &PackedEntry) -> bool
             bytes,
             moment,
         } => {
-            if asks(*word) {
+            if is_remote_word(*word) {
                 return false;
             }
             push_receive(line, *socket);
@@ -61,7 +61,7 @@ pub(crate) fn push_entry(line: &mut LineText, kept: &PackedEntry) -> bool
             number,
             bytes,
         } => {
-            if asks(*word) {
+            if is_remote_word(*word) {
                 return false;
             }
             push_send(line, *socket);
@@ -98,7 +98,7 @@ fn push_entry_attempt(line: &mut LineText, kept: &PackedEntry) -> bool
             bytes,
             stamp,
         } => {
-            if asks(*word) {
+            if is_remote_word(*word) {
                 return false;
             }
             push_attempt(line, stamp_moment(*stamp), verdict_in(*end / 4, *named));
@@ -113,7 +113,7 @@ fn push_entry_attempt(line: &mut LineText, kept: &PackedEntry) -> bool
 }
 
 /// Whether the frame of a word is a remote frame.
-fn asks(word: u32) -> bool
+fn is_remote_word(word: u32) -> bool
     ensures { result ≡ nat_le (2 ^ 30) (word % 2 ^ 31) }
 {
     word % 0x8000_0000 >= 0x4000_0000

@@ -11,9 +11,10 @@ use crate::line_words::LineText;
 use crate::lines::{put_answered, put_bus, put_end};
 use crate::needs::Needs;
 use crate::packed_lines::push_entry;
+use crate::rooms::Rooms;
 use crate::version::Version;
 use can_event::{BusConfig, Event, Reply};
-use can_frame::{Frame, Text};
+use can_frame::Frame;
 use can_record::{PackedEntry, Record, StoredEntry, event_in, reply_in};
 use std::alloc::{AllocError, Global};
 use std::io;
@@ -54,15 +55,15 @@ pub fn write_record<W: Write>(alloc: Global, record: &Record, writer: &mut W) ->
     ensures { OnOk result (Appends (W.contents writer.old) (W.contents writer.new)
         (text_of «record».now)) }
 {
-    let mut line = Vec::new(alloc);
+    let mut rooms = Rooms::new(alloc);
     let config = record.config();
     let version = Version::of(config, Needs::of_record(record));
-    put_front(&mut line, version, config)?;
-    writer.write_all(&line)?;
-    write_lines(&mut line, record, writer)?;
-    line.clear();
-    put_end(&mut line, record.len() as u64)?;
-    writer.write_all(&line)?;
+    put_front(&mut rooms.long, version, config)?;
+    writer.write_all(&rooms.long)?;
+    write_lines(&mut rooms, record, writer)?;
+    rooms.long.clear();
+    put_end(&mut rooms.long, record.len() as u64)?;
+    writer.write_all(&rooms.long)?;
     Ok(())
 }
 
@@ -79,35 +80,33 @@ pub(crate) fn put_front(
 }
 
 /// Writes the lines of the entries.
-fn write_lines<W: Write>(line: &mut Vec<u8>, record: &Record, writer: &mut W) -> io::Result<()>
+fn write_lines<W: Write>(rooms: &mut Rooms, record: &Record, writer: &mut W) -> io::Result<()>
     ensures { OnOk result (Appends (W.contents writer.old) (W.contents writer.new)
         (lines_of «record».now)) }
 {
-    let mut short = Text::new();
     for place in 0..record.len() {
         let stored = record.stored(place).unwrap();
-        writer.write_all(spell_stored(&mut short, line, &stored)?)?;
+        writer.write_all(spell_stored(rooms, &stored)?)?;
     }
     Ok(())
 }
 
-/// The line of an entry as it is stored, in one of the two rooms.
+/// The line of an entry as it is stored, in one of the rooms.
 pub(crate) fn spell_stored<'a>(
-    short: &'a mut LineText,
-    long: &'a mut Vec<u8>,
+    rooms: &'a mut Rooms,
     stored: &StoredEntry<'_>,
 ) -> Result<&'a [u8], AllocError>
     requires stored { IsStored stored.now }
     requires fits { HasFittingReply (entry_stored stored.now) }
     ensures { IfOk result (λ line. line.now ≡ stored_line stored.now) }
 {
-    short.clear();
-    if push_stored(short, stored) {
-        return Ok(short.as_bytes());
+    rooms.short.clear();
+    if push_stored(&mut rooms.short, stored) {
+        return Ok(rooms.short.as_bytes());
     }
-    long.clear();
-    put_stored(long, stored)?;
-    Ok(long)
+    rooms.long.clear();
+    put_stored(&mut rooms.long, stored)?;
+    Ok(&rooms.long)
 }
 
 /// The line of an entry as it is stored, if it is packed and of a usual kind; else what is in the room means nothing.

@@ -1,3 +1,5 @@
+//! What the types of a value say of it. These functions do nothing when they run: the checker knows the ranges
+//! of a parameter, and of a number that is read.
 ghost use Rattle.std.specs.Prelude.{ℕ, slice_index, ◌<◌, ◌^◌, All};
 ghost use Rattle.can_frame.specs.FrameText.{IsItem};
 ghost use Rattle.can_frame.specs.declared.item.Item.TheVariants as item;
@@ -7,9 +9,6 @@ use can_event::{Closed, Event, Opt, Received, Reply, SocketId, Tried};
 use can_fault::Verdict;
 use can_filter::Filter;
 use can_frame::{ErrorFrame, Frame, IfaceSet, Item};
-
-// What the types of a value say of it. These functions do nothing when they run: the checker knows the ranges
-// of a parameter, and of a number that is read.
 
 /// The arguments of an event are within their types.
 pub(crate) fn hold_event(event: &Event)
@@ -48,6 +47,7 @@ fn hold_socket(id: SocketId)
     ensures { id.0 < 2 ^ 32 }
 {}
 
+/// A set of interfaces has 16 bits.
 fn hold_set(set: IfaceSet)
     ensures { set.0 < 2 ^ 16 }
 {}

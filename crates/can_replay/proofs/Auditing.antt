@@ -78,14 +78,14 @@ pub record Turn (c : BusConfig) (es : List Entry) (k : ℕ) (e : Entry) (bus : L
   pub below : k < length es
   pub read : e ≡ get_or es k e
   pub config : bus.config ≡ c
-  pub stands : IsAfter bus (before es k)
+  pub is_after : IsAfter bus (before es k)
   pub answer : (past : List Entry) → IsAfter bus past → IsAnswer bus.config past e.event r
 
 -- the bus answers otherwise
 pub blamed : (c : BusConfig) (es : List Entry) (k : ℕ) (e : Entry) (bus : Lean) (r : Reply) → Turn c es k e bus r → r ≢ e.reply → Blames c es (fault_at k r)
 blamed c es k e bus r t other =
-    let at : Read c es k e = record { below = t.below; read = t.read; legal = subst (λ (d : BusConfig). IsLegal d (before es k)) t.config t.stands.kept.legal } in
-    blamed_at c es k e r at (subst (λ (d : BusConfig). IsAnswer d (before es k) e.event r) t.config (t.answer (before es k) t.stands)) other
+    let at : Read c es k e = record { below = t.below; read = t.read; legal = subst (λ (d : BusConfig). IsLegal d (before es k)) t.config t.is_after.kept.legal } in
+    blamed_at c es k e r at (subst (λ (d : BusConfig). IsAnswer d (before es k) e.event r) t.config (t.answer (before es k) t.is_after)) other
 
 -- an entry of a record enters a history
 entered : (v : Event) (r : Reply) (past : List Entry) → FitsReply v r → history_after v r past ≡ record { event = v; reply = r } ∷ past

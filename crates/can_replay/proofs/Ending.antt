@@ -22,7 +22,7 @@ use Rattle.can_replay.specs.declared.entry_audit.EntryAudit.{EntryAudit}
 use Rattle.can_replay.specs.declared.text_fault.TextFault.{TextFault}
 use Rattle.can_replay.specs.declared.text_fault.TextFault.TheVariants as found
 use Rattle.can_replay.specs.declared.text_fault.WrongLine.{WrongLine}
-use Rattle.can_replay.specs.TextAudits.{EndsNoLine, IsCutText, IsFrontOf, IsLegalText, IsLine, IsWrongCut, IsWrongText, MayFollow, Tells, TellsCut}
+use Rattle.can_replay.specs.TextAudits.{EndsNoLine, IsCutText, IsFrontOf, IsLegalText, IsLine, IsWrongCut, IsWrongText, MayFollow, Reports, ReportsCut}
 use Rattle.can_replay.specs.inner.EntryAudits.{IsGoing, IsSettled, so_far}
 use Rattle.can_replay.specs.inner.Steps.{IsUnended, IsEndLine}
 use Rattle.can_replay.proofs.LineEnds.{cut_bus, cut_end, lacks_bus, lacks_end, lacks_entry, torn_bus, torn_first}
@@ -35,17 +35,17 @@ front_alone v c = refl
 
 pub begun : (v : Version) (c : BusConfig) (line rest : List ℕ) (bus : Lean) (needs : Needs) → HasBusLine v c → line ≡ spell (bus_words v c) [] ++ rest → IsAfter bus [] → bus.config ≡ c → needs ≡ no_needs → IsLine line
     → IsGoing (first_line v ++ line) (record { version = v; config = c; bus = bus; count = 0; needs = needs; wrong = None; is_ended = false })
-begun v c line rest bus needs good stands new config nothing is = record {
+begun v c line rest bus needs good is_after new config nothing is = record {
   read = record {
     entries = [];
     good = record { bus = good; lines = All-nil (HasLine v c) };
-    begins = ap (λ (x : List ℕ). first_line v ++ x) (cut_bus v c line rest is good stands) ∙ sym (front_alone v c);
+    begins = ap (λ (x : List ℕ). first_line v ++ x) (cut_bus v c line rest is good is_after) ∙ sym (front_alone v c);
     counted = refl;
     needs = nothing;
     settled = tt;
   };
   config = λ going. config;
-  stands = λ going none. new;
+  is_after = λ going none. new;
 }
 
 pub no_bus : (v : Version) (line after : List ℕ) → LacksBus v line → MayFollow line after → IsFirstWrong (first_line v ++ (line ++ after)) 2
@@ -101,9 +101,9 @@ unended text line after b (fault.BadLine n) g going few may lacks h =
 
 -- the end
 ended : (text line : List ℕ) (b : EntryAudit) (bus : Lean) → IsGoing text b → b.is_ended ≡ false → b.count < 2 ^ 64 → IsLine line → IsEndLine b.count line → IsGoing (text ++ line) (record b { bus = bus; is_ended = true })
-ended text line b bus g going few is stands =
+ended text line b bus g going few is is_after =
     let es = g.read.entries in
-    let last : line ≡ spell (end_words (length es)) [] = cut_end b.count line (drop (length (spell (end_words b.count) [])) line) few is stands ∙ ap (λ (m : ℕ). spell (end_words m) []) g.read.counted in
+    let last : line ≡ spell (end_words (length es)) [] = cut_end b.count line (drop (length (spell (end_words b.count) [])) line) few is is_after ∙ ap (λ (m : ℕ). spell (end_words m) []) g.read.counted in
     record {
       read = record {
         entries = es;
@@ -114,7 +114,7 @@ ended text line b bus g going few is stands =
         settled = g.read.settled;
       };
       config = λ no. absurd cc;
-      stands = λ no none. absurd cc;
+      is_after = λ no none. absurd cc;
     }
 
 -- the end after what was no entry's line
@@ -216,10 +216,10 @@ cut_wrong text torn b w g going h some = record {
 pub whole_legal : (text torn : List ℕ) (count : ℕ) → torn ≡ [] → IsLegalText text count → IsLegalText (text ++ torn) count
 whole_legal text torn count none h = subst (λ (x : List ℕ). IsLegalText x count) (sym (ap (λ (x : List ℕ). text ++ x) none ∙ append-nil text)) h
 
-pub whole_fault : (text torn : List ℕ) (why : TextFault) → torn ≡ [] → Tells text (Err why) → TellsCut (text ++ torn) (Err why)
-whole_fault text torn why none h = subst (λ (x : List ℕ). TellsCut x (Err why)) (sym (ap (λ (x : List ℕ). text ++ x) none ∙ append-nil text)) (same why h)
+pub whole_fault : (text torn : List ℕ) (why : TextFault) → torn ≡ [] → Reports text (Err why) → ReportsCut (text ++ torn) (Err why)
+whole_fault text torn why none h = subst (λ (x : List ℕ). ReportsCut x (Err why)) (sym (ap (λ (x : List ℕ). text ++ x) none ∙ append-nil text)) (same why h)
   where
-    same : (why : TextFault) → Tells text (Err why) → TellsCut text (Err why)
+    same : (why : TextFault) → Reports text (Err why) → ReportsCut text (Err why)
     same (found.Read what) h = h
     same (found.Wrong w) h = inl h
 

@@ -116,25 +116,25 @@ pub legal_more : (text line : List ℕ) (b : EntryAudit) (bus : Lean) (needs : N
 unfolding read_more
 legal_more text line b bus needs g none going is config step may =
     let es = g.read.entries in
-    let one = step (reverse es) (g.stands going none) in
+    let one = step (reverse es) (g.is_after going none) in
     let e = one.entry in
     let five : HasLine version.Five b.config e = subst (λ (d : BusConfig). HasLine version.Five d e) (g.config going) one.good in
     let good : HasLine b.version b.config e = line_in b.version b.config e five (ap (takes b.version) (sym one.needed) ∙ may) in
     let after : IsAfter bus (reverse (es ++ e ∷ [])) = subst (IsAfter bus) (sym (reverse-append es (e ∷ []))) one.after in
     let legal : IsLegal b.config (reverse (es ++ e ∷ [])) = subst (λ (d : BusConfig). IsLegal d (reverse (es ++ e ∷ []))) (config ∙ g.config going) after.kept.legal in
     record {
-      read = read_more text line b bus needs b.wrong e g.read going good (cut_entry b.version b.config line one.rest e is good one.stands) one.needed (settled_none b.config (es ++ e ∷ []) b.wrong none legal);
+      read = read_more text line b bus needs b.wrong e g.read going good (cut_entry b.version b.config line one.rest e is good one.is_line) one.needed (settled_none b.config (es ++ e ∷ []) b.wrong none legal);
       config = λ still. config ∙ g.config going;
-      stands = λ still legal_too. after;
+      is_after = λ still legal_too. after;
     }
 
 -- a line behind a wrong one
 pub behind_more : (text line rest : List ℕ) (b : EntryAudit) (needs : Needs) (e : Entry) → IsGoing text b → (b.wrong ≡ None → ⊥) → b.is_ended ≡ false → IsLine line → HasLine b.version b.config e → line ≡ entry_line e rest → needs ≡ needs_of e
     → IsGoing (text ++ line) (record b { count = b.count + 1; needs = both_needs b.needs needs })
-behind_more text line rest b needs e g some going is good stands here = record {
-  read = read_more text line b b.bus needs b.wrong e g.read going good (cut_entry b.version b.config line rest e is good stands) here (settled_more b.config g.read.entries e b.wrong some g.read.settled);
+behind_more text line rest b needs e g some going is good is_after here = record {
+  read = read_more text line b b.bus needs b.wrong e g.read going good (cut_entry b.version b.config line rest e is good is_after) here (settled_more b.config g.read.entries e b.wrong some g.read.settled);
   config = g.config;
-  stands = λ still none. absurd (some none);
+  is_after = λ still none. absurd (some none);
 }
 
 -- the first wrong line
@@ -142,14 +142,14 @@ pub wrong_here : (text line rest : List ℕ) (b : EntryAudit) (needs : Needs) (e
     → IsOther b.config (reverse read.entries) line legal → HasLine b.version b.config e → line ≡ entry_line e rest → needs ≡ needs_of e → d ≡ e → limit ≡ b.config.limit
     → IsGoing (text ++ line) (record b { count = b.count + 1; needs = both_needs b.needs needs; wrong = Some (record { place = b.count; entry = d; legal = legal; limit = limit }) })
 unfolding told_here
-wrong_here text line rest b needs e d legal limit read none going config is other good stands here same allowed =
+wrong_here text line rest b needs e d legal limit read none going config is other good is_after here same allowed =
     let es = read.entries in
-    let told = told_here b.config es e b.count legal read.counted (legal_so_far b.config es b.wrong none read.settled) (other b.version e rest good stands) in
+    let told = told_here b.config es e b.count legal read.counted (legal_so_far b.config es b.wrong none read.settled) (other b.version e rest good is_after) in
     let w : WrongLine = record { place = b.count; entry = d; legal = legal; limit = limit } in
     record {
-      read = read_more text line b b.bus needs (Some w) e read going good (cut_entry b.version b.config line rest e is good stands) here (record { told = told; entry = same; limit = allowed });
+      read = read_more text line b b.bus needs (Some w) e read going good (cut_entry b.version b.config line rest e is good is_after) here (record { told = told; entry = same; limit = allowed });
       config = λ still. config;
-      stands = λ still none_too. absurd (none-some w (sym none_too));
+      is_after = λ still none_too. absurd (none-some w (sym none_too));
     }
 
 -- ---- where no line stands
@@ -160,7 +160,7 @@ spells_none v c line none e more good is = none-some e (sym none ∙ ap entry_at
 -- a line stands only in a version that takes what it needs
 pub not_taken : (v : Version) (c : BusConfig) (past : List Entry) (line : List ℕ) (needs : Needs) (bus : Lean) → IsNext c past line needs bus → takes v needs ≡ false → LacksEntry v c line
 not_taken v c past line needs bus one other e more good is =
-    let same : e ≡ one.entry = same_Some e one.entry (sym (entry_again v c e more good) ∙ ap entry_at (sym is ∙ one.stands) ∙ entry_again version.Five c one.entry one.rest one.good) in
+    let same : e ≡ one.entry = same_Some e one.entry (sym (entry_again v c e more good) ∙ ap entry_at (sym is ∙ one.is_line) ∙ entry_again version.Five c one.entry one.rest one.good) in
     never (takes v needs) other (ap (takes v) (one.needed ∙ ap needs_of (sym same)) ∙ good.version)
   where
     never : (b : Bool) → b ≡ false → b ≡ true → ⊥
@@ -182,6 +182,6 @@ pub takes_blamed : (old new : EntryAudit) (bus : Lean) (line : List ℕ) (legal 
 takes_blamed old new bus line legal (Ok u) none config other h = λ text g going is.
     let read : IsRead text (record old { bus = bus }) = record { entries = g.read.entries; good = g.read.good; begins = g.read.begins; counted = g.read.counted; needs = g.read.needs; settled = g.read.settled } in
     let past = reverse g.read.entries in
-    h text read going (config ∙ g.config going) is (subst (λ (d : BusConfig). IsOther d past line legal) (g.config going) (other past (g.stands going none)))
+    h text read going (config ∙ g.config going) is (subst (λ (d : BusConfig). IsOther d past line legal) (g.config going) (other past (g.is_after going none)))
 takes_blamed old new bus line legal (Err unread.Bad) none config other h = (subst (λ (n : EntryAudit). n ≡ record old { bus = n.bus }) (sym h.0) refl, λ text g going. h.1)
 takes_blamed old new bus line legal (Err unread.NoMemory) none config other h = tt

@@ -56,18 +56,18 @@ other_reply v c past line rest more e ev r good is guessed enters answer other =
 
 -- past the limit any entry is wrong
 pub other_past : (c : BusConfig) (past : List Entry) (line : List ℕ) (ev : Event) (r : Reply) → r ≡ reply.Refused refusal.RecordFull → IsAnswer c past ev r → IsOther c past line None
-other_past c past line ev r is answer v e rest good stands =
+other_past c past line ev r is answer v e rest good is_line =
     let full : c.limit ≤ length past = subst (IsAnswer c past ev) is answer in
     record { wrong = inl full; is_allowed = rw (le-leb c.limit (length past) full) refl }
 
 -- the line of an event with the reply of a bus is that of the next entry
 pub next_is : (c : BusConfig) (past : List Entry) (line : List ℕ) (ev : Event) (r : Reply) (needs : Needs) (bus : Lean) → Enters r → IsSpelled c (record { event = ev; reply = r }) → HoldsEvent ev → HoldsReply r
     → needs ≡ needs_of (record { event = ev; reply = r }) → line ≡ answered_line ev r (drop (length (answered_line ev r [])) line) → IsAfter bus (history_after ev r past) → IsNext c past line needs bus
-next_is c past line ev r needs bus enters spelled event reply needed stands after = record {
+next_is c past line ev r needs bus enters spelled event reply needed is_line after = record {
   entry = record { event = ev; reply = r };
   rest = drop (length (answered_line ev r [])) line;
   good = record { spelled = spelled; version = five_takes (needs_of (record { event = ev; reply = r })); event = event; reply = reply };
   needed = needed;
-  stands = stands;
+  is_line = is_line;
   after = subst (IsAfter bus) (history-entered ev r past enters) after;
 }

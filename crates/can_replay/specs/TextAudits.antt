@@ -37,10 +37,10 @@ pub record IsWrongText (text : List ℕ) (w : WrongLine) : Type 0 where
   pub wrong : IsWrongIn config entries w
 
 -- what is told of a text that has ended
-abbrev pub Tells : List ℕ → Result ℕ TextFault → Type 0
-Tells text (Ok count) = IsLegalText text count
-Tells text (Err (fault.Read why)) = Reads text (Err why)
-Tells text (Err (fault.Wrong w)) = IsWrongText text w
+abbrev pub Reports : List ℕ → Result ℕ TextFault → Type 0
+Reports text (Ok count) = IsLegalText text count
+Reports text (Err (fault.Read why)) = Reads text (Err why)
+Reports text (Err (fault.Wrong w)) = IsWrongText text w
 
 -- these bytes end no line
 abbrev pub EndsNoLine : List ℕ → Type 0
@@ -70,11 +70,11 @@ pub record IsWrongCut (text : List ℕ) (w : WrongLine) : Type 0 where
   pub wrong : IsWrongIn config entries w
 
 -- what is told of a text that has ended, maybe cut off
-abbrev pub TellsCut : List ℕ → Result Cut TextFault → Type 0
-TellsCut text (Ok (cut.Whole count)) = IsLegalText text count
-TellsCut text (Ok (cut.Off count)) = IsCutText text count
-TellsCut text (Err (fault.Read why)) = Reads text (Err why)
-TellsCut text (Err (fault.Wrong w)) = IsWrongText text w ⊎ IsWrongCut text w
+abbrev pub ReportsCut : List ℕ → Result Cut TextFault → Type 0
+ReportsCut text (Ok (cut.Whole count)) = IsLegalText text count
+ReportsCut text (Ok (cut.Off count)) = IsCutText text count
+ReportsCut text (Err (fault.Read why)) = Reads text (Err why)
+ReportsCut text (Err (fault.Wrong w)) = IsWrongText text w ⊎ IsWrongCut text w
 
 -- a line: LF is only at its end, or nowhere
 pub record IsLine (line : List ℕ) : Type 0 where
@@ -119,6 +119,6 @@ first_taken (phase.Entries b) = first_line b.version
 first_taken _ = []
 
 -- the line of the end was taken
-abbrev pub has_ended : Phase → Bool
-has_ended (phase.Entries b) = b.is_ended
-has_ended _ = false
+abbrev pub has_end_line : Phase → Bool
+has_end_line (phase.Entries b) = b.is_ended
+has_end_line _ = false

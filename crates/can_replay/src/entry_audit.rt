@@ -1,18 +1,18 @@
 ghost use Rattle.std.specs.Prelude.{◌≡◌, ◌↔◌, ◌+◌, ◌-◌, ◌^◌, ◌<◌, ◌++◌, Err, IfErr, IfOk, IsSome, IsTrue, List, None, OnOk, Some, false, true, ℕ};
 ghost use Rattle.can_record_text.specs.Spelling.{first_line, both_needs};
 ghost use Rattle.can_record_text.specs.inner.Reading.{SeemsToBe};
-ghost use Rattle.can_replay.specs.TextAudits.{EndsNoLine, FailsAfter, FailsNext, IsLine, TakesOn, Tells, TellsCut};
+ghost use Rattle.can_replay.specs.TextAudits.{EndsNoLine, FailsAfter, FailsNext, IsLine, TakesOn, Reports, ReportsCut};
 ghost use Rattle.can_replay.specs.inner.EntryAudits.{IsGoing};
 ghost use Rattle.can_replay.specs.inner.Steps.{ReportsWrong, IsUnended, IsEndLine, Takes};
 
 use crate::text_fault::{Cut, TextFault, WrongLine};
 use can_bus::{BusConfig, Event, LeanRingBus, Refusal, Reply};
-use can_frame::Text;
 use can_record_text::ReadFault;
 use can_record_text::event_reading::{attempt_front, guess_event, receive_front, send_front};
 use can_record_text::fault::Unread;
-use can_record_text::lines::{LineText, begins, is_line_of, put_end, read_bus, read_line};
+use can_record_text::lines::{begins, is_line_of, put_end, read_bus, read_line};
 use can_record_text::needs::Needs;
+use can_record_text::rooms::Rooms;
 use can_record_text::version::Version;
 use std::alloc::Global;
 
@@ -28,25 +28,6 @@ pub struct EntryAudit {
     needs: Needs,
     wrong: Option<WrongLine>,
     is_ended: bool,
-}
-
-/// Rooms in which lines are spelled, to be compared with those of the text.
-#[derive(Drop)]
-pub struct Rooms {
-    /// For the line that an entry should have, unless it sets filters.
-    short: LineText,
-    /// For any other line.
-    long: Vec<u8>,
-}
-
-impl Rooms {
-    /// Rooms in which nothing was spelled yet.
-    pub fn new(alloc: Global) -> Rooms {
-        Rooms {
-            short: Text::new(),
-            long: Vec::new(alloc),
-        }
-    }
 }
 
 impl EntryAudit {
@@ -184,7 +165,7 @@ impl EntryAudit {
         if !reply.enters() {
             return Err(Unread::NoMemory);
         }
-        match is_line_of(&mut rooms.short, &mut rooms.long, event, &reply, line) {
+        match is_line_of(rooms, event, &reply, line) {
             Ok(true) => {}
             Ok(false) => return self.report_wrong_reply(alloc, rooms, line, reply),
             Err(_) => return Err(Unread::NoMemory),
@@ -305,7 +286,7 @@ impl EntryAudit {
     }
 
     /// Whether the line of the end was taken.
-    pub fn has_ended(&self) -> bool
+    pub fn has_end_line(&self) -> bool
         ensures { result ≡ self.now.is_ended }
     {
         self.is_ended
@@ -313,7 +294,7 @@ impl EntryAudit {
 
     /// The text has ended.
     pub fn finish(self) -> Result<usize, TextFault>
-        ensures { (text : List ℕ) → IsGoing text self → Tells text result }
+        ensures { (text : List ℕ) → IsGoing text self → Reports text result }
     {
         let EntryAudit {
             version,
@@ -338,7 +319,7 @@ impl EntryAudit {
     /// The text has ended, maybe before its end: these bytes follow the lines that were taken, and end no line.
     pub fn finish_cut(self, torn: &[u8]) -> Result<Cut, TextFault>
         ensures { (text : List ℕ) →
-            IsGoing text self → EndsNoLine torn.now → TellsCut (text ++ torn.now) result }
+            IsGoing text self → EndsNoLine torn.now → ReportsCut (text ++ torn.now) result }
     {
         if self.is_ended {
             self.finish_whole(torn)
@@ -350,7 +331,7 @@ impl EntryAudit {
     // The same of a text that has its end, which nothing may follow.
     fn finish_whole(self, torn: &[u8]) -> Result<Cut, TextFault>
         requires { self.is_ended ≡ true }
-        ensures { (text : List ℕ) → IsGoing text self → TellsCut (text ++ torn.now) result }
+        ensures { (text : List ℕ) → IsGoing text self → ReportsCut (text ++ torn.now) result }
     {
         if !torn.is_empty() {
             return Err(TextFault::Read(ReadFault::BadLine(u64::from(self.count) + 4)));
@@ -365,7 +346,7 @@ impl EntryAudit {
     fn finish_off(self, torn: &[u8]) -> Result<Cut, TextFault>
         requires { self.is_ended ≡ false }
         ensures { (text : List ℕ) →
-            IsGoing text self → EndsNoLine torn.now → TellsCut (text ++ torn.now) result }
+            IsGoing text self → EndsNoLine torn.now → ReportsCut (text ++ torn.now) result }
     {
         let EntryAudit { count, wrong, .. } = self;
         match wrong {

@@ -3,12 +3,13 @@ ghost use Rattle.can_record_text.specs.declared.fault.ReadFault.{ReadFault as AF
 ghost use Rattle.can_record_text.specs.RecordFaults.{LacksFirst};
 ghost use Rattle.can_record_text.specs.Spelling.{first_line};
 ghost use Rattle.can_record_text.specs.Texts.{StartsWith};
-ghost use Rattle.can_replay.specs.TextAudits.{AreTaken, EndsNoLine, FailsAfter, FailsNext, HasFailed, IsLine, TakesOn, Tells, TellsCut, first_taken, has_ended};
+ghost use Rattle.can_replay.specs.TextAudits.{AreTaken, EndsNoLine, FailsAfter, FailsNext, HasFailed, IsLine, TakesOn, Reports, ReportsCut, first_taken, has_end_line};
 
-use crate::entry_audit::{EntryAudit, Rooms};
+use crate::entry_audit::EntryAudit;
 use crate::text_fault::{Cut, TextFault};
 use can_record_text::ReadFault;
 use can_record_text::lines::read_version;
+use can_record_text::rooms::Rooms;
 use can_record_text::version::Version;
 use std::alloc::Global;
 
@@ -112,7 +113,7 @@ impl TextAudit {
 
     /// The text has ended: how many entries its record has, where it is a legal one.
     pub fn finish(self) -> Result<usize, TextFault>
-        ensures told { (text : List ℕ) → AreTaken text self → Tells text result }
+        ensures told { (text : List ℕ) → AreTaken text self → Reports text result }
         ensures again { (why : AFault) → HasFailed why self → result ≡ Err (TextFault.Read why) }
     {
         let TextAudit { phase, .. } = self;
@@ -130,7 +131,7 @@ impl TextAudit {
     /// A text that is cut off within its first two lines is at fault.
     pub fn finish_cut(self, torn: &[u8]) -> Result<Cut, TextFault>
         ensures told { (text : List ℕ) →
-            AreTaken text self → EndsNoLine torn.now → TellsCut (text ++ torn.now) result }
+            AreTaken text self → EndsNoLine torn.now → ReportsCut (text ++ torn.now) result }
         ensures again { (why : AFault) → HasFailed why self → result ≡ Err (TextFault.Read why) }
     {
         let TextAudit { phase, .. } = self;
@@ -154,11 +155,11 @@ impl TextAudit {
     }
 
     /// Whether the line of the end was taken, which nothing may follow.
-    pub fn has_ended(&self) -> bool
-        ensures { result ≡ has_ended self.now.phase }
+    pub fn has_end_line(&self) -> bool
+        ensures { result ≡ has_end_line self.now.phase }
     {
         match &self.phase {
-            Phase::Entries(audit) => audit.has_ended(),
+            Phase::Entries(audit) => audit.has_end_line(),
             _ => false,
         }
     }

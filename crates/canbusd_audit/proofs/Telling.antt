@@ -22,7 +22,7 @@ use Rattle.can_replay.specs.declared.text_fault.Cut.TheVariants as cut
 use Rattle.can_replay.specs.declared.text_fault.TextFault.{TextFault}
 use Rattle.can_replay.specs.declared.text_fault.TextFault.TheVariants as found
 use Rattle.can_replay.specs.declared.text_fault.WrongLine.{WrongLine}
-use Rattle.can_replay.specs.TextAudits.{AreTaken, EndsNoLine, Tells, TellsCut}
+use Rattle.can_replay.specs.TextAudits.{AreTaken, EndsNoLine, Reports, ReportsCut}
 use Rattle.can_replay.specs.inner.EntryAudits.{IsWrongIn}
 use Rattle.can_replay.specs.declared.text_audit.TextAudit.{TextAudit}
 use Rattle.canbusd_io.specs.declared.report.Report.{Report}
@@ -49,33 +49,33 @@ fits v c entries w good wrong =
           subst (λ (x : Entry). FitsReply x.event r) (sym wrong.entry) (legal_is_spelled c (before entries w.place) e.event r lawful);
     }
 
-pub noted : (text : List ℕ) (r : Result ℕ TextFault) → Tells text r → IfErr r HasNote
+pub noted : (text : List ℕ) (r : Result ℕ TextFault) → Reports text r → IfErr r HasNote
 noted text (Ok count) h = tt
 noted text (Err (found.Read why)) h = tt
 noted text (Err (found.Wrong w)) h = fits (version_of h.config h.entries) h.config h.entries w h.whole.0 h.wrong
 
-pub noted_cut : (text : List ℕ) (r : Result Cut TextFault) → TellsCut text r → IfErr r HasNote
+pub noted_cut : (text : List ℕ) (r : Result Cut TextFault) → ReportsCut text r → IfErr r HasNote
 noted_cut text (Ok how) h = tt
 noted_cut text (Err (found.Read why)) h = tt
 noted_cut text (Err (found.Wrong w)) (inl h) = fits (version_of h.config h.entries) h.config h.entries w h.whole.0 h.wrong
 noted_cut text (Err (found.Wrong w)) (inr h) = fits h.front.version h.config h.entries w h.front.good h.wrong
 
-written : (text : List ℕ) (r : Result ℕ TextFault) (old new : Option (List ℕ)) → Tells text r → IsWritten r old new → IsAudited text old new
+written : (text : List ℕ) (r : Result ℕ TextFault) (old new : Option (List ℕ)) → Reports text r → IsWritten r old new → IsAudited text old new
 written text (Ok count) old new h wrote = record { config = h.config; entries = h.entries; whole = h.whole; legal = h.legal; wrote = subst (λ (n : ℕ). Appends old new (entries_line n)) h.counted wrote }
 written text (Err why) old new h wrote = absurd wrote
 
-told : (text : List ℕ) (r : Result ℕ TextFault) (why : ProgramError) → Tells text r → IsTold r why → Faults text why
+told : (text : List ℕ) (r : Result ℕ TextFault) (why : ProgramError) → Reports text r → IsTold r why → Faults text why
 told text (Ok count) why h is = subst (Faults text) (sym is) (record { config = h.config; entries = h.entries; whole = h.whole; says = tt })
 told text (Err (found.Read what)) why h is = subst (Faults text) (sym is) h
 told text (Err (found.Wrong w)) why h is = subst (Faults text) (sym is) (record { config = h.config; entries = h.entries; whole = h.whole; says = h.wrong.told.first })
 
 -- the same of a text that may be cut off
-written_cut : (text : List ℕ) (r : Result Cut TextFault) (old new : Option (List ℕ)) → TellsCut text r → IsCutWritten r old new → IsAuditedBy true text old new
+written_cut : (text : List ℕ) (r : Result Cut TextFault) (old new : Option (List ℕ)) → ReportsCut text r → IsCutWritten r old new → IsAuditedBy true text old new
 written_cut text (Ok (cut.Whole count)) old new h wrote = inl (written text (Ok count) old new h wrote)
 written_cut text (Ok (cut.Off count)) old new h wrote = inr (record { config = h.config; entries = h.entries; front = h.front; legal = h.legal; wrote = subst (λ (n : ℕ). Appends old new (cut_line n)) h.counted wrote })
 written_cut text (Err why) old new h wrote = absurd wrote
 
-told_cut : (text : List ℕ) (r : Result Cut TextFault) (why : ProgramError) → TellsCut text r → IsTold r why → FaultsBy true text why
+told_cut : (text : List ℕ) (r : Result Cut TextFault) (why : ProgramError) → ReportsCut text r → IsTold r why → FaultsBy true text why
 told_cut text (Ok (cut.Whole count)) why h is = inl (told text (Ok count) why h is)
 told_cut text (Ok (cut.Off count)) why h is = inr (subst (IsBlamedCut text) (sym is) (record { config = h.config; entries = h.entries; front = h.front; says = tt }))
 told_cut text (Err (found.Read what)) why h is = inl (told text (Err (found.Read what)) why h is)
@@ -85,12 +85,12 @@ told_cut text (Err (found.Wrong w)) why (inr h) is = inr (subst (IsBlamedCut tex
 -- ---- what is told, of the text that a reader had
 
 pub all_written : (first old new : Option (List ℕ)) (torn : List ℕ) (before audit : TextAudit) (found : Result ℕ TextFault) (r : Result (Unit {0}) Report) → IsInputTaken first before torn → TakesLast before torn audit
-    → ((text : List ℕ) → AreTaken text audit → Tells text found) → OnOk r (IsWritten found old new) → OnOk r ((text : List ℕ) × IsTextIn first text × IsAudited text old new)
+    → ((text : List ℕ) → AreTaken text audit → Reports text found) → OnOk r (IsWritten found old new) → OnOk r ((text : List ℕ) × IsTextIn first text × IsAudited text old new)
 all_written first old new torn before audit found (Ok u) t last tells h = (t.lines ++ torn, t.is_text, written (t.lines ++ torn) found old new (tells (t.lines ++ torn) (last t.lines t.taken)) h)
 all_written first old new torn before audit found (Err why) t last tells h = tt
 
 pub all_told : (first : Option (List ℕ)) (torn : List ℕ) (before audit : TextAudit) (found : Result ℕ TextFault) (r : Result (Unit {0}) Report) → IsInputTaken first before torn → TakesLast before torn audit
-    → ((text : List ℕ) → AreTaken text audit → Tells text found) → IfErr r (λ failure. IsTold found failure.error) → IfErr r (λ failure. FaultsInput first failure.error)
+    → ((text : List ℕ) → AreTaken text audit → Reports text found) → IfErr r (λ failure. IsTold found failure.error) → IfErr r (λ failure. FaultsInput first failure.error)
 all_told first torn before audit found (Ok u) t last tells h = tt
 all_told first torn before audit found (Err failure) t last tells h = (t.lines ++ torn, t.is_text, told (t.lines ++ torn) found failure.error (tells (t.lines ++ torn) (last t.lines t.taken)) h)
 
@@ -99,12 +99,12 @@ pub last_told : (first : Option (List ℕ)) (torn : List ℕ) (audit : TextAudit
 last_told first torn audit why t h = (t.lines ++ torn, t.is_text, h t.lines t.taken)
 
 -- the same of a text that may be cut off
-pub cut_written : (first old new : Option (List ℕ)) (torn : List ℕ) (audit : TextAudit) (found : Result Cut TextFault) (r : Result (Unit {0}) Report) → IsInputTaken first audit torn → ((text : List ℕ) → AreTaken text audit → EndsNoLine torn → TellsCut (text ++ torn) found)
+pub cut_written : (first old new : Option (List ℕ)) (torn : List ℕ) (audit : TextAudit) (found : Result Cut TextFault) (r : Result (Unit {0}) Report) → IsInputTaken first audit torn → ((text : List ℕ) → AreTaken text audit → EndsNoLine torn → ReportsCut (text ++ torn) found)
     → OnOk r (IsCutWritten found old new) → OnOk r ((text : List ℕ) × IsTextIn first text × IsAuditedBy true text old new)
 cut_written first old new torn audit found (Ok u) t tells h = (t.lines ++ torn, t.is_text, written_cut (t.lines ++ torn) found old new (tells t.lines t.taken t.unended) h)
 cut_written first old new torn audit found (Err why) t tells h = tt
 
-pub all_told_cut : (first : Option (List ℕ)) (torn : List ℕ) (audit : TextAudit) (found : Result Cut TextFault) (r : Result (Unit {0}) Report) → IsInputTaken first audit torn → ((text : List ℕ) → AreTaken text audit → EndsNoLine torn → TellsCut (text ++ torn) found)
+pub all_told_cut : (first : Option (List ℕ)) (torn : List ℕ) (audit : TextAudit) (found : Result Cut TextFault) (r : Result (Unit {0}) Report) → IsInputTaken first audit torn → ((text : List ℕ) → AreTaken text audit → EndsNoLine torn → ReportsCut (text ++ torn) found)
     → IfErr r (λ failure. IsTold found failure.error) → IfErr r (λ failure. FaultsCut first failure.error)
 all_told_cut first torn audit found (Ok u) t tells h = tt
 all_told_cut first torn audit found (Err failure) t tells h = (t.lines ++ torn, t.is_text, told_cut (t.lines ++ torn) found failure.error (tells t.lines t.taken t.unended) h)

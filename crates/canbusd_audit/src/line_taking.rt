@@ -71,13 +71,13 @@ pub fn take_last<'a>(
     if torn.is_empty() {
         return Ok(());
     }
-    let has_ended = audit.has_ended();
+    let has_end_line = audit.has_end_line();
     let lines = lines.saturating_add(1);
     match audit.carry(alloc, torn) {
         Ok(()) => Ok(()),
         Err(fault) => {
             let failure = torn_failure(alloc, path, lines, torn, fault);
-            if has_ended {
+            if has_end_line {
                 Err(failure)
             } else {
                 Err(with_cut_note(alloc, failure, fault))

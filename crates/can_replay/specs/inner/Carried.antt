@@ -19,7 +19,7 @@ pub record IsNext (c : BusConfig) (past : List Entry) (line : List ℕ) (needs :
   pub rest : List ℕ
   pub good : HasLine version.Five c entry
   pub needed : needs ≡ needs_of entry
-  pub stands : line ≡ entry_line entry rest
+  pub is_line : line ≡ entry_line entry rest
   pub after : IsAfter bus (entry ∷ past)
 
 -- the entry is wrong after these, where this reply would be legal

@@ -41,4 +41,4 @@ pub record IsRead (text : List ℕ) (b : EntryAudit) : Type 0 where
 pub record IsGoing (text : List ℕ) (b : EntryAudit) : Type 0 where
   pub read : IsRead text b
   pub config : b.is_ended ≡ false → b.bus.config ≡ b.config
-  pub stands : b.is_ended ≡ false → b.wrong ≡ None → IsAfter b.bus (reverse read.entries)
+  pub is_after : b.is_ended ≡ false → b.wrong ≡ None → IsAfter b.bus (reverse read.entries)

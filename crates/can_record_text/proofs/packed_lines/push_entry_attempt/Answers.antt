@@ -4,8 +4,8 @@ use Rattle.can_record.specs.Verdicts.{verdict_in}
 use Rattle.can_record_text.proofs.TriedLines.{tried_line}
 use Rattle.can_record_text.proofs.packed_lines.push_entry_attempt.Goals as goal
 
-pub returns-else-asks : goal.returns-else-asks
-returns-else-asks c =
+pub returns-else-is_remote_word : goal.returns-else-is_remote_word
+returns-else-is_remote_word c =
     let k = c.in-Tried in
     λ frames yes. rw k.is (tried_line (stamp_moment k.stamp) (verdict_in (k.end / 4) k.named) (tried_in k.end k.word k.number k.accepted k.restarted k.bytes k.stamp)
     c.push_attempt-in-Tried.new.line c.push_winner.new.line c.push_packed.new.line c.push_outcome.new.line

@@ -17,6 +17,6 @@ returns g c =
     let last = c.deref-2.result.now in
     let end : last ≡ spell (end_words c.len.result) [] = c.deref-2.ensures.value ∙ kept c.clear.new.self.items c.put_end.new.out.items (spell (end_words c.len.result) []) c.clear.ensures.items c.in_ok-put_end.ensures in
     subst (Appends w0 w3)
-    (text_written c.new-line.result.items front (front ++ lines) ((front ++ lines) ++ last) c.of-version.result c.config-config.result c.args.record.now.config (reverse c.args.record.now.history) c.args.record.now.history c.len.result c.new-line.ensures.items
+    (text_written c.new-rooms.result.long.items front (front ++ lines) ((front ++ lines) ++ last) c.of-version.result c.config-config.result c.args.record.now.config (reverse c.args.record.now.history) c.args.record.now.history c.len.result c.new-rooms.ensures
     (c.deref.ensures.value ∙ c.in_ok-put_front.ensures) refl (ap (λ x. (front ++ lines) ++ x) end) (c.of-version.ensures ∙ ap (version_for c.config-config.result) c.of_record.ensures) c.config-config.ensures.config refl c.len.ensures)
     (Appends-trans w0 w2 w3 (front ++ lines) last (Appends-trans w0 w1 w2 front lines c.in_ok-write_all.ensures.bytes c.in_ok-write_lines.ensures) c.in_ok-write_all-2.ensures.bytes)

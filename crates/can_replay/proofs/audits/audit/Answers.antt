@@ -17,7 +17,7 @@ returns-then-not-same_reply-clause-wrong c =
       below = slice_get_within es c.loop-i.i e there;
       read = sym (get_or_from_slice_get es c.loop-i.i e e there);
       config = c.loop-i.invariant.1;
-      stands = c.loop-i.invariant.0;
+      is_after = c.loop-i.invariant.0;
       answer = c.answer-reply.ensures.answer;
     } in
     let other : c.answer-reply.result ≢ e.reply = iff_false c.same_reply.ensures c.if-not-same_reply.true in
