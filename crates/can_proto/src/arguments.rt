@@ -3,7 +3,8 @@ ghost use Rattle.std.specs.Result.{result_map_both};
 ghost use Rattle.can_proto.specs.Words.{words_of};
 ghost use Rattle.can_proto.specs.Commands.{Gives, GivesBut, takes_memory, only, mask_of, flag_of, switch_of, open_of, fault_of, alone, arguments_of};
 
-use crate::command::{Command, WantedName, WantedRule};
+use crate::client_words::{WantedName, WantedRule};
+use crate::command::Command;
 use crate::fault::ProtoFault;
 use crate::filtering::read_set;
 use crate::sending::{read_remote, read_send, read_send_fd, read_send_flagged};

@@ -1,9 +1,9 @@
-ghost use Rattle.std.specs.Prelude.{◌≡◌, ◌∷◌, Some, IfOk};
-ghost use Rattle.std.specs.List.{join_with_byte};
+ghost use Rattle.std.specs.Prelude.{Some};
 ghost use Rattle.can_proto.specs.Words.{words_of};
 ghost use Rattle.can_proto.specs.Commands.{GivesBut, takes_memory, command_of, reading};
 
 use crate::arguments::read_arguments;
+use crate::client_words::{WantedName, WantedRule};
 use crate::fault::ProtoFault;
 use crate::message::Message;
 use crate::verb::{Verb, after_send, may_stand, verb_of};
@@ -11,8 +11,7 @@ use crate::words::next_word;
 use can_event::Opt;
 use can_filter::FilterSet;
 use can_frame::Frame;
-use std::alloc::{AllocError, Global};
-use std::marker::Model;
+use std::alloc::Global;
 
 /// How far a session has come.
 #[derive(Debug, Clone, Copy, PartialEq, Eq)]
@@ -26,58 +25,6 @@ pub enum Mode {
     /// The session is over.
     Ended,
 }
-
-/// Words of a client.
-#[derive(Debug, Drop)]
-pub struct ClientWords {
-    bytes: Vec<u8>,
-}
-
-impl Model for ClientWords {
-    ghost use Rattle.std.specs.Prelude.{ℕ, List};
-
-    ghost Value = { List ℕ };
-
-    ghost view = { λ n. n.bytes.items };
-}
-
-impl ClientWords {
-    /// Their bytes.
-    pub fn bytes(&self) -> &[u8]
-        ensures { result.now ≡ self.now }
-    {
-        &self.bytes
-    }
-
-    /// A copy of the bytes.
-    pub(crate) fn copied(alloc: Global, bytes: &[u8]) -> Result<ClientWords, AllocError>
-        ensures { IfOk result (λ words. words ≡ bytes.now) }
-    {
-        let bytes = Vec::from_slice(alloc, bytes)?;
-        Ok(ClientWords { bytes })
-    }
-
-    /// The first word and those in the text after it, one space between each two.
-    pub(crate) fn joined(alloc: Global, word: &[u8], rest: &[u8]) -> Result<ClientWords, AllocError>
-        ensures { IfOk result (λ words.
-            words ≡ join_with_byte 32 (word.now ∷ words_of rest.now)) }
-    {
-        let mut bytes = Vec::from_slice(alloc, word)?;
-        let mut rest = rest;
-        while let Some((next, after)) = next_word(rest) {
-            bytes.push(b' ')?;
-            bytes.extend_from_slice(next)?;
-            rest = after;
-        }
-        Ok(ClientWords { bytes })
-    }
-}
-
-/// The name of an interface as a client wrote it. No interface need have it.
-pub type WantedName = ClientWords;
-
-/// A rule of faults as a client wrote it, with one space between each two words. It need not be one.
-pub type WantedRule = ClientWords;
 
 /// What a client asks for.
 #[derive(Debug, Drop)]

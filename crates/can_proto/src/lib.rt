@@ -11,6 +11,7 @@
 
 pub mod answer;
 mod arguments;
+pub mod client_words;
 pub mod command;
 pub mod fault;
 mod filtering;
@@ -28,7 +29,8 @@ mod verb;
 mod words;
 
 pub use answer::{Answer, BusLoad, Cause, Origin};
-pub use command::{ClientWords, Command, Mode, WantedName, WantedRule};
+pub use client_words::{ClientWords, WantedName, WantedRule};
+pub use command::{Command, Mode};
 pub use fault::ProtoFault;
 pub use message::{Incoming, Message};
 pub use reader::Reader;

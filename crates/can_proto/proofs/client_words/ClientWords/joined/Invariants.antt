@@ -1,7 +1,7 @@
 use Rattle.std.proofs.Common.{◌≡◌, ◌++◌, ◌∷◌, length}
 use Rattle.std.specs.List.{flat_map, join_with_byte}
 use Rattle.can_proto.specs.Words.{words_of}
-use Rattle.can_proto.proofs.command.ClientWords.joined.Given as goal
+use Rattle.can_proto.proofs.client_words.ClientWords.joined.Given as goal
 
 -- the words so far, and those that are left with a space before each, are all words
 abbrev pub invariant-loop-next : goal.invariant-loop-next

@@ -2,7 +2,7 @@ use Rattle.std.proofs.Common.{◌≡◌, ◌∷◌, ◌++◌, [], List, ℕ, sym
 use Rattle.std.specs.List.{flat_map, join_with_byte}
 use Rattle.std.proofs.lemmas.List.{append-nil}
 use Rattle.can_proto.specs.Words.{words_of}
-use Rattle.can_proto.proofs.command.ClientWords.joined.Goals as goal
+use Rattle.can_proto.proofs.client_words.ClientWords.joined.Goals as goal
 
 -- words with a space before each but the first
 spaced : (w : List ℕ) (ws : List (List ℕ)) → join_with_byte 32 (w ∷ ws) ≡ w ++ flat_map (λ v. 32 ∷ v) ws
