@@ -5,6 +5,7 @@ mod error_frames;
 mod faults;
 mod filters;
 mod frames;
+mod items;
 mod logs;
 mod messages;
 mod packed;

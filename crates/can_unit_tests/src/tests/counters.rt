@@ -19,21 +19,23 @@ fn made(tec: u16, rec: u16) -> Option<(u16, u16, State)> {
     Some((made.tec(), made.rec(), made.state()))
 }
 
+/// A transmit and a receive count, and the state of counters that have them.
+const STATES: [(u16, u16, State); 10] = [
+    (0, 0, State::Active),
+    (95, 95, State::Active),
+    (96, 0, State::Warning),
+    (0, 96, State::Warning),
+    (127, 127, State::Warning),
+    (128, 0, State::Passive),
+    (0, 128, State::Passive),
+    (255, 255, State::Passive),
+    (256, 0, State::Off),
+    (263, 255, State::Off),
+];
+
 #[test]
 fn states_by_their_limits(rt: HostRuntime) {
-    let rows = [
-        (0, 0, State::Active),
-        (95, 95, State::Active),
-        (96, 0, State::Warning),
-        (0, 96, State::Warning),
-        (127, 127, State::Warning),
-        (128, 0, State::Passive),
-        (0, 128, State::Passive),
-        (255, 255, State::Passive),
-        (256, 0, State::Off),
-        (263, 255, State::Off),
-    ];
-    for (tec, rec, state) in rows {
+    for (tec, rec, state) in STATES {
         same_at(&rt, (tec, rec), made(tec, rec), Some((tec, rec, state)));
     }
     for (tec, rec) in [(264, 0), (0, 256)] {

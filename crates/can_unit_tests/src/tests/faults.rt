@@ -27,24 +27,26 @@ fn is_good_everywhere<F: FaultSource>(rt: &impl Abort, source: &mut F) {
     gives(rt, source, &[(0, good), (1, good), (u64::MAX, good)]);
 }
 
+/// Attempts, and their verdicts by the script of the test below.
+const VERDICTS: [(u64, Verdict); 11] = [
+    (0, Verdict::LastBit),
+    (1, Verdict::Good),
+    (2, Verdict::Global(GlobalKind::Bit)),
+    (3, Verdict::Global(GlobalKind::Form)),
+    (4, Verdict::Local(IfaceSet(3), LocalKind::Stuff)),
+    (5, Verdict::Local(IfaceSet(2), LocalKind::Crc)),
+    (6, Verdict::Local(IfaceSet(1), LocalKind::Form)),
+    (7, Verdict::Good),
+    (99_999_999, Verdict::Good),
+    (u64::MAX, Verdict::Good),
+    (0, Verdict::LastBit),
+];
+
 #[test]
 fn a_script_gives_the_verdicts_of_its_lines(rt: HostRuntime) -> Result<(), Fail> {
     let text = "0 lastbit\n# a remark\n\n00000002 global bit\n3 global form\n\
         4 local stuff can1,can0,can1\n5 local crc can1\n6 local form can0\n99999999 good";
-    let verdicts = [
-        (0, Verdict::LastBit),
-        (1, Verdict::Good),
-        (2, Verdict::Global(GlobalKind::Bit)),
-        (3, Verdict::Global(GlobalKind::Form)),
-        (4, Verdict::Local(IfaceSet(3), LocalKind::Stuff)),
-        (5, Verdict::Local(IfaceSet(2), LocalKind::Crc)),
-        (6, Verdict::Local(IfaceSet(1), LocalKind::Form)),
-        (7, Verdict::Good),
-        (99_999_999, Verdict::Good),
-        (u64::MAX, Verdict::Good),
-        (0, Verdict::LastBit),
-    ];
-    gives(&rt, &mut script(rt.alloc(), text)?, &verdicts);
+    gives(&rt, &mut script(rt.alloc(), text)?, &VERDICTS);
     Ok(())
 }
 
@@ -55,35 +57,37 @@ fn the_empty_text_and_the_perfect_source_are_good_everywhere(rt: HostRuntime) ->
     Ok(())
 }
 
+/// Texts of no script, and the fault of each.
+const FAULTS: [(&str, ScriptError); 15] = [
+    (
+        "0 good\n5 local crc can1\n5 good",
+        ScriptError::RepeatedAttempt(3),
+    ),
+    (
+        "0 good\n5 local crc can2\n5 good",
+        ScriptError::UnknownInterface(2),
+    ),
+    ("0 good\n5 local crc\n5 good", ScriptError::BadLine(2)),
+    ("1 good\n01 good", ScriptError::RepeatedAttempt(2)),
+    (
+        "1 good\n1 local form can2",
+        ScriptError::UnknownInterface(2),
+    ),
+    ("1 local form can2,", ScriptError::BadLine(1)),
+    ("1 good\r\n", ScriptError::BadLine(1)),
+    ("1 good ", ScriptError::BadLine(1)),
+    ("1  good", ScriptError::BadLine(1)),
+    ("\n#\n +1 good", ScriptError::BadLine(3)),
+    ("+1 good", ScriptError::BadLine(1)),
+    ("123456789 good", ScriptError::BadLine(1)),
+    ("1", ScriptError::BadLine(1)),
+    ("1 global crc", ScriptError::BadLine(1)),
+    ("1 local bit can0", ScriptError::BadLine(1)),
+];
+
 #[test]
 fn the_first_fault_of_a_text_is_told(rt: HostRuntime) {
-    let faults = [
-        (
-            "0 good\n5 local crc can1\n5 good",
-            ScriptError::RepeatedAttempt(3),
-        ),
-        (
-            "0 good\n5 local crc can2\n5 good",
-            ScriptError::UnknownInterface(2),
-        ),
-        ("0 good\n5 local crc\n5 good", ScriptError::BadLine(2)),
-        ("1 good\n01 good", ScriptError::RepeatedAttempt(2)),
-        (
-            "1 good\n1 local form can2",
-            ScriptError::UnknownInterface(2),
-        ),
-        ("1 local form can2,", ScriptError::BadLine(1)),
-        ("1 good\r\n", ScriptError::BadLine(1)),
-        ("1 good ", ScriptError::BadLine(1)),
-        ("1  good", ScriptError::BadLine(1)),
-        ("\n#\n +1 good", ScriptError::BadLine(3)),
-        ("+1 good", ScriptError::BadLine(1)),
-        ("123456789 good", ScriptError::BadLine(1)),
-        ("1", ScriptError::BadLine(1)),
-        ("1 global crc", ScriptError::BadLine(1)),
-        ("1 local bit can0", ScriptError::BadLine(1)),
-    ];
-    for (text, fault) in faults {
+    for (text, fault) in FAULTS {
         same_at(&rt, text, script(rt.alloc(), text).err(), Some(fault));
     }
 }

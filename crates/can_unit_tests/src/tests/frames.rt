@@ -1,7 +1,8 @@
+use super::items::*;
 use super::{same, same_at};
 use can_frame::{
-    CanId, ErrorFrame, FdFlags, Frame, Iface, Item, Moment, Names, NamesError, Text, frame_text,
-    guess_item, is_fd_length, is_name, read_decimal, read_flagged_frame_text, read_frame_text,
+    CanId, Frame, Iface, Item, Moment, Names, NamesError, Text, frame_text, guess_item,
+    is_fd_length, is_name, read_decimal, read_flagged_frame_text, read_frame_text,
     read_hexadecimal,
 };
 use std::alloc::Global;
@@ -32,55 +33,28 @@ fn are_bad_names(alloc: Global, text: &str) -> bool {
     matches!(Names::read(alloc, text), Err(NamesError::BadNames))
 }
 
+/// Names of interfaces, and whether they are good.
+const NAMES: [(&str, bool); 10] = [
+    ("can0", true),
+    ("a23456789012345", true),
+    ("0,1,2,3,4,5,6,7,8,9,a,b,c,d,e,f", true),
+    ("", false),
+    ("can0,", false),
+    ("can0,can1,can0", false),
+    ("a234567890123456", false),
+    ("can 0", false),
+    ("kän", false),
+    ("0,1,2,3,4,5,6,7,8,9,a,b,c,d,e,f,g", false),
+];
+
 #[test]
 fn names_are_refused_by_their_rule(rt: HostRuntime) {
-    let texts = [
-        ("can0", true),
-        ("a23456789012345", true),
-        ("0,1,2,3,4,5,6,7,8,9,a,b,c,d,e,f", true),
-        ("", false),
-        ("can0,", false),
-        ("can0,can1,can0", false),
-        ("a234567890123456", false),
-        ("can 0", false),
-        ("kän", false),
-        ("0,1,2,3,4,5,6,7,8,9,a,b,c,d,e,f,g", false),
-    ];
-    for (text, good) in texts {
+    for (text, good) in NAMES {
         same_at(&rt, text, are_bad_names(rt.alloc(), text), !good);
     }
     for (text, good) in [("can0", true), ("", false), ("can0,can1", false)] {
         same_at(&rt, text, is_name(text), good);
     }
-}
-
-fn data(number: u16, bytes: &[u8]) -> Option<Item> {
-    Some(Item::Data(Frame::data(CanId::standard(number).ok()?, bytes).ok()?))
-}
-
-fn extended_data(number: u32, bytes: &[u8]) -> Option<Item> {
-    Some(Item::Data(Frame::data(CanId::extended(number).ok()?, bytes).ok()?))
-}
-
-fn remote(number: u16, len: u8) -> Option<Item> {
-    Some(Item::Data(Frame::remote(CanId::standard(number).ok()?, len).ok()?))
-}
-
-fn extended_remote(number: u32, len: u8) -> Option<Item> {
-    Some(Item::Data(Frame::remote(CanId::extended(number).ok()?, len).ok()?))
-}
-
-fn fd(number: u16, bytes: &[u8]) -> Option<Item> {
-    Some(Item::Data(Frame::fd(CanId::standard(number).ok()?, bytes).ok()?))
-}
-
-fn flagged(number: u16, brs: bool, esi: bool, bytes: &[u8]) -> Option<Item> {
-    let id = CanId::standard(number).ok()?;
-    Some(Item::Data(Frame::fd_with(id, FdFlags { brs, esi }, bytes).ok()?))
-}
-
-fn error(class: u32, bytes: [u8; 8]) -> Option<Item> {
-    Some(Item::Error(ErrorFrame::new(class, bytes).ok()?))
 }
 
 fn is_read(text: &str, item: Option<Item>) -> bool {
@@ -106,112 +80,90 @@ fn goes_there_and_back(rt: &impl Abort, text: &str, item: Option<Item>) {
 
 #[test]
 fn data_frames_go_there_and_back(rt: HostRuntime) {
-    let items = [
-        ("123#", data(0x123, b"")),
-        (
-            "7FF#0011223344556677",
-            data(0x7FF, b"\x00\x11\x22\x33\x44\x55\x66\x77"),
-        ),
-        ("00000123#AF", extended_data(0x123, b"\xAF")),
-        ("1FFFFFFF#", extended_data(0x1FFF_FFFF, b"")),
-    ];
-    for (text, item) in items {
-        goes_there_and_back(&rt, text, item);
-    }
+    goes_there_and_back(&rt, "123#", data(short(0x123), b""));
+    let bytes = b"\x00\x11\x22\x33\x44\x55\x66\x77";
+    goes_there_and_back(&rt, "7FF#0011223344556677", data(short(0x7FF), bytes));
+    goes_there_and_back(&rt, "00000123#AF", data(long(0x123), b"\xAF"));
+    goes_there_and_back(&rt, "1FFFFFFF#", data(long(0x1FFF_FFFF), b""));
 }
 
 #[test]
 fn remote_frames_go_there_and_back(rt: HostRuntime) {
-    let items = [
-        ("123#R", remote(0x123, 0)),
-        ("00A#R8", remote(0xA, 8)),
-        ("12345678#R4", extended_remote(0x1234_5678, 4)),
-    ];
-    for (text, item) in items {
-        goes_there_and_back(&rt, text, item);
-    }
+    goes_there_and_back(&rt, "123#R", remote(short(0x123), 0));
+    goes_there_and_back(&rt, "00A#R8", remote(short(0xA), 8));
+    goes_there_and_back(&rt, "12345678#R4", remote(long(0x1234_5678), 4));
 }
 
 #[test]
 fn fd_frames_go_there_and_back(rt: HostRuntime) {
-    let items = [
-        ("123##0", fd(0x123, b"")),
-        (
-            "123##00102030405060708090A0B0C",
-            fd(0x123, &[1, 2, 3, 4, 5, 6, 7, 8, 9, 10, 11, 12]),
-        ),
-        (LONGEST_FD, fd(0x7FF, &[0xA5; 64])),
-    ];
-    for (text, item) in items {
-        goes_there_and_back(&rt, text, item);
-    }
+    goes_there_and_back(&rt, "123##0", fd(short(0x123), b""));
+    let text = "123##00102030405060708090A0B0C";
+    let bytes = [1, 2, 3, 4, 5, 6, 7, 8, 9, 10, 11, 12];
+    goes_there_and_back(&rt, text, fd(short(0x123), &bytes));
+    goes_there_and_back(&rt, LONGEST_FD, fd(short(0x7FF), &[0xA5; 64]));
 }
 
 #[test]
 fn error_message_frames_go_there_and_back(rt: HostRuntime) {
-    let items = [
-        (
-            "20000204#0008000000006000",
-            error(0x204, [0, 8, 0, 0, 0, 0, 0x60, 0]),
-        ),
-        ("3FFFFFFF#FFFFFFFFFFFFFFFF", error(0x1FFF_FFFF, [0xFF; 8])),
-    ];
-    for (text, item) in items {
-        goes_there_and_back(&rt, text, item);
-    }
+    let state = error(0x204, [0, 8, 0, 0, 0, 0, 0x60, 0]);
+    goes_there_and_back(&rt, "20000204#0008000000006000", state);
+    let last = error(0x1FFF_FFFF, [0xFF; 8]);
+    goes_there_and_back(&rt, "3FFFFFFF#FFFFFFFFFFFFFFFF", last);
+}
+
+/// An item is read of this text.
+fn comes_of(rt: &impl Abort, text: &str, item: Option<Item>) {
+    same_at(rt, text, item.is_some(), true);
+    same_at(rt, text, is_read(text, item), true);
 }
 
 #[test]
 fn frame_text_is_read_in_either_case(rt: HostRuntime) {
-    let items = [
-        ("7aB#fF0a", data(0x7AB, b"\xFF\x0A")),
-        ("123#r2", remote(0x123, 2)),
-        ("123#R0", remote(0x123, 0)),
-        ("123#r0", remote(0x123, 0)),
-        ("0000000a#r", extended_remote(0xA, 0)),
-    ];
-    for (text, item) in items {
-        same_at(&rt, text, item.is_some(), true);
-        same_at(&rt, text, is_read(text, item), true);
-    }
+    comes_of(&rt, "7aB#fF0a", data(short(0x7AB), b"\xFF\x0A"));
+    comes_of(&rt, "123#r2", remote(short(0x123), 2));
+    comes_of(&rt, "123#R0", remote(short(0x123), 0));
+    comes_of(&rt, "123#r0", remote(short(0x123), 0));
+    comes_of(&rt, "0000000a#r", remote(long(0xA), 0));
 }
+
+/// Texts of no frame.
+const NO_FRAMES: [&str; 31] = [
+    "",
+    "#",
+    "123",
+    "12#",
+    "1234#",
+    "800#",
+    "123#R9",
+    "123#R08",
+    "123#R00",
+    "123#1",
+    "123#1G",
+    "12g#",
+    "123#1.2",
+    "123#001122334455667788",
+    "123#+1",
+    " 123#",
+    "123# ",
+    "20000080#",
+    "20000080#00000000000000",
+    "20000080#000000000000000000",
+    "20000080#R",
+    "40000000#0000000000000000",
+    "A0000080#0000000000000000",
+    "12345678#00112233445566778899aabbccdd",
+    "123#é",
+    "123##",
+    "123##1",
+    "123##R",
+    "123###0",
+    "123##0010203040506070809",
+    "20000080##00000000000000000",
+];
 
 #[test]
 fn other_texts_are_bad(rt: HostRuntime) {
-    let texts = [
-        "",
-        "#",
-        "123",
-        "12#",
-        "1234#",
-        "800#",
-        "123#R9",
-        "123#R08",
-        "123#R00",
-        "123#1",
-        "123#1G",
-        "12g#",
-        "123#1.2",
-        "123#001122334455667788",
-        "123#+1",
-        " 123#",
-        "123# ",
-        "20000080#",
-        "20000080#00000000000000",
-        "20000080#000000000000000000",
-        "20000080#R",
-        "40000000#0000000000000000",
-        "A0000080#0000000000000000",
-        "12345678#00112233445566778899aabbccdd",
-        "123#é",
-        "123##",
-        "123##1",
-        "123##R",
-        "123###0",
-        "123##0010203040506070809",
-        "20000080##00000000000000000",
-    ];
-    for text in texts {
+    for text in NO_FRAMES {
         same_at(&rt, text, read_frame_text(text).is_err(), true);
     }
 }
@@ -229,29 +181,31 @@ fn makes_fd_frame(id: CanId, bytes: &[u8]) -> bool {
     }
 }
 
+/// Texts of no FD frame with flags.
+const NO_FLAGGED_FRAMES: [&str; 7] = [
+    "123##4", "123##5AA", "123##A", "123##", "123##/", "123##1A", "123#1#",
+];
+
+/// An FD frame with flags has this text, and is read of it. Other readers take it where it has none set.
+fn flags_go_there_and_back(rt: &impl Abort, text: &str, item: Option<Item>, is_plain: bool) {
+    same_at(rt, text, item.is_some(), true);
+    same_at(rt, text, read_flagged_frame_text(text).ok() == item, true);
+    same_at(rt, text, is_written(item, text), true);
+    same_at(rt, text, read_frame_text(text).is_ok(), is_plain);
+}
+
 // As candump of can-utils writes them: CANFD_BRS of linux/can.h is 1, CANFD_ESI 2.
 #[test]
 fn flags_of_fd_frames_go_there_and_back(rt: HostRuntime) {
-    let items = [
-        ("123##0AABB", flagged(0x123, false, false, b"\xAA\xBB")),
-        ("123##1AABB", flagged(0x123, true, false, b"\xAA\xBB")),
-        ("123##2", flagged(0x123, false, true, b"")),
-        (
-            "7FF##311223344",
-            flagged(0x7FF, true, true, b"\x11\x22\x33\x44"),
-        ),
-    ];
-    for (text, item) in items {
-        same_at(&rt, text, item.is_some(), true);
-        same_at(&rt, text, read_flagged_frame_text(text).ok() == item, true);
-        same_at(&rt, text, is_written(item, text), true);
-        let plain = text.as_bytes()[5] == b'0';
-        same_at(&rt, text, read_frame_text(text).is_ok(), plain);
-    }
-    let texts = [
-        "123##4", "123##5AA", "123##A", "123##", "123##/", "123##1A", "123#1#",
-    ];
-    for text in texts {
+    let plain = flagged(short(0x123), PLAIN, b"\xAA\xBB");
+    flags_go_there_and_back(&rt, "123##0AABB", plain, true);
+    let fast = flagged(short(0x123), BRS, b"\xAA\xBB");
+    flags_go_there_and_back(&rt, "123##1AABB", fast, false);
+    let passive = flagged(short(0x123), ESI, b"");
+    flags_go_there_and_back(&rt, "123##2", passive, false);
+    let wide = flagged(short(0x7FF), BRS_AND_ESI, b"\x11\x22\x33\x44");
+    flags_go_there_and_back(&rt, "7FF##311223344", wide, false);
+    for text in NO_FLAGGED_FRAMES {
         same_at(&rt, text, read_flagged_frame_text(text).is_err(), true);
     }
 }
@@ -268,16 +222,18 @@ fn fd_frames_have_their_lengths(rt: HostRuntime) {
     }
 }
 
+/// Two items are alike or not.
+fn are_alike(rt: &impl Abort, one: Option<Item>, other: Option<Item>, wanted: bool) {
+    same(rt, one == other, wanted);
+}
+
 #[test]
 fn fd_frames_are_other_items_than_data_frames(rt: HostRuntime) {
-    let rows = [
-        ("FD and data", fd(0x123, b""), data(0x123, b""), false),
-        ("alike", fd(0x123, b"\x01"), fd(0x123, b"\x01"), true),
-        ("other bytes", fd(0x123, b"\x01"), fd(0x123, b"\x02"), false),
-    ];
-    for (name, one, other, is_same) in rows {
-        same_at(&rt, name, one == other, is_same);
-    }
+    are_alike(&rt, fd(short(0x123), b""), data(short(0x123), b""), false);
+    let one = fd(short(0x123), b"\x01");
+    are_alike(&rt, one, fd(short(0x123), b"\x01"), true);
+    let one = fd(short(0x123), b"\x01");
+    are_alike(&rt, one, fd(short(0x123), b"\x02"), false);
 }
 
 /// The word and the arbitration key of a frame.
@@ -348,7 +304,7 @@ fn parts_of_texts_are_written(rt: HostRuntime) {
 
 #[test]
 fn what_is_guessed_has_to_be_compared(rt: HostRuntime) {
-    same(&rt, guess_item(b"123#R4"), remote(0x123, 4));
-    same(&rt, guess_item(b"12a#"), data(0x12A, b""));
+    same(&rt, guess_item(b"123#R4"), remote(short(0x123), 4));
+    same(&rt, guess_item(b"12a#"), data(short(0x12A), b""));
     same(&rt, guess_item(b"123#R9"), None);
 }

@@ -1,7 +1,8 @@
+use super::items::*;
 use super::{same, same_at};
 use can_bus::{Closed, Opt, Refusal};
 use can_confine::Counters;
-use can_frame::{CanId, ErrorFrame, FdFlags, Frame, Item, Moment};
+use can_frame::{Item, Moment};
 use can_proto::{
     Answer, BusLoad, Cause, Command, Incoming, ItemText, Message, Mode, Origin, ProtoFault, Reader,
     item_text, push_item_from, reply_text,
@@ -30,8 +31,9 @@ fn is_message(incoming: &Incoming, inside: &[u8]) -> bool {
 /// The one message of a text.
 fn message(rt: &(impl Abort + AllocGlobal), text: &[u8]) -> Message {
     let mut given = fed(rt.alloc(), text, b"").expect(rt, "memory");
-    match (given.pop(), given.pop()) {
-        (Some(Incoming::Message(message)), None) => message,
+    same(rt, given.len(), 1);
+    match given.pop() {
+        Some(Incoming::Message(message)) => message,
         _ => panic!(rt; "not one message"),
     }
 }
@@ -89,136 +91,126 @@ fn has_words_of_its_cause(rt: &(impl Abort + AllocGlobal), fault: ProtoFault) ->
     shown.as_bytes() == Cause::from(fault).text()
 }
 
+const RAW: Mode = Mode::Raw;
+
+/// Texts that are refused, each in a mode and for the first of its faults.
+const FAULTS: [(Mode, &[u8], ProtoFault); 53] = [
+    (RAW, b"< >", ProtoFault::EmptyMessage),
+    (Mode::Ended, b"<>", ProtoFault::EmptyMessage),
+    (RAW, b"< statuses >", ProtoFault::UnknownCommand),
+    (Mode::Opened, b"< status >", ProtoFault::WrongState),
+    (RAW, b"< SEND 123 0 >", ProtoFault::UnknownCommand),
+    (Mode::Ended, b"< echo >", ProtoFault::WrongState),
+    (Mode::Opened, b"< close 1 2 >", ProtoFault::WrongState),
+    (Mode::NoBus, b"< rawmode >", ProtoFault::WrongState),
+    (RAW, b"< open can0 >", ProtoFault::WrongState),
+    (RAW, b"< bcmmode 1 2 >", ProtoFault::ModeNotSupported),
+    (
+        Mode::Opened,
+        b"< controlmode >",
+        ProtoFault::ModeNotSupported,
+    ),
+    (RAW, b"< send 1234 >", ProtoFault::BadCount),
+    (RAW, b"< send 1234 0 >", ProtoFault::BadId),
+    (RAW, b"< send 800 0 >", ProtoFault::BadId),
+    (RAW, b"< send A0000123 0 >", ProtoFault::BadId),
+    (RAW, b"< send 123 9 >", ProtoFault::BadLength),
+    (RAW, b"< send 123 1 >", ProtoFault::BadCount),
+    (RAW, b"< send 123 1 123 >", ProtoFault::BadByte),
+    (RAW, b"< sendrtr 123 3 1 >", ProtoFault::BadCount),
+    (Mode::Opened, b"< sendfd 123 0 >", ProtoFault::WrongState),
+    (RAW, b"< sendfd 1234 9 >", ProtoFault::BadId),
+    (RAW, b"< sendfd 123 9 >", ProtoFault::BadLength),
+    (RAW, b"< sendfd 123 08 >", ProtoFault::BadLength),
+    (RAW, b"< sendfd 123 128 >", ProtoFault::BadLength),
+    (RAW, b"< sendfd 123 12 1 x >", ProtoFault::BadCount),
+    (RAW, b"< sendfd 123 2 1 x >", ProtoFault::BadByte),
+    (Mode::Opened, b"< sendfdx 1 123 0 >", ProtoFault::WrongState),
+    (RAW, b"< sendfdx >", ProtoFault::BadCount),
+    (RAW, b"< sendfdx 4 123 0 >", ProtoFault::BadNumber),
+    (RAW, b"< sendfdx 01 123 0 >", ProtoFault::BadNumber),
+    (RAW, b"< sendfdx 123 0 >", ProtoFault::BadNumber),
+    (RAW, b"< sendfdx 1 123 >", ProtoFault::BadCount),
+    (RAW, b"< sendfdx 1 123 9 >", ProtoFault::BadLength),
+    (RAW, b"< fdframes on >", ProtoFault::BadNumber),
+    (RAW, b"< status 1 >", ProtoFault::BadCount),
+    (RAW, b"< filter 513 >", ProtoFault::TooManyFilters),
+    (RAW, b"< filter 1 123 >", ProtoFault::BadCount),
+    (RAW, b"< filter 1 123 20000000 >", ProtoFault::InvalidFilter),
+    (RAW, b"< filter 1 x 20000000 >", ProtoFault::BadNumber),
+    (RAW, b"< join 2 >", ProtoFault::BadNumber),
+    (RAW, b"< errmask 123456789 >", ProtoFault::BadNumber),
+    (
+        Mode::NoBus,
+        b"< fault next 1 good >",
+        ProtoFault::WrongState,
+    ),
+    (Mode::NoBus, b"< faults >", ProtoFault::WrongState),
+    (Mode::Ended, b"< nofaults >", ProtoFault::WrongState),
+    (Mode::Opened, b"< fault >", ProtoFault::BadCount),
+    (RAW, b"< faults 1 >", ProtoFault::BadCount),
+    (Mode::Opened, b"< nofaults all >", ProtoFault::BadCount),
+    (RAW, b"< ack >", ProtoFault::BadCount),
+    (RAW, b"< origin on >", ProtoFault::BadNumber),
+    (Mode::NoBus, b"< ack 1 >", ProtoFault::WrongState),
+    (Mode::Opened, b"< origin 1 >", ProtoFault::WrongState),
+    (Mode::Ended, b"< interfaces >", ProtoFault::WrongState),
+    (Mode::NoBus, b"< interfaces can0 >", ProtoFault::BadCount),
+];
+
 #[test]
 fn faults_are_told_in_their_order(rt: HostRuntime) {
-    let raw = Mode::Raw;
-    let cases: [(Mode, &[u8], ProtoFault); 53] = [
-        (raw, b"< >", ProtoFault::EmptyMessage),
-        (Mode::Ended, b"<>", ProtoFault::EmptyMessage),
-        (raw, b"< statuses >", ProtoFault::UnknownCommand),
-        (Mode::Opened, b"< status >", ProtoFault::WrongState),
-        (raw, b"< SEND 123 0 >", ProtoFault::UnknownCommand),
-        (Mode::Ended, b"< echo >", ProtoFault::WrongState),
-        (Mode::Opened, b"< close 1 2 >", ProtoFault::WrongState),
-        (Mode::NoBus, b"< rawmode >", ProtoFault::WrongState),
-        (raw, b"< open can0 >", ProtoFault::WrongState),
-        (raw, b"< bcmmode 1 2 >", ProtoFault::ModeNotSupported),
-        (
-            Mode::Opened,
-            b"< controlmode >",
-            ProtoFault::ModeNotSupported,
-        ),
-        (raw, b"< send 1234 >", ProtoFault::BadCount),
-        (raw, b"< send 1234 0 >", ProtoFault::BadId),
-        (raw, b"< send 800 0 >", ProtoFault::BadId),
-        (raw, b"< send A0000123 0 >", ProtoFault::BadId),
-        (raw, b"< send 123 9 >", ProtoFault::BadLength),
-        (raw, b"< send 123 1 >", ProtoFault::BadCount),
-        (raw, b"< send 123 1 123 >", ProtoFault::BadByte),
-        (raw, b"< sendrtr 123 3 1 >", ProtoFault::BadCount),
-        (Mode::Opened, b"< sendfd 123 0 >", ProtoFault::WrongState),
-        (raw, b"< sendfd 1234 9 >", ProtoFault::BadId),
-        (raw, b"< sendfd 123 9 >", ProtoFault::BadLength),
-        (raw, b"< sendfd 123 08 >", ProtoFault::BadLength),
-        (raw, b"< sendfd 123 128 >", ProtoFault::BadLength),
-        (raw, b"< sendfd 123 12 1 x >", ProtoFault::BadCount),
-        (raw, b"< sendfd 123 2 1 x >", ProtoFault::BadByte),
-        (Mode::Opened, b"< sendfdx 1 123 0 >", ProtoFault::WrongState),
-        (raw, b"< sendfdx >", ProtoFault::BadCount),
-        (raw, b"< sendfdx 4 123 0 >", ProtoFault::BadNumber),
-        (raw, b"< sendfdx 01 123 0 >", ProtoFault::BadNumber),
-        (raw, b"< sendfdx 123 0 >", ProtoFault::BadNumber),
-        (raw, b"< sendfdx 1 123 >", ProtoFault::BadCount),
-        (raw, b"< sendfdx 1 123 9 >", ProtoFault::BadLength),
-        (raw, b"< fdframes on >", ProtoFault::BadNumber),
-        (raw, b"< status 1 >", ProtoFault::BadCount),
-        (raw, b"< filter 513 >", ProtoFault::TooManyFilters),
-        (raw, b"< filter 1 123 >", ProtoFault::BadCount),
-        (raw, b"< filter 1 123 20000000 >", ProtoFault::InvalidFilter),
-        (raw, b"< filter 1 x 20000000 >", ProtoFault::BadNumber),
-        (raw, b"< join 2 >", ProtoFault::BadNumber),
-        (raw, b"< errmask 123456789 >", ProtoFault::BadNumber),
-        (
-            Mode::NoBus,
-            b"< fault next 1 good >",
-            ProtoFault::WrongState,
-        ),
-        (Mode::NoBus, b"< faults >", ProtoFault::WrongState),
-        (Mode::Ended, b"< nofaults >", ProtoFault::WrongState),
-        (Mode::Opened, b"< fault >", ProtoFault::BadCount),
-        (raw, b"< faults 1 >", ProtoFault::BadCount),
-        (Mode::Opened, b"< nofaults all >", ProtoFault::BadCount),
-        (raw, b"< ack >", ProtoFault::BadCount),
-        (raw, b"< origin on >", ProtoFault::BadNumber),
-        (Mode::NoBus, b"< ack 1 >", ProtoFault::WrongState),
-        (Mode::Opened, b"< origin 1 >", ProtoFault::WrongState),
-        (Mode::Ended, b"< interfaces >", ProtoFault::WrongState),
-        (Mode::NoBus, b"< interfaces can0 >", ProtoFault::BadCount),
-    ];
-    for (mode, text, fault) in cases {
+    for (mode, text, fault) in FAULTS {
         same_at(&rt, text, read(&rt, mode, text).err(), Some(fault));
         same_at(&rt, text, has_words_of_its_cause(&rt, fault), true);
     }
 }
 
 /// A text sends this frame.
-fn sends(rt: &(impl Abort + AllocGlobal), text: &[u8], frame: Option<Frame>) {
+fn sends(rt: &(impl Abort + AllocGlobal), text: &[u8], frame: Option<Item>) {
     let command = read(rt, Mode::Raw, text);
     let Ok(Command::Send(sent)) = &command else {
         panic!(rt; "no frame");
     };
-    same_at(rt, text, Some(*sent), frame);
+    same_at(rt, text, Some(Item::Data(*sent)), frame);
 }
 
 #[test]
 fn frames_are_read(rt: HostRuntime) {
-    let short = CanId::standard(0x123).expect(&rt, "an id");
-    let long = CanId::extended(0x123).expect(&rt, "an id");
-    let cases: [(&[u8], Option<Frame>); 4] = [
-        (b"< send 123 0  >", Frame::data(short, b"").ok()),
-        (b"<send 123 2 1 ff>", Frame::data(short, b"\x01\xFF").ok()),
-        (b"< send 80000123 1 aB >", Frame::data(long, b"\xAB").ok()),
-        (b"<\tsendrtr 00000123 3 >", Frame::remote(long, 3).ok()),
-    ];
-    for (text, frame) in cases {
-        sends(&rt, text, frame);
-    }
+    sends(&rt, b"< send 123 0  >", data(short(0x123), b""));
+    sends(&rt, b"<send 123 2 1 ff>", data(short(0x123), b"\x01\xFF"));
+    sends(&rt, b"< send 80000123 1 aB >", data(long(0x123), b"\xAB"));
+    sends(&rt, b"<\tsendrtr 00000123 3 >", remote(long(0x123), 3));
 }
 
-/// Flags of an FD frame.
-fn flags(brs: bool, esi: bool) -> FdFlags {
-    FdFlags { brs, esi }
-}
+/// Twelve bytes that differ.
+const TWELVE: [u8; 12] = [1, 2, 3, 4, 5, 6, 7, 8, 9, 10, 11, 12];
 
 #[test]
 fn fd_frames_are_read(rt: HostRuntime) {
-    let short = CanId::standard(0x123).expect(&rt, "an id");
-    let long = CanId::extended(0x1FFF_FFFF).expect(&rt, "an id");
-    let (brs, both) = (flags(true, false), flags(true, true));
-    let cases: [(&[u8], Option<Frame>); 7] = [
-        (
-            b"< sendfdx 1 123 2 aa BB >",
-            Frame::fd_with(short, brs, b"\xAA\xBB").ok(),
-        ),
-        (
-            b"<sendfdx\t3 1FFFFFFF 0>",
-            Frame::fd_with(long, both, b"").ok(),
-        ),
-        (b"< sendfdx 0 123 1 7 >", Frame::fd(short, b"\x07").ok()),
-        (b"< sendfd 123 0 >", Frame::fd(short, b"").ok()),
-        (b"< sendfd 123 1 fF >", Frame::fd(short, b"\xFF").ok()),
-        (
-            b"< sendfd 123 12 1 2 3 4 5 6 7 8 9 a b c >",
-            Frame::fd(short, &[1, 2, 3, 4, 5, 6, 7, 8, 9, 10, 11, 12]).ok(),
-        ),
-        (
-            b"< sendfd 1FFFFFFF 64 a5 a5 a5 a5 a5 a5 a5 a5 a5 a5 a5 a5 a5 a5 a5 a5 a5 a5 a5 a5 a5 a5 a5 a5 a5 a5 a5 a5 a5 a5 a5 a5 a5 a5 a5 a5 a5 a5 a5 a5 a5 a5 a5 a5 a5 a5 a5 a5 a5 a5 a5 a5 a5 a5 a5 a5 a5 a5 a5 a5 a5 a5 a5 a5 >",
-            Frame::fd(long, &[0xA5; 64]).ok(),
-        ),
-    ];
-    for (text, frame) in cases {
-        sends(&rt, text, frame);
-    }
+    sends(
+        &rt,
+        b"< sendfdx 1 123 2 aa BB >",
+        flagged(short(0x123), BRS, b"\xAA\xBB"),
+    );
+    sends(
+        &rt,
+        b"<sendfdx\t3 1FFFFFFF 0>",
+        flagged(long(0x1FFF_FFFF), BRS_AND_ESI, b""),
+    );
+    sends(&rt, b"< sendfdx 0 123 1 7 >", fd(short(0x123), b"\x07"));
+    sends(&rt, b"< sendfd 123 0 >", fd(short(0x123), b""));
+    sends(&rt, b"< sendfd 123 1 fF >", fd(short(0x123), b"\xFF"));
+    sends(
+        &rt,
+        b"< sendfd 123 12 1 2 3 4 5 6 7 8 9 a b c >",
+        fd(short(0x123), &TWELVE),
+    );
+    sends(
+        &rt,
+        b"< sendfd 1FFFFFFF 64 a5 a5 a5 a5 a5 a5 a5 a5 a5 a5 a5 a5 a5 a5 a5 a5 a5 a5 a5 a5 a5 a5 a5 a5 a5 a5 a5 a5 a5 a5 a5 a5 a5 a5 a5 a5 a5 a5 a5 a5 a5 a5 a5 a5 a5 a5 a5 a5 a5 a5 a5 a5 a5 a5 a5 a5 a5 a5 a5 a5 a5 a5 a5 a5 >",
+        fd(long(0x1FFF_FFFF), &[0xA5; 64]),
+    );
 }
 
 /// Whether this is the command of this place in the stream of the test below.
@@ -298,119 +290,88 @@ fn rules_of_faults_are_read_word_by_word(rt: HostRuntime) {
 }
 
 /// An item is written so, with the data of error message frames or without.
-fn is_written(rt: &impl Abort, item: Item, micros: u64, errdata: bool, text: &[u8]) {
+fn is_written(rt: &impl Abort, item: Option<Item>, micros: u64, errdata: bool, text: &[u8]) {
+    let item = item.expect(rt, "an item");
     let moment = Moment::new(micros).expect(rt, "a moment");
     same(rt, item_text(item, moment, errdata).as_bytes(), text);
 }
 
 #[test]
 fn frames_are_written(rt: HostRuntime) {
-    let short = CanId::standard(0x123).expect(&rt, "an id");
-    let long = CanId::extended(0x123).expect(&rt, "an id");
-    let wide = [1, 2, 3, 4, 5, 6, 7, 8, 9, 10, 11, 12];
+    let text = b"< frame 123 23.424242 11223344 >";
+    is_written(
+        &rt,
+        data(short(0x123), b"\x11\x22\x33\x44"),
+        23_424_242,
+        false,
+        text,
+    );
     let last = 9_999_999_999_999_999;
-    let cases: [(Option<Frame>, u64, bool, &[u8]); 7] = [
-        (
-            Frame::fd_with(short, flags(true, false), &wide).ok(),
-            1,
-            false,
-            b"< fdframex 1 123 0.000001 0102030405060708090A0B0C >",
-        ),
-        (
-            Frame::fd_with(long, flags(false, true), b"").ok(),
-            1,
-            false,
-            b"< fdframex 2 00000123 0.000001  >",
-        ),
-        (
-            Frame::data(short, b"\x11\x22\x33\x44").ok(),
-            23_424_242,
-            false,
-            b"< frame 123 23.424242 11223344 >",
-        ),
-        (
-            Frame::data(short, b"").ok(),
-            last,
-            true,
-            b"< frame 123 9999999999.999999  >",
-        ),
-        (
-            Frame::remote(long, 3).ok(),
-            5,
-            false,
-            b"< remote 00000123 0.000005 3 >",
-        ),
-        (
-            Frame::fd(short, &wide).ok(),
-            1,
-            false,
-            b"< fdframe 123 0.000001 0102030405060708090A0B0C >",
-        ),
-        (
-            Frame::fd(short, b"").ok(),
-            1,
-            true,
-            b"< fdframe 123 0.000001  >",
-        ),
-    ];
-    for (frame, micros, errdata, text) in cases {
-        let item = Item::Data(frame.expect(&rt, "a frame"));
-        is_written(&rt, item, micros, errdata, text);
-    }
+    let text = b"< frame 123 9999999999.999999  >";
+    is_written(&rt, data(short(0x123), b""), last, true, text);
+    let text = b"< remote 00000123 0.000005 3 >";
+    is_written(&rt, remote(long(0x123), 3), 5, false, text);
+}
+
+#[test]
+fn fd_frames_are_written(rt: HostRuntime) {
+    let text = b"< fdframex 1 123 0.000001 0102030405060708090A0B0C >";
+    is_written(&rt, flagged(short(0x123), BRS, &TWELVE), 1, false, text);
+    let text = b"< fdframex 2 00000123 0.000001  >";
+    is_written(&rt, flagged(long(0x123), ESI, b""), 1, false, text);
+    let text = b"< fdframe 123 0.000001 0102030405060708090A0B0C >";
+    is_written(&rt, fd(short(0x123), &TWELVE), 1, false, text);
+    let text = b"< fdframe 123 0.000001  >";
+    is_written(&rt, fd(short(0x123), b""), 1, true, text);
+}
+
+/// An item of an origin, a second after the start, is written so.
+fn is_written_from(rt: &impl Abort, item: Option<Item>, origin: Origin, wanted: &[u8]) {
+    let item = item.expect(rt, "an item");
+    let moment = Moment::new(1_000_000).expect(rt, "a moment");
+    let mut text = ItemText::new();
+    push_item_from(&mut text, &item, moment, false, origin);
+    same(rt, text.as_bytes(), wanted);
 }
 
 #[test]
 fn origins_are_written(rt: HostRuntime) {
-    let short = CanId::standard(0x123).expect(&rt, "an id");
-    let long = CanId::extended(0x1FFF_FFFF).expect(&rt, "an id");
-    let cases: [(Option<Frame>, Origin, &[u8]); 5] = [
-        (
-            Frame::fd_with(long, flags(true, true), b"\xA5").ok(),
-            Origin::Other(0),
-            b"< fdframex 3 1FFFFFFF 1.000000 A5 other 0 >",
-        ),
-        (
-            Frame::data(short, b"\x11\x22").ok(),
-            Origin::Same(17),
-            b"< frame 123 1.000000 1122 same 17 >",
-        ),
-        (
-            Frame::data(short, b"").ok(),
-            Origin::Other(0),
-            b"< frame 123 1.000000  other 0 >",
-        ),
-        (
-            Frame::remote(long, 8).ok(),
-            Origin::Other(u64::MAX),
-            b"< remote 1FFFFFFF 1.000000 8 other 18446744073709551615 >",
-        ),
-        (
-            Frame::fd(long, b"\xA5").ok(),
-            Origin::Same(10_000),
-            b"< fdframe 1FFFFFFF 1.000000 A5 same 10000 >",
-        ),
-    ];
-    let moment = Moment::new(1_000_000).expect(&rt, "a moment");
-    for (frame, origin, wanted) in cases {
-        let item = Item::Data(frame.expect(&rt, "a frame"));
-        let mut text = ItemText::new();
-        push_item_from(&mut text, &item, moment, false, origin);
-        same(&rt, text.as_bytes(), wanted);
-    }
+    let text = b"< fdframex 3 1FFFFFFF 1.000000 A5 other 0 >";
+    is_written_from(
+        &rt,
+        flagged(long(0x1FFF_FFFF), BRS_AND_ESI, b"\xA5"),
+        Origin::Other(0),
+        text,
+    );
+    let text = b"< frame 123 1.000000 1122 same 17 >";
+    is_written_from(&rt, data(short(0x123), b"\x11\x22"), Origin::Same(17), text);
+    let text = b"< frame 123 1.000000  other 0 >";
+    is_written_from(&rt, data(short(0x123), b""), Origin::Other(0), text);
+    let text = b"< remote 1FFFFFFF 1.000000 8 other 18446744073709551615 >";
+    is_written_from(
+        &rt,
+        remote(long(0x1FFF_FFFF), 8),
+        Origin::Other(u64::MAX),
+        text,
+    );
+    let text = b"< fdframe 1FFFFFFF 1.000000 A5 same 10000 >";
+    is_written_from(
+        &rt,
+        fd(long(0x1FFF_FFFF), b"\xA5"),
+        Origin::Same(10_000),
+        text,
+    );
 }
 
 #[test]
 fn error_message_frames_are_written(rt: HostRuntime) {
-    let state = ErrorFrame::new(0x204, [0, 8, 0, 0, 0, 0, 0x60, 0]).expect(&rt, "a class");
-    let off = ErrorFrame::new(0x40, [0; 8]).expect(&rt, "a class");
-    let cases: [(ErrorFrame, u64, bool, &[u8]); 3] = [
-        (state, 12, true, b"< error 204 0.000012 0008000000006000 >"),
-        (state, 12, false, b"< error 204 0.000012 >"),
-        (off, 32, false, b"< error 040 0.000032 >"),
-    ];
-    for (frame, micros, errdata, text) in cases {
-        is_written(&rt, Item::Error(frame), micros, errdata, text);
-    }
+    let state = error(0x204, [0, 8, 0, 0, 0, 0, 0x60, 0]);
+    let text = b"< error 204 0.000012 0008000000006000 >";
+    is_written(&rt, state, 12, true, text);
+    let state = error(0x204, [0, 8, 0, 0, 0, 0, 0x60, 0]);
+    is_written(&rt, state, 12, false, b"< error 204 0.000012 >");
+    let off = error(0x40, [0; 8]);
+    is_written(&rt, off, 32, false, b"< error 040 0.000032 >");
 }
 
 #[test]

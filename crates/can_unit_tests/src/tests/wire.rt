@@ -26,140 +26,144 @@ fn bits(text: &str) -> Option<(u32, u32)> {
     Some(rates(frame_bits(&frame(text)?)))
 }
 
-// By hand: 000# has 34 zeros with 6 stuff bits, and 10 bits. The others are of tests/wire_model.py, too.
+/// Classic frames, and how many bits each has. By hand: 000# has 34 zeros with 6 stuff bits, and 10 bits. The others
+/// are of tests/wire_model.py, too.
+const CLASSIC: [(&str, u32); 8] = [
+    ("000#", 50),
+    ("123#", 45),
+    ("123#R", 45),
+    ("123#11223344", 77),
+    ("555#5555555555555555", 109),
+    ("7FF#FFFFFFFFFFFFFFFF", 123),
+    ("048C0000#", 69),
+    ("1FFFFFFF#", 71),
+];
+
 #[test]
 fn classic_frames_have_their_bits(rt: HostRuntime) {
-    let rows = [
-        ("000#", 50),
-        ("123#", 45),
-        ("123#R", 45),
-        ("123#11223344", 77),
-        ("555#5555555555555555", 109),
-        ("7FF#FFFFFFFFFFFFFFFF", 123),
-        ("048C0000#", 69),
-        ("1FFFFFFF#", 71),
-    ];
-    for (text, nominal) in rows {
+    for (text, nominal) in CLASSIC {
         same_at(&rt, text, bits(text), Some((nominal, 0)));
     }
 }
 
-// tests/wire_model.py made these frames and their numbers, apart from the program; tests/test_wire.py compares.
+/// tests/wire_model.py made these frames and their numbers, apart from the program; tests/test_wire.py compares.
+const RANDOM_CLASSIC: [(&str, u32); 40] = [
+    ("1B1E2D5B#R4", 65),
+    ("3C7#R3", 44),
+    ("1ABE9676#", 66),
+    ("4BA#R5", 45),
+    ("11534043#71E0FD", 92),
+    ("0C0#0BD533", 70),
+    ("1FC2EA66#D8", 76),
+    ("748#FFC911F5", 80),
+    ("198455EB#BF2C", 83),
+    ("104507A2#3C00F8000F3C8383", 141),
+    ("52D#FF8383FFF8830F83", 118),
+    ("081CA68C#C44269DA1CF6BA66", 131),
+    ("34E#A9EA0E755A5C", 94),
+    ("663#", 45),
+    ("0088BACA#83FF0F0F", 101),
+    ("000AA2FD#96E8", 84),
+    ("3F8#", 48),
+    ("211#DD0A7309CB4A1252", 109),
+    ("1033AF94#E6720FCAA4DA1E98", 134),
+    ("06C9C867#R4", 64),
+    ("1D598221#0083", 84),
+    ("04D#R7", 47),
+    ("608#R8", 46),
+    ("0201112D#3CF80F83F800", 121),
+    ("1BE452CA#R", 66),
+    ("665#3C00", 64),
+    ("775#7821142B4456556D", 109),
+    ("0220A800#0FFF833C", 104),
+    ("001#F8", 56),
+    ("64E#R5", 45),
+    ("768#0F0F0F838300F80F", 117),
+    ("0176CC55#", 66),
+    ("1A6F932C#D7523B", 92),
+    ("15C9D9E9#96", 73),
+    ("5B1#00", 55),
+    ("1F715334#00000F83F8", 113),
+    ("0002D4B8#0F0FFF83FF0FFFFF", 143),
+    ("1A3D4083#R7", 68),
+    ("2B6#FF0F830FFF0F", 100),
+    ("12800464#FF", 77),
+];
+
 #[test]
 fn random_classic_frames_have_theirs(rt: HostRuntime) {
-    let rows = [
-        ("1B1E2D5B#R4", 65),
-        ("3C7#R3", 44),
-        ("1ABE9676#", 66),
-        ("4BA#R5", 45),
-        ("11534043#71E0FD", 92),
-        ("0C0#0BD533", 70),
-        ("1FC2EA66#D8", 76),
-        ("748#FFC911F5", 80),
-        ("198455EB#BF2C", 83),
-        ("104507A2#3C00F8000F3C8383", 141),
-        ("52D#FF8383FFF8830F83", 118),
-        ("081CA68C#C44269DA1CF6BA66", 131),
-        ("34E#A9EA0E755A5C", 94),
-        ("663#", 45),
-        ("0088BACA#83FF0F0F", 101),
-        ("000AA2FD#96E8", 84),
-        ("3F8#", 48),
-        ("211#DD0A7309CB4A1252", 109),
-        ("1033AF94#E6720FCAA4DA1E98", 134),
-        ("06C9C867#R4", 64),
-        ("1D598221#0083", 84),
-        ("04D#R7", 47),
-        ("608#R8", 46),
-        ("0201112D#3CF80F83F800", 121),
-        ("1BE452CA#R", 66),
-        ("665#3C00", 64),
-        ("775#7821142B4456556D", 109),
-        ("0220A800#0FFF833C", 104),
-        ("001#F8", 56),
-        ("64E#R5", 45),
-        ("768#0F0F0F838300F80F", 117),
-        ("0176CC55#", 66),
-        ("1A6F932C#D7523B", 92),
-        ("15C9D9E9#96", 73),
-        ("5B1#00", 55),
-        ("1F715334#00000F83F8", 113),
-        ("0002D4B8#0F0FFF83FF0FFFFF", 143),
-        ("1A3D4083#R7", 68),
-        ("2B6#FF0F830FFF0F", 100),
-        ("12800464#FF", 77),
-    ];
-    for (text, nominal) in rows {
+    for (text, nominal) in RANDOM_CLASSIC {
         same_at(&rt, text, bits(text), Some((nominal, 0)));
     }
 }
 
-// The same of FD frames, with BRS and ESI.
+/// The same of FD frames, with BRS and ESI: how many bits go at each rate.
+const RANDOM_FD: [(&str, u32, u32); 40] = [
+    ("795##19D", 27, 40),
+    ("06CA7F1B##1BEE389120EBAEEA3C2D8545A", 47, 130),
+    ("00C37206##15DE4", 48, 48),
+    (
+        "5E0##3E452CCEC7FFA8EFFB5E8ECB3E9F971A65589F59E9BD09F6A",
+        28,
+        236,
+    ),
+    ("09A0042C##000FF3C0000833C000F83FF3C", 187, 0),
+    ("008##200F8", 79, 0),
+    ("613##3000000003C", 27, 78),
+    ("2FC##08300", 79, 0),
+    ("1FB##1", 28, 32),
+    ("0ACA748B##187CD4EF2", 46, 65),
+    ("009##241C9F9A749", 102, 0),
+    ("2BA##0471D811143525731E876107E", 158, 0),
+    ("0E3AF629##1B8", 46, 40),
+    (
+        "08894A00##300833C00FF000000FFFF00FF00833CF8F80F833CF8FF3CFF",
+        48,
+        254,
+    ),
+    ("360##3", 28, 32),
+    ("173##23CBB94BE9D09D333359C6508E71ED2F8", 189, 0),
+    ("10562082##33C", 49, 40),
+    ("1828D471##30F", 47, 40),
+    ("03E5353A##16C", 47, 40),
+    ("032##00FF8FF0F0FF883", 120, 0),
+    (
+        "581##3CA7650FA84DA2B3124B65A4BD5222C134197C776A8E05892",
+        28,
+        234,
+    ),
+    ("114EFF58##356", 48, 40),
+    ("390##14AEEE1", 28, 56),
+    ("67A##1F80F3C3CF83C3CF80F830F3C3C3C003CFF8383FF", 27, 212),
+    ("0415C548##1", 47, 32),
+    ("05AD0158##3", 47, 32),
+    ("06E55E9A##03C8383FFF883", 132, 0),
+    ("139827E1##1FF000F00F8833C", 47, 95),
+    ("609##2EB0E28B158CF82451B53FFC3ED964F05", 194, 0),
+    ("0EF4E00C##1689DFF44F7", 47, 73),
+    ("5B0##30F", 28, 40),
+    ("324##34C2D9D1477EA768E", 27, 97),
+    (
+        "03940852##3000FF80FFFF8F80FF8FF3CF83CFF0F0FFF00FFF8FF3C0FFF",
+        47,
+        252,
+    ),
+    ("19717098##03C0F0F3C", 111, 0),
+    ("405##09525BC9DCAF75984B5E1F42C5FA1C2410E35B355", 228, 0),
+    (
+        "1C19419C##383F8830FF83CFF0F0FFFF800FFFF0F0FFFF80F0F000FFFFF",
+        48,
+        253,
+    ),
+    ("5D3##0495A20DCE3", 100, 0),
+    ("001##2CA741BC8F2FAA22EFDCDE856", 160, 0),
+    ("10CAE3BB##13C", 46, 40),
+    ("166##13C0FFFFF", 27, 68),
+];
+
 #[test]
 fn random_fd_frames_have_theirs(rt: HostRuntime) {
-    let rows = [
-        ("795##19D", 27, 40),
-        ("06CA7F1B##1BEE389120EBAEEA3C2D8545A", 47, 130),
-        ("00C37206##15DE4", 48, 48),
-        (
-            "5E0##3E452CCEC7FFA8EFFB5E8ECB3E9F971A65589F59E9BD09F6A",
-            28,
-            236,
-        ),
-        ("09A0042C##000FF3C0000833C000F83FF3C", 187, 0),
-        ("008##200F8", 79, 0),
-        ("613##3000000003C", 27, 78),
-        ("2FC##08300", 79, 0),
-        ("1FB##1", 28, 32),
-        ("0ACA748B##187CD4EF2", 46, 65),
-        ("009##241C9F9A749", 102, 0),
-        ("2BA##0471D811143525731E876107E", 158, 0),
-        ("0E3AF629##1B8", 46, 40),
-        (
-            "08894A00##300833C00FF000000FFFF00FF00833CF8F80F833CF8FF3CFF",
-            48,
-            254,
-        ),
-        ("360##3", 28, 32),
-        ("173##23CBB94BE9D09D333359C6508E71ED2F8", 189, 0),
-        ("10562082##33C", 49, 40),
-        ("1828D471##30F", 47, 40),
-        ("03E5353A##16C", 47, 40),
-        ("032##00FF8FF0F0FF883", 120, 0),
-        (
-            "581##3CA7650FA84DA2B3124B65A4BD5222C134197C776A8E05892",
-            28,
-            234,
-        ),
-        ("114EFF58##356", 48, 40),
-        ("390##14AEEE1", 28, 56),
-        ("67A##1F80F3C3CF83C3CF80F830F3C3C3C003CFF8383FF", 27, 212),
-        ("0415C548##1", 47, 32),
-        ("05AD0158##3", 47, 32),
-        ("06E55E9A##03C8383FFF883", 132, 0),
-        ("139827E1##1FF000F00F8833C", 47, 95),
-        ("609##2EB0E28B158CF82451B53FFC3ED964F05", 194, 0),
-        ("0EF4E00C##1689DFF44F7", 47, 73),
-        ("5B0##30F", 28, 40),
-        ("324##34C2D9D1477EA768E", 27, 97),
-        (
-            "03940852##3000FF80FFFF8F80FF8FF3CF83CFF0F0FFF00FFF8FF3C0FFF",
-            47,
-            252,
-        ),
-        ("19717098##03C0F0F3C", 111, 0),
-        ("405##09525BC9DCAF75984B5E1F42C5FA1C2410E35B355", 228, 0),
-        (
-            "1C19419C##383F8830FF83CFF0F0FFFF800FFFF0F0FFFF80F0F000FFFFF",
-            48,
-            253,
-        ),
-        ("5D3##0495A20DCE3", 100, 0),
-        ("001##2CA741BC8F2FAA22EFDCDE856", 160, 0),
-        ("10CAE3BB##13C", 46, 40),
-        ("166##13C0FFFFF", 27, 68),
-    ];
-    for (text, nominal, fast) in rows {
+    for (text, nominal, fast) in RANDOM_FD {
         same_at(&rt, text, bits(text), Some((nominal, fast)));
     }
 }
@@ -178,22 +182,24 @@ fn filled(byte: u8, len: usize) -> Option<(u32, u32)> {
     Some(rates(frame_bits(&frame)))
 }
 
-// By hand. Bytes 55 have no stuff bits: 27 bits to BRS and after the CRC, 5 from ESI to the length, the data, and 27 or
-// 32. Of 512 zeros each fifth has a stuff bit, and of 516 ones with those of the length.
+/// The byte and the length of FD frames, and how many of their bits go at the rate of the data phase. By hand. Bytes
+/// 55 have no stuff bits: 27 bits to BRS and after the CRC, 5 from ESI to the length, the data, and 27 or 32. Of 512
+/// zeros each fifth has a stuff bit, and of 516 ones with those of the length.
+const LONG_FD: [(u8, usize, u32); 9] = [
+    (0x55, 8, 96),
+    (0x55, 12, 128),
+    (0x55, 16, 160),
+    (0x55, 20, 197),
+    (0x55, 32, 293),
+    (0x55, 48, 421),
+    (0x55, 64, 549),
+    (0x00, 64, 651),
+    (0xFF, 64, 652),
+];
+
 #[test]
 fn long_fd_frames_have_theirs(rt: HostRuntime) {
-    let rows = [
-        (0x55, 8, 96),
-        (0x55, 12, 128),
-        (0x55, 16, 160),
-        (0x55, 20, 197),
-        (0x55, 32, 293),
-        (0x55, 48, 421),
-        (0x55, 64, 549),
-        (0x00, 64, 651),
-        (0xFF, 64, 652),
-    ];
-    for (byte, len, fast) in rows {
+    for (byte, len, fast) in LONG_FD {
         same_at(&rt, (byte, len), filled(byte, len), Some((27, fast)));
     }
 }
@@ -203,41 +209,42 @@ fn attempt(text: &str, class: Class, verdict: Verdict) -> Option<(u32, u32)> {
     Some(rates(attempt_bits(&frame(text)?, class, verdict)))
 }
 
-// 52 and 67 bits to the end of the data and of the CRC, and 3 bits of intermission after each attempt.
+/// How many bits attempts with a classic frame take: 52 and 67 to the end of the data and of the CRC, and 3 of
+/// intermission after each.
+const ATTEMPTS: [(Class, Verdict, u32); 8] = [
+    (Class::Done, Verdict::Good, 77 + 3),
+    (Class::LastBit, Verdict::LastBit, 77 + 7 + 8 + 3),
+    (Class::NoAck, Verdict::Good, 67 + 2 + 6 + 8 + 3),
+    (
+        Class::Destroyed,
+        Verdict::Global(GlobalKind::Bit),
+        52 + 12 + 8 + 3,
+    ),
+    (
+        Class::Destroyed,
+        Verdict::Local(IfaceSet(2), LocalKind::Stuff),
+        52 + 12 + 8 + 3,
+    ),
+    (
+        Class::Destroyed,
+        Verdict::Global(GlobalKind::Form),
+        67 + 3 + 12 + 8 + 3,
+    ),
+    (
+        Class::Destroyed,
+        Verdict::Local(IfaceSet(2), LocalKind::Crc),
+        67 + 3 + 12 + 8 + 3,
+    ),
+    (
+        Class::Destroyed,
+        Verdict::Local(IfaceSet(2), LocalKind::Form),
+        67 + 3 + 12 + 8 + 3,
+    ),
+];
+
 #[test]
 fn attempts_have_theirs(rt: HostRuntime) {
-    let some = IfaceSet(2);
-    let rows = [
-        (Class::Done, Verdict::Good, 77 + 3),
-        (Class::LastBit, Verdict::LastBit, 77 + 7 + 8 + 3),
-        (Class::NoAck, Verdict::Good, 67 + 2 + 6 + 8 + 3),
-        (
-            Class::Destroyed,
-            Verdict::Global(GlobalKind::Bit),
-            52 + 12 + 8 + 3,
-        ),
-        (
-            Class::Destroyed,
-            Verdict::Local(some, LocalKind::Stuff),
-            52 + 12 + 8 + 3,
-        ),
-        (
-            Class::Destroyed,
-            Verdict::Global(GlobalKind::Form),
-            67 + 3 + 12 + 8 + 3,
-        ),
-        (
-            Class::Destroyed,
-            Verdict::Local(some, LocalKind::Crc),
-            67 + 3 + 12 + 8 + 3,
-        ),
-        (
-            Class::Destroyed,
-            Verdict::Local(some, LocalKind::Form),
-            67 + 3 + 12 + 8 + 3,
-        ),
-    ];
-    for (class, verdict, nominal) in rows {
+    for (class, verdict, nominal) in ATTEMPTS {
         let got = attempt("123#11223344", class, verdict);
         same_at(&rt, (class, verdict), got, Some((nominal, 0)));
     }
@@ -254,21 +261,23 @@ fn attempts_have_theirs(rt: HostRuntime) {
     );
 }
 
-// At 500 kbit/s a bit takes 2000 ns, at 83.333 kbit/s 12000.048.
+/// Two bit rates, how many bits go at each, and the nanoseconds that they take. At 500 kbit/s a bit takes 2000 ns, at
+/// 83.333 kbit/s 12000.048.
+const NANOS: [(u32, u32, u32, u32, Result<u64, BadBitRates>); 9] = [
+    (500_000, 500_000, 108, 0, Ok(216_000)),
+    (1_000_000, 8_000_000, 27, 651, Ok(108_375)),
+    (83_333, 83_333, 1, 0, Ok(12_001)),
+    (83_333, 83_333, 1_000, 0, Ok(12_000_049)),
+    (5_000, 20_000_000, 1, 1, Ok(200_050)),
+    (4_999, 5_000, 1, 1, Err(BadBitRates)),
+    (1_000_001, 1_000_001, 1, 1, Err(BadBitRates)),
+    (500_000, 499_999, 1, 1, Err(BadBitRates)),
+    (500_000, 20_000_001, 1, 1, Err(BadBitRates)),
+];
+
 #[test]
 fn bits_take_their_time(rt: HostRuntime) {
-    let rows = [
-        (500_000, 500_000, 108, 0, Ok(216_000)),
-        (1_000_000, 8_000_000, 27, 651, Ok(108_375)),
-        (83_333, 83_333, 1, 0, Ok(12_001)),
-        (83_333, 83_333, 1_000, 0, Ok(12_000_049)),
-        (5_000, 20_000_000, 1, 1, Ok(200_050)),
-        (4_999, 5_000, 1, 1, Err(BadBitRates)),
-        (1_000_001, 1_000_001, 1, 1, Err(BadBitRates)),
-        (500_000, 499_999, 1, 1, Err(BadBitRates)),
-        (500_000, 20_000_001, 1, 1, Err(BadBitRates)),
-    ];
-    for (nominal, data_rate, slow, fast, nanos) in rows {
+    for (nominal, data_rate, slow, fast, nanos) in NANOS {
         let bits = WireBits {
             nominal: slow,
             fast,
