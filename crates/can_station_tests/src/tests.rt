@@ -15,15 +15,17 @@ mod threads;
 mod twins;
 mod waits;
 
-use can_attempt::AckMode;
+use can_attempt::{AckMode, Class};
 use can_bus::{
-    Attempt, BusConfig, Closed, Event, Journaled, Opt, Received, Reply, RingBus, SocketId,
+    Attempt, BusConfig, Closed, Event, IfaceStats, Journaled, Opt, Received, Reply, RingBus,
+    SocketId, SocketStats,
 };
 use can_fault::{FaultSource, Script, Verdict};
+use can_filter::FilterSet;
 use can_frame::{CanId, Frame, Iface, IfaceSet, Moment, Names};
 use can_meter::{Gauge, MeterName, Status};
 use can_roll::RollName;
-use can_station::{Blanks, Gate, Pass, Settled, Station, StationRefusal, WakeReason};
+use can_station::{Blanks, Gate, Pass, Settled, Station, StationRefusal, WakeReason, WrongStation};
 use can_test_support::{config, reaches};
 use std::alloc::Global;
 use std::process::Abort;
@@ -69,6 +71,14 @@ fn made<N: RollName + MeterName, F: FaultSource + Drop, G: Gate + Drop, R: Abort
     station
 }
 
+/// A bus that no station is around.
+fn plain_bus<R: Abort>(rt: &R, alloc: Global, config: BusConfig) -> RingBus {
+    let Ok(bus) = RingBus::new(alloc, config) else {
+        panic!(rt; "no bus");
+    };
+    bus
+}
+
 fn entered<
     's,
     N: RollName + MeterName,
@@ -112,14 +122,15 @@ impl<
     B: Journaled,
 > Caller<'_, N, F, G, R, B> {
     fn open(&mut self, number: u8, capacity: u32) -> SocketId {
-        let iface = iface(self.rt, number);
-        let opened = self
-            .station
-            .open(self.rt, self.alloc, &mut self.pass, iface, capacity);
-        let Ok(socket) = opened else {
+        let Ok(socket) = self.open_at(iface(self.rt, number), capacity) else {
             panic!(self.rt; "no socket");
         };
         socket
+    }
+
+    fn open_at(&mut self, iface: Iface, capacity: u32) -> Result<SocketId, StationRefusal> {
+        self.station
+            .open(self.rt, self.alloc, &mut self.pass, iface, capacity)
     }
 
     /// Opens a socket, which is this one.
@@ -140,6 +151,11 @@ impl<
 
     fn send(&mut self, socket: SocketId, id: u16) -> Result<u64, StationRefusal> {
         self.send_frame(socket, frame(self.rt, id))
+    }
+
+    /// Sends a frame with this identifier, whichever number it gets.
+    fn queues(&mut self, socket: SocketId, id: u16) {
+        is_done(self.rt, self.send(socket, id));
     }
 
     /// Sends a frame with this identifier, which gets this number.
@@ -171,9 +187,25 @@ impl<
     }
 
     fn step(&mut self, micros: u64) -> Result<Attempt, StationRefusal> {
-        let moment = moment(self.rt, micros);
+        self.step_at(moment(self.rt, micros))
+    }
+
+    fn step_at(&mut self, moment: Moment) -> Result<Attempt, StationRefusal> {
         self.station
             .step(self.rt, self.alloc, &mut self.pass, moment)
+    }
+
+    /// Makes a step that is not refused.
+    fn steps(&mut self, micros: u64) {
+        is_done(self.rt, self.step(micros));
+    }
+
+    /// Makes a step in which a frame is tried. Returns how it ends.
+    fn class_of_step(&mut self, micros: u64) -> Class {
+        let Ok(attempt) = self.step(micros) else {
+            panic!(self.rt; "no attempt");
+        };
+        class_of(self.rt, attempt)
     }
 
     /// Makes a step in a hold of the lock: its verdict, and what it came to.
@@ -194,6 +226,11 @@ impl<
             .attempt(self.rt, self.alloc, &mut self.pass, moment, verdict)
     }
 
+    /// Makes an attempt with this verdict that is not refused.
+    fn attempts(&mut self, micros: u64, verdict: Verdict) {
+        is_done(self.rt, self.attempt(micros, verdict));
+    }
+
     fn close(&mut self, socket: SocketId) -> Result<Closed, StationRefusal> {
         self.station
             .close(self.rt, self.alloc, &mut self.pass, socket)
@@ -201,7 +238,7 @@ impl<
 
     /// Closes a socket that is open.
     fn closes(&mut self, socket: SocketId) {
-        assert!(self.rt; self.close(socket).is_ok());
+        is_done(self.rt, self.close(socket));
     }
 
     fn set_option(&mut self, socket: SocketId, option: Opt) -> Result<(), StationRefusal> {
@@ -209,15 +246,28 @@ impl<
             .set_option(self.rt, self.alloc, &mut self.pass, socket, option)
     }
 
+    fn set_filters(&mut self, socket: SocketId, filters: &FilterSet) -> Result<(), StationRefusal> {
+        self.station
+            .set_filters(self.rt, self.alloc, &mut self.pass, socket, filters)
+    }
+
     /// Sets an option of a socket that is open.
     fn sets(&mut self, socket: SocketId, option: Opt) {
-        assert!(self.rt; self.set_option(socket, option).is_ok());
+        is_done(self.rt, self.set_option(socket, option));
     }
 
     fn restart(&mut self, number: u8, micros: u64) -> Result<(), StationRefusal> {
-        let (iface, moment) = (iface(self.rt, number), moment(self.rt, micros));
+        self.restart_at(iface(self.rt, number), moment(self.rt, micros))
+    }
+
+    fn restart_at(&mut self, iface: Iface, moment: Moment) -> Result<(), StationRefusal> {
         self.station
             .restart(self.rt, self.alloc, &mut self.pass, iface, moment)
+    }
+
+    /// Restarts an interface that is bus off.
+    fn restarts(&mut self, number: u8, micros: u64) {
+        is_done(self.rt, self.restart(number, micros));
     }
 
     /// How many calls its pass keeps.
@@ -232,7 +282,30 @@ impl<
 
     /// A wait for work ends since there is some.
     fn has_work(&self) {
-        assert!(self.rt; self.station.wait_work(self.rt) == WakeReason::Ready);
+        self.has_waited(WakeReason::Ready);
+    }
+
+    /// A wait for work ends so.
+    fn has_waited(&self, wake: WakeReason) {
+        assert!(self.rt; self.station.wait_work(self.rt) == wake);
+    }
+
+    /// A driver gets the lock, since there is work.
+    fn holds_work(&self) {
+        let Some(hold) = self.station.hold_work(self.rt) else {
+            panic!(self.rt; "no work");
+        };
+        assert!(self.rt; hold.has_work());
+    }
+
+    /// A driver learns of the end, since there is no work and the station was stopped.
+    fn holds_no_work(&self) {
+        assert!(self.rt; self.station.hold_work(self.rt).is_none());
+    }
+
+    /// A wait for an item of this socket ends so.
+    fn has_item(&self, socket: SocketId, wake: WakeReason) {
+        assert!(self.rt; self.station.wait_frame(self.rt, socket) == wake);
     }
 
     /// A wait for items of this socket ends so, and so many are there.
@@ -244,6 +317,49 @@ impl<
         let Caller { pass, .. } = self;
         pass
     }
+}
+
+/// A call is not refused.
+fn is_done<T: Drop, R: Abort>(rt: &R, outcome: Result<T, StationRefusal>) {
+    assert!(rt; outcome.is_ok());
+}
+
+/// A call is refused so.
+fn refuses<T: Drop, R: Abort>(rt: &R, outcome: Result<T, StationRefusal>, wanted: StationRefusal) {
+    assert!(rt; matches!(outcome, Err(why) if why == wanted));
+}
+
+/// How the frame of an attempt ended.
+fn class_of<R: Abort>(rt: &R, attempt: Attempt) -> Class {
+    let Attempt::Tried(tried) = attempt else {
+        panic!(rt; "no frame");
+    };
+    tried.class
+}
+
+/// What a station counts of a socket and of an interface.
+type Stats = (Option<SocketStats>, Option<IfaceStats>);
+
+fn stats<N: RollName + MeterName, F: FaultSource + Drop, G: Gate + Drop, R: Wait, B: Journaled>(
+    rt: &R,
+    station: &Station<N, F, G, B>,
+    socket: SocketId,
+    iface: Iface,
+) -> Stats {
+    station.stats(rt, socket, iface)
+}
+
+/// A station counts these of a socket and of an interface.
+fn are_counted<
+    N: RollName + MeterName,
+    F: FaultSource + Drop,
+    G: Gate + Drop,
+    R: Wait + Abort,
+    B: Journaled,
+>(rt: &R, station: &Station<N, F, G, B>, socket: SocketId, iface: Iface, counted: Stats) {
+    let (items, frames) = stats(rt, station, socket, iface);
+    assert!(rt; items == counted.0);
+    assert!(rt; frames == counted.1);
 }
 
 /// Settles with these two passes and these gauges.
@@ -277,6 +393,17 @@ fn settles<N: RollName + MeterName, F: FaultSource + Drop, G: Gate + Drop, R: Wa
     assert!(rt; settled.history.len() == entries);
 }
 
+/// A station does not settle with these, of which one is another station's.
+fn is_unsettled<N: RollName + MeterName, F: FaultSource + Drop, G: Gate + Drop, R: Wait + Abort>(
+    rt: &R,
+    station: Station<N, F, G>,
+    passes: Vec<Pass<N>>,
+    gauges: Vec<Gauge<N>>,
+) {
+    let outcome = station.settle(rt, passes, gauges);
+    assert!(rt; matches!(outcome, Err(WrongStation)));
+}
+
 /// Another gauge of a station.
 fn gauge<
     N: RollName + MeterName,
@@ -291,12 +418,19 @@ fn gauge<
     gauge
 }
 
+/// What a gauge reads of an interface.
+fn status<N: MeterName, R: Abort>(rt: &R, gauge: &mut Gauge<N>, place: usize) -> Status
+    ensures { gauge.new.number ≡ gauge.old.number }
+{
+    assert!(rt; place < gauge.ifaces());
+    gauge.status(place)
+}
+
 /// What a gauge reads of an interface: the record's length, the transmit and the receive count.
 fn reading<N: MeterName, R: Abort>(rt: &R, gauge: &mut Gauge<N>, place: usize) -> (u32, u16, u16)
     ensures { gauge.new.number ≡ gauge.old.number }
 {
-    assert!(rt; place < gauge.ifaces());
-    let Status { at, counters } = gauge.status(place);
+    let Status { at, counters } = status(rt, gauge, place);
     (at, counters.tec(), counters.rec())
 }
 

@@ -4,8 +4,6 @@ ghost use Rattle.std.specs.Prelude.{◌≡◌};
 
 use super::waits::{Act, Awaited, Party, wakes};
 use super::*;
-use can_attempt::Class;
-use can_bus::RingBus;
 use can_fault::{GlobalKind, LocalKind, Perfect};
 use can_station::Open;
 use std::marker::Brand;
@@ -28,25 +26,48 @@ struct Both<'s, N: RollName + MeterName, R: Wait + Abort> {
 
 impl<N: RollName + MeterName, R: Wait + Abort> Both<'_, N, R> {
     fn open(&mut self, number: u8) {
+        let opened = self.open_on_bus(number);
+        self.caller.opens(number, 4, opened);
+    }
+
+    fn open_on_bus(&mut self, number: u8) -> SocketId {
         let (rt, alloc) = (self.caller.rt, self.caller.alloc);
-        let opened = self.bus.open(alloc, iface(rt, number), 4);
-        assert!(rt; opened == Ok(self.caller.open(number, 4)));
+        let Ok(socket) = self.bus.open(alloc, iface(rt, number), 4) else {
+            panic!(rt; "no socket");
+        };
+        socket
     }
 
     /// Sends a frame of can0, which gets this number there.
     fn sends(&mut self, number: u64) {
-        let rt = self.caller.rt;
-        assert!(rt; self.bus.send(SocketId(0), frame(rt, 0x123)) == Ok(number));
+        assert!(self.caller.rt; self.send_on_bus() == Some(number));
         self.caller.sends(SocketId(0), 0x123, number);
+    }
+
+    fn send_on_bus(&mut self) -> Option<u64> {
+        self.bus
+            .send(SocketId(0), frame(self.caller.rt, 0x123))
+            .ok()
     }
 
     /// An attempt with this verdict. Both answer alike.
     fn attempt(&mut self, micros: u64, verdict: Verdict) -> Option<Attempt> {
-        let rt = self.caller.rt;
-        let of_bus = self.bus.attempt(moment(rt, micros), verdict).ok();
+        let of_bus = self.attempt_on_bus(micros, verdict);
         let of_station = self.caller.attempt(micros, verdict).ok();
-        assert!(rt; of_station == of_bus);
+        assert!(self.caller.rt; of_station == of_bus);
         of_station
+    }
+
+    fn attempt_on_bus(&mut self, micros: u64, verdict: Verdict) -> Option<Attempt> {
+        let moment = moment(self.caller.rt, micros);
+        self.bus.attempt(moment, verdict).ok()
+    }
+
+    /// An attempt with this verdict finds no frame, and restarts nobody.
+    fn finds_nothing(&mut self, micros: u64, verdict: Verdict) {
+        let restarted = IfaceSet(0);
+        let attempt = self.attempt(micros, verdict);
+        assert!(self.caller.rt; attempt == Some(Attempt::Idle { restarted }));
     }
 
     /// The frame of can0 is tried, and ends so: the class, and who accepted it.
@@ -109,22 +130,45 @@ const ROWS: [Row; 4] = [
     },
 ];
 
-/// An idle attempt, and these rows.
+/// The attempt of a row.
+fn tries_row<N: RollName + MeterName, R: Wait + Abort>(
+    both: &mut Both<'_, N, R>,
+    gauge: &mut Gauge<N>,
+    row: Row,
+) {
+    let rt = both.caller.rt;
+    if let Some(number) = row.sent {
+        both.sends(number);
+    }
+    assert!(rt; both.tries(row.micros, row.verdict) == row.ends);
+    reads(rt, gauge, 0, row.read.0);
+    reads(rt, gauge, 1, row.read.1);
+}
+
+/// An idle attempt, these rows, and a send.
 fn tries_all<N: RollName + MeterName, R: Wait + Abort>(
     both: &mut Both<'_, N, R>,
     gauge: &mut Gauge<N>,
 ) {
-    let rt = both.caller.rt;
-    let restarted = IfaceSet(0);
-    assert!(rt; both.attempt(1, FORM) == Some(Attempt::Idle { restarted }));
+    both.finds_nothing(1, FORM);
     for row in ROWS {
-        if let Some(number) = row.sent {
-            both.sends(number);
-        }
-        assert!(rt; both.tries(row.micros, row.verdict) == row.ends);
-        reads(rt, gauge, 0, row.read.0);
-        reads(rt, gauge, 1, row.read.1);
+        tries_row(both, gauge, row);
     }
+    both.sends(2);
+}
+
+/// Opens the sockets and tries all rows, on a station and on a plain bus. Returns the caller of the station.
+fn answers_as_a_bus<'s, N: RollName + MeterName, R: Wait + Abort>(
+    caller: Party<'s, N, R>,
+    gauge: &mut Gauge<N>,
+) -> Party<'s, N, R> {
+    let bus = plain_bus(caller.rt, caller.alloc, config(2));
+    let mut both = Both { caller, bus };
+    both.open(0);
+    both.open(1);
+    tries_all(&mut both, gauge);
+    let Both { caller, bus: _ } = both;
+    caller
 }
 
 /// Attempts with verdicts of the caller. A step then has the source's verdict for the fifth frame that is tried.
@@ -134,16 +178,8 @@ fn gives_verdicts<N: RollName + MeterName, R: Wait + Abort>(rt: &R, alloc: Globa
     let source = script(rt, alloc, SCRIPT);
     let station = made::<N, _, _, _>(rt, alloc, blanks, 0, config(2), source, Open);
     let mut gauge = gauge(rt, &station);
-    let Ok(bus) = RingBus::new(alloc, config(2)) else {
-        panic!(rt; "no bus");
-    };
     let caller = entered(rt, alloc, &station);
-    let mut both = Both { caller, bus };
-    both.open(0);
-    both.open(1);
-    tries_all(&mut both, &mut gauge);
-    both.sends(2);
-    let Both { mut caller, bus: _ } = both;
+    let mut caller = answers_as_a_bus(caller, &mut gauge);
     steps_with_the_source(&mut caller);
     let passes = one(rt, alloc, caller.leave());
     settles(rt, station, passes, one(rt, alloc, gauge), 12);
@@ -151,16 +187,21 @@ fn gives_verdicts<N: RollName + MeterName, R: Wait + Abort>(rt: &R, alloc: Globa
 
 /// A step sees the fault in the last bit that the source has for attempt 4, and returns it. The next one is good.
 fn steps_with_the_source<N: RollName + MeterName, R: Wait + Abort>(caller: &mut Party<'_, N, R>) {
-    let rt = caller.rt;
-    let Ok((verdict, Attempt::Tried(tried))) = caller.step_judged(6) else {
-        panic!(rt; "no frame");
-    };
-    assert!(rt; verdict == Verdict::LastBit && tried.class == Class::LastBit);
-    let Ok(Attempt::Tried(tried)) = caller.step(7) else {
-        panic!(rt; "no frame");
-    };
-    assert!(rt; tried.class == Class::Done);
+    let (verdict, class) = judged(caller, 6);
+    assert!(caller.rt; verdict == Verdict::LastBit && class == Class::LastBit);
+    assert!(caller.rt; caller.class_of_step(7) == Class::Done);
     caller.keeps(12);
+}
+
+/// The verdict of a step, and how the frame ends that it tries.
+fn judged<N: RollName + MeterName, R: Wait + Abort>(
+    caller: &mut Party<'_, N, R>,
+    micros: u64,
+) -> (Verdict, Class) {
+    let Ok((verdict, attempt)) = caller.step_judged(micros) else {
+        panic!(caller.rt; "no attempt");
+    };
+    (verdict, class_of(caller.rt, attempt))
 }
 
 /// An attempt with a pass of another station is refused: the frame that waits is not tried, and no list grows.
@@ -170,16 +211,24 @@ fn is_refused<'s, N: RollName + MeterName, R: Wait + Abort>(
     station: &'s Station<N, Perfect, Open>,
     pass: Pass<N>,
 ) {
-    let before = station.stats(rt, SocketId(0), iface(rt, 0));
+    let before = stats(rt, station, SocketId(0), iface(rt, 0));
     let mut stranger = Caller {
         rt,
         alloc,
         station,
         pass,
     };
-    assert!(rt; stranger.attempt(1, Verdict::Good) == Err(StationRefusal::WrongStation));
+    finds_it_strange(&mut stranger);
+    are_counted(rt, station, SocketId(0), iface(rt, 0), before);
+}
+
+/// The attempt is refused, and enters no list.
+fn finds_it_strange<N: RollName + MeterName, R: Wait + Abort>(
+    stranger: &mut Caller<'_, N, Perfect, Open, R>,
+) {
+    let attempt = stranger.attempt(1, Verdict::Good);
+    refuses(stranger.rt, attempt, StationRefusal::WrongStation);
     stranger.keeps(0);
-    assert!(rt; station.stats(rt, SocketId(0), iface(rt, 0)) == before);
 }
 
 /// A station with a frame to send, and an attempt of somebody who entered another.

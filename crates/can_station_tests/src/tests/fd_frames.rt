@@ -62,7 +62,7 @@ fn two_sides<N: RollName + MeterName + Send + Sync, R: Threads + Wait + Abort + 
     first.opens(0, 1, SENDER);
     second.opens(1, 1, RECEIVER);
     let (sent, received) = join(rt, || sends(first), || receives(second));
-    let (_, frames) = station.stats(rt, SENDER, iface(rt, 0));
+    let (_, frames) = stats(rt, &station, SENDER, iface(rt, 0));
     assert!(rt; frames.is_some_and(|counts| counts.done == 1 && counts.refused == 0));
     let passes = two(rt, alloc, sent, received);
     let settled = settled(rt, station, passes, Vec::new(alloc));

@@ -3,9 +3,8 @@
 ghost use Rattle.std.specs.Prelude.{◌≡◌, ◌≤◌};
 
 use super::*;
-use can_bus::{IfaceStats, Refusal, SocketStats};
+use can_bus::Refusal;
 use can_fault::Perfect;
-use can_filter::FilterSet;
 use can_station::Open;
 use std::marker::Brand;
 use std::test::Fail;
@@ -22,17 +21,9 @@ fn small() -> BusConfig {
     }
 }
 
-/// The counts of socket 0 and of can0.
-fn counts<N: RollName + MeterName, R: Wait + Abort>(
-    caller: &Party<'_, N, R>,
-) -> (Option<SocketStats>, Option<IfaceStats>) {
-    let can0 = iface(caller.rt, 0);
-    caller.station.stats(caller.rt, SocketId(0), can0)
-}
-
 /// A call is refused, since the record is full.
 fn is_refused<T: Drop, R: Abort>(rt: &R, outcome: Result<T, StationRefusal>) {
-    assert!(rt; matches!(outcome, Err(why) if why == FULL));
+    refuses(rt, outcome, FULL);
 }
 
 /// Open, send, attempt; the fourth call finds the record full, and changes nothing. Who asks first learns of it, and
@@ -56,13 +47,13 @@ fn finds_it_full_twice<N: RollName + MeterName, R: Wait + Abort>(
     socket: SocketId,
 ) {
     let (rt, station) = (caller.rt, caller.station);
-    let before = counts(caller);
+    let before = stats(rt, station, socket, iface(rt, 0));
     assert!(rt; !station.became_full() && !station.is_full());
     is_refused(rt, caller.receive(socket));
     assert!(rt; station.became_full() && !station.became_full());
     is_refused(rt, caller.receive(socket));
     assert!(rt; !station.became_full() && station.is_full());
-    assert!(rt; counts(caller) == before);
+    are_counted(rt, station, socket, iface(rt, 0), before);
     caller.keeps(3);
 }
 
@@ -114,13 +105,12 @@ fn changes_no_socket<N: RollName + MeterName, R: Wait + Abort>(
     caller: &mut Party<'_, N, R>,
     socket: SocketId,
 ) {
-    let (rt, alloc, station) = (caller.rt, caller.alloc, caller.station);
+    let rt = caller.rt;
     is_refused(rt, caller.set_option(socket, Opt::Join(true)));
     is_refused(rt, caller.close(socket));
-    let pass = &mut caller.pass;
-    let none = FilterSet::none(alloc);
-    is_refused(rt, station.set_filters(rt, alloc, pass, socket, &none));
-    is_refused(rt, station.open(rt, alloc, pass, iface(rt, 0), 4));
+    let none = FilterSet::none(caller.alloc);
+    is_refused(rt, caller.set_filters(socket, &none));
+    is_refused(rt, caller.open_at(iface(rt, 0), 4));
 }
 
 /// After an open four sends of two threads: whichever come fourth and fifth find the record full.

@@ -4,7 +4,7 @@ ghost use Rattle.std.specs.Prelude.{◌≡◌};
 
 use super::*;
 use can_fault::Perfect;
-use can_station::{Open, WrongStation};
+use can_station::Open;
 use std::marker::Brand;
 use std::test::Fail;
 use std::thread::{Threads, join};
@@ -93,8 +93,7 @@ fn strange_gauge<N: RollName + MeterName, R: Wait + Abort>(
     let station = made::<N, _, _, _>(rt, alloc, here, 0, config(2), Perfect, Open);
     let far = made::<N, _, _, _>(rt, alloc, there, 1, config(2), Perfect, Open);
     let gauges = one(rt, alloc, gauge(rt, &far));
-    let outcome = station.settle(rt, Vec::new(alloc), gauges);
-    assert!(rt; matches!(outcome, Err(WrongStation)));
+    is_unsettled(rt, station, Vec::new(alloc), gauges);
 }
 
 /// A gauge, and another after it, of a station with this number.

@@ -4,16 +4,17 @@ ghost use Rattle.std.specs.Prelude.{◌≡◌};
 
 use super::twins::{PLAIN, RESTARTING, Run, are_answered_alike, busy, faults, run_beside};
 use super::*;
-use can_attempt::Class;
 use can_bus::{BusFault, LongEnd, LongRingBus, PackedRecord, Record, Refusal};
 use can_fault::Perfect;
-use can_station::{Block, Open, Scroll, WrongStation};
+use can_station::{Block, Hold, Open, Scroll};
 use std::marker::Brand;
 use std::test::Fail;
 use std::thread;
 use std::thread::{Threads, join};
 
 type LongStation<N, F> = Station<N, F, Open, LongRingBus>;
+
+type LongHold<'s, N> = Hold<'s, N, Perfect, Open, LongRingBus>;
 
 type Party<'s, N, R> = Caller<'s, N, Perfect, Open, R, LongRingBus>;
 
@@ -99,6 +100,26 @@ impl Chance {
     }
 }
 
+/// Waits by chance for some entries. Whether there will be no more.
+fn is_at_end<N: RollName + MeterName, R: Wait + Clock>(
+    rt: &R,
+    station: &LongStation<N, Script>,
+    chance: &mut Chance,
+) -> bool {
+    let duration = Duration::from_micros(chance.next(300));
+    station.wait_entries(rt, chance.next(20), duration) == WakeReason::Stopped
+}
+
+/// Takes entries into a block.
+fn takes_entries<N: RollName + MeterName, F: FaultSource + Drop, R: Wait + Abort>(
+    rt: &R,
+    station: &LongStation<N, F>,
+    scroll: &mut Scroll<N>,
+    block: &mut Block,
+) {
+    assert!(rt; station.take_entries(rt, scroll, block).is_ok());
+}
+
 /// Takes blocks of about as many entries as come by chance, until there will be no more.
 fn takes<N: RollName + MeterName, R: Wait + Abort + Clock>(
     rt: &R,
@@ -111,11 +132,10 @@ fn takes<N: RollName + MeterName, R: Wait + Abort + Clock>(
     let mut blocks = Vec::new(alloc);
     let mut block = new_block(rt, alloc, SIZE);
     for _ in rt.forever() {
-        let duration = Duration::from_micros(chance.next(300));
-        if station.wait_entries(rt, chance.next(20), duration) == WakeReason::Stopped {
+        if is_at_end(rt, station, &mut chance) {
             break;
         }
-        assert!(rt; station.take_entries(rt, scroll, &mut block).is_ok());
+        takes_entries(rt, station, scroll, &mut block);
         if block.entries.len() > 0 {
             assert!(rt; blocks.push(block).is_ok());
             block = new_block(rt, alloc, SIZE);
@@ -173,13 +193,18 @@ fn run_both_long<N: RollName + MeterName + Send + Sync, R: Threads + Wait + Abor
     );
     are_answered_alike(rt, &pass, &bus, run);
     let settled = settled_scroll(rt, station, alloc, scroll, one(rt, alloc, pass));
+    are_in_order(rt, &blocks, &settled.history, bus.record());
+}
+
+/// The blocks and what is left are the entries of this record, each once and in order.
+fn are_in_order<R: Abort>(rt: &R, blocks: &[Block], left: &LongEnd, record: &Record) {
     let mut place = 0;
-    for block in &blocks {
+    for block in blocks {
         assert!(rt; block.start == place);
-        place = follow(rt, &block.entries, place, bus.record());
+        place = follow(rt, &block.entries, place, record);
     }
-    assert!(rt; settled.history.handed() == place);
-    assert!(rt; follow(rt, settled.history.entries(), place, bus.record()) == 200);
+    assert!(rt; left.handed() == place);
+    assert!(rt; follow(rt, left.entries(), place, record) == 200);
 }
 
 #[test]
@@ -218,8 +243,30 @@ fn takes_block<N: RollName + MeterName, R: Wait + Abort>(
 ) {
     let rt = caller.rt;
     let mut block = new_block(rt, caller.alloc, SHORT);
-    assert!(rt; caller.station.take_entries(rt, scroll, &mut block).is_ok());
+    takes_entries(rt, caller.station, scroll, &mut block);
     assert!(rt; block.start == start && block.entries.len() == count);
+}
+
+/// Sends a frame in a hold of the lock. Returns why it is refused.
+fn send_in<N: RollName + MeterName, R: Abort>(
+    rt: &R,
+    alloc: Global,
+    hold: &mut LongHold<'_, N>,
+    pass: &mut Pass<N>,
+    socket: SocketId,
+) -> Option<StationRefusal> {
+    let send = Event::Send(socket, frame(rt, 0x123));
+    hold.call(alloc, pass, send).err()
+}
+
+/// Makes a step in a hold of the lock.
+fn step_in<N: RollName + MeterName, R: Abort>(
+    rt: &R,
+    alloc: Global,
+    hold: &mut LongHold<'_, N>,
+    pass: &mut Pass<N>,
+) -> Result<Attempt, StationRefusal> {
+    hold.step(alloc, pass, moment(rt, 1))
 }
 
 /// Sends so often in one hold of the lock, until one is refused. Returns why.
@@ -228,11 +275,12 @@ fn send_held<N: RollName + MeterName, R: Wait + Abort>(
     socket: SocketId,
     many: u32,
 ) -> Option<StationRefusal> {
-    let mut hold = caller.station.lock(caller.rt);
+    let (rt, alloc) = (caller.rt, caller.alloc);
+    let mut hold = caller.station.lock(rt);
     for _ in 0..many {
-        let send = Event::Send(socket, frame(caller.rt, 0x123));
-        if let Err(why) = hold.call(caller.alloc, &mut caller.pass, send) {
-            return Some(why);
+        let refused = send_in(rt, alloc, &mut hold, &mut caller.pass, socket);
+        if refused.is_some() {
+            return refused;
         }
     }
     None
@@ -270,14 +318,13 @@ fn step_held<N: RollName + MeterName, R: Wait + Abort>(
     caller: &mut Party<'_, N, R>,
     socket: SocketId,
 ) -> usize {
-    let rt = caller.rt;
+    let (rt, alloc) = (caller.rt, caller.alloc);
     let mut hold = caller.station.lock(rt);
     for _ in 0..2 {
-        let send = Event::Send(socket, frame(rt, 0x123));
-        assert!(rt; hold.call(caller.alloc, &mut caller.pass, send).is_ok());
+        assert!(rt; send_in(rt, alloc, &mut hold, &mut caller.pass, socket).is_none());
     }
-    let stepped = hold.step(caller.alloc, &mut caller.pass, moment(rt, 1));
-    assert!(rt; stepped == Err(NO_PLACE));
+    let stepped = step_in(rt, alloc, &mut hold, &mut caller.pass);
+    refuses(rt, stepped, NO_PLACE);
     hold.rules()
 }
 
@@ -287,18 +334,25 @@ fn keeps_its_rules<N: RollName + MeterName, R: Wait + Abort>(rt: &R, alloc: Glob
 {
     let (station, mut scroll) = made_short::<N, _>(rt, alloc, blanks);
     let mut caller = entered(rt, alloc, &station);
-    let Ok(names) = Names::read(alloc, "can0,can1") else {
-        panic!(rt; "no names");
-    };
-    assert!(rt; station.inject(rt, b"next 1 lastbit", &names).is_ok());
+    injects(rt, alloc, &station);
     let socket = caller.open(0, 4);
     caller.sends(socket, 0x123, 0);
     assert!(rt; step_held(&mut caller, socket) == 1);
     takes_block(&caller, &mut scroll, 0, 4);
-    let Ok(Attempt::Tried(tried)) = caller.step(1) else {
-        panic!(rt; "no frame");
+    assert!(rt; caller.class_of_step(1) == Class::LastBit);
+    assert!(rt; station.rules(rt) == 0);
+}
+
+/// Gives a station a rule for one frame.
+fn injects<N: RollName + MeterName, R: Wait + Abort>(
+    rt: &R,
+    alloc: Global,
+    station: &LongStation<N, Perfect>,
+) {
+    let Ok(names) = Names::read(alloc, "can0,can1") else {
+        panic!(rt; "no names");
     };
-    assert!(rt; tried.class == Class::LastBit && station.rules(rt) == 0);
+    assert!(rt; station.inject(rt, b"next 1 lastbit", &names).is_ok());
 }
 
 #[test]
@@ -341,8 +395,17 @@ fn entries_wait<N: RollName + MeterName, R: Wait + Abort + Clock>(
     count: u64,
     wake: WakeReason,
 ) {
-    let (rt, station) = (caller.rt, caller.station);
-    assert!(rt; station.wait_entries(rt, count, Duration::from_secs(100)) == wake);
+    entries_wait_so_long(caller, count, Duration::from_secs(100), wake);
+}
+
+/// A wait for so many entries that may take so long ends so.
+fn entries_wait_so_long<N: RollName + MeterName, R: Wait + Abort + Clock>(
+    caller: &Party<'_, N, R>,
+    count: u64,
+    duration: Duration,
+    wake: WakeReason,
+) {
+    assert!(caller.rt; caller.station.wait_entries(caller.rt, count, duration) == wake);
 }
 
 /// So many frames are sent, and no more until a block is taken. A wait for more entries than the tail holds ends then.
@@ -390,7 +453,7 @@ fn drives_once<N: RollName + MeterName, R: Wait + Abort>(
         panic!(rt; "no work");
     };
     driven.store(1, Ordering::SeqCst);
-    let tried = hold.step(caller.alloc, &mut caller.pass, moment(rt, 1));
+    let tried = step_in(rt, caller.alloc, &mut hold, &mut caller.pass);
     assert!(rt; matches!(tried, Ok(Attempt::Tried(_))));
     drop(hold);
     caller.leave()
@@ -439,11 +502,10 @@ fn ends_driving<N: RollName + MeterName, R: Wait + Abort>(
     caller: &mut Party<'_, N, R>,
     socket: SocketId,
 ) {
-    let (rt, station) = (caller.rt, caller.station);
     caller.receives(SocketId(1));
     caller.sets(socket, Opt::Join(true));
-    station.stop(rt);
-    assert!(rt; station.hold_work(rt).is_none());
+    caller.station.stop(caller.rt);
+    caller.holds_no_work();
 }
 
 /// Once nobody takes entries any more no call waits for a place, and nobody for entries.
@@ -456,7 +518,7 @@ fn goes_on_to_the_end<N: RollName + MeterName, R: Wait + Abort + Clock>(
 {
     let (station, mut scroll) = made_short::<N, _>(rt, alloc, blanks);
     let mut caller = entered(rt, alloc, &station);
-    assert!(rt; station.wait_entries(rt, 1, Duration::from_millis(1)) == WakeReason::Ready);
+    entries_wait_so_long(&caller, 1, Duration::from_millis(1), WakeReason::Ready);
     let socket = caller.open(0, 4);
     entries_wait(&caller, 1, WakeReason::Ready);
     station.end_entries(rt);
@@ -474,8 +536,8 @@ fn fills_the_tail<N: RollName + MeterName, R: Wait + Abort>(
     for number in 0..3 {
         caller.sends(socket, 0x123, number);
     }
-    assert!(rt; caller.send(socket, 0x123) == Err(NO_PLACE));
-    assert!(rt; caller.close(socket) == Err(NO_PLACE));
+    refuses(rt, caller.send(socket, 0x123), NO_PLACE);
+    refuses(rt, caller.close(socket), NO_PLACE);
     caller.keeps(4);
 }
 
@@ -489,10 +551,19 @@ fn gives_no_block<N: RollName + MeterName, R: Wait + Abort>(
 ) {
     let mut caller = entered(rt, alloc, station);
     caller.open(0, 4);
-    let mut block = new_block(rt, alloc, SHORT);
-    let taken = station.take_entries(rt, far, &mut block);
-    assert!(rt; taken == Err(WrongStation) && block.entries.len() == 0);
+    takes_nothing(&caller, far);
     takes_block(&caller, own, 0, 1);
+}
+
+/// The station does not know this scroll, and the block stays empty.
+fn takes_nothing<N: RollName + MeterName, R: Wait + Abort>(
+    caller: &Party<'_, N, R>,
+    far: &mut Scroll<N>,
+) {
+    let rt = caller.rt;
+    let mut block = new_block(rt, caller.alloc, SHORT);
+    let taken = caller.station.take_entries(rt, far, &mut block);
+    assert!(rt; taken == Err(WrongStation) && block.entries.len() == 0);
 }
 
 /// Nor does it settle with it.

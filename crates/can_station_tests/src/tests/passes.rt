@@ -18,10 +18,18 @@ fn enter_often<N: RollName + MeterName, R: Wait + Abort>(rt: &R, alloc: Global, 
         assert!(rt; pass.number() == 0 && pass.is_empty());
     }
     for _ in 0..2 {
-        assert!(rt; matches!(station.enter(rt, alloc), Err(TooManyPasses)));
+        finds_no_pass(rt, alloc, &station);
     }
     let settled = settled(rt, station, Vec::new(alloc), Vec::new(alloc));
     assert!(rt; settled.passes == 4096 && settled.history.is_empty());
+}
+
+fn finds_no_pass<N: RollName + MeterName, R: Wait + Abort>(
+    rt: &R,
+    alloc: Global,
+    station: &Station<N, Perfect, Open>,
+) {
+    assert!(rt; matches!(station.enter(rt, alloc), Err(TooManyPasses)));
 }
 
 /// A call of a caller that opens two sockets, sends a frame, receives it and closes.

@@ -5,10 +5,13 @@ ghost use Rattle.std.specs.Prelude.{◌≡◌};
 use super::*;
 use can_bus::{Entry, Event, Reply};
 use can_fault::Perfect;
-use can_station::{Open, WrongStation};
+use can_station::Open;
 use std::marker::Brand;
 use std::test::Fail;
 use std::thread::{Threads, join};
+
+/// The refusal of a call with a pass of another station.
+const STRANGE: StationRefusal = StationRefusal::WrongStation;
 
 /// The socket that receives.
 const RECEIVER: SocketId = SocketId(2);
@@ -30,7 +33,7 @@ fn sends<N: RollName + MeterName, R: Wait + Abort>(
     socket: SocketId,
 ) -> Pass<N> {
     for _ in 0..100 {
-        assert!(caller.rt; caller.send(socket, 0x123).is_ok());
+        caller.queues(socket, 0x123);
     }
     caller.leave()
 }
@@ -47,7 +50,7 @@ fn drives<N: RollName + MeterName, R: Wait + Abort>(mut caller: Party<'_, N, R>)
 /// Receives 200 items, each once it is there.
 fn receives<N: RollName + MeterName, R: Wait + Abort>(mut caller: Party<'_, N, R>) -> Pass<N> {
     for _ in 0..200 {
-        assert!(caller.rt; caller.station.wait_frame(caller.rt, RECEIVER) == WakeReason::Ready);
+        caller.has_item(RECEIVER, WakeReason::Ready);
         caller.receives(RECEIVER);
     }
     caller.leave()
@@ -162,11 +165,11 @@ fn is_refused<N: RollName + MeterName, R: Wait + Abort>(
     socket: SocketId,
 ) {
     let rt = stranger.rt;
-    assert!(rt; stranger.send(socket, 0x123) == Err(StationRefusal::WrongStation));
-    assert!(rt; stranger.receive_held(socket) == Err(StationRefusal::WrongStation));
-    assert!(rt; stranger.step(1) == Err(StationRefusal::WrongStation));
+    refuses(rt, stranger.send(socket, 0x123), STRANGE);
+    refuses(rt, stranger.receive_held(socket), STRANGE);
+    refuses(rt, stranger.step(1), STRANGE);
     stranger.keeps(0);
-    let (_, counts) = stranger.station.stats(rt, socket, iface(rt, 0));
+    let (_, counts) = stats(rt, stranger.station, socket, iface(rt, 0));
     assert!(rt; counts.is_some_and(|counts| counts.sent == 0));
 }
 
@@ -192,8 +195,7 @@ fn strange_pass<N: RollName + MeterName, R: Wait + Abort>(
     };
     is_refused(&mut stranger, socket);
     let passes = one(rt, alloc, stranger.leave());
-    let outcome = station.settle(rt, passes, Vec::new(alloc));
-    assert!(rt; matches!(outcome, Err(WrongStation)));
+    is_unsettled(rt, station, passes, Vec::new(alloc));
 }
 
 #[test]

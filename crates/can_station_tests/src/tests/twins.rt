@@ -3,8 +3,8 @@
 ghost use Rattle.std.specs.Prelude.{◌≡◌};
 
 use super::*;
-use can_bus::{Event, IfaceStats, Record, Reply, RingBus};
-use can_filter::{Filter, FilterSet};
+use can_bus::Record;
+use can_filter::Filter;
 use can_station::Open;
 use can_test_support::{DESTROYED, joined};
 use std::marker::Brand;
@@ -106,23 +106,21 @@ fn call<N: RollName + MeterName, R: Wait + Abort, B: Journaled>(
     caller: &mut Caller<'_, N, Script, Open, R, B>,
     event: &Event,
 ) {
-    let (rt, alloc, station) = (caller.rt, caller.alloc, caller.station);
-    let pass = &mut caller.pass;
     match event {
         Event::Open(iface, capacity) => {
-            let _ = station.open(rt, alloc, pass, *iface, *capacity);
+            let _ = caller.open_at(*iface, *capacity);
         }
         Event::SetFilters(socket, filters) => {
-            let _ = station.set_filters(rt, alloc, pass, *socket, filters);
+            let _ = caller.set_filters(*socket, filters);
         }
         Event::Send(socket, frame) => {
-            let _ = station.send(rt, alloc, pass, *socket, *frame);
+            let _ = caller.send_frame(*socket, *frame);
         }
         Event::Attempt(moment, _) => {
-            let _ = station.step(rt, alloc, pass, *moment);
+            let _ = caller.step_at(*moment);
         }
         Event::Restart(iface, moment) => {
-            let _ = station.restart(rt, alloc, pass, *iface, *moment);
+            let _ = caller.restart_at(*iface, *moment);
         }
         Event::Close(socket) => {
             let _ = caller.close(*socket);
@@ -162,17 +160,24 @@ fn frame_wake(bus: &RingBus, socket: SocketId, is_stopped: bool) -> Option<WakeR
 /// that are bus off, where they are restarted by attempts.
 fn work_wake<R: Abort>(rt: &R, bus: &RingBus, run: Run) -> Option<WakeReason> {
     for number in 0..3 {
-        if let Some(counts) = bus.iface_stats(iface(rt, number)) {
-            let comes_back = run.auto_restart > 0 && counts.counters.tec() >= 256;
-            if counts.waiting > 0 || comes_back {
-                return Some(WakeReason::Ready);
-            }
+        if has_work(bus, iface(rt, number), run) {
+            return Some(WakeReason::Ready);
         }
     }
     if run.is_stopped {
         Some(WakeReason::Stopped)
     } else {
         None
+    }
+}
+
+fn has_work(bus: &RingBus, iface: Iface, run: Run) -> bool {
+    match bus.iface_stats(iface) {
+        Some(counts) => {
+            let comes_back = run.auto_restart > 0 && counts.counters.tec() >= 256;
+            counts.waiting > 0 || comes_back
+        }
+        None => false,
     }
 }
 
@@ -186,24 +191,27 @@ fn waiting(bus: &RingBus, socket: SocketId) -> u64 {
 
 /// The station reports what the bus reports, of sockets and interfaces that are there and of others.
 fn agree<N: RollName + MeterName, R: Wait + Abort, B: Journaled>(
-    rt: &R,
-    station: &Station<N, Script, Open, B>,
+    caller: &Caller<'_, N, Script, Open, R, B>,
     bus: &RingBus,
     run: Run,
 ) {
+    let rt = caller.rt;
     for number in 0..4 {
-        let (socket, iface) = (SocketId(u32::from(number)), iface(rt, number));
-        let (items, frames) = station.stats(rt, socket, iface);
-        assert!(rt; items == bus.socket_stats(socket));
-        assert!(rt; frames == bus.iface_stats(iface));
+        let socket = SocketId(u32::from(number));
+        let counted = bus_stats(bus, socket, iface(rt, number));
+        are_counted(rt, caller.station, socket, iface(rt, number), counted);
         if let Some(wake) = frame_wake(bus, socket, run.is_stopped) {
-            assert!(rt; station.wait_frame(rt, socket) == wake);
-            assert!(rt; station.wait_items(rt, socket) == (wake, waiting(bus, socket)));
+            caller.has_item(socket, wake);
+            caller.has_items(socket, wake, waiting(bus, socket));
         }
     }
     if let Some(wake) = work_wake(rt, bus, run) {
-        assert!(rt; station.wait_work(rt) == wake);
+        caller.has_waited(wake);
     }
+}
+
+fn bus_stats(bus: &RingBus, socket: SocketId, iface: Iface) -> Stats {
+    (bus.socket_stats(socket), bus.iface_stats(iface))
 }
 
 /// A gauge reads the counters that the bus reports.
@@ -221,8 +229,7 @@ fn is_read<N: MeterName, R: Abort>(
     place: usize,
     counts: &IfaceStats,
 ) {
-    assert!(rt; place < gauge.ifaces());
-    assert!(rt; gauge.status(place).counters == counts.counters);
+    assert!(rt; status(rt, gauge, place).counters == counts.counters);
 }
 
 /// All 200 calls on the station and on a plain bus, and a look at both after each. Returns the pass of the calls, and the
@@ -233,9 +240,7 @@ pub fn run_beside<N: RollName + MeterName, R: Wait + Abort, B: Journaled>(
     station: &Station<N, Script, Open, B>,
     run: Run,
 ) -> (Pass<N>, RingBus) {
-    let Ok(mut bus) = RingBus::new(alloc, busy(run)) else {
-        panic!(rt; "no bus");
-    };
+    let mut bus = plain_bus(rt, alloc, busy(run));
     let mut source = faults(rt, alloc);
     if run.is_stopped {
         station.stop(rt);
@@ -246,7 +251,7 @@ pub fn run_beside<N: RollName + MeterName, R: Wait + Abort, B: Journaled>(
         let event = event_at(rt, alloc, turn, run);
         call(&mut caller, &event);
         call_bus(&mut bus, &mut source, alloc, event);
-        agree(rt, station, &bus, run);
+        agree(&caller, &bus, run);
         are_read(rt, &mut gauge, &bus);
     }
     (caller.leave(), bus)
@@ -270,14 +275,18 @@ fn run_both<N: RollName + MeterName, R: Wait + Abort>(
 /// Each call had the same answer on both. Call 39 takes can0 off. Where no call restarts it, calls 41 to 43 are idle
 /// attempts, the third of which does.
 pub fn are_answered_alike<N: RollName, R: Abort>(rt: &R, pass: &Pass<N>, bus: &RingBus, run: Run) {
-    let record = bus.record();
+    are_answers(rt, pass, bus.record());
+    let is_restarted = is_idle(pass, 43, IfaceSet(1));
+    assert!(rt; is_restarted == (run.auto_restart == 3 && !run.by_call));
+}
+
+/// The 200 calls of a pass have the replies of the record's entries.
+fn are_answers<N: RollName, R: Abort>(rt: &R, pass: &Pass<N>, record: &Record) {
     assert!(rt; pass.len() == 200 && record.len() == 200);
     for place in 0..200 {
         let answered = is_answered(pass, place, record);
         assert!(rt; answered);
     }
-    let is_restarted = is_idle(pass, 43, IfaceSet(1));
-    assert!(rt; is_restarted == (run.auto_restart == 3 && !run.by_call));
 }
 
 /// Whether the call of a pass at this place has the reply of the record's entry there.

@@ -37,19 +37,14 @@ pub enum Act {
 pub type Party<'s, N, R> = Caller<'s, N, Script, Open, R>;
 
 fn make_call<N: RollName + MeterName, R: Wait + Abort>(caller: &mut Party<'_, N, R>, act: Act) {
-    let rt = caller.rt;
-    let is_done = match act {
-        Act::Send(socket) => caller.send(socket, 0x123).is_ok(),
-        Act::Step => caller.step(1).is_ok(),
-        Act::Attempt => caller.attempt(1, Verdict::Good).is_ok(),
-        Act::Restart => caller.restart(0, 40).is_ok(),
-        Act::Close(socket) => caller.close(socket).is_ok(),
-        Act::Stop => {
-            caller.station.stop(rt);
-            true
-        }
-    };
-    assert!(rt; is_done);
+    match act {
+        Act::Send(socket) => caller.queues(socket, 0x123),
+        Act::Step => caller.steps(1),
+        Act::Attempt => caller.attempts(1, Verdict::Good),
+        Act::Restart => caller.restarts(0, 40),
+        Act::Close(socket) => caller.closes(socket),
+        Act::Stop => caller.station.stop(caller.rt),
+    }
 }
 
 /// Waits, and sets one flag before and one after.
@@ -201,7 +196,7 @@ fn goes_off<N: RollName + MeterName, R: Wait + Abort>(
     sender: SocketId,
 ) {
     caller.sets(sender, Opt::ErrMask(0x100));
-    assert!(caller.rt; caller.send(sender, 0x123).is_ok());
+    caller.queues(sender, 0x123);
     for micros in 1..=32 {
         caller.tries(micros);
     }
@@ -209,16 +204,11 @@ fn goes_off<N: RollName + MeterName, R: Wait + Abort>(
 
 /// After a stop a driver still gets the frames that wait, and then learns of the end.
 fn drives_to_the_end<N: RollName + MeterName, R: Wait + Abort>(mut caller: Party<'_, N, R>) {
-    let (rt, station) = (caller.rt, caller.station);
     let socket = caller.open(0, 4);
     caller.sends(socket, 0x123, 0);
-    let Some(hold) = station.hold_work(rt) else {
-        panic!(rt; "no work");
-    };
-    assert!(rt; hold.has_work());
-    drop(hold);
+    caller.holds_work();
     caller.tries(1);
-    assert!(rt; station.hold_work(rt).is_none());
+    caller.holds_no_work();
 }
 
 /// A stop ends a wait for frames to send.
