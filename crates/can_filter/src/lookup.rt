@@ -71,7 +71,7 @@ impl Parts {
         }
     }
 
-    /// Takes one more filter.
+    /// Puts one more filter where its word is looked up.
     pub fn add(&mut self, filter: Filter) -> Result<(), AllocError>
         ensures { OnOk result ((word : ℕ) →
             is_found_in self.new word ≡ (is_found_in self.old word || matches filter word)) }

@@ -10,7 +10,7 @@
 //! frames of one identifier and kind can have equal bits.
 //!
 //! `frame_text` writes an item in the shape of candump's logs, and `read_flagged_frame_text` reads it in either case:
-//! it answers an item exactly where the text spells one, and no text spells two; `read_frame_text` reads only items
+//! it returns an item exactly where the text spells one, and no text spells two; `read_frame_text` reads only items
 //! without flags. A `Text` is a text kept in place, to which identifiers, moments, numbers and data are added;
 //! `read_decimal` and `read_hexadecimal` read words of digits, and `read_moment` a moment.
 #![tactic(auto)]
