@@ -41,7 +41,7 @@ pub fn receive_needs_box(outcome: Result<bool, Refusal>, room: &Received) -> boo
     }
 }
 
-/// Whether the number of a frame does not fit 32 bits.
+/// Whether the number of a frame does not fit in the 32 bits that a packed entry has for it.
 fn is_large(number: u64) -> bool
     ensures { result ≡ is_large number }
 {

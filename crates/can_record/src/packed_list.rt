@@ -6,8 +6,8 @@ ghost use Rattle.can_record.specs.Boxed.{needs_box};
 
 use crate::boxed::{needs_box, receive_needs_box};
 use crate::entry_ref::EntryRef;
+use crate::outcomes::receive_reply;
 use crate::packed_record::PackedRecord;
-use crate::replies::receive_reply;
 use can_event::{Entry, Event, Received, Refusal, Reply, SocketId};
 use std::alloc::{AllocError, Global};
 use std::marker::Model;

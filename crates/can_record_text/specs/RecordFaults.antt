@@ -84,7 +84,7 @@ pub record GoesOn (text : List ℕ) (n : ℕ) : Type 0 where
 abbrev pub IsFirstWrong : List ℕ → ℕ → Type 0
 IsFirstWrong text n = BusIsWrong text n ⊎ LineIsWrong text n ⊎ GoesOn text n
 
--- what reading the end of a text answers, after this many entries
+-- what reading the end of a text returns, after this many entries
 abbrev pub Ends : {A : Type 0} → ℕ → List ℕ → Result A ReadFault → Type 0
 Ends count rest (Ok u) = rest ≡ spell (end_words count) []
 Ends count rest (Err (fault.BadLine n)) = ((n ≡ count + 3) × LacksEnd count rest) ⊎ ((n ≡ count + 4) × ((more : List ℕ) × (rest ≡ spell (end_words count) more) × (more ≢ [])))

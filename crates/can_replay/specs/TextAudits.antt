@@ -36,7 +36,7 @@ pub record IsWrongText (text : List ℕ) (w : WrongLine) : Type 0 where
   pub whole : IsTextOf text config entries
   pub wrong : IsWrongIn config entries w
 
--- what is told of a text that has ended
+-- what is reported of a text that has ended
 abbrev pub Reports : List ℕ → Result ℕ TextFault → Type 0
 Reports text (Ok count) = IsLegalText text count
 Reports text (Err (fault.Read why)) = Reads text (Err why)
@@ -69,7 +69,7 @@ pub record IsWrongCut (text : List ℕ) (w : WrongLine) : Type 0 where
   pub front : IsFrontOf text config entries
   pub wrong : IsWrongIn config entries w
 
--- what is told of a text that has ended, maybe cut off
+-- what is reported of a text that has ended, maybe cut off
 abbrev pub ReportsCut : List ℕ → Result Cut TextFault → Type 0
 ReportsCut text (Ok (cut.Whole count)) = IsLegalText text count
 ReportsCut text (Ok (cut.Off count)) = IsCutText text count

@@ -90,10 +90,10 @@ pub fn read_order(line: &[u8]) -> Option<Order<'_>>
     if let Some(rest) = after_drain(line) {
         return read_drain(rest);
     }
-    if says_nothing(line) {
+    if is_remark(line) {
         return Some(Order::Nothing);
     }
-    if same_word(line, b"attempt") {
+    if is_word(line, b"attempt") {
         return Some(Order::Attempt);
     }
     let (word, rest) = split_at_first(line, b' ')?;
@@ -104,26 +104,28 @@ pub fn read_order(line: &[u8]) -> Option<Order<'_>>
 fn read_asked<'a>(word: &[u8], rest: &'a [u8]) -> Option<Order<'a>>
     ensures { option_map effect_of result ≡ asked_by (word.now, rest.now) }
 {
-    if same_word(word, b"at") {
+    if is_word(word, b"at") {
         read_at(rest)
-    } else if same_word(word, b"session") {
+    } else if is_word(word, b"session") {
         Some(Order::Session(read_session(rest)?))
-    } else if same_word(word, b"feed") {
+    } else if is_word(word, b"feed") {
         read_feed(rest)
-    } else if same_word(word, b"drain") {
+    } else if is_word(word, b"drain") {
         read_drain(rest)
-    } else if same_word(word, b"end") {
+    } else if is_word(word, b"end") {
         Some(Order::End(read_session(rest)?))
-    } else if same_word(word, b"run") {
+    } else if is_word(word, b"run") {
         Some(Order::Run(read_moment(rest)?))
-    } else if same_word(word, b"fault") {
+    } else if is_word(word, b"fault") {
         Some(Order::Fault(rest))
     } else {
         None
     }
 }
 
-// What follows the words that most lines begin with: these lines are not searched for a space.
+// Lines that begin with the words of most lines are not searched for a space.
+
+// What follows `at` and a space.
 fn after_at(line: &[u8]) -> Option<&[u8]>
     ensures { IfSome result (λ rest. line.now ≡ 97 ∷ 116 ∷ 32 ∷ rest.now) }
 {
@@ -133,6 +135,7 @@ fn after_at(line: &[u8]) -> Option<&[u8]>
     }
 }
 
+// What follows `feed` and a space.
 fn after_feed(line: &[u8]) -> Option<&[u8]>
     ensures { IfSome result (λ rest. line.now ≡ 102 ∷ 101 ∷ 101 ∷ 100 ∷ 32 ∷ rest.now) }
 {
@@ -142,6 +145,7 @@ fn after_feed(line: &[u8]) -> Option<&[u8]>
     }
 }
 
+// What follows `drain` and a space.
 fn after_drain(line: &[u8]) -> Option<&[u8]>
     ensures { IfSome result (λ rest. line.now ≡ 100 ∷ 114 ∷ 97 ∷ 105 ∷ 110 ∷ 32 ∷ rest.now) }
 {
@@ -173,7 +177,8 @@ fn read_drain(rest: &[u8]) -> Option<Order<'_>>
     Some(Order::Drain(read_session(rest)?))
 }
 
-fn says_nothing(line: &[u8]) -> bool
+// Whether a line is empty or a remark.
+fn is_remark(line: &[u8]) -> bool
     ensures { result ≡ is_remark line.now }
 {
     match line {
@@ -182,7 +187,8 @@ fn says_nothing(line: &[u8]) -> bool
     }
 }
 
-fn same_word(word: &[u8], name: &[u8]) -> bool
+// Whether a word of a line is the one of this name.
+fn is_word(word: &[u8], name: &[u8]) -> bool
     ensures { result ≡ is_word word.now name.now }
 {
     word == name

@@ -147,8 +147,8 @@ impl<'s, N: RollName + MeterName, F: FaultSource + Drop, G: Gate + Drop, B: Jour
     ) -> Result<bool, StationRefusal>
         ensures made { Made (taken_reply room.new) self.old pass.old (event.Receive socket) result
             self.new pass.new }
-        ensures called { Called (taken_reply room.new) self.old.number pass.old (event.Receive socket)
-            result pass.new }
+        ensures called { Called (taken_reply room.new) self.old.number pass.old
+            (event.Receive socket) result pass.new }
         ensures stays { result ≢ Ok true → room.new ≡ room.old }
     {
         if make_ready(&mut pass.calls, alloc).is_err() {

@@ -1,3 +1,5 @@
+//! Stations of long runs: the calls of `Station` that make one and take its record in blocks.
+
 ghost use Rattle.std.specs.Prelude.{◌≡◌, ◌≢◌, [], Err, IfOk, OnErr, OnOk, ◌↔◌};
 ghost use Rattle.can_bus.specs.Long.{HasTail};
 ghost use Rattle.can_event.specs.Events.{IsLongConfig};

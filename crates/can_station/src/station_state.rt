@@ -198,7 +198,7 @@ impl<N: RollName + MeterName, F: FaultSource + Drop, B: Journaled> StationState<
         if self.bus.places() == 0 {
             return None;
         }
-        Some(carry_out(
+        Some(answer_and_book(
             alloc,
             &mut self.bus,
             &mut self.roll,
@@ -255,7 +255,7 @@ impl<N: RollName + MeterName, F: FaultSource + Drop, B: Journaled> StationState<
         let sourced = self.source.verdict(attempt);
         let verdict = next_verdict(&mut self.plan, &self.bus, attempt, sourced);
         let event = Event::Attempt(moment, verdict);
-        let reply = carry_out(
+        let reply = answer_and_book(
             alloc,
             &mut self.bus,
             &mut self.roll,
@@ -511,7 +511,7 @@ fn next_verdict<B: Journaled>(plan: &mut Plan, bus: &B, attempt: u64, source: Ve
 
 /// Carries out an event for the pass of a slip, on a bus that has a place for it: it is noted in the roll, and what it
 /// changed of the error counters is published.
-fn carry_out<N: RollName + MeterName, B: Journaled>(
+fn answer_and_book<N: RollName + MeterName, B: Journaled>(
     alloc: Global,
     bus: &mut B,
     roll: &mut Roll<N>,

@@ -1,3 +1,5 @@
+//! How blocks of the record are taken of the state of a station.
+
 ghost use Rattle.std.specs.Prelude.{◌≡◌, [], false, is_none};
 ghost use Rattle.can_bus.specs.Long.{HasTail};
 ghost use Rattle.can_roll.specs.Seen.{scroll_with};

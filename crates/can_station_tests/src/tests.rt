@@ -303,12 +303,12 @@ impl<
         assert!(self.rt; self.station.hold_work(self.rt).is_none());
     }
 
-    /// A wait for an item of this socket ends so.
+    /// A wait for an item of this socket ends with this reason.
     fn has_item(&self, socket: SocketId, wake: WakeReason) {
         assert!(self.rt; self.station.wait_frame(self.rt, socket) == wake);
     }
 
-    /// A wait for items of this socket ends so, and so many are there.
+    /// A wait for items of this socket ends with this reason, and this many are there.
     fn has_items(&self, socket: SocketId, wake: WakeReason, count: u64) {
         assert!(self.rt; self.station.wait_items(self.rt, socket) == (wake, count));
     }

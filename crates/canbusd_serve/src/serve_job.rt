@@ -541,7 +541,7 @@ fn keepers_of<
     Ok(kept)
 }
 
-// Reads an input to its end, and then shuts a stream down.
+// Reads an input to its end, and then shuts a stream down, which ends the server: `--until-eof`.
 fn end_with<R: Read + Drop>(mut input: R, stream: &UnixStream) {
     let mut piece = [0; 4096];
     for _ in 0..u64::MAX {

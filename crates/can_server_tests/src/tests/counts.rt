@@ -78,7 +78,7 @@ impl<'a, N: RollName + MeterName, R: Wait + Abort> Both<'a, N, R> {
         }
     }
 
-    /// One of them is told these, the first or the second.
+    /// The first or the second sends these pieces, and reads what is wanted.
     fn are_told(&mut self, pieces: &[(u8, &str, &str)]) {
         for (number, piece, wanted) in pieces {
             if *number == 1 {

@@ -1,4 +1,4 @@
-// A server that is told to end, and one whose last frame nobody acknowledges.
+// A server that ends by its host, and one whose last frame nobody acknowledges.
 
 ghost use Rattle.std.specs.Prelude.{◌≡◌};
 ghost use Rattle.can_hub.specs.Benches.{NamedFrom};
@@ -10,7 +10,7 @@ use std::marker::Brand;
 use std::os::unix::net::UnixStream;
 use std::sync::atomic::Ordering;
 
-/// Two clients of a server that is told to end.
+/// Two clients of a server that ends by its host.
 #[derive(Drop)]
 struct Ended<'a, R: Abort> {
     first: Client<'a, R>,
@@ -19,7 +19,7 @@ struct Ended<'a, R: Abort> {
 }
 
 impl<R: Guest + Sync> Visit for Ended<'_, R> {
-    /// One client is raw and one has only been greeted when the server is told to end.
+    /// One client is raw and one has only been greeted when the host ends the server.
     fn visit(self) {
         let Ended {
             mut first,

@@ -11,7 +11,7 @@ use can_test_support::DESTROYED;
 use std::marker::Brand;
 use std::sync::atomic::Ordering;
 
-/// The record of a bus of can0 and can1, whose host is told that can0 went off and came back. So is the first of its two
+/// The record of a bus of can0 and can1, whose host learns that can0 went off and came back. So does the first of its two
 /// clients, and sends once more.
 fn record<N: RollName + MeterName + Send + Sync, R: Machine>(
     rt: &R,

@@ -13,7 +13,7 @@ use std::thread::Threads;
 /// The source would have attempts 0 to 3 go wrong, each otherwise than the caller has them, and attempt 4 too.
 const SCRIPT: &str = "0 global bit\n1 lastbit\n2 lastbit\n3 global form\n4 lastbit\n";
 
-/// A fault at can1 alone.
+/// A fault at only can1.
 const CRC: Verdict = Verdict::Local(IfaceSet(2), LocalKind::Crc);
 
 const FORM: Verdict = Verdict::Global(GlobalKind::Form);

@@ -30,8 +30,8 @@ fn last_bit<N: RollName + MeterName, R: Wait + Abort>(rt: &R, alloc: Global, bla
     settles(rt, station, passes, one(rt, alloc, gauge), 4);
 }
 
-/// A bus of can0 alone, where nobody acknowledges.
-fn alone() -> BusConfig {
+/// A bus of only can0, where nobody acknowledges.
+fn lone() -> BusConfig {
     BusConfig {
         ifaces: 1,
         ack: AckMode::Peers,
@@ -71,7 +71,7 @@ fn two_sides<N: RollName + MeterName + Send + Sync, R: Threads + Wait + Abort + 
 )
     requires { (blanks.roll ≡ N.roll 0) × (blanks.meter ≡ N.meter 0) }
 {
-    let station = made::<N, _, _, _>(rt, alloc, blanks, 0, alone(), Perfect, Open);
+    let station = made::<N, _, _, _>(rt, alloc, blanks, 0, lone(), Perfect, Open);
     let gauge = gauge(rt, &station);
     let caller = entered(rt, alloc, &station);
     let (pass, mut gauge) = join(rt, || fails_17_times(caller), || reads_often(rt, gauge));

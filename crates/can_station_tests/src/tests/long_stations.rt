@@ -389,7 +389,7 @@ fn takes_twice<N: RollName + MeterName, R: Wait + Abort + Clock>(
     taker.leave()
 }
 
-/// A wait for so many entries ends so, and not since its time is over.
+/// A wait for this many entries ends with this reason, before its time is over.
 fn entries_wait<N: RollName + MeterName, R: Wait + Abort + Clock>(
     caller: &Party<'_, N, R>,
     count: u64,
@@ -398,7 +398,7 @@ fn entries_wait<N: RollName + MeterName, R: Wait + Abort + Clock>(
     entries_wait_so_long(caller, count, Duration::from_secs(100), wake);
 }
 
-/// A wait for so many entries that may take so long ends so.
+/// A wait for this many entries, for at most this long, ends with this reason.
 fn entries_wait_so_long<N: RollName + MeterName, R: Wait + Abort + Clock>(
     caller: &Party<'_, N, R>,
     count: u64,
@@ -604,7 +604,7 @@ fn accepts<N: RollName + MeterName>(alloc: Global, blanks: Blanks, config: BusCo
     }
 }
 
-/// A bus of two interfaces that is made for so many entries.
+/// A bus of two interfaces that is made for this many entries.
 fn limited(limit: u32) -> BusConfig {
     BusConfig { limit, ..config(2) }
 }

@@ -22,7 +22,7 @@ fn counters(tec: u16, rec: u16) -> Counters
     }
 }
 
-// The calls of gauges, of which later ones ask for the number alone.
+// The calls of gauges, of which later ones ask only for the number.
 
 fn two_of<N: MeterName>(rt: &impl Abort, gauge: Gauge<N>) -> (Gauge<N>, Gauge<N>)
     ensures { (result.0.number ≡ gauge.number) × (result.1.number ≡ gauge.number) }

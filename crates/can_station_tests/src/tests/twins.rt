@@ -29,7 +29,7 @@ pub struct Run {
     is_stopped: bool,
 }
 
-/// Interfaces are restarted by calls alone.
+/// Interfaces are restarted only by calls.
 pub const PLAIN: Run = Run {
     auto_restart: 0,
     by_call: true,

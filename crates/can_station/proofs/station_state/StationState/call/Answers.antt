@@ -5,8 +5,8 @@ use Rattle.can_station.proofs.station_state.StationState.call.Goals as goal
 
 pub invariant_of-self : goal.invariant_of-self
 invariant_of-self g c =
-    let done = c.carry_out.ensures in
-    let number : c.carry_out.new.roll.number ≡ c.self.inside.roll.number = ap (λ (r : RollSeen). r.number) done.roll in (
+    let done = c.answer_and_book.ensures in
+    let number : c.answer_and_book.new.roll.number ≡ c.self.inside.roll.number = ap (λ (r : RollSeen). r.number) done.roll in (
       done.booked,
       done.published,
       c.self.invariant.2 ∙ sym number,

@@ -12,8 +12,8 @@ use Rattle.can_station.proofs.station_state.StationState.step.Goals as goal
 
 pub invariant_of-self : goal.invariant_of-self
 invariant_of-self g c =
-    let done = c.carry_out-reply.ensures in
-    let number : c.carry_out-reply.new.roll.number ≡ c.self.inside.roll.number = ap (λ (r : RollSeen). r.number) done.roll in (
+    let done = c.answer_and_book-reply.ensures in
+    let number : c.answer_and_book-reply.new.roll.number ≡ c.self.inside.roll.number = ap (λ (r : RollSeen). r.number) done.roll in (
       done.booked,
       done.published,
       c.self.invariant.2 ∙ sym number,
@@ -33,7 +33,7 @@ returns-clause-carried g c =
     c.next_verdict-verdict.ensures.verdict ∙ (λ k. given (sourced k) c.self.inside.plan (attempt k) (head_on j)) ∙ ap (λ (h : Held g.row.F.Denot). next_verdict verdicts h) c.self.view_is in
     let plan : c.next_verdict-verdict.new.plan ≡ next_plan verdicts c.args.self.now =
     c.next_verdict-verdict.ensures.after ∙ (λ k. plan_after (sourced k) c.self.inside.plan (attempt k) (head_on j)) ∙ ap (λ (h : Held g.row.F.Denot). next_plan verdicts h) c.self.view_is in
-    let done = c.carry_out-reply.ensures in
+    let done = c.answer_and_book-reply.ensures in
     let now : Held g.row.F.Denot = record {
       number = inside.roll.number;
       journal = j;
@@ -43,14 +43,14 @@ returns-clause-carried g c =
       stopped = inside.stopped;
     } in
     let new : Held g.row.F.Denot = record {
-      number = c.carry_out-reply.new.roll.number;
-      journal = g.B.Journaled.journal c.carry_out-reply.new.bus;
-      lists = c.carry_out-reply.new.roll.lists;
+      number = c.answer_and_book-reply.new.roll.number;
+      journal = g.B.Journaled.journal c.answer_and_book-reply.new.bus;
+      lists = c.answer_and_book-reply.new.roll.lists;
       source = c.verdict-sourced.new.self;
       plan = c.next_verdict-verdict.new.plan;
       stopped = inside.stopped;
     } in
-    let carried : IsCarriedOut now c.args.slip.now (event.Attempt c.args.moment c.next_verdict-verdict.result) c.carry_out-reply.result new c.carry_out-reply.new.slip =
+    let carried : IsCarriedOut now c.args.slip.now (event.Attempt c.args.moment c.next_verdict-verdict.result) c.answer_and_book-reply.result new c.answer_and_book-reply.new.slip =
     record {
       answer = done.answered.answer;
       after = λ k. record {
@@ -63,5 +63,5 @@ returns-clause-carried g c =
       };
       noted = done.slip;
     } in
-    subst (λ (x : Held g.row.F.Denot × Event). IsCarriedOut x.0 c.args.slip.now x.1 c.carry_out-reply.result new c.carry_out-reply.new.slip)
+    subst (λ (x : Held g.row.F.Denot × Event). IsCarriedOut x.0 c.args.slip.now x.1 c.answer_and_book-reply.result new c.answer_and_book-reply.new.slip)
     (λ k. (record (c.self.view_is k) { source = c.verdict-sourced.new.self; plan = plan k }, event.Attempt c.args.moment (verdict k))) carried

@@ -3,7 +3,7 @@ use Rattle.can_record.specs.Journal.{Journal}
 use Rattle.can_roll.specs.Seen.{RollSeen}
 use Rattle.can_station.proofs.Marking.{booked_after}
 use Rattle.can_station.proofs.PublishedFacts.{later, kept_before, published_after_call, published_still, short}
-use Rattle.can_station.proofs.station_state.carry_out.Goals as goal
+use Rattle.can_station.proofs.station_state.answer_and_book.Goals as goal
 
 pub overflow_cast-at : goal.overflow_cast-at
 overflow_cast-at g c =
