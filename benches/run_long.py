@@ -87,7 +87,7 @@ class Server:
 
 
 def measured(options, words):
-    """Entries a second, seconds of the end, megabytes, bytes an entry; then median and 99th percentile of a round trip."""
+    """Entries a second, seconds of the end, megabytes, bytes an entry; then median and 99th percentile of the time from send to receive."""
     sessions = ["--sessions", str(1 + options.receivers), "--senders", "1"]
     with Server(options.program, options.folder, words) as server:
         found = server.load(*sessions, "--window", str(options.window), "--frames", str(options.frames))
@@ -119,7 +119,7 @@ def main():
         for place in range(len(chosen)):
             kind = chosen[(turn + place) % len(chosen)]
             rows[kind].append(measured(options, KINDS[kind]))
-    print("| `--record` | entries/s | end, s | memory, MB | bytes an entry | round trip, median / 99 % |")
+    print("| `--record` | entries/s | end, s | memory, MB | bytes an entry | send to receive, median / 99 % |")
     print("|---|---|---|---|---|---|")
     for kind, runs in rows.items():
         rate, took, memory, size, p50, p99 = map(statistics.median, zip(*runs))

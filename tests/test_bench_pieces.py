@@ -35,7 +35,7 @@ AT = "  at SECONDS.MICROS: 1 to 10 digits, a point, 6 digits, as at 1.500000\n"
 ATTEMPT = "  nothing may follow attempt: each line makes one attempt\n"
 NUMBER = "  a session is 1 to 64 without leading zeros, after one space\n"
 MISSING = "  no line before it starts session 3\n"
-WITH_CR = "  this line ends with CR and LF: lines end with LF alone\n"
+WITH_CR = "  this line ends with CR and LF: lines end with only LF\n"
 OTHER = "  a line begins with at, session, feed, drain, end, fault or attempt; see canbusd help bench\n"
 # A line that is refused, how it is shown, and what is reported of it.
 FAULTY = [

@@ -78,7 +78,7 @@ DAMAGED = [
         "record 1\r\n",
         "bad version",
         "1: canbus record 1?",
-        "this line ends with CR and LF: lines end with LF alone",
+        "this line ends with CR and LF: lines end with only LF",
     ),
     (
         "done 0002 0000\nreceive 1 = data",

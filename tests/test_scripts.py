@@ -106,7 +106,7 @@ FAULTY = [
             "29 in MASK"
         ),
     ),
-    (b"0 good\r\n", "script line 1: bad line", "1: 0 good?", "this line ends with CR and LF: lines end with LF alone"),
+    (b"0 good\r\n", "script line 1: bad line", "1: 0 good?", "this line ends with CR and LF: lines end with only LF"),
     (b"0 good\n1 g\xffod\n", "read fault", "2: 1 g?od", "this line is no UTF-8 text"),
 ]
 

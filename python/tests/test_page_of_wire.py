@@ -119,7 +119,7 @@ def test_the_detail(opened):
         }.items()
     )
     shown.run("choose(3)")
-    assert "at least 210 \u00b5s, the frame alone" in shown.run("at('chosen').textContent")
+    assert "at least 210 \u00b5s, only the frame" in shown.run("at('chosen').textContent")
 
 
 def test_an_attempt_that_failed_sent_no_whole_frame(opened):

@@ -5,7 +5,7 @@ use std::alloc::{AllocError, Global};
 use std::io::Error;
 
 /// What is reported of a line that ends as lines of other systems do.
-pub const WITH_CR: &str = "this line ends with CR and LF: lines end with LF alone";
+pub const WITH_CR: &str = "this line ends with CR and LF: lines end with only LF";
 
 /// A note that is the same for every run.
 pub fn fixed_note(alloc: Global, note: &str) -> Result<String, AllocError> {

@@ -273,7 +273,7 @@ fn ack_option<'a>(alloc: Global) -> Arg<'a>
         .long(ACK)
         .value_name("MODE")
         .default_value(ALWAYS)
-        .help("Who acknowledges: always a silent node, or peers, the other interfaces alone")
+        .help("Who acknowledges: a silent node (always), or only the other interfaces (peers)")
 }
 
 fn report_option<'a>(alloc: Global) -> Arg<'a>
@@ -283,7 +283,7 @@ fn report_option<'a>(alloc: Global) -> Arg<'a>
     Arg::new(alloc, REPORT)
         .long(REPORT)
         .action(ArgAction::SetTrue)
-        .help("Make error message frames of each fault too, not of changes of state alone")
+        .help("Make error message frames of each fault too, not only of changes of state")
 }
 
 /// An option with a number.

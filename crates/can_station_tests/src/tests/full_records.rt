@@ -41,7 +41,7 @@ fn one_caller<N: RollName + MeterName, R: Wait + Abort>(rt: &R, alloc: Global, b
     settles(rt, station, passes, Vec::new(alloc), 3);
 }
 
-/// Two receives find the record full, and the first of them is who learns of it.
+/// Two receives find the record full, and the first of them, in a hold of the lock, is who learns of it.
 fn finds_it_full_twice<N: RollName + MeterName, R: Wait + Abort>(
     caller: &mut Party<'_, N, R>,
     socket: SocketId,
@@ -49,7 +49,7 @@ fn finds_it_full_twice<N: RollName + MeterName, R: Wait + Abort>(
     let (rt, station) = (caller.rt, caller.station);
     let before = stats(rt, station, socket, iface(rt, 0));
     assert!(rt; !station.became_full() && !station.is_full());
-    is_refused(rt, caller.receive(socket));
+    is_refused(rt, caller.receive_held(socket));
     assert!(rt; station.became_full() && !station.became_full());
     is_refused(rt, caller.receive(socket));
     assert!(rt; !station.became_full() && station.is_full());
@@ -130,7 +130,7 @@ fn two_callers<N: RollName + MeterName + Send + Sync, R: Threads + Wait + Abort 
         || two_sends(first, socket),
         || two_sends(second, socket),
     );
-    assert!(rt; some <= 2 && others == 2 - some);
+    assert!(rt; some <= 2 && others == 2 - some && station.became_full());
     finds_it_full(entered(rt, alloc, &station));
     let passes = two(rt, alloc, first, second);
     settles(rt, station, passes, Vec::new(alloc), 3);

@@ -170,10 +170,12 @@ fn a_frame_wakes_all<
     let faults = script(rt, alloc, "");
     let station = made::<N, _, _, _>(rt, alloc, blanks, 0, config(2), faults, Open);
     let mut caller = entered(rt, alloc, &station);
-    let (sender, first) = (caller.open(0, 4), caller.open(1, 4));
-    opens_and_closes(&mut caller);
+    let sender = caller.open(0, 4);
+    opens_and_closes(&mut caller, 62);
+    let first = caller.open(1, 4);
+    opens_and_closes(&mut caller, 63);
     let last = caller.open(1, 4);
-    assert!(rt; (first, last) == (SocketId(1), SocketId(65)));
+    assert!(rt; (first, last) == (SocketId(63), SocketId(127)));
     for number in 0..2 {
         caller.sends(sender, 0x123, number);
         wakes_both(rt, &mut caller, [first, last]);
@@ -182,9 +184,12 @@ fn a_frame_wakes_all<
     }
 }
 
-/// Opens 63 sockets, and closes each.
-fn opens_and_closes<N: RollName + MeterName, R: Wait + Abort>(caller: &mut Party<'_, N, R>) {
-    for _ in 0..63 {
+/// Opens this many sockets, and closes each.
+fn opens_and_closes<N: RollName + MeterName, R: Wait + Abort>(
+    caller: &mut Party<'_, N, R>,
+    count: u32,
+) {
+    for _ in 0..count {
         let socket = caller.open(1, 4);
         caller.closes(socket);
     }

@@ -190,7 +190,7 @@ function delayWords(step) {
     return first === step ? "not sent in this attempt, the first in which it took part"
       : `not sent in this attempt; the first in which it took part, ${grouped(attemptOf[first])}, began ${before} before`;
   }
-  if (first === step) return `at least ${duration(nanos)}, the frame alone: it took part in no attempt before`;
+  if (first === step) return `at least ${duration(nanos)}, only the frame: it took part in no attempt before`;
   return `at least ${duration(nanos)}, from the start of attempt ${grouped(attemptOf[first])}, its first, to this end of frame`;
 }
 const shareWords = (busy, { all, nanos }) => `load ${percent(busy / nanos)}, ${percent(all ? busy / all : 0)} of the busy time`;
