@@ -31,7 +31,7 @@ impl<R: Guest + Threads + Wait + Sync> Machine for R {}
 const PATIENCE: u64 = 20;
 
 /// The host of a test: its clock is stopped, until it is a minute later, and it counts how often it was notified of a
-/// full record, and of an interface that went bus off or was restarted.
+/// full record, of an interface that went bus off or was restarted, and of a 65th client that was turned away.
 #[derive(Drop)]
 pub struct Host {
     moment: Moment,
@@ -40,6 +40,7 @@ pub struct Host {
     pub told: AtomicU64,
     pub off: AtomicU64,
     pub restarted: AtomicU64,
+    pub turned_away: AtomicU64,
 }
 
 impl Host {
@@ -52,6 +53,7 @@ impl Host {
             told: AtomicU64::new(0),
             off: AtomicU64::new(0),
             restarted: AtomicU64::new(0),
+            turned_away: AtomicU64::new(0),
         }
     }
 }
@@ -70,6 +72,7 @@ impl can_server::Clock for Host {
             Notice::Full { .. } => &self.told,
             Notice::WentOff { .. } => &self.off,
             Notice::Restarted { .. } => &self.restarted,
+            Notice::TurnedAway { session: 65, .. } => &self.turned_away,
             _ => return,
         };
         count.fetch_add(1, Ordering::SeqCst);

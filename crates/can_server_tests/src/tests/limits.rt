@@ -62,6 +62,7 @@ fn fills<N: RollName + MeterName + Send + Sync, R: Machine>(
         last,
     };
     let buses = served::<N, _, _, _, _, _>(rt, alloc, benches, &acceptors, &host, None, crowd);
+    assert!(rt; host.turned_away.load(Ordering::SeqCst) == 1);
     assert!(rt; only(rt, buses).passes == MOST + 1);
 }
 
@@ -72,9 +73,9 @@ fn the_65th_session_at_once_is_refused(rt: HostRuntime) {
 }
 
 /// How many connections nothing is heard of.
-const SILENT: u32 = 63;
+const SILENT: u32 = 62;
 
-/// One client that is at work, and silent ones.
+/// Two clients that are at work, and silent ones.
 #[derive(Drop)]
 struct Silent<'a, R: Abort> {
     rt: &'a R,
@@ -82,12 +83,13 @@ struct Silent<'a, R: Abort> {
     host: &'a Host,
     address: Address,
     first: Client<'a, R>,
+    second: Client<'a, R>,
     silent: Vec<Client<'a, R>>,
 }
 
 impl<R: Guest + Sync> Visit for Silent<'_, R> {
-    /// All places are taken, all but one by silent clients. A minute later the next client is served, and the one in raw
-    /// mode goes on.
+    /// All places are taken, all but two by silent clients. A minute later the next client is served, and the two in raw
+    /// mode go on.
     fn visit(self) {
         let Silent {
             rt,
@@ -95,9 +97,11 @@ impl<R: Guest + Sync> Visit for Silent<'_, R> {
             host,
             address,
             mut first,
+            mut second,
             mut silent,
         } = self;
         first.ask("< open can0 >< rawmode >", "< hi >< ok >< ok >");
+        second.ask("< open can1 >< rawmode >", "< hi >< ok >< ok >");
         for client in silent.iter_mut() {
             client.hear("< hi >");
         }
@@ -110,6 +114,7 @@ impl<R: Guest + Sync> Visit for Silent<'_, R> {
             client.hear_end();
         }
         first.ask("< echo >", "< echo >");
+        second.ask("< echo >", "< echo >");
     }
 }
 
@@ -124,6 +129,7 @@ fn lets_in<N: RollName + MeterName + Send + Sync, R: Machine>(
 {
     let host = Host::new(rt);
     let first = entrance.admit(rt, alloc);
+    let second = entrance.admit(rt, alloc);
     let silent = entrance.admit_many(rt, alloc, SILENT);
     let (acceptors, address) = entrance.into_parts(rt, alloc);
     let silent = Silent {
@@ -132,10 +138,12 @@ fn lets_in<N: RollName + MeterName + Send + Sync, R: Machine>(
         host: &host,
         address,
         first,
+        second,
         silent,
     };
     let buses = served::<N, _, _, _, _, _>(rt, alloc, benches, &acceptors, &host, None, silent);
-    assert!(rt; only(rt, buses).passes == 3);
+    assert!(rt; host.turned_away.load(Ordering::SeqCst) == 1);
+    assert!(rt; only(rt, buses).passes == 4);
 }
 
 #[test]
@@ -144,43 +152,73 @@ fn silent_clients_make_room_after_a_minute(rt: HostRuntime) {
     lets_in::<Brand, _>(&rt, rt.alloc(), benches, Entrance::new(&rt, MOST + 2));
 }
 
-/// A server over a bus whose record holds one entry, and a host that is notified of it once. A call that the record has no
-/// room for is refused; what makes none is answered.
+/// A call that a record of one entry has no room for is refused; what makes none is answered.
+const CALLS: [Line<'static>; 9] = [
+    (0, "< open can0 >< rawmode >", "< hi >< ok >< ok >"),
+    (0, "< send 123 0 >", "< error record full >"),
+    (0, "< filter 0 >", "< error record full >"),
+    (0, "< send 123 0 >", "< error record full >"),
+    (0, "< filter 0 >", "< error record full >"),
+    (0, "< echo >", "< echo >"),
+    (0, "< stats >", "< stats 0 0 0 0 0 0 0 0 >"),
+    (
+        1,
+        "< open can1 >< rawmode >",
+        "< hi >< ok >< error record full >",
+    ),
+    (1, "< echo >", "< echo >"),
+];
+
+/// A record of four entries has no room for the receive of the first frame. Its client hears so, and both go on.
+const DELIVERY: [Line<'static>; 6] = [
+    (0, "< open can0 >< rawmode >", "< hi >< ok >< ok >"),
+    (1, "< open can1 >< rawmode >", "< hi >< ok >< ok >"),
+    (0, "< send 123 1 5 >", ""),
+    (1, "", "< error record full >"),
+    (0, "< echo >", "< echo >"),
+    (1, "< echo >", "< echo >"),
+];
+
+/// A server over a bus whose record gets full, at this many entries, in a dialogue of two clients, and a host that is
+/// notified of it once.
 fn is_full<N: RollName + MeterName + Send + Sync, R: Machine>(
     rt: &R,
     alloc: Global,
     benches: Vec<Bench<Perfect, Open>>,
     entrance: Entrance,
+    lines: &[Line<'_>],
+    limit: usize,
 )
     requires { NamedFrom N.roll N.meter 0 benches.items }
 {
     let host = Host::new(rt);
-    let refused = "< error record full >";
-    let lines = [
-        (0, "< open can0 >< rawmode >", "< hi >< ok >< ok >"),
-        (0, "< send 123 0 >", refused),
-        (0, "< filter 0 >", refused),
-        (0, "< send 123 0 >", refused),
-        (0, "< filter 0 >", refused),
-        (0, "< echo >", "< echo >"),
-        (0, "< stats >", "< stats 0 0 0 0 0 0 0 0 >"),
-        (
-            1,
-            "< open can1 >< rawmode >",
-            "< hi >< ok >< error record full >",
-        ),
-        (1, "< echo >", "< echo >"),
-    ];
-    let buses = talks::<N, _, _, _, _>(rt, alloc, benches, entrance, &host, 2, &lines);
+    let buses = talks::<N, _, _, _, _>(rt, alloc, benches, entrance, &host, 2, lines);
     assert!(rt; host.told.load(Ordering::SeqCst) == 1);
-    assert!(rt; only(rt, buses).history.len() == 1);
+    assert!(rt; only(rt, buses).history.len() == limit);
+}
+
+/// What a hub of one bus is made of, whose record has at most this many entries.
+fn short_bus<R: Abort>(rt: &R, alloc: Global, limit: u32) -> Vec<Bench<Perfect, Open>> {
+    let mut bench = bench(rt, alloc, names(rt, alloc, "can0,can1"));
+    bench.config.limit = limit;
+    one(rt, alloc, bench)
 }
 
 #[test]
 fn a_full_record_refuses_calls_alone(rt: HostRuntime) {
-    let alloc = rt.alloc();
-    let mut bench = bench(&rt, alloc, names(&rt, alloc, "can0,can1"));
-    bench.config.limit = 1;
-    let benches = one(&rt, alloc, bench);
-    is_full::<Brand, _>(&rt, alloc, benches, Entrance::new(&rt, 2));
+    let benches = short_bus(&rt, rt.alloc(), 1);
+    is_full::<Brand, _>(&rt, rt.alloc(), benches, Entrance::new(&rt, 2), &CALLS, 1);
+}
+
+#[test]
+fn a_delivery_that_finds_the_record_full_is_refused(rt: HostRuntime) {
+    let benches = short_bus(&rt, rt.alloc(), 4);
+    is_full::<Brand, _>(
+        &rt,
+        rt.alloc(),
+        benches,
+        Entrance::new(&rt, 2),
+        &DELIVERY,
+        4,
+    );
 }
