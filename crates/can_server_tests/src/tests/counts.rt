@@ -90,6 +90,30 @@ impl<'a, N: RollName + MeterName, R: Wait + Abort> Both<'a, N, R> {
     }
 }
 
+/// While two of its frames wait the first gives a rule, and ends it before it hits one.
+const RULES: [(u8, &str, &str); 2] = [
+    (
+        1,
+        "< send 123 0 >< fault next 1 global bit >< send 123 0 >< faults >< send 123 0 >< nofaults >",
+        "< ok >< error no buffers >< faults 1 >< error no buffers >< ok >",
+    ),
+    (
+        1,
+        "< faults >< send 123 0 >",
+        "< faults 0 >< error no buffers >",
+    ),
+];
+
+/// Each of the two was done in one attempt.
+const AFTER_RULES: [(u8, &str, &str); 2] = [
+    (
+        1,
+        "< status >< stats >",
+        "< status active 0 0 >< stats 0 0 0 4 4 0 0 4 >",
+    ),
+    (1, "< send 123 0 >< close >", "< closed 0 0 >"),
+];
+
 /// Two sessions that report each count: of items that are queued, dropped and taken, and of frames that are sent, done,
 /// waiting, lost and refused.
 fn counts<N: RollName + MeterName, R: Wait + Abort>(
@@ -117,19 +141,10 @@ fn counts<N: RollName + MeterName, R: Wait + Abort>(
         (2, "< stats >", "< stats 1 1 0 0 0 0 0 0 >"),
     ]);
     both.second.is_given(alloc);
-    both.are_told(&[
-        (2, "< stats >", "< stats 1 1 1 0 0 0 0 0 >"),
-        (
-            1,
-            "< send 123 0 >< fault next 1 good >< send 123 0 >< faults >< send 123 0 >< nofaults >",
-            "< ok >< error no buffers >< faults 1 >< error no buffers >< ok >",
-        ),
-        (
-            1,
-            "< send 123 0 >< close >",
-            "< error no buffers >< closed 0 0 >",
-        ),
-    ]);
+    both.are_told(&[(2, "< stats >", "< stats 1 1 1 0 0 0 0 0 >")]);
+    both.are_told(&RULES);
+    both.first.sees_two_attempts(alloc);
+    both.are_told(&AFTER_RULES);
 }
 
 #[test]
