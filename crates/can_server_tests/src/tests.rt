@@ -47,6 +47,11 @@ fn script<R: Abort>(rt: &R, alloc: Global, text: &str) -> Script {
     can_test_support::script(alloc, "can0,can1", text).expect(rt, "a script")
 }
 
+/// The rules that a text spells, for a bus of can0 and can1.
+fn plan<R: Abort>(rt: &R, alloc: Global, text: &str) -> Plan {
+    Plan::read(alloc, text, &names(rt, alloc, "can0,can1")).expect(rt, "a plan")
+}
+
 fn iface<R: Abort>(rt: &R, number: u8) -> Iface {
     can_test_support::iface(number).expect(rt, "an interface")
 }

@@ -31,7 +31,7 @@ fn asks_load<N: RollName + MeterName, R: Wait + Abort>(
     client.ask("< load >", "< load 250 250000 500000 2000000 >");
 }
 
-/// The counters after a fault in the last bit, and after the good attempt that follows.
+/// The counters after two faults in the last bit, and after the good attempt that follows.
 fn asks_after_each_attempt<N: RollName + MeterName, R: Wait + Abort>(
     first: &mut LocalClient<'_, N, Script, R>,
 ) {
@@ -39,10 +39,12 @@ fn asks_after_each_attempt<N: RollName + MeterName, R: Wait + Abort>(
     driver.try_frame();
     first.ask("< status >", "< status active 8 0 >");
     driver.try_frame();
-    first.ask("< status >", "< status active 7 0 >");
+    first.ask("< status >", "< status active 16 0 >");
+    driver.try_frame();
+    first.ask("< status >", "< status active 15 0 >");
 }
 
-/// A fault in the last bit and the good attempt after it, by the counters that two sessions report.
+/// Two faults in the last bit and the good attempt after them, by the counters that two sessions report.
 fn last_bit<N: RollName + MeterName, R: Wait + Abort>(
     rt: &R,
     alloc: Global,
@@ -58,11 +60,12 @@ fn last_bit<N: RollName + MeterName, R: Wait + Abort>(
     asks_too_early(&mut first);
     asks_after_each_attempt(&mut first);
     second.ask("< status >", "< status active 0 0 >");
-    assert!(rt; second.counts(0) == (7, 0) && second.counts(2) == (0, 0));
+    assert!(rt; second.counts(0) == (15, 0) && second.counts(2) == (0, 0));
     asks_load(&mut second, &hub);
 }
 
-/// A session's gauge reads what the station published, attempt by attempt.
+/// A session's gauge reads what the station published, attempt by attempt. The first fault is of the source, and the second
+/// of the plan.
 #[test]
 fn a_session_is_told_its_error_counters(rt: HostRuntime) {
     let alloc = rt.alloc();
@@ -70,7 +73,9 @@ fn a_session_is_told_its_error_counters(rt: HostRuntime) {
         names(&rt, alloc, "can0,can1"),
         script(&rt, alloc, "0 lastbit"),
     );
+    let plan = plan(&rt, alloc, "next 1 lastbit");
     let mut bench = held_bench(&rt, alloc, names, faults, Open);
+    bench.plan = plan;
     bench.timing = Timing::new(500_000, Some(2_000_000)).ok();
     let benches = one(&rt, alloc, bench);
     last_bit::<Brand, _>(&rt, alloc, benches);
