@@ -6,7 +6,7 @@ ghost use Rattle.can_hub.specs.Benches.{NamedFrom};
 use super::clients::*;
 use super::*;
 use can_server::{Clock, Notice};
-use can_test_support::DESTROYED;
+use can_test_support::{DESTROYED, times};
 use std::marker::Brand;
 use std::sync::atomic::{AtomicU64, Ordering};
 
@@ -81,9 +81,12 @@ fn add(count: &AtomicU64, more: u64) {
     count.fetch_add(more, Ordering::SeqCst);
 }
 
-/// A server of two clients, and the notices that its host got of them. The first client's interface goes off, it sends in
-/// vain, restarts the interface, which it can't do again, and sends two frames, of which the second client's socket holds
-/// one.
+/// How often a client sends in vain.
+const VAIN: usize = 70;
+
+/// A server of two clients, and the notices that its host got of them. The first client's interface goes off, it sends
+/// many times in vain, restarts the interface, which it can't do again, and sends four frames, of which the second client's
+/// socket holds one.
 fn told<N: RollName + MeterName + Send + Sync, R: Machine>(
     rt: &R,
     alloc: Global,
@@ -93,6 +96,8 @@ fn told<N: RollName + MeterName + Send + Sync, R: Machine>(
     requires { NamedFrom N.roll N.meter 0 benches.items }
 {
     let host = Counting::new(rt);
+    let sends = times(alloc, "< send 123 0 >", VAIN).expect(rt, "a text");
+    let refusals = times(alloc, "< error bus off >", VAIN).expect(rt, "a text");
     let lines = [
         (1, "< open can1 >< rawmode >", "< hi >< ok >< ok >"),
         (
@@ -101,10 +106,14 @@ fn told<N: RollName + MeterName + Send + Sync, R: Machine>(
             "< hi >< ok >< ok >< ok >",
         ),
         (0, "< send 123 0 >", "< error 040 23.424242 >"),
-        (0, "< send 123 0 >", "< error bus off >"),
+        (0, &sends, &refusals),
         (0, "< restart >", "< ok >"),
         (0, "< restart >", "< error not bus off >"),
-        (0, "< send 123 0 >< send 124 0 >", ""),
+        (
+            0,
+            "< send 123 0 >< send 124 0 >< send 125 0 >< send 126 0 >",
+            "",
+        ),
         (1, "", "< frame 123 23.424242  >"),
     ];
     let buses = talks::<N, _, _, _, _>(rt, alloc, benches, entrance, &host, 2, &lines);
@@ -112,9 +121,11 @@ fn told<N: RollName + MeterName + Send + Sync, R: Machine>(
     for count in [&host.came, &host.opened, &host.went] {
         assert!(rt; count.load(Ordering::SeqCst) == 2);
     }
-    for count in [&host.refused, &host.dropped, &host.off, &host.restarted] {
+    for count in [&host.off, &host.restarted] {
         assert!(rt; count.load(Ordering::SeqCst) == 1);
     }
+    assert!(rt; host.refused.load(Ordering::SeqCst) == VAIN as u64);
+    assert!(rt; host.dropped.load(Ordering::SeqCst) == 3);
 }
 
 #[test]
@@ -125,6 +136,7 @@ fn a_host_is_told_of_sessions_and_of_bus_off(rt: HostRuntime) {
         script(&rt, alloc, DESTROYED),
     );
     let mut bench = held_bench(&rt, alloc, names, faults, Open);
+    bench.config.limit = 200;
     bench.rx_capacity = 1;
     let benches = one(&rt, alloc, bench);
     told::<Brand, _>(&rt, alloc, benches, Entrance::new(&rt, 2));
