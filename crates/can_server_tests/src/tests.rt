@@ -2,6 +2,7 @@ ghost use Rattle.std.specs.Prelude.{◌≡◌, length};
 ghost use Rattle.can_hub.specs.Benches.{NamedFrom};
 
 mod admission;
+mod batches;
 mod clients;
 mod counts;
 mod dialogues;

@@ -3,9 +3,10 @@
 use super::*;
 use can_bus::Attempt;
 use can_dialog::Session;
-use can_server::HubBus;
+use can_server::{Batch, HubBus};
 use can_station::Station;
 use can_test_support::Output;
+use std::io::Write;
 
 /// When all of it happens, in microseconds.
 const MOMENT: u64 = 23_424_242;
@@ -54,6 +55,12 @@ impl<'a, N: RollName + MeterName, F: FaultSource + Drop, R: Wait + Abort> LocalC
         let mut out = Output::new(self.alloc, 1_000);
         assert!(self.rt; self.session.deliver(&mut self.port, &mut out) == Ok(true));
         assert!(self.rt; out.text.as_slice() == wanted.as_bytes());
+    }
+
+    /// Is given at most this many of the items that wait, by a batch.
+    pub fn is_given<W: Write>(&mut self, batch: &mut Batch, waiting: u64, out: &mut W) {
+        let taken = batch.take(&self.session, waiting, &mut self.port);
+        assert!(self.rt; batch.write_items(taken, out));
     }
 
     /// The counts that its port reads of an interface, the transmit count first.
