@@ -34,8 +34,33 @@ impl Write for Noting {
     }
 }
 
-/// The most bytes of a write, and the lengths of the writes in which a client is given five items of 24 bytes: each has
-/// as many whole items as it may, and at least one.
+/// A client sends five frames, which are tried.
+fn tries_five<N: RollName + MeterName, R: Wait + Abort>(
+    client: &mut LocalClient<'_, N, Perfect, R>,
+) {
+    for _ in 0..5 {
+        client.ask("< send 123 0 >", "");
+        client.driver().try_frame();
+    }
+}
+
+/// The lengths of the writes in which a client is given five items, with at most this many bytes in each write.
+fn lengths<N: RollName + MeterName, R: Wait + Abort>(
+    rt: &R,
+    alloc: Global,
+    client: &mut LocalClient<'_, N, Perfect, R>,
+    most_bytes: usize,
+) -> Vec<usize> {
+    let mut batch = Batch::new(alloc, most_bytes).expect(rt, "a batch");
+    let mut out = Noting {
+        lengths: Vec::new(alloc),
+    };
+    client.is_given(&mut batch, 5, &mut out);
+    out.lengths
+}
+
+/// The most bytes of a write, and the lengths of the writes for five items of 24 bytes: each has as many whole items as it
+/// may, and at least one.
 const WRITES: [(usize, &[usize]); 3] = [(71, &[48, 48, 24]), (72, &[72, 48]), (1, &[24; 5])];
 
 /// A client is given five items in each of these ways.
@@ -52,15 +77,9 @@ fn gives_in_writes<N: RollName + MeterName, R: Wait + Abort>(
     first.ask("< open can0 >< rawmode >", "< ok >< ok >");
     second.ask("< open can1 >< rawmode >", "< ok >< ok >");
     for (most_bytes, wanted) in WRITES {
-        for _ in 0..5 {
-            first.ask("< send 123 0 >", "");
-            first.driver().try_frame();
-        }
-        let mut batch = Batch::new(alloc, most_bytes).expect(rt, "a batch");
-        let lengths = Vec::new(alloc);
-        let mut out = Noting { lengths };
-        second.is_given(&mut batch, 5, &mut out);
-        assert!(rt; out.lengths.as_slice() == wanted);
+        tries_five(&mut first);
+        let given = lengths(rt, alloc, &mut second, most_bytes);
+        assert!(rt; given.as_slice() == wanted);
     }
 }
 
@@ -77,7 +96,7 @@ const PAIRS: usize = 260;
 const FRAMES: u64 = 520;
 
 /// Counts the steps of a bus. Its third call that takes the lock for itself is held, without the lock, until all frames
-/// were tried.
+/// are tried.
 #[derive(Drop)]
 struct Delaying<'s, C: Clock> {
     clock: &'s C,
@@ -109,7 +128,7 @@ struct Delayed<'a, R: Abort> {
 }
 
 impl<R: Guest + Sync> Visit for Delayed<'_, R> {
-    /// No item is given to the second client until all frames were tried. Then it gets each, in order.
+    /// No item is given to the second client until all frames are tried. Then it gets each, in order.
     fn visit(self) {
         let Delayed {
             rt,

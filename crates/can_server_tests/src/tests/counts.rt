@@ -104,7 +104,7 @@ const RULES: [(u8, &str, &str); 2] = [
     ),
 ];
 
-/// Each of the two was done in one attempt.
+/// Then each of the two is done in one attempt.
 const AFTER_RULES: [(u8, &str, &str); 2] = [
     (
         1,
