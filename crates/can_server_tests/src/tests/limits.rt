@@ -205,7 +205,7 @@ fn short_bus<R: Abort>(rt: &R, alloc: Global, limit: u32) -> Vec<Bench<Perfect, 
 }
 
 #[test]
-fn a_full_record_refuses_calls_alone(rt: HostRuntime) {
+fn a_full_record_refuses_only_calls(rt: HostRuntime) {
     let benches = short_bus(&rt, rt.alloc(), 1);
     is_full::<Brand, _>(&rt, rt.alloc(), benches, Entrance::new(&rt, 2), &CALLS, 1);
 }

@@ -1,5 +1,5 @@
 use Rattle.can_hub.proofs.Naming.{roll_at, meter_at}
-use Rattle.can_server_tests.proofs.tests.limits.a_full_record_refuses_calls_alone.Given as goal
+use Rattle.can_server_tests.proofs.tests.limits.a_full_record_refuses_only_calls.Given as goal
 
 abbrev pub ghosts-is_full-N-RollName : goal.ghosts-is_full-N-RollName
 ghosts-is_full-N-RollName g a = record { roll = roll_at a.benches.items }
