@@ -1,7 +1,6 @@
 """The bench in a dialogue. What is expected is what the rules of the bus give (Bosch CAN 2.0, linux/can/error.h)."""
 
 import os
-import signal
 import threading
 
 import can
@@ -371,12 +370,15 @@ def test_threads_share_a_bench():
 
 
 def test_an_interrupted_call_ends_the_dialogue_and_keeps_the_run(monkeypatch):
+    def interrupt(*_):
+        """What Ctrl-C does while the bench is waited for, unless SIGINT is ignored, as in a job in the background."""
+        raise KeyboardInterrupt
+
     bench, sender, receiver = pair()
     sender.send(0x123)
     bench.attempt()
     with monkeypatch.context() as patched:
-        # What Ctrl-C does while the bench is waited for.
-        patched.setattr("select.select", lambda *_: signal.raise_signal(signal.SIGINT))
+        patched.setattr("select.select", interrupt)
         with pytest.raises(KeyboardInterrupt):
             sender.send(0x124)
     for call in (receiver.receive, bench.attempt, lambda: bench.open("can0"), receiver.close, sender.restart):

@@ -228,7 +228,7 @@ def test_sending_periodically(pair):
 
 
 def test_a_periodic_task_survives_bus_off(caplog):
-    with Server("can0,can1", faults=Faults().destroyed(range(32))) as server:
+    with Server("can0,can1", faults=Faults().destroyed(range(32)), txqueue=1024) as server:
         with server.bus("can0") as can0, server.bus("can1", error_frames=False) as can1:
             task = can0.send_periodic(message(0x123), 0.005)
             while can0.recv(WAIT).arbitration_id != 0x040:
