@@ -12,7 +12,7 @@ pub const STANDARD: u32 = 0xC000_07FF;
 pub const EXTENDED: u32 = 0xDFFF_FFFF;
 
 /// How a word is looked up in a filter.
-#[derive(Debug, Clone, Copy)]
+#[derive(Clone, Copy)]
 pub enum Lookup {
     /// The word has to be this 11-bit data identifier.
     Standard(u32),

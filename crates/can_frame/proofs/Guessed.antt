@@ -9,7 +9,7 @@ use Rattle.can_frame.specs.declared.item.Item.{Item}
 use Rattle.can_frame.specs.declared.item.Item.TheVariants as item
 use Rattle.can_frame.specs.FrameText.{IsPayload, IsItem}
 use Rattle.can_frame.specs.Numbers.{number_in}
-use Rattle.can_frame.specs.FrameGuess.{bytes_in, stands_at, request_in, data_in, fd_data_in, flags_in, fd_in, payload_in, frame_in, error_in, standard_in, long_in, short_item_in, long_item_in, item_in}
+use Rattle.can_frame.specs.FrameGuess.{bytes_in, has_byte_at, request_in, data_in, fd_data_in, flags_in, fd_in, payload_in, frame_in, error_in, standard_in, long_in, short_item_in, long_item_in, item_in}
 
 -- What is guessed is an item that there is.
 
@@ -76,7 +76,7 @@ fd-good text p h =
 
 payload-good : (text : List ℕ) (p : Payload) → payload_in text ≡ Some p → IsPayload p
 unfolding payload_in
-payload-good text p h = by_mark (stands_at 82 0 text) (stands_at 35 0 text) h
+payload-good text p h = by_mark (has_byte_at 82 0 text) (has_byte_at 35 0 text) h
   where
     by_mark : (remote fd : Bool) → cond remote (option_map Remote (request_in (drop 1 text))) (cond fd (fd_in (drop 1 text)) (option_map Data (data_in text))) ≡ Some p → IsPayload p
     by_mark true fd e =
@@ -118,7 +118,7 @@ long-good n text i h = by_mark (ltb n (2 ^ 29)) refl h
 
 pub item-good : (text : List ℕ) (i : Item) → item_in text ≡ Some i → IsItem i
 unfolding item_in short_item_in long_item_in
-item-good text i h = by_mark (stands_at 35 3 text) (stands_at 35 8 text) h
+item-good text i h = by_mark (has_byte_at 35 3 text) (has_byte_at 35 8 text) h
   where
     by_mark : (three eight : Bool) → cond three (short_item_in text) (cond eight (long_item_in text) None) ≡ Some i → IsItem i
     by_mark true eight e = let found = then_some _ (number_in 16 3 (take 3 text)) i e in standard-good found.0 (drop 4 text) i found.2

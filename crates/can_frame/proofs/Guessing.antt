@@ -9,7 +9,7 @@ use Rattle.can_frame.specs.declared.fd_flags.FdFlags.{FdFlags}
 use Rattle.can_frame.specs.declared.item.Item.{Item}
 use Rattle.can_frame.specs.declared.item.Item.TheVariants as item
 use Rattle.can_frame.specs.FrameText.{digit_of, digits, pairs, id_text, payload_text, frame_spelling, AsksForNothing, IsPayload, IsItem, IsSpelling}
-use Rattle.can_frame.specs.FrameGuess.{bytes_in, stands_at, request_in, data_in, fd_data_in, flags_in, fd_in, payload_in, frame_in, error_in, standard_in, long_in, short_item_in, long_item_in, item_in}
+use Rattle.can_frame.specs.FrameGuess.{bytes_in, has_byte_at, request_in, data_in, fd_data_in, flags_in, fd_in, payload_in, frame_in, error_in, standard_in, long_in, short_item_in, long_item_in, item_in}
 use Rattle.can_frame.specs.Numbers.{number_in}
 use Rattle.can_frame.proofs.Digits.{pairs-upper, request-text}
 use Rattle.can_frame.proofs.Numerals.{value-digits}
@@ -101,11 +101,11 @@ data-again bytes h fits =
     let half : length (pairs bytes) / 2 ≡ length bytes = omega (arith, len) in
     rw (half, le-true (length bytes) 8 h) (bytes_again (length bytes) bytes refl fits)
 
-no-request-in : (bytes : List ℕ) → IsBytes bytes → stands_at 82 0 (pairs bytes) ≡ false
+no-request-in : (bytes : List ℕ) → IsBytes bytes → has_byte_at 82 0 (pairs bytes) ≡ false
 no-request-in [] h = refl
 no-request-in (b ∷ bs) h = rw (lt-true 0 (length (pairs (b ∷ bs))) (omega arith), no-request (b / 16 % 16) (omega arith)) refl
 
-no-mark-in : (bytes : List ℕ) → IsBytes bytes → stands_at 35 0 (pairs bytes) ≡ false
+no-mark-in : (bytes : List ℕ) → IsBytes bytes → has_byte_at 35 0 (pairs bytes) ≡ false
 no-mark-in [] h = refl
 no-mark-in (b ∷ bs) h = rw (lt-true 0 (length (pairs (b ∷ bs))) (omega arith), no-hash (b / 16 % 16)) refl
 

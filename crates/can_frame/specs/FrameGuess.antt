@@ -15,9 +15,9 @@ use Rattle.can_frame.specs.declared.item.Item.TheVariants as item
 unfoldable pub bytes_in : ℕ → List ℕ → Option (List ℕ)
 bytes_in n text = result_ok (decode_sized text n)
 
--- a mark is at a place
-abbrev pub stands_at : ℕ → ℕ → List ℕ → Bool
-stands_at mark k text = nat_lt k (length text) && slice_index text k == mark
+-- the text has this byte at a place
+abbrev pub has_byte_at : ℕ → ℕ → List ℕ → Bool
+has_byte_at mark k text = nat_lt k (length text) && slice_index text k == mark
 
 -- what a remote frame asks for: 0 where nothing is said, else one digit up to 8
 unfoldable pub request_in : List ℕ → Option ℕ
@@ -41,7 +41,7 @@ fd_in text = option_and_then (λ flags. option_map (Fd flags) (fd_data_in (drop 
 
 -- what follows the mark of a frame: `R` (82) and a length, a second `#` (35) and an FD frame's data, or data
 unfoldable pub payload_in : List ℕ → Option Payload
-payload_in text = if stands_at 82 0 text then option_map Remote (request_in (drop 1 text)) else if stands_at 35 0 text then fd_in (drop 1 text) else option_map Data (data_in text)
+payload_in text = if has_byte_at 82 0 text then option_map Remote (request_in (drop 1 text)) else if has_byte_at 35 0 text then fd_in (drop 1 text) else option_map Data (data_in text)
 
 -- a frame with this identifier
 unfoldable pub frame_in : Identifier → List ℕ → Option Item
@@ -69,4 +69,4 @@ long_item_in text = option_and_then (λ n. long_in n (drop 9 text)) (number_in 1
 
 -- the `#` (35) is after 3 digits or after 8
 unfoldable pub item_in : List ℕ → Option Item
-item_in text = if stands_at 35 3 text then short_item_in text else if stands_at 35 8 text then long_item_in text else None
+item_in text = if has_byte_at 35 3 text then short_item_in text else if has_byte_at 35 8 text then long_item_in text else None

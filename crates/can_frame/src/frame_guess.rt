@@ -1,7 +1,7 @@
 ghost use Rattle.std.specs.Prelude.{◌≡◌, ◌<◌, ◌≤◌, length, IsTrue, IfSome, Some};
 ghost use Rattle.std.specs.Option.{option_map};
 ghost use Rattle.can_frame.specs.Frames.Payload.{Data, Remote, Fd};
-ghost use Rattle.can_frame.specs.FrameGuess.{stands_at, request_in, data_in, fd_data_in, flags_in, fd_in, payload_in, frame_in, error_in, standard_in, long_in, short_item_in, long_item_in, item_in};
+ghost use Rattle.can_frame.specs.FrameGuess.{has_byte_at, request_in, data_in, fd_data_in, flags_in, fd_in, payload_in, frame_in, error_in, standard_in, long_in, short_item_in, long_item_in, item_in};
 ghost use Rattle.can_frame.specs.FrameText.{IsItem, IsSpelling};
 ghost use Rattle.can_frame.specs.declared.item.Item.{Item as AnItem};
 
@@ -32,18 +32,18 @@ pub fn guess_item(text: &[u8]) -> Option<Item>
 fn by_mark(text: &[u8]) -> Option<Item>
     ensures { result ≡ item_in text.now }
 {
-    if stands_at(b'#', 3, text) {
+    if has_byte_at(b'#', 3, text) {
         return with_three(text);
     }
-    if stands_at(b'#', 8, text) {
+    if has_byte_at(b'#', 8, text) {
         return with_eight(text);
     }
     None
 }
 
-/// Whether a byte of the text is this mark.
-fn stands_at(mark: u8, place: usize, text: &[u8]) -> bool
-    ensures test { result ≡ stands_at mark place text.now }
+/// Whether the text has this byte at a place.
+fn has_byte_at(mark: u8, place: usize, text: &[u8]) -> bool
+    ensures test { result ≡ has_byte_at mark place text.now }
     ensures within { IsTrue result → place < length text.now }
 {
     place < text.len() && text[place] == mark
@@ -96,9 +96,9 @@ fn long(number: u32, text: &[u8]) -> Option<Item>
 fn frame(id: CanId, text: &[u8]) -> Option<Item>
     ensures { result ≡ frame_in id text.now }
 {
-    let frame = if stands_at(b'R', 0, text) {
+    let frame = if has_byte_at(b'R', 0, text) {
         remote_frame(id, &text[1..])?
-    } else if stands_at(b'#', 0, text) {
+    } else if has_byte_at(b'#', 0, text) {
         fd_frame(id, &text[1..])?
     } else {
         data_frame(id, text)?

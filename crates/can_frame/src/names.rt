@@ -122,10 +122,10 @@ impl Names {
 pub fn is_name(text: &str) -> bool
     ensures { result ≡ is_name_of text.now }
 {
-    1 <= text.len() && text.len() <= 15 && text.bytes().all(|byte| may_stand_in_name(byte))
+    1 <= text.len() && text.len() <= 15 && text.bytes().all(|byte| is_name_byte(byte))
 }
 
-fn may_stand_in_name(byte: u8) -> bool
+fn is_name_byte(byte: u8) -> bool
     ensures { result ≡ is_name_byte byte }
 {
     byte.is_ascii_alphanumeric() || matches!(byte, b'_' | b'-' | b'.')

@@ -19,7 +19,7 @@ use Rattle.can_proto.specs.declared.fault.ProtoFault.TheVariants.{BadByte}
 use Rattle.can_proto.specs.declared.verb.Verb.{Verb}
 use Rattle.can_proto.specs.declared.verb.Verb.TheVariants as verb
 use Rattle.can_proto.specs.Words.{is_blank, front, words_after, words_of}
-use Rattle.can_proto.specs.Verbs.{stands_in, mode_has}
+use Rattle.can_proto.specs.Verbs.{is_allowed_in, mode_has}
 use Rattle.can_frame.specs.Numbers.{hex_digit, in_base, one_more, number_after, number_in}
 use Rattle.can_proto.specs.Commands.{◌>>=◌, or_fault, short_id, long_id, id_of, length_of, fd_length_of, bytes_of, send_of, send_fd_of, flags_of_word, send_flagged_of, remote_of, filter_of, filters_of, set_of, mask_of, switch_of, open_of, fault_of, arguments_of, command_of, reading}
 use Rattle.can_proto.specs.CommandSpelling.{flag_text, frame_words, filter_words, option_words, command_words, command_spelling, IsFilter, IsOption, IsCommand}
@@ -325,8 +325,8 @@ tested : {A : Type 0} (b : Bool) (x y : A) → IsTrue b → (if b then x else y)
 tested true x y h = refl
 tested false x y h = absurd cc
 
-said : (mode : Mode) (v : Verb) (words : List (List ℕ)) (c : Command) → IsTrue (stands_in v mode) → arguments_of v words ≡ Ok c → command_of mode words (Some v) ≡ Ok c
-said mode v words c may h = tested (stands_in v mode) (arguments_of v words) _ may ∙ h
+said : (mode : Mode) (v : Verb) (words : List (List ℕ)) (c : Command) → IsTrue (is_allowed_in v mode) → arguments_of v words ≡ Ok c → command_of mode words (Some v) ≡ Ok c
+said mode v words c may h = tested (is_allowed_in v mode) (arguments_of v words) _ may ∙ h
 
 frame-again : (mode : Mode) (id : Identifier) (p : Payload) → IsIdentifier id → IsPayload p → IsTrue (mode_has mode (frame_words id p)) → reading mode (frame_words id p) ≡ Ok (Send (record { id = id; payload = p }))
 unfolding arguments_of

@@ -17,7 +17,7 @@ use Rattle.can_proto.specs.declared.verb.Verb.TheVariants as verb
 use Rattle.can_frame.specs.Numbers.{number_in}
 use Rattle.can_proto.specs.Messages.{messages_of, kept_of}
 use Rattle.can_proto.specs.Words.{words_of}
-use Rattle.can_proto.specs.Verbs.{named, stands_in}
+use Rattle.can_proto.specs.Verbs.{named, is_allowed_in}
 
 -- What the words of a message say, or the first fault that is met, reading from left to right (socketcand's raw mode; the
 -- faults and their order are own choice).
@@ -225,7 +225,7 @@ arguments_of verb.Close words = alone Close words
 -- what a verb says with the words after it, in a mode
 abbrev pub command_of : Mode → List (List ℕ) → Option Verb → Result Command ProtoFault
 command_of mode words None = Err UnknownCommand
-command_of mode words (Some v) = if stands_in v mode then arguments_of v words else Err WrongState
+command_of mode words (Some v) = if is_allowed_in v mode then arguments_of v words else Err WrongState
 
 -- what the words of a message say in a mode
 abbrev pub reading : Mode → List (List ℕ) → Result Command ProtoFault

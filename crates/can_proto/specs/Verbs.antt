@@ -49,25 +49,25 @@ named word =
 
 -- the mode has the command: `open` before an interface is opened, `echo` and `interfaces` always, the modes once it is
 -- opened, those of faults then and in raw mode, all others in raw mode; a session that has ended has none
-abbrev pub stands_in : Verb → Mode → Bool
-stands_in Open NoBus = true
-stands_in Open _ = false
-stands_in Echo NoBus = true
-stands_in Echo Opened = true
-stands_in Interfaces NoBus = true
-stands_in Interfaces Opened = true
-stands_in Rawmode Opened = true
-stands_in OtherMode Opened = true
-stands_in Fault Opened = true
-stands_in Faults Opened = true
-stands_in NoFaults Opened = true
-stands_in _ Raw = true
-stands_in _ _ = false
+abbrev pub is_allowed_in : Verb → Mode → Bool
+is_allowed_in Open NoBus = true
+is_allowed_in Open _ = false
+is_allowed_in Echo NoBus = true
+is_allowed_in Echo Opened = true
+is_allowed_in Interfaces NoBus = true
+is_allowed_in Interfaces Opened = true
+is_allowed_in Rawmode Opened = true
+is_allowed_in OtherMode Opened = true
+is_allowed_in Fault Opened = true
+is_allowed_in Faults Opened = true
+is_allowed_in NoFaults Opened = true
+is_allowed_in _ Raw = true
+is_allowed_in _ _ = false
 
 -- the mode has what a first word asks for
 abbrev pub has_verb : Mode → Option Verb → Bool
 has_verb mode None = false
-has_verb mode (Some verb) = stands_in verb mode
+has_verb mode (Some verb) = is_allowed_in verb mode
 
 -- the mode has the command that these words begin with
 abbrev pub mode_has : Mode → List (List ℕ) → Bool

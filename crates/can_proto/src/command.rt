@@ -6,7 +6,7 @@ use crate::arguments::read_arguments;
 use crate::client_words::{WantedName, WantedRule};
 use crate::fault::ProtoFault;
 use crate::message::Message;
-use crate::verb::{Verb, after_send, may_stand, verb_of};
+use crate::verb::{Verb, after_send, is_allowed_in, verb_of};
 use crate::words::next_word;
 use can_event::Opt;
 use can_filter::FilterSet;
@@ -92,7 +92,7 @@ impl Command {
 fn read_verb(alloc: Global, verb: Verb, mode: Mode, rest: &[u8]) -> Result<Command, ProtoFault>
     ensures { GivesBut takes_memory result (command_of mode (words_of rest.now) (Some verb)) }
 {
-    if !may_stand(verb, mode) {
+    if !is_allowed_in(verb, mode) {
         return Err(ProtoFault::WrongState);
     }
     read_arguments(alloc, verb, rest)

@@ -1,6 +1,6 @@
 ghost use Rattle.std.specs.Prelude.{◌≡◌, codes, IfSome};
 ghost use Rattle.can_proto.specs.Words.{BeginsWith};
-ghost use Rattle.can_proto.specs.Verbs.{is_word, is_other_mode, named, stands_in};
+ghost use Rattle.can_proto.specs.Verbs.{is_word, is_other_mode, named, is_allowed_in};
 
 use crate::command::Mode;
 
@@ -123,9 +123,9 @@ fn names_other_mode(word: &[u8]) -> bool
     matches(word, b"bcmmode") || matches(word, b"isotpmode") || matches(word, b"controlmode")
 }
 
-/// Whether a mode has the verb.
-pub fn may_stand(verb: Verb, mode: Mode) -> bool
-    ensures { result ≡ stands_in verb mode }
+/// Whether a mode has this command.
+pub fn is_allowed_in(verb: Verb, mode: Mode) -> bool
+    ensures { result ≡ is_allowed_in verb mode }
 {
     match (verb, mode) {
         (Verb::Echo | Verb::Interfaces, Mode::NoBus | Mode::Opened) => true,

@@ -104,37 +104,11 @@ impl<N: RollName + MeterName, F: FaultSource + Drop, G: Gate + Drop> Station<N, 
         ensures bad { (result ≡ Err BusFault.BadConfig)
             ↔ (¬ (IsConfig config × (blanks.meter.words ≡ config.ifaces))) }
     {
-        Station::with_plan(
-            alloc,
-            blanks,
-            number,
-            config,
-            source,
-            Plan::new(alloc),
-            gate,
-        )
-    }
-
-    /// The same with this plan of faults, which gives a verdict wherever the source gives no fault.
-    pub fn with_plan(
-        alloc: Global,
-        blanks: Blanks,
-        number: u8,
-        config: BusConfig,
-        source: F,
-        plan: Plan,
-        gate: G,
-    ) -> Result<Station<N, F, G>, BusFault>
-        requires roll { blanks.roll ≡ N.roll number }
-        requires meter { blanks.meter ≡ N.meter number }
-        ensures made { IfOk result (λ s. s ≡ station_seen number config) }
-        ensures bad { (result ≡ Err BusFault.BadConfig)
-            ↔ (¬ (IsConfig config × (blanks.meter.words ≡ config.ifaces))) }
-    {
         if !config.is_proper() || blanks.meter.ifaces() != usize::from(config.ifaces) {
             return Err(BusFault::BadConfig);
         }
         let bus = RingBus::new(alloc, config)?;
+        let plan = Plan::new(alloc);
         let (station, _) = Station::over(alloc, blanks, number, bus, config, source, plan, gate)?;
         Ok(station)
     }

@@ -134,8 +134,8 @@ fn verdict_note(verdict: &str) -> &'static str {
     if verdict.starts_with(' ') || verdict.contains("  ") {
         return "words are parted by one space";
     }
-    let alone = ["good ", "lastbit ", "global bit ", "global form "];
-    if alone.iter().any(|word| verdict.starts_with(*word)) {
+    let bare = ["good ", "lastbit ", "global bit ", "global form "];
+    if bare.iter().any(|word| verdict.starts_with(*word)) {
         return "nothing may follow good, lastbit, global bit and global form";
     }
     let kinds = ["local stuff", "local crc", "local form"];

@@ -1,4 +1,4 @@
-use Rattle.std.proofs.Common.{◌+◌, ◌++◌, ◌∷◌, [], arith}
+use Rattle.std.proofs.Common.{◌++◌, ◌∷◌, [], arith}
 use Rattle.can_dialog.proofs.Turning.{turns_taken}
 use Rattle.can_dialog.proofs.session.take_turns.Goals as goal
 
