@@ -46,8 +46,8 @@ use Rattle.can_record_text.specs.Spelling.{gap_before, spell, set_word, mask_wor
 use Rattle.can_record_text.specs.Texts.{StartsWith, StartsWithLine}
 use Rattle.can_frame.specs.Numbers.{number_in}
 use Rattle.can_record_text.specs.Values.{HoldsFilter, HoldsOption, HoldsVerdict, HoldsEvent, HoldsTried, HoldsReply, HasLine, HasBusLine}
-use Rattle.can_record_text.specs.inner.Reading.{Gives, number_at, long_at, mask_at, moment_at, socket_at, set_at, flag_at, item_at, frame_at, option_at, set_behind, verdict_at, class_at, refusal_in, closed_at, data_at, error_at, tried_at, fixed_in, reply_at, moment_of}
-use Rattle.can_record_text.specs.inner.Reading.{behind_word, restarted_at, filter_at, filters_at, set_filters_at, setting_at, plain_at, event_at, entry_at, ack_at, auto_restart_at, config_at}
+use Rattle.can_record_text.specs.inner.Reading.{Gives, number_at, long_at, mask_at, moment_at, socket_at, set_at, flag_at, item_at, frame_at, option_at, set_from, verdict_at, class_at, refusal_in, closed_at, data_at, error_at, tried_at, fixed_in, reply_at, moment_of}
+use Rattle.can_record_text.specs.inner.Reading.{past_word, restarted_at, filter_at, filters_at, set_filters_at, setting_at, plain_at, event_at, entry_at, ack_at, auto_restart_at, config_at}
 use Rattle.can_frame.proofs.Numerals.{value-digits}
 use Rattle.can_record_text.proofs.Wording.{word-spelled, after-spelled}
 use Rattle.can_record_text.proofs.Digits.{number_again, long_again, is_word-decimal, is_word-digits, moment_again, is_word-moment}
@@ -133,7 +133,7 @@ option_again (opt.Join on) w ws rest h = rw (flag_field on (spell (w ∷ ws) res
 option_again (opt.ErrMask mask) w ws rest h = rw (mask_field mask 32 (spell (w ∷ ws) rest) h refl) refl
 
 verdict_again : (v : Verdict) (rest : List ℕ) → HoldsVerdict v → verdict_at (verdict_word v ++ 32 ∷ rest) ≡ Some (v, rest)
-unfolding verdict_at set_behind word after
+unfolding verdict_at set_from word after
 verdict_again verdict.Good rest h = refl
 verdict_again (verdict.Global global.Bit) rest h = refl
 verdict_again (verdict.Global global.Form) rest h = refl
@@ -183,19 +183,19 @@ error_again i from m rest good hi hm =
       moment_field m 10 rest hm refl,
     ) refl
 
--- what stands behind a word
-behind-spelled : (w rest : List ℕ) (g : ℕ) → is_word w ≡ true → is_gap g ≡ true → behind_word (w ++ g ∷ rest) ≡ g ∷ rest
-behind-spelled w rest g plain gap = rw (word-spelled w rest g plain gap) (drop-append_seam w (g ∷ rest))
+-- what follows a word
+past_word-spelled : (w rest : List ℕ) (g : ℕ) → is_word w ≡ true → is_gap g ≡ true → past_word (w ++ g ∷ rest) ≡ g ∷ rest
+past_word-spelled w rest g plain gap = rw (word-spelled w rest g plain gap) (drop-append_seam w (g ∷ rest))
 
 none_restarted : (w rest : List ℕ) → is_word w ≡ true → restarted_at (w ++ 10 ∷ rest) ≡ Some (no_ifaces, rest)
 unfolding restarted_at
-none_restarted w rest plain = rw (behind-spelled w rest 10 plain refl, after-spelled w rest 10 plain refl) refl
+none_restarted w rest plain = rw (past_word-spelled w rest 10 plain refl, after-spelled w rest 10 plain refl) refl
 
 some_restarted : (w rest : List ℕ) (set : IfaceSet) → is_word w ≡ true → set.0 < 2 ^ 16 → restarted_at (w ++ 32 ∷ spell (codes "restarted" ∷ set_word set ∷ []) rest) ≡ Some (set, rest)
-unfolding restarted_at set_behind
-some_restarted w rest set plain small = rw (behind-spelled w (spell (codes "restarted" ∷ set_word set ∷ []) rest) 32 plain refl) (set_field set 10 rest small refl)
+unfolding restarted_at set_from
+some_restarted w rest set plain small = rw (past_word-spelled w (spell (codes "restarted" ∷ set_word set ∷ []) rest) 32 plain refl) (set_field set 10 rest small refl)
 
--- the interfaces that were restarted, behind a word
+-- the interfaces that were restarted, after a word
 restarted_again : (w rest : List ℕ) (set : IfaceSet) → is_word w ≡ true → set.0 < 2 ^ 16 → restarted_at (w ++ gap_before (restarted_words set) ∷ spell (restarted_words set) rest) ≡ Some (set, rest)
 restarted_again w rest set plain small = when (set.0 == 0) refl
   where

@@ -31,9 +31,9 @@ pub first_lines : (text : List ℕ) (es : List Entry) → es ≡ [] → text ≡
 unfolding entry_lines
 first_lines text es is = rw is refl
 
--- the text behind a line
-pub line_behind : (text buffer : List ℕ) (e : Entry) → buffer ≡ entry_line e [] → text ≡ entry_line e [] ++ drop (length (entry_line e [])) text → text ≡ entry_line e (drop (length buffer) text)
-line_behind text buffer e b is = is ∙ rw b (spell-rest (entry_words e) (drop (length (entry_line e [])) text))
+-- the text after a line
+pub line_after : (text buffer : List ℕ) (e : Entry) → buffer ≡ entry_line e [] → text ≡ entry_line e [] ++ drop (length (entry_line e [])) text → text ≡ entry_line e (drop (length buffer) text)
+line_after text buffer e b is = is ∙ rw b (spell-rest (entry_words e) (drop (length (entry_line e [])) text))
 
 pub line_within : (text buffer : List ℕ) (e : Entry) → buffer ≡ entry_line e [] → text ≡ entry_line e [] ++ drop (length (entry_line e [])) text → length buffer ≤ length text
 line_within text buffer e b is = omega (arith, ap length b, ap length is, length-append (entry_line e []) (drop (length (entry_line e [])) text))
@@ -56,7 +56,7 @@ line_shorter text buffer v c e good b within = omega (arith, length-drop (length
 
 pub lines_go_on : (text rest buffer : List ℕ) (es more : List Entry) (e : Entry) → text ≡ entry_lines es rest → buffer ≡ entry_line e [] → rest ≡ entry_line e [] ++ drop (length (entry_line e [])) rest → more ≡ es ++ e ∷ [] → text ≡ entry_lines more (drop (length buffer) rest)
 lines_go_on text rest buffer es more e so_far b is kept =
-    so_far ∙ ap (entry_lines es) (line_behind rest buffer e b is) ∙ sym (lines-push es e (drop (length buffer) rest)) ∙ ap (λ (x : List Entry). entry_lines x (drop (length buffer) rest)) (sym kept)
+    so_far ∙ ap (entry_lines es) (line_after rest buffer e b is) ∙ sym (lines-push es e (drop (length buffer) rest)) ∙ ap (λ (x : List Entry). entry_lines x (drop (length buffer) rest)) (sym kept)
 
 -- ---- blocks of entries
 

@@ -4,7 +4,7 @@ ghost use Rattle.can_event.specs.declared.event.Event.TheVariants as event;
 
 use crate::fault::Unread;
 use crate::fields::{
-    count_field, flag_field, frame_field, iface_field, mask_field, moment_field, set_behind,
+    count_field, flag_field, frame_field, iface_field, mask_field, moment_field, set_from,
     short_field, socket_field,
 };
 use crate::words::{begins, next_word, same_word};
@@ -255,15 +255,15 @@ fn verdict_field(text: &[u8]) -> Option<(Verdict, &[u8])>
         return Some((Verdict::LastBit, rest));
     }
     if begins(text, b"local-stuff:") {
-        let (set, rest) = set_behind(12, text)?;
+        let (set, rest) = set_from(12, text)?;
         return Some((Verdict::Local(set, LocalKind::Stuff), rest));
     }
     if begins(text, b"local-crc:") {
-        let (set, rest) = set_behind(10, text)?;
+        let (set, rest) = set_from(10, text)?;
         return Some((Verdict::Local(set, LocalKind::Crc), rest));
     }
     if begins(text, b"local-form:") {
-        let (set, rest) = set_behind(11, text)?;
+        let (set, rest) = set_from(11, text)?;
         return Some((Verdict::Local(set, LocalKind::Form), rest));
     }
     None

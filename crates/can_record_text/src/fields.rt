@@ -1,5 +1,5 @@
 ghost use Rattle.std.specs.Prelude.{IfSome, ◌≡◌, ◌^◌, ◌≤◌, ◌<◌, length};
-ghost use Rattle.can_record_text.specs.inner.Reading.{with_rest, number_at, long_at, mask_at, moment_at, socket_at, set_at, set_behind, flag_at, item_at, frame_at};
+ghost use Rattle.can_record_text.specs.inner.Reading.{with_rest, number_at, long_at, mask_at, moment_at, socket_at, set_at, set_from, flag_at, item_at, frame_at};
 
 use crate::numbers::long_number;
 use crate::words::{next_word, same_word};
@@ -134,10 +134,10 @@ pub fn frame_field(text: &[u8]) -> Option<(Frame, &[u8])>
 }
 
 /// A set of interfaces, after this many bytes.
-#[tactic(auto, unfolding(crate::specs::inner::Reading::set_behind))]
-pub fn set_behind(front: usize, text: &[u8]) -> Option<(IfaceSet, &[u8])>
+#[tactic(auto, unfolding(crate::specs::inner::Reading::set_from))]
+pub fn set_from(front: usize, text: &[u8]) -> Option<(IfaceSet, &[u8])>
     requires { front ≤ length text.now }
-    ensures { with_rest result ≡ set_behind front text.now }
+    ensures { with_rest result ≡ set_from front text.now }
 {
     set_field(&text[front..])
 }

@@ -118,7 +118,7 @@ pub fn put_end(out: &mut Vec<u8>, count: u64) -> Result<(), AllocError>
 
 /// What follows this many bytes.
 #[tactic(auto, using(crate::proofs::Wording::rest_of))]
-pub(crate) fn behind(text: &[u8], count: usize) -> &[u8]
+pub(crate) fn rest_from(text: &[u8], count: usize) -> &[u8]
     requires { count ≤ length text.now }
     ensures { result.now ≡ drop count text.now }
 {

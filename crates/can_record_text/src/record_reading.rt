@@ -7,7 +7,7 @@ ghost use Rattle.can_record_text.specs.declared.version.Version.TheVariants as v
 ghost use Rattle.can_record_text.specs.inner.Fronts.{HasFront};
 
 use crate::fault::{ReadFault, Unread};
-use crate::lines::{begins, behind, put_end, read_bus, read_line, read_version};
+use crate::lines::{begins, put_end, read_bus, read_line, read_version, rest_from};
 use crate::needs::Needs;
 use crate::version::Version;
 use can_event::{BusConfig, Entry, Received};
@@ -71,13 +71,13 @@ fn read_front<'a>(
     let Some(version) = record_version(text) else {
         return Err(ReadFault::BadVersion);
     };
-    let rest = behind(text, version.first_line().len());
+    let rest = rest_from(text, version.first_line().len());
     let config = match read_bus(buffer, version, rest) {
         Ok(config) => config,
         Err(Unread::Bad) => return Err(ReadFault::BadLine(2)),
         Err(Unread::NoMemory) => return Err(ReadFault::NoMemory),
     };
-    Ok((version, config, behind(rest, buffer.len())))
+    Ok((version, config, rest_from(rest, buffer.len())))
 }
 
 /// The version that the first line of a record names, which is not that of a long run.
@@ -136,6 +136,6 @@ fn read_lines<'a>(
             Err(Unread::Bad) => return Ok(rest),
             Err(Unread::NoMemory) => return Err(AllocError),
         }
-        rest = behind(rest, buffer.len());
+        rest = rest_from(rest, buffer.len());
     }
 }

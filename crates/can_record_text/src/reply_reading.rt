@@ -2,7 +2,7 @@ ghost use Rattle.std.specs.Prelude.{◌≡◌};
 ghost use Rattle.can_record_text.specs.inner.Reading.{with_rest, class_at, refusal_in, closed_at, data_at, error_at, restarted_at, tried_at, fixed_in, reply_at};
 
 use crate::fields::{
-    frame_field, iface_field, item_field, long_field, moment_field, set_behind, set_field,
+    frame_field, iface_field, item_field, long_field, moment_field, set_field, set_from,
     socket_field,
 };
 use crate::words::{begins, next_word, same_word};
@@ -151,9 +151,9 @@ fn restarted_field(text: &[u8]) -> Option<(IfaceSet, &[u8])>
     ensures { with_rest result ≡ restarted_at text.now }
 {
     let (word, rest) = next_word(text);
-    let behind = &text[word.len()..];
-    if begins(behind, b" restarted ") {
-        return set_behind(11, behind);
+    let past = &text[word.len()..];
+    if begins(past, b" restarted ") {
+        return set_from(11, past);
     }
     Some((IfaceSet::empty(), rest))
 }

@@ -119,8 +119,8 @@ option_at t =
     else None
 
 -- a set after the first bytes of a word, of which there are this many
-unfoldable pub set_behind : ℕ → List ℕ → Option (IfaceSet × List ℕ)
-set_behind n t = set_at (drop n t)
+unfoldable pub set_from : ℕ → List ℕ → Option (IfaceSet × List ℕ)
+set_from n t = set_at (drop n t)
 
 -- the text begins with these bytes
 abbrev pub begins_with : List ℕ → List ℕ → Bool
@@ -133,9 +133,9 @@ verdict_at t =
     else if bytes_eq (word t) (codes "global-bit") then Some (verdict.Global global.Bit, after t)
     else if bytes_eq (word t) (codes "global-form") then Some (verdict.Global global.Form, after t)
     else if bytes_eq (word t) (codes "lastbit") then Some (verdict.LastBit, after t)
-    else if begins_with (codes "local-stuff:") t then (set_behind 12 t >>= λ s. Some (verdict.Local s.0 local.Stuff, s.1))
-    else if begins_with (codes "local-crc:") t then (set_behind 10 t >>= λ s. Some (verdict.Local s.0 local.Crc, s.1))
-    else if begins_with (codes "local-form:") t then (set_behind 11 t >>= λ s. Some (verdict.Local s.0 local.Form, s.1))
+    else if begins_with (codes "local-stuff:") t then (set_from 12 t >>= λ s. Some (verdict.Local s.0 local.Stuff, s.1))
+    else if begins_with (codes "local-crc:") t then (set_from 10 t >>= λ s. Some (verdict.Local s.0 local.Crc, s.1))
+    else if begins_with (codes "local-form:") t then (set_from 11 t >>= λ s. Some (verdict.Local s.0 local.Form, s.1))
     else None
 
 -- how an attempt ended
@@ -185,12 +185,12 @@ error_at t = do
   Some (reply.Received (Some (record { item = e.0; from = i.0; number = 0; moment = m.0 })), m.1)
 
 -- what follows the first word, and the byte that ends it
-abbrev pub behind_word : List ℕ → List ℕ
-behind_word t = drop (length (word t)) t
+abbrev pub past_word : List ℕ → List ℕ
+past_word t = drop (length (word t)) t
 
 -- the interfaces that an attempt restarted, after the reply's other words
 unfoldable pub restarted_at : List ℕ → Option (IfaceSet × List ℕ)
-restarted_at t = if begins_with (codes " restarted ") (behind_word t) then set_behind 11 (behind_word t) else Some (no_ifaces, after t)
+restarted_at t = if begins_with (codes " restarted ") (past_word t) then set_from 11 (past_word t) else Some (no_ifaces, after t)
 
 -- a frame that was tried at this moment
 unfoldable pub tried_at : ℕ → List ℕ → Option (Reply × List ℕ)

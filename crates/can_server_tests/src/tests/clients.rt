@@ -192,7 +192,7 @@ impl Entrance {
     }
 }
 
-/// A path for a socket of this test alone.
+/// A path for a socket of this test only.
 pub fn socket_path<R: Env + Alloc<A = Global>>(
     rt: &R,
     name: &str,

@@ -25,7 +25,7 @@ pub const TWO: Made = Made {
     auto_restart: 0,
 };
 
-const ALONE: Made = Made {
+const ONE: Made = Made {
     names: "can0",
     ack: AckMode::Peers,
     limit: 1000,
@@ -228,7 +228,7 @@ fn commands_are_refused_with_their_faults(rt: HostRuntime) -> Result<(), Fail> {
 
 #[test]
 fn a_full_record_is_told(rt: HostRuntime) -> Result<(), Fail> {
-    let made = Made { limit: 2, ..ALONE };
+    let made = Made { limit: 2, ..ONE };
     let input =
         "session 1\nfeed 1 < open can0 >< rawmode >< send 123 0 >\nattempt\ndrain 1\nfeed 1 < stats >< status >\n";
     let output =
@@ -257,7 +257,7 @@ fn nobody_acknowledges(rt: HostRuntime) -> Result<(), Fail> {
     ];
     let input = text_of(rt.alloc(), &lines)?;
     let output = text_of(rt.alloc(), &told)?;
-    writes(&rt, ALONE, "", &input, &output)
+    writes(&rt, ONE, "", &input, &output)
 }
 
 const THREE_SENT: &str = "feed 1 < errmask 140 >< send 123 0 >< send 123 0 >< send 123 0 >\n";

@@ -25,10 +25,10 @@ fn goes_on<R: Read + Drop>(lines: &mut Lines<R>, wanted: &[u8]) -> bool {
     matches!(lines.next_line(), Ok(true)) && lines.line() == wanted
 }
 
-fn times(alloc: Global, byte: u8, count: usize, behind: &[u8]) -> Result<Vec<u8>, AllocError> {
+fn times(alloc: Global, byte: u8, count: usize, ending: &[u8]) -> Result<Vec<u8>, AllocError> {
     let mut text = Vec::new(alloc);
     text.resize(count, byte)?;
-    text.extend_from_slice(behind)?;
+    text.extend_from_slice(ending)?;
     Ok(text)
 }
 
@@ -59,8 +59,8 @@ fn a_line_has_at_most_4096_bytes(rt: HostRuntime) -> Result<(), AllocError> {
         (4097, b"\n", 0, long),
         (4097, b"", 0, long),
     ];
-    for (len, behind, lines, fault) in table {
-        let text = times(rt.alloc(), b'#', len, behind)?;
+    for (len, ending, lines, fault) in table {
+        let text = times(rt.alloc(), b'#', len, ending)?;
         let (count, found) = count_lines(rt.alloc(), text.as_slice())?;
         same(&rt, count, lines);
         same(&rt, found, fault);

@@ -15,7 +15,7 @@ const THREE: Made = Made {
     ..TWO
 };
 
-const ALONE: Made = Made {
+const ONE: Made = Made {
     names: "can0",
     ack: AckMode::Peers,
     ..TWO
@@ -123,7 +123,7 @@ fn attempts_take_their_time(rt: HostRuntime) -> Result<(), Fail> {
 fn a_run_ends_where_the_record_is_full(rt: HostRuntime) -> Result<(), Fail> {
     let wanted =
         "tried can0 0 noack - - at 0.000090\ntried can0 0 noack - - at 0.000198\nrecord full\nrecord full\n";
-    let made = Made { limit: 4, ..ALONE };
+    let made = Made { limit: 4, ..ONE };
     let lines = "feed 1 < send 123 0 >\nrun 1.000000\nrun 2.000000\n";
     writes(&rt, made, "", lines, wanted, None)
 }

@@ -176,9 +176,9 @@ fn winners_without_a_name_are_told(rt: HostRuntime) -> Result<(), Fail> {
 
 #[test]
 fn faults_are_told(rt: HostRuntime) -> Result<(), Fail> {
-    let alone = [Call::Request(0), Call::Attempt(5, Verdict::Good)];
+    let one_node = [Call::Request(0), Call::Attempt(5, Verdict::Good)];
     let text = b"(0000000000.000005) can0 200000A0#0000000000000000\n";
-    logs(&rt, 1, AckMode::Peers, &alone, 1, text)?;
+    logs(&rt, 1, AckMode::Peers, &one_node, 1, text)?;
     let last_bit = [Call::Request(0), Call::Attempt(5, Verdict::LastBit)];
     logs(&rt, 1, AckMode::Always, &last_bit, 1, LINE)
 }

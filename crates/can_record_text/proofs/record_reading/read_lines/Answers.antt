@@ -18,6 +18,6 @@ loop-entry-preserved c =
     record {
       lines =
           lines_go_on c.args.text.now c.loop-entry.rest.now c.read_line.new.buffer.items c.loop-entry.entries.items c.push.new.self.items c.in-Ok.entry c.loop-entry.invariant.lines found.spelled found.begins pushed
-          ∙ ap (entry_lines c.push.new.self.items) (ap (λ (n : ℕ). drop n c.loop-entry.rest.now) (sym (c.len.ensures ∙ c.read_line.new.buffer.ok.0)) ∙ sym c.behind-rest.ensures);
+          ∙ ap (entry_lines c.push.new.self.items) (ap (λ (n : ℕ). drop n c.loop-entry.rest.now) (sym (c.len.ensures ∙ c.read_line.new.buffer.ok.0)) ∙ sym c.rest_from-rest.ensures);
       have = All-same (HasLine c.args.version c.args.config) _ _ pushed (All-push (HasLine c.args.version c.args.config) c.loop-entry.entries.items c.in-Ok.entry c.loop-entry.invariant.have found.good);
     }
