@@ -5,8 +5,9 @@
 //! record of such a run. `program` carries out a command line and returns its status; its words are canbusd_options', its
 //! jobs canbusd_bench's, canbusd_serve's and canbusd_audit's.
 //!
-//! What is proved here: no command line, file or input makes a function fail, none but `serve` waits for others, status 0
-//! means that the job of the words was done and its output written, and status 2 that they ask for no job.
+//! What is proved here: no command line, file or input makes a function fail, none but `serve` waits for others; and of
+//! `run_words`, that status 0 means that the job of the words was done and its output written, and status 2 that they ask
+//! for no job.
 #![tactic(auto)]
 
 mod program;

@@ -57,6 +57,10 @@ IsAuditedBy true text old new = IsAudited text old new ⊎ IsAuditedCut text old
 abbrev pub AuditsFiles : {W : Type 0} → Bool → (W → Option (List ℕ)) → W → W → Type 0
 AuditsFiles is_cut contents old new = (text : List ℕ) × IsAuditedBy is_cut text (contents old) (contents new)
 
+-- a fault came before anything was written, but for one of the writer
+abbrev pub IsQuiet : {W : Type 0} → ProgramError → W → W → Type 0
+IsQuiet why old new = (why ≡ fault.Write) ⊎ (new ≡ old)
+
 -- what a fault says of a record's entries: the first wrong one is told; of the writer and of memory it says nothing
 abbrev pub SaysOf : BusConfig → List Entry → ProgramError → Type 0
 SaysOf c entries (fault.WrongEntry k) = IsFirstWrong c entries k

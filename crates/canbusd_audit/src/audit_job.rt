@@ -1,5 +1,5 @@
 ghost use Rattle.std.specs.Prelude.{IfErr, OnOk, map};
-ghost use Rattle.canbusd_audit.specs.Audited.{Audits, AuditsCut, AuditsFiles, FaultsCut, FaultsFiles, FaultsInput, IsOfFiles};
+ghost use Rattle.canbusd_audit.specs.Audited.{Audits, AuditsCut, AuditsFiles, FaultsCut, FaultsFiles, FaultsInput, IsOfFiles, IsQuiet};
 
 use crate::ends::{tell_cut, tell_end};
 use crate::joined::Joined;
@@ -24,6 +24,7 @@ pub fn audit_files<'a, H: Files, W: Write, E: Write>(
     ensures fault { IfErr result (λ failure.
         FaultsFiles options.now.is_cut (map (λ file. file.now) options.now.files.items)
         failure.error) }
+    ensures quiet { IfErr result (λ failure. IsQuiet failure.error output.old output.new) }
 {
     let files = open_files(rt, alloc, &options.files)?;
     let Ok(name) = joined_name(alloc, &options.files) else {
@@ -81,6 +82,7 @@ pub fn audit_lines<'a, R: BufRead, W: Write>(
 ) -> Result<(), Report<'a>>
     ensures legal { OnOk result (Audits (R.remaining input.old) W.contents output.old output.new) }
     ensures fault { IfErr result (λ failure. FaultsInput (R.remaining input.old) failure.error) }
+    ensures quiet { IfErr result (λ failure. IsQuiet failure.error output.old output.new) }
 {
     let mut audit = TextAudit::new(alloc);
     let mut torn = Vec::new(alloc);
@@ -102,6 +104,7 @@ pub fn audit_cut_lines<'a, R: BufRead, W: Write, E: Write>(
     ensures legal { OnOk result
         (AuditsCut (R.remaining input.old) W.contents output.old output.new) }
     ensures fault { IfErr result (λ failure. FaultsCut (R.remaining input.old) failure.error) }
+    ensures quiet { IfErr result (λ failure. IsQuiet failure.error output.old output.new) }
 {
     let mut audit = TextAudit::new(alloc);
     let mut torn = Vec::new(alloc);

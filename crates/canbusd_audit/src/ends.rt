@@ -1,7 +1,7 @@
 ghost use Rattle.std.specs.Prelude.{◌≡◌, IfErr, OnOk};
 ghost use Rattle.std.specs.Io.KnownBytes.{Appends};
 ghost use Rattle.canbusd_io.specs.declared.program_error.ProgramError.TheVariants as told;
-ghost use Rattle.canbusd_audit.specs.Audited.{FitsLines, HasNote, IsCutWritten, IsTold, IsWritten, cut_line};
+ghost use Rattle.canbusd_audit.specs.Audited.{FitsLines, HasNote, IsCutWritten, IsQuiet, IsTold, IsWritten, cut_line};
 
 use crate::notes::{record_note, with_cut_note};
 use crate::wrong_entries::wrong_note;
@@ -23,6 +23,7 @@ pub fn tell_end<'a, W: Write>(
     requires { IfErr found HasNote }
     ensures legal { OnOk result (IsWritten found (W.contents output.old) (W.contents output.new)) }
     ensures fault { IfErr result (λ failure. IsTold found failure.error) }
+    ensures quiet { IfErr result (λ failure. IsQuiet failure.error output.old output.new) }
 {
     match found {
         Ok(count) => writeln!(output, "ok {count} entries").map_err(|error| write_failure(
@@ -50,6 +51,7 @@ pub fn tell_cut<'a, W: Write, E: Write>(
     ensures legal { OnOk result
         (IsCutWritten found (W.contents output.old) (W.contents output.new)) }
     ensures fault { IfErr result (λ failure. IsTold found failure.error) }
+    ensures quiet { IfErr result (λ failure. IsQuiet failure.error output.old output.new) }
 {
     match found {
         Ok(Cut::Whole(count)) => tell_end(alloc, path, first, Ok(count), output),

@@ -5,8 +5,8 @@
 //! what a run leaves. A command line that was not carried out gives a `Report`: a `ProgramError`, and notes after its text.
 //!
 //! What is proved here: the configuration is that of the settings, a script is what some text spells, and what is written
-//! is the record's text and the lines of its log; a report has the error that it was made of; only printable ASCII is
-//! shown of what a file or a client holds. What a file holds is not known to any contract.
+//! is the record's text and the lines of its log; a report has the error that it was made of. What a file holds is not known
+//! to any contract. Tests show that of a file or a client only printable ASCII is shown.
 #![tactic(auto)]
 
 mod buses;

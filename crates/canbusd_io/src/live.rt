@@ -4,7 +4,7 @@ ghost use Rattle.can_logfile.specs.Log.{joined, log_lines};
 ghost use Rattle.can_record_text.specs.Spelling.{end_words, entry_lines, front_lines, spell};
 ghost use Rattle.can_record_text.specs.declared.version.Version.TheVariants as version;
 ghost use Rattle.can_record_text.specs.inner.StoredLines.{HasFittingReply};
-ghost use Rattle.canbusd_io.specs.Live.{MayGet, Stays, Takes, whole_contents};
+ghost use Rattle.canbusd_io.specs.Live.{Gets, MayGet, Stays, Takes, whole_contents};
 ghost use Rattle.canbusd_io.specs.LiveLines.{LogHas, RecordHas};
 
 use crate::draft::Draft;
@@ -88,6 +88,7 @@ impl<F: Write + OpenFile + Drop> LiveRecord<F> {
         requires { All HasFittingReply entries.now.entries }
         ensures lines { Takes (whole_contents F.contents) self.old.file.out self.new.file.out
             (entry_lines entries.now.entries []) result }
+        ensures once { self.old.file.out ≡ None → IsOk result }
         ensures config { self.new.config ≡ self.old.config }
         ensures start { self.new.start ≡ self.old.start }
     {
@@ -110,6 +111,10 @@ impl<F: Write + OpenFile + Drop> LiveRecord<F> {
         requires { All HasFittingReply entries.now.entries }
         ensures lines { MayGet (whole_contents F.contents) self.old.file.out self.new.file.out
             (entry_lines entries.now.entries [] ++ spell (end_words count) []) }
+        ensures gets { OnOk result
+            (Gets (whole_contents F.contents) self.old.file.out self.new.file.out
+            (entry_lines entries.now.entries [] ++ spell (end_words count) [])) }
+        ensures once { self.old.file.out ≡ None → IsOk result }
         ensures config { self.new.config ≡ self.old.config }
         ensures start { self.new.start ≡ self.old.start }
     {
@@ -130,6 +135,7 @@ impl<F: Write + OpenFile + Drop> LiveRecord<F> {
         requires { All HasFittingReply entries.now.entries }
         ensures lines { Takes (whole_contents F.contents) self.old.file.out self.new.file.out
             (entry_lines entries.now.entries [] ++ spell (end_words count) []) result }
+        ensures once { self.old.file.out ≡ None → IsOk result }
         ensures config { self.new.config ≡ self.old.config }
         ensures start { self.new.start ≡ self.old.start }
     {
@@ -252,6 +258,7 @@ impl<F: Write + OpenFile + Drop> LiveLog<F> {
     ) -> Result<(), Report<'a>>
         ensures lines { Takes (whole_contents F.contents) self.old.file.out self.new.file.out
             (joined (log_lines self.old.names (reverse entries.now.entries))) result }
+        ensures once { self.old.file.out ≡ None → IsOk result }
         ensures names { self.new.names ≡ self.old.names }
         ensures start { self.new.start ≡ self.old.start }
     {

@@ -1,4 +1,6 @@
 //! The lines of `serve --verbose`.
+ghost use Rattle.std.specs.Prelude.{◌≡◌, [], None, IfSome, slice_get};
+ghost use Rattle.canbusd_options.specs.BusWords.{first_name_of};
 
 use can_frame::{Iface, Moment, Text};
 use can_server::Notice;
@@ -98,7 +100,11 @@ fn name_at<'a>(buses: &[BusWord<'a>], bus: usize, iface: Iface) -> &'a str {
 }
 
 /// The name by which a bus is called, empty where there is none.
-pub fn first_name_at<'a>(buses: &[BusWord<'a>], bus: usize) -> &'a str {
+pub fn first_name_at<'a>(buses: &[BusWord<'a>], bus: usize) -> &'a str
+    ensures known { IfSome (slice_get buses.now bus)
+        (λ word. result.now ≡ first_name_of word.names.now) }
+    ensures none { slice_get buses.now bus ≡ None → result.now ≡ [] }
+{
     match buses.get(bus) {
         Some(bus) => bus.first_name(),
         None => "",
