@@ -155,10 +155,11 @@ fn a_record_is_read_back_from_its_text(rt: HostRuntime) -> Result<(), Fail> {
     Ok(())
 }
 
-/// A writer that takes this many bytes and then fails.
+/// A writer that takes this many bytes more and then fails, and what it took.
 #[derive(Drop)]
 struct Short {
     left: usize,
+    text: Vec<u8>,
 }
 
 impl Write for Short {
@@ -168,6 +169,7 @@ impl Write for Short {
         }
         let taken = self.left.min(buf.len());
         self.left -= taken;
+        self.text.extend_from_slice(&buf[..taken])?;
         Ok(taken)
     }
 
@@ -177,7 +179,7 @@ impl Write for Short {
 }
 
 #[test]
-fn a_writer_that_fails_is_told(rt: HostRuntime) -> Result<(), Fail> {
+fn a_writer_that_fails_has_the_front_of_the_text(rt: HostRuntime) -> Result<(), Fail> {
     let record = read(&rt, ONE_FRAME)?;
     for (left, fits) in [
         (0, false),
@@ -185,9 +187,12 @@ fn a_writer_that_fails_is_told(rt: HostRuntime) -> Result<(), Fail> {
         (ONE_FRAME.len() - 1, false),
         (ONE_FRAME.len(), true),
     ] {
-        let mut writer = Short { left };
+        let text = Vec::new(rt.alloc());
+        let mut writer = Short { left, text };
         let result = written_in_pieces(&rt, &record, &mut writer);
         same_at(&rt, left, result.is_ok(), fits);
+        same_at(&rt, left, writer.text.len(), left);
+        assert!(rt; ONE_FRAME.as_bytes().starts_with(&writer.text));
     }
     Ok(())
 }
