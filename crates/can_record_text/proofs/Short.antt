@@ -1,5 +1,5 @@
 -- The text of a data frame has a bound.
-use Rattle.std.proofs.Common.{◌≡◌, ◌≤◌, false, length, refl, arith}
+use Rattle.std.proofs.Common.{◌≡◌, ◌≤◌, false, length, refl}
 use Rattle.can_frame.specs.Frames.{Payload, is_remote, is_fd, payload_len, payload_bytes}
 use Rattle.can_frame.specs.Frames.Payload.{Data, Remote, Fd}
 use Rattle.can_frame.specs.FrameText.{pairs, payload_text}
