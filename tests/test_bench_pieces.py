@@ -20,6 +20,11 @@ NOTED = [
     ("feed 1 < echo >< send 123 0\n", "1 < echo >\n", BEGUN),
     ("feed 1 <", "", BEGUN),
     ("feed 1 <\nfeed 2 echo\n", "", BEGUN + OUTSIDE),
+    (
+        "session 64\nfeed 64 x\n",
+        "64 < hi >\n",
+        "note: session 64: bytes outside < and > were skipped\n",
+    ),
 ]
 # What follows the two sessions, what they write then, and how the first piece with a refusal is shown.
 REFUSED = [
@@ -62,6 +67,7 @@ FAULTY = [
         "  feed S BYTES: S is 1 to 64 without leading zeros, and one space comes before BYTES\n",
     ),
     ("end 3", "end 3", MISSING),
+    ("fault", "fault", "  fault RULE: one space comes before RULE\n"),
 ]
 
 

@@ -1,10 +1,12 @@
 """Command lines: words that are refused, help, and buses, scripts and addresses that can't be had, text for text."""
 
+import resource
 import socket
 
 import pytest
 
-from commands import run_line
+from commands import call, run_line
+from serving import program
 
 # What is reported of other words is in test_long_runs.py, and of files and streams that fail in test_devices.py.
 NO_JOB = [
@@ -189,6 +191,13 @@ NO_SCRIPT = [
     ),
     ("bench can0@.", "canbusd: read fault\n  .: Is a directory (os error 21)\n"),
 ]
+# Buses for which 16 megabytes are too few, and what is said of that.
+TOO_LARGE = [
+    ("bench can0", "a run reserves 108 bytes of memory for each event of --limit"),
+    ("serve can0", "each bus reserves 108 bytes of memory for each event of --limit"),
+    ("serve --record live --out . can0", "each bus reserves 57 megabytes of memory"),
+    ("serve --record none can0", "each bus reserves 57 megabytes of memory"),
+]
 
 
 @pytest.mark.parametrize("line", NO_JOB)
@@ -209,6 +218,11 @@ def test_why_words_are_refused(line, begins, tmp_path):
     assert (status, output) == (2, "") and errors.startswith(begins), errors
 
 
+def test_words_that_are_no_text():
+    errors = "error: the command line is no UTF-8 text\n"
+    assert call(program(), "bench", b"can0\xff") == (2, "", errors)
+
+
 @pytest.mark.parametrize("line, begins", HELP)
 def test_help(line, begins, tmp_path):
     status, output, errors = run_line(line, cwd=tmp_path)
@@ -218,6 +232,13 @@ def test_help(line, begins, tmp_path):
 @pytest.mark.parametrize("line, errors", NO_BUS + NO_SCRIPT)
 def test_buses_and_scripts_that_are_refused(line, errors, tmp_path):
     assert run_line(line, cwd=tmp_path) == (1, "", errors)
+
+
+@pytest.mark.parametrize("line, note", TOO_LARGE)
+def test_buses_that_memory_is_too_small_for(line, note, tmp_path):
+    most = 2**24
+    limited = {"cwd": tmp_path, "preexec_fn": lambda: resource.setrlimit(resource.RLIMIT_AS, (most, most))}
+    assert run_line(line, **limited) == (1, "", f"canbusd: no memory\n  {note}\n")
 
 
 def test_addresses_that_are_taken(tmp_path):

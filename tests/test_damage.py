@@ -407,7 +407,9 @@ def test_files_of_one_record(tried):
     second.write_bytes(data[100:])
     command = [tried.program, "audit", second, first]
     done = subprocess.run(command, capture_output=True, text=True, timeout=WAIT, check=False)
-    assert done.returncode == 1 and done.stderr.startswith("canbusd: ")
+    line = data[100:].split(b"\n")[0].decode()
+    assert done.returncode == 1
+    assert done.stderr.startswith(f"canbusd: bad version\n  {second} + {first}:1: {line}\n"), done.stderr
 
 
 def test_what_cut_would_do_is_said(tried):

@@ -79,6 +79,15 @@ FAULTY = [
     ),
     (b"0  lastbit", "script line 1: bad line", "1: 0  lastbit", "words are parted by one space"),
     (
+        b"good",
+        "script line 1: bad line",
+        "1: good",
+        (
+            "a line is NUMBER VERDICT, as 0 lastbit, or a rule, as next 32 from can0 global bit: NUMBER has 1 to 8 digits, "
+            "and one space follows it"
+        ),
+    ),
+    (
         b"0 local bit can0",
         "script line 1: bad line",
         "1: 0 local bit can0",

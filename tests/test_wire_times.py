@@ -371,6 +371,7 @@ def test_bad_words(program: str, words: str, fault: str) -> None:
 @pytest.mark.parametrize(
     "words, lines, number, note",
     [
+        ("--bitrate 500000", "x\n", 1, "a line begins with at, session, feed, drain, end, fault, attempt or run; see "),
         ("", "run 0.000000\n", 1, "run needs --bitrate"),
         ("", "run 0.1\n", 1, "run SECONDS.MICROS: 1 to 10 digits, a point, 6 digits"),
         ("--bitrate 500000", "run 0.1\n", 1, "run SECONDS.MICROS: 1 to 10 digits, a point, 6 digits"),
@@ -380,7 +381,8 @@ def test_bad_words(program: str, words: str, fault: str) -> None:
 def test_bad_lines(program: str, words: str, lines: str, number: int, note: str) -> None:
     status, output, errors = ended(program, "bench", *words.split(), "can0", text=lines)
     assert (status, output) == (1, "")
-    assert errors.startswith(f"canbusd: line {number}: bad line\n  standard input:{number}: run ")
+    line = lines.splitlines()[number - 1]
+    assert errors.startswith(f"canbusd: line {number}: bad line\n  standard input:{number}: {line}\n")
     assert f"\n  {note}" in errors
 
 
