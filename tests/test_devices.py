@@ -176,6 +176,8 @@ def test_log_of_a_bench(tmp_path):
     expect("another record", run("bench", "--log", log, "--record", "/dev/full", "can0,can1"), 1, OUTPUT, "write fault")
     with open(log, encoding="ascii") as file:
         assert file.read() == line, "the log beside a record that is not written"
+    words = "bench", "--log", "/none/run.log", "--record", "/dev/full", "can0,can1"
+    expect("neither is written: the record's fault", run(*words), 1, OUTPUT, "write fault")
 
 
 def may_grow(most, errors=None):
@@ -258,22 +260,41 @@ def test_files_of_a_server():
                 whole(server, *[other for other in names if other != name])
 
 
+def leave_old(folder):
+    """A log of an earlier run."""
+    with open(os.path.join(folder, "can0.log"), "w", encoding="ascii") as log:
+        log.write("old\n")
+
+
 def test_logs_that_grow_to_a_limit():
-    """how many whole lines they have"""
+    """how many whole lines they have; one of an earlier run stays, and what was written is beside it"""
     # A line of a frame with an identifier of 29 bits and 4 bytes: (SSSSSSSSSS.MMMMMM) can0 00000000#00000001 and LF.
     line = 43
-    for most, count in [(line * 2 - 1, 1), (line, 1), (line - 1, 0)]:
+    note = "  what was written is in ./can0.log.new: the old file ./can0.log stays as it is\n"
+    for most, count, is_first in [
+        (line * 2 - 1, 1, True),
+        (line, 1, True),
+        (line - 1, 0, True),
+        (line * 2 - 1, 1, False),
+        (line - 1, 0, False),
+    ]:
         reader, writer = os.pipe()
-        with ended(preexec_fn=may_grow(most, writer)) as (server, status, _), open(reader, encoding="utf-8") as errors:
+        how = {"preexec_fn": may_grow(most, writer), **({} if is_first else {"before": leave_old})}
+        with ended(**how) as (server, status, _), open(reader, encoding="utf-8") as errors:
             os.close(writer)
-            faults = [text.rstrip() for text in errors if text.startswith("canbusd: log of ")]
+            said = errors.read()
+            faults = [text for text in said.splitlines() if text.startswith("canbusd: log of ")]
             assert (status, faults) == (
                 1,
                 [f"canbusd: log of can0: {count} whole lines"],
             ), f"{most} bytes: {status} {faults}"
-            with open(server.path("can0.log"), "rb") as log:
+            assert said.count(note) == (0 if is_first else 1), said
+            with open(server.path("can0.log" if is_first else "can0.log.new"), "rb") as log:
                 text = log.read()
             assert text.count(b"\n") == count and len(text) <= most, f"{most} bytes: {text}"
+            if not is_first:
+                with open(server.path("can0.log"), encoding="ascii") as log:
+                    assert log.read() == "old\n", f"the old log, after {most} bytes of a new one"
     with ended(preexec_fn=may_grow(line * 2)) as (server, status, _):
         assert "log of" not in server.said() and status == 1, server.said()
         whole(server, "can0.log", "can2.log")
