@@ -2,10 +2,10 @@
 
 Servers under load are killed at random moments (10, with the slow tests 200): what they leave is audited by
 `audit --cut` and by the replay of the Python package, and has at least what clients knew twice `--flush` before.
-Disks fill, stop, fail (failing_disk.c, compiled with cc and loaded with the program), or can't be written. After
-20 million entries memory is what it was when both blocks of the bus were full, 100,000 sessions leave nothing, and a
-server under a steady load (--minutes) ends with a record that is right. What a record has is compared with that of
-the same dialogue with a server that writes it at its end.
+Disks fill, stop, fail or are slow (failing_disk.c, compiled with cc and loaded with the program), or can't be written.
+After 20 million entries memory is what it was when both blocks of the bus were full, 100,000 sessions leave nothing,
+and a server under a steady load (--minutes) ends with a record that is right. What a record has is compared with that
+of the same dialogue with a server that writes it at its end.
 """
 
 import collections
@@ -238,20 +238,36 @@ def test_what_an_earlier_run_left():
             assert sorted(os.listdir(folder)) == ["can0.log", "can0.rec", "can0.rec.cut", "can1.log", "can1.rec"]
 
 
+@pytest.mark.parametrize("record", ["end", "live"])
+def test_what_a_start_that_failed_left(record, tmp_path):
+    """first lines take the place of nothing: what a run that was killed left before stays, and there is no note"""
+    text = FRONT + "of a run that was killed\n" * 10
+    (tmp_path / "can0.rec.cut").write_text(text)
+    (tmp_path / "can0.rec.new").write_text(FRONT)
+    with serving_alone("--record", record, "can0", out=tmp_path) as server:
+        server.end()
+    assert read(tmp_path / "can0.rec.cut") == text
+    assert names_in(tmp_path) == ["can0.log", "can0.rec", "can0.rec.cut"]
+
+
 @pytest.mark.parametrize("record", ["end", "live", "none"])
 def test_who_sets_aside_what_an_earlier_run_left(record, tmp_path):
-    """who writes a record, also at the end; and a fault of the address comes before"""
-    text = "of a run that was killed\n" * 10
-    (tmp_path / "can0.rec.new").write_text(text)
-    status, said, errors = run("serve", "--listen", "nowhere.invalid:1", "--record", record, "--out", tmp_path, "can0")
+    """who writes a record, also at the end: that of each bus; and a fault of the address comes before"""
+    texts = {bus: f"of {bus} in a run that was killed\n" * 10 for bus in ("can0", "can1")}
+    for bus, text in texts.items():
+        (tmp_path / f"{bus}.rec.new").write_text(text)
+    words = "--record", record, "--out", tmp_path, *texts
+    status, said, errors = run("serve", "--listen", "nowhere.invalid:1", *words)
     assert (status, said) == (1, "") and errors.startswith("canbusd: cannot listen\n")
-    assert os.listdir(tmp_path) == ["can0.rec.new"]
-    with serving_alone("--record", record, "can0", out=tmp_path) as server:
-        status, _ = server.finish()
-        assert status == 0
-    left = "can0.rec.new" if record == "none" else "can0.rec.cut"
-    assert read(tmp_path / left) == text
-    assert names_in(tmp_path) == sorted({left, "can0.log"} | (set() if record == "none" else {"can0.rec"}))
+    assert names_in(tmp_path) == ["can0.rec.new", "can1.rec.new"]
+    with serving_alone("--record", record, *texts, out=tmp_path) as server:
+        paths = [f"{tmp_path}/{bus}.rec" for bus in texts]
+        notes = [f"note: {path}.new of a run that was cut off is {path}.cut now" for path in paths]
+        server.end(says="" if record == "none" else "\n".join(notes))
+    left = "rec.new" if record == "none" else "rec.cut"
+    assert {bus: read(tmp_path / f"{bus}.{left}") for bus in texts} == texts
+    kinds = ["log", left] if record == "none" else ["log", "rec", left]
+    assert names_in(tmp_path) == [f"{bus}.{kind}" for bus in texts for kind in kinds]
 
 
 @pytest.mark.parametrize("first", ["live", "none"])
@@ -774,10 +790,28 @@ def test_a_disk_that_fails(failing, call, is_cut):
         entries, lines = not_whole(server), log_lines(server)
         status, written = server.finish()
         assert status == 1 and int(written.split()[-1]) > entries
+        # Each once, whatever came after the fault.
+        faults = [line for line in server.said().splitlines() if line.startswith("canbusd: ")]
+        assert sorted(faults) == [f"canbusd: log of can0: {lines} whole lines", "canbusd: write fault"]
         assert names_in(server.folder) == ["can0.log", "can0.rec.new"]
         assert cut_audit(server.path("can0.rec.new")) == (entries, True)
         log = read(server.path("can0.log"))
         assert (log.count("\n"), log[-1]) == (lines, "\n") and lines >= 5
+
+
+def test_a_disk_that_is_slow(failing):
+    """that its files are waited for is noted once in a minute, though each write takes longer than a second"""
+    environment = {**failing.environment, "DISK_MILLIS": "1100"}
+    begun = time.monotonic()
+    with serving_alone(*LIVE, "--flush", "0", "can0,can1", env=environment) as server:
+        # Before the line of the log is written the record's are, and each of the two writes is late.
+        Pair(server).go_on()
+        assert come_true(lambda: read(server.path("can0.log")).count("\n") == 1), "no line of the log"
+        status, _ = server.finish(patience=3 * WAIT)
+        notes = server.said().splitlines()
+        minutes = (time.monotonic() - begun) // 60
+    assert status == 0 and notes[0] == "note: bus can0: waits for ./can0.rec.new", notes
+    assert len(notes) <= 1 + minutes and all(" waits for " in note for note in notes), notes
 
 
 @pytest.mark.slow
