@@ -4,6 +4,7 @@ import contextlib
 import os
 import re
 import resource
+import shutil
 import signal
 import socket
 import subprocess
@@ -71,6 +72,46 @@ def test_verbose():
             "can0: restarted",
             "session 1: gone, 1 frames refused, 0 dropped",
         ], server.said()
+
+
+def said_in_turn(server):
+    """What a server with --verbose has said, without the moments."""
+    return [re.sub(r"^\d{10}\.\d{6} ", "", line) for line in server.said().splitlines()]
+
+
+def test_verbose_of_another_bus():
+    """an interface that is not the first, of a bus that is not the first, has its own name, and that bus has its own"""
+    words = ("--verbose", "--auto-restart", "3", "--pace", "0", "--limit", "50")
+    with serving(*words, "car0", f"can0,can1@{ROOT}/examples/bus_off_attack.script") as server:
+        ports = []
+        for number, name in enumerate(("can1", "can0")):
+            client = plain(server, name)
+            ports.append((client, client.socket.getsockname()[1]))
+            opened = f"session {number + 1}: opened {name}"
+            assert come_true(lambda: said_in_turn(server)[-1:] == [opened]), server.said()
+        (can1, port), (can0, other) = ports
+        can1.write("< send 123 0 >")
+        assert come_true(lambda: said_in_turn(server)[-1:] == ["can1: restarted"]), server.said()
+        # There are 38 entries: two sockets, a send, 32 attempts and three until the restart. Each frame has three.
+        for value in range(4):
+            can1.write(f"< send 123 1 {value} >")
+            assert can0.frame() == ("123", bytes([value])), "not the frame"
+        assert can1.answer("< send 123 0 >") == "< error record full >"
+        full = "note: bus can0: record full"
+        assert come_true(lambda: said_in_turn(server)[-1:] == [full]), server.said()
+        assert said_in_turn(server) == [
+            f"session 1: came from 127.0.0.1:{port}",
+            "session 1: opened can1",
+            f"session 2: came from 127.0.0.1:{other}",
+            "session 2: opened can0",
+            "can1: bus off",
+            "can1: restarted",
+            "can0: nine tenths full",
+            "note: bus can0: the record is nine tenths full; serve --record live or --record none has no such end",
+            "can0: record full",
+            full,
+        ], server.said()
+        assert server.finish()[0] == 0
 
 
 def test_record_that_a_delivery_finds_full():
@@ -239,6 +280,28 @@ def test_bytes_of_a_write(most):
         server.end()
 
 
+@pytest.mark.skipif(not shutil.which("cc"), reason="no C compiler: cc")
+@pytest.mark.parametrize("words, most", [(["--write", "256"], 256), ([], 1024), (["--write", "3000"], 3000)])
+def test_lengths_of_writes(words, most, tmp_path):
+    """each has whole frames and is no longer than that, and where many wait one nearly is (noted_sends.c)"""
+    library, sends = tmp_path / "noted_sends.so", tmp_path / "sends"
+    source = os.path.join(ROOT, "tests", "noted_sends.c")
+    subprocess.run(["cc", "-O2", "-Wall", "-Werror", "-fPIC", "-shared", "-o", library, source], check=True)
+    environment = {**os.environ, "LD_PRELOAD": str(library), "SENDS": str(sends)}
+    with serving_alone("--pace", "0", "--txqueue", "100", *words, "can0,can1", env=environment) as server:
+        sender, reader = plain(server, "can0"), plain(server, "can1")
+        for _ in range(20):
+            # They come in one read, and up to 64 of them are on the bus before anybody gets one.
+            sender.write("< send 123 8 1 2 3 4 5 6 7 8 >" * 100)
+            texts = [reader.text() for _ in range(100)]
+        server.end()
+    length = len(texts[0])
+    assert texts[0].startswith("< frame 123 ") and all(len(text) == length for text in texts)
+    lengths = [int(line) for line in sends.read_text().splitlines() if int(line) > len("< ok >")]
+    assert sum(lengths) == 20 * 100 * length and all(count % length == 0 for count in lengths), f"{lengths}"
+    assert most / 2 < max(lengths) <= most, f"{max(lengths)} bytes in a write"
+
+
 def test_clients_that_go():
     """half a message, a sending side shut down; the others get their frames"""
     with serving("can0,can1") as server:
@@ -255,12 +318,15 @@ def test_clients_that_go():
 
 
 def test_too_many_sessions():
-    """64 at once, and the 65th"""
-    with serving("can0") as server:
+    """64 at once, and the 65th, which is refused and reported"""
+    with serving("--verbose", "can0") as server:
         clients = [plain(server, "can0") for _ in range(64)]
         last = Plain(server)
         texts = last.text(), last.text()
         assert texts == ("< error too many sessions >", ""), f"{texts}"
+        port = last.socket.getsockname()[1]
+        away = f"session 65: turned away from 127.0.0.1:{port}, too many sessions"
+        assert come_true(lambda: away in said_in_turn(server)), server.said()
         clients.pop().close()
         for _ in turns("somebody comes in once one has gone"):
             if Plain(server).text() == "< hi >":

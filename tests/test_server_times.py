@@ -4,8 +4,11 @@ from __future__ import annotations
 
 import functools
 import itertools
+import os
+import pathlib
 import random
 import re
+import shutil
 import signal
 import subprocess
 import sys
@@ -14,7 +17,7 @@ from collections.abc import Callable, Sequence
 
 import pytest
 
-from serving import Plain, Server, come_true, plain, program, serving, serving_alone
+from serving import ROOT, Plain, Server, come_true, plain, program, serving, serving_alone
 from test_wire_times import MICRO, bench, moment, random_frame, rate_options, send
 from wire_model import Frame
 from wire_times import IDLE, SECOND, Ending, Rates
@@ -195,9 +198,9 @@ def test_recovery_takes_128_times_11_bits() -> None:
 
 
 def test_late_server_leaves_out_what_it_missed() -> None:
-    """One that was stopped reports by how much it was late, once in a minute, and goes on from then."""
+    """One that was stopped reports by how much it was late, once in a minute and by the bus, and goes on from then."""
     rates = Rates(50_000)
-    with serving_alone(*rate_options(rates), "--txqueue", "1024", "can0,can1") as server:
+    with serving_alone(*rate_options(rates), "--txqueue", "1024", "--verbose", "car0", "can0,can1") as server:
         can0, can1 = plain(server, "can0"), plain(server, "can1")
         can0.write(100 * send(EIGHT_BYTES))
         moments = [received(can1) for _ in range(10)]
@@ -206,14 +209,39 @@ def test_late_server_leaves_out_what_it_missed() -> None:
             time.sleep(0.4)
             server.child.send_signal(signal.SIGCONT)
             moments += [received(can1) for _ in range(20)]
-        said = server.said()
-        assert re.fullmatch(r"note: bus can0: \d\.\d s behind its bit rate", said), said
-        server.end(said)
+        status, _ = server.finish()
+        lines = [line for line in server.said().splitlines() if line.endswith(" s behind its bit rate")]
+        assert status == 0 and len(lines) == 2, server.said()
+        late = re.fullmatch(r"note: bus can0: (\d\.\d s behind its bit rate)", lines[1])
+        assert late and re.fullmatch(rf"\d{{10}}\.\d{{6}} can0: {re.escape(late[1])}", lines[0]), lines
         replayed(server.path("can0.rec"), rates)
     steps = [b - a for a, b in itertools.pairwise(moments)]
     usual = rates.attempt_nanos(EIGHT_BYTES) // MICRO
     assert sum(step > usual + 100_000 for step in steps) >= 2, steps
     assert min(steps) >= usual, steps
+
+
+@pytest.mark.skipif(not shutil.which("cc"), reason="no C compiler: cc")
+@pytest.mark.parametrize("words, later", [(["--bitrate", "500000"], 0), ([], 3600)])
+def test_a_clock_that_is_set(words: Sequence[str], later: int, tmp_path: pathlib.Path) -> None:
+    """By an hour (set_clock.c): moments with bit rates go on as before, and others are the clock's."""
+    library, changed = tmp_path / "set_clock.so", tmp_path / "changed"
+    source = os.path.join(ROOT, "tests", "set_clock.c")
+    subprocess.run(["cc", "-O2", "-Wall", "-Werror", "-fPIC", "-shared", "-o", library, source], check=True)
+    environment = {**os.environ, "LD_PRELOAD": str(library), "CLOCK": str(changed)}
+    with serving_alone(*words, "can0,can1", env=environment) as server:
+        can0, can1 = plain(server, "can0"), plain(server, "can1")
+        sent, begun = time.time(), time.monotonic()
+        can0.write(send(EIGHT_BYTES))
+        first, had = received(can1) / 1_000_000, time.monotonic()
+        time.sleep(0.1)
+        changed.touch()
+        again = time.monotonic()
+        can0.write(send(EIGHT_BYTES))
+        passed, over = received(can1) / 1_000_000 - first, time.monotonic()
+        status, _ = server.finish()
+    assert status == 0 and sent - CLOCKS <= first <= sent + over - begun + CLOCKS, (sent, first)
+    assert again - had - CLOCKS <= passed - later <= over - begun + CLOCKS, (again - had, passed, over - begun)
 
 
 @patiently
