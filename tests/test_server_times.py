@@ -17,7 +17,7 @@ from collections.abc import Callable, Sequence
 
 import pytest
 
-from serving import ROOT, Plain, Server, come_true, plain, program, serving, serving_alone
+from serving import ROOT, Plain, Server, come_true, plain, program, serving, serving_alone, turns
 from test_wire_times import MICRO, bench, moment, random_frame, rate_options, send
 from wire_model import Frame
 from wire_times import IDLE, SECOND, Ending, Rates
@@ -200,15 +200,20 @@ def test_recovery_takes_128_times_11_bits() -> None:
 def test_late_server_leaves_out_what_it_missed() -> None:
     """One that was stopped reports by how much it was late, once in a minute and by the bus, and goes on from then."""
     rates = Rates(50_000)
+    usual = rates.attempt_nanos(EIGHT_BYTES) // MICRO
     with serving_alone(*rate_options(rates), "--txqueue", "1024", "--verbose", "car0", "can0,can1") as server:
         can0, can1 = plain(server, "can0"), plain(server, "can1")
-        can0.write(100 * send(EIGHT_BYTES))
-        moments = [received(can1) for _ in range(10)]
+        # More than two seconds of frames, so that some wait at each stop.
+        can0.write(1000 * send(EIGHT_BYTES))
+        moments = [received(can1)]
         for _ in range(2):
             server.child.send_signal(signal.SIGSTOP)
             time.sleep(0.4)
             server.child.send_signal(signal.SIGCONT)
-            moments += [received(can1) for _ in range(20)]
+            for _ in turns("a frame comes late"):
+                moments.append(received(can1))
+                if moments[-1] - moments[-2] > usual + 100_000:
+                    break
         status, _ = server.finish()
         lines = [line for line in server.said().splitlines() if line.endswith(" s behind its bit rate")]
         assert status == 0 and len(lines) == 2, server.said()
@@ -216,8 +221,6 @@ def test_late_server_leaves_out_what_it_missed() -> None:
         assert late and re.fullmatch(rf"\d{{10}}\.\d{{6}} can0: {re.escape(late[1])}", lines[0]), lines
         replayed(server.path("can0.rec"), rates)
     steps = [b - a for a, b in itertools.pairwise(moments)]
-    usual = rates.attempt_nanos(EIGHT_BYTES) // MICRO
-    assert sum(step > usual + 100_000 for step in steps) >= 2, steps
     assert min(steps) >= usual, steps
 
 
