@@ -10,8 +10,6 @@ use Rattle.can_attempt.specs.Attempts.{attempt_between, judged}
 use Rattle.can_event.specs.declared.bus_config.BusConfig.{BusConfig}
 use Rattle.can_event.specs.declared.entry.Entry.{Entry}
 use Rattle.can_event.specs.declared.pending.Pending.{Pending}
-use Rattle.can_event.specs.declared.reply.Reply.{Reply}
-use Rattle.can_event.specs.declared.reply.Reply.TheVariants as reply
 use Rattle.can_frame.specs.declared.iface.IfaceSet.{IfaceSet}
 use Rattle.can_bus.specs.AutoRestart.{restarted_next}
 use Rattle.can_bus.specs.Attempts.{winner, attempt_reply, tried_head}

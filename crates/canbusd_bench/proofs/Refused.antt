@@ -1,4 +1,4 @@
-use Rattle.std.proofs.Common.{◌≡◌, ◌≢◌, ◌⊎◌, inl, inr, ◌==◌, ℕ, ◌+◌, ◌<◌, ◌≤◌, nat_le, Bool, true, false, true≢false, ◌&&◌, List, [], ◌∷◌, ◌++◌, take, codes, fold, get_or, if◌then◌else◌, refl, sym, ap, subst, ◌∙◌, arith, rules, append-nil, append_assoc, eqb-true, leb-true}
+use Rattle.std.proofs.Common.{◌≡◌, ◌≢◌, ◌⊎◌, inl, inr, ◌==◌, ℕ, ◌+◌, ◌<◌, ◌≤◌, nat_le, Bool, true, false, true≢false, ◌&&◌, List, [], ◌∷◌, ◌++◌, take, codes, fold, get_or, if◌then◌else◌, refl, sym, ap, subst, ◌∙◌, arith, append-nil, append_assoc, eqb-true, leb-true}
 use Rattle.std.proofs.lemmas.List.{take_more}
 use Rattle.canbusd_bench.specs.Refusals.{HasRefusal}
 use Rattle.canbusd_bench.specs.inner.Watched.{seen_after, seen_in}
