@@ -14,7 +14,20 @@ import time
 
 import pytest
 
-from running import FAST, bridges, command, environment, listening, needs, needs_gcc, none_left, passes, run, started
+from running import (
+    FAST,
+    SOURCES,
+    bridges,
+    command,
+    environment,
+    listening,
+    needs,
+    needs_gcc,
+    none_left,
+    passes,
+    run,
+    started,
+)
 from serving import ROOT, WAIT, come_true, plain, serving
 
 NOWHERE = "127.0.0.1:9"
@@ -476,6 +489,56 @@ else:
         passes(server, "/usr/bin/python3", "-c", text)
         assert none_left(server)
         server.end()
+
+
+#: In a bridge that is linked with this, connect returns once the server has closed, where it closes soon.
+LATE_CONNECT = """
+#include <poll.h>
+#include <sys/socket.h>
+int __real_connect(int fd, const struct sockaddr *address, socklen_t length);
+int __wrap_connect(int fd, const struct sockaddr *address, socklen_t length) {
+    int result = __real_connect(fd, address, length);
+    poll(&(struct pollfd){fd, 0, 0}, 1, 5000);
+    return result;
+}
+"""
+
+
+@needs_gcc
+def test_server_closes_before_a_write(tmp_path):
+    """what it said before counts: EUSERS of a full server, also where the bridge has not written yet"""
+    text = """
+import errno, socket
+with socket.socket(29, 3, 1) as s:
+    try:
+        s.bind(("can0",))
+    except OSError as fault:
+        print(errno.errorcode[fault.errno])
+"""
+
+    def greet_and_turn_away(server):
+        answer_session(server.accept()[0], [])
+        connection, _ = server.accept()
+        connection.sendall(b"< error too many sessions >")
+        connection.close()
+
+    (tmp_path / "late.c").write_text(LATE_CONNECT, encoding="utf-8")
+    flags = f"LDFLAGS=-Wl,--wrap=connect {tmp_path}/late.c"
+    subprocess.run(["make", "-s", "-C", SOURCES, f"OUT={tmp_path}", flags, f"{tmp_path}/canbusd-bridge"], check=True)
+    for name in ("canbusd-run", "libcanbusd-run.so"):
+        shutil.copy(os.path.join(os.path.dirname(command()), name), tmp_path)
+    address = str(tmp_path / "full.socket")
+    with contextlib.closing(socket.socket(socket.AF_UNIX)) as server:
+        server.bind(address)
+        server.listen()
+        threading.Thread(target=greet_and_turn_away, args=(server,), daemon=True).start()
+        words = [tmp_path / "canbusd-run", "--address", address, "/usr/bin/python3", "-c", text]
+        env = {**os.environ, "CANBUSD_RUN_DEBUG": "1"}
+        ended = subprocess.run(words, env=env, capture_output=True, text=True, timeout=60, check=False)
+        assert (ended.stdout, ended.stderr) == (
+            "EUSERS\n",
+            "canbusd-run: bind: Too many users: the server says: too many sessions\n",
+        )
 
 
 def test_server_stops():

@@ -18,8 +18,6 @@
 #define SHORT_PAUSE 100000
 #define LONG_PAUSE 2000000
 
-static const char GONE[] = "the server is gone";
-
 /* What a refusal of the server is to a program: as SocketCAN has it. */
 static int error_of(const char *reply) {
     static const struct {
@@ -156,23 +154,23 @@ bool session_read(struct session *session, bool waits) {
 
 /* ---- commands ---- */
 
-/* Writes all of it. What comes meanwhile is handled: a server that waits for its reader takes no commands. */
-static bool put_text(struct session *session, const char *text, size_t length) {
+/* Writes all of it, or loses the session. What comes meanwhile is handled: a server that waits for its reader takes no
+ * commands, and one that has closed takes none, but may have said why. */
+static void put_text(struct session *session, const char *text, size_t length) {
     uint64_t until = clock_now() + PATIENCE * SECOND;
     size_t written = 0;
     while (session->fd >= 0) {
         ssize_t part = send(session->fd, text + written, length - written, MSG_DONTWAIT | MSG_NOSIGNAL);
         written += part > 0 ? (size_t)part : 0;
         if (written == length) {
-            return true;
+            return;
         }
-        if ((part < 0 && errno != EAGAIN && errno != EINTR) || !wait_for_session(session, until)) {
+        if (wait_for_session(session, until)) {
+            session_read(session, false);
+        } else {
             lose(session); /* Half a command was written perhaps. */
-            return false;
         }
-        session_read(session, false);
     }
-    return false;
 }
 
 /* Waits for the end of the last command; false where it does not come in time. */
@@ -193,15 +191,13 @@ static int give(struct session *session, const char *text, size_t length, enum d
     }
     session->reply[0] = 0;
     session->due = due;
-    if (!put_text(session, text, length)) {
-        return refused(ENXIO, GONE);
-    }
+    put_text(session, text, length);
     if (!settle(session)) {
         return refused(ETIMEDOUT, silent);
     }
     /* What it said before its end counts: it may have too many sessions. */
     int error = error_of(session->reply);
-    return error ? error : session->due ? refused(ENXIO, GONE) : 0;
+    return error ? error : session->due ? refused(ENXIO, "the server is gone") : 0;
 }
 
 int session_command(struct session *session, const char *text) {
