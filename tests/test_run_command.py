@@ -124,6 +124,21 @@ def test_older_server(answer):
             assert child.wait(WAIT) == 125
 
 
+def test_full_server():
+    """a server that has no room is there: the line says so, and what helps"""
+    with serving("can0,can1") as server:
+        clients = [plain(server, "can0") for _ in range(64)]
+        ended = run(server, "true")
+        assert (ended.returncode, ended.stdout, ended.stderr) == (
+            125,
+            "",
+            f"canbusd-run: the server at {server.address} has as many sessions as it can, 64: close some\n",
+        )
+        for client in clients:
+            client.close()
+        server.end()
+
+
 #: Sends a frame for each of these words, and shows of each frame that it receives whether it is this socket's own, and
 #: whether it is one of the host.
 OWN_FRAMES = """

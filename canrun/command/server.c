@@ -18,8 +18,9 @@
 #define REPLY_TIME 5000
 #define PAUSE 100
 
-/* The fault of a server that can't say which interfaces it has. */
-static const char TOO_OLD[] = "is older than canbusd-run " VERSION;
+/* The faults of a server that is there: it can't say which interfaces it has, or has no room. */
+static const char TOO_OLD[] = "is older than canbusd-run " VERSION ": start one of the same version";
+static const char FULL[] = "has as many sessions as it can, 64: close some";
 
 /* Turns a host into a number, and a path into one that holds in any folder. Returns a fault, or NULL. */
 static const char *resolve(struct address *address) {
@@ -70,14 +71,14 @@ static void read_message(int fd, char *message, size_t size) {
     }
 }
 
-/* Returns NULL where this is the greeting of a canbusd, else what it is. */
+/* Returns NULL where this is the greeting of a canbusd that has room, else what it is. */
 static const char *other_greeting(char *greeting) {
     static char said[160];
     if (!strncmp(greeting, "< hi >", 6)) {
         return NULL;
     }
     if (!strcmp(greeting, "< error too many sessions >")) {
-        return "it has as many sessions as it can, 64; close some";
+        return FULL;
     }
     greeting[strcspn(greeting, "\r\n")] = 0;
     snprintf(said, sizeof said, "what listens there is something else: %s%s",
@@ -105,7 +106,7 @@ static bool ask_interfaces(int fd, struct server *server) {
     return true;
 }
 
-/* Returns NULL where a canbusd listens there, or a fault for the line; `is_absent` where it may come yet. */
+/* Returns NULL where a canbusd with room listens there, or a fault for the line; `is_absent` where it may come yet. */
 static const char *look(const struct address *address, bool *is_absent, struct server *server) {
     char greeting[64];
     int fd = address_connect(address);
@@ -136,8 +137,8 @@ bool server_find(const char *text, bool waits, struct server *server) {
         fault = NULL;
         poll(NULL, 0, PAUSE);
     }
-    if (fault == TOO_OLD) {
-        fprintf(stderr, "canbusd-run: the server at %s %s: start one of the same version\n", text, fault);
+    if (fault == TOO_OLD || fault == FULL) {
+        fprintf(stderr, "canbusd-run: the server at %s %s\n", text, fault);
     } else if (fault) {
         fprintf(
             stderr,
