@@ -1,12 +1,14 @@
 """The launcher ./canbusd in a copy of the repository whose dist/ fits its sources, and installed.
 
 It is called from other folders, after changes of the sources, and where the copy can't be written. Nothing is ever
-built: the command rt is not on the PATH.
+built: the command rt is not on the PATH, or is one that only waits.
 """
 
+import contextlib
 import functools
 import hashlib
 import os
+import re
 import shutil
 import signal
 import subprocess
@@ -88,6 +90,39 @@ def test_changed_source(copy):
     source.write_text("".join(text.splitlines(True)[1:]))
     os.utime(source, (1577836800, 1577836800))
     assert copy.status("./canbusd", "--version") == 1
+
+
+@pytest.mark.skipif(not shutil.which("git"), reason="no git")
+def test_sources_after_those_of_dist(copy):
+    """where later commits changed the sources, the command that is shown brings back those that dist/ fits"""
+    commit = ["git", "-c", "user.name=n", "-c", "user.email=n@n.example", "commit", "-q", "-m"]
+    for words in (["git", "init", "-q"], ["git", "add", "dist", "crates", "crates.txt"], [*commit, "dist"]):
+        assert copy.status(*words) == 0, words
+    with open(copy.folder / SOURCE, "a", encoding="utf-8") as source:
+        source.write("// a change\n")
+    assert copy.status(*commit, "a change", "crates") == 0
+    done = copy.run("./canbusd", "--version")
+    shown = re.search("`(git checkout [^`]*)`", done.stderr)
+    assert done.returncode == 1 and shown, done.stderr
+    assert copy.status(*shown[1].split()) == 0 and copy.status("./canbusd", "--version") == 0
+
+
+def test_interrupted_build(copy, tmp_path):
+    """how to stop a build is said before it begins, and Ctrl-C ends all of it without a word more"""
+    (tmp_path / "rt").write_text("#!/bin/sh\n: >$HOME/begun\nexec sleep 600\n")
+    (tmp_path / "rt").chmod(0o755)
+    (copy.folder / SOURCE).write_text("// a change\n")
+    how = {"cwd": copy.folder, "env": on_path(tmp_path), "stderr": subprocess.PIPE, "text": True}
+    with subprocess.Popen(["./canbusd", "--version"], start_new_session=True, **how) as child:
+        try:
+            assert come_true((tmp_path / "begun").exists)
+            os.killpg(child.pid, signal.SIGINT)
+            _, said = child.communicate(timeout=WAIT)
+            assert child.returncode != 0 and re.search("twenty minutes .*; Ctrl-C stops it\n$", said), said
+            assert come_true(lambda: nobody_in(child.pid))
+        finally:
+            with contextlib.suppress(ProcessLookupError):
+                os.killpg(child.pid, signal.SIGKILL)
 
 
 def test_definitions_taken_away(copy):
