@@ -150,18 +150,12 @@ def test_candump_errors():
 
 def test_candump_log(server, tmp_path):
     """-l writes a file"""
-    with listening(server, "candump", "-l", "can1", cwd=tmp_path) as dump:
+    with listening(server, "candump", "-l", "-n", "2", "can1", cwd=tmp_path) as dump:
         send(server, "123#01", "12345678#02")
-
-        def lines():
-            return [
-                line.split(" ", 1)[1]
-                for path in tmp_path.glob("candump-*.log")
-                for line in path.read_text().splitlines()
-            ]
-
-        assert come_true(lambda: dump.poll() is not None or len(lines()) == 2 or ended(dump))
-        assert lines() == ["can1 123#01", "can1 12345678#02"]
+        written(dump)
+    (path,) = tmp_path.glob("candump-*.log")
+    lines = [line.split(" ", 1)[1] for line in path.read_text().splitlines()]
+    assert lines == ["can1 123#01", "can1 12345678#02"]
 
 
 def test_cangen(server, tmp_path):
