@@ -1,5 +1,7 @@
 """Rules that are given while a bus runs: to servers, benches and buses of python-can."""
 
+import threading
+
 import can
 import pytest
 
@@ -226,10 +228,38 @@ def test_bus_off_of_one_that_sends_nothing(server):
             "can1 is active (transmit count 0, receive count 0), and did not go bus off within 0.05 seconds: it sent "
             "nothing in that time"
         )
-        server.end_rules()
+        # Its rule destroys no frame of a later test on this server.
+        assert server.rules_left() == 0
         server.inject("always good")
         can0.send_periodic(message(0x123), 0.002)
-        with pytest.raises(
-            AssertionError, match="its frames went through, by an earlier rule or a line of the script$"
-        ):
+        with pytest.raises(AssertionError) as failure:
             server.bus_off("can0", timeout=0.5)
+        assert str(failure.value).partition(": ")[2] == (
+            "its frames went through, by an earlier rule or a line of the script; end_rules() ends what is left of its "
+            "rule, with the bus's others"
+        )
+        assert server.rules_left() == 2
+
+
+def test_bus_off_that_is_interrupted_leaves_no_rule(server, monkeypatch):
+    """As by Ctrl-C, or by the timeout of a test."""
+
+    def interrupted(predicate, timeout):
+        assert predicate() is None and server.rules_left() == 1
+        raise KeyboardInterrupt
+
+    monkeypatch.setattr("canbusd.expectations.wait_for", interrupted)
+    with pytest.raises(KeyboardInterrupt):
+        server.bus_off("can0")
+    assert server.rules_left() == 0
+
+
+def test_bus_off_leaves_no_rule_where_a_line_of_the_script_helps():
+    """Three attempts that fail by their numbers leave three of the rule's."""
+    with Server("can0,can1", faults=Faults().destroyed([0, 1, 2])) as server, server.bus("can0") as can0:
+        # Once the rule for 32 attempts is there.
+        sends = threading.Timer(0.3, can0.send, [message(0x123)])
+        sends.start()
+        server.bus_off("can0", timeout=WAIT)
+        sends.join()
+        assert server.rules_left() == 0

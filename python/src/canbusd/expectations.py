@@ -97,14 +97,18 @@ class Expectations:
         """Drives an interface bus off, whatever the others send; returns once it is.
 
         The next attempts in which it sends are destroyed, 32 where it had no errors, so it has to send: a rule for them is
-        injected. AssertionError where it is not off after these seconds; its text says where it sent nothing.
+        injected. AssertionError where it is not off after these seconds; its text says where it sent nothing. The rule is
+        ended then, unless the bus has others, which would end with it: it is left, as the text says.
         """
         __tracebackhide__ = True
         drive = Drive(self._observing().bus(name), name, self.inject)
-        counters = wait_for(drive.off, timeout)
-        if counters is None:
-            raise AssertionError(f"{drive.failure(timeout)}{self._shown()}")
-        return counters
+        try:
+            counters = wait_for(drive.off, timeout)
+            if counters is None:
+                raise AssertionError(f"{drive.failure(timeout)}{self._shown()}")
+            return counters
+        finally:
+            drive.end_rule()
 
     def wait_for(self, predicate: Callable[[], T], timeout: float = 1.0) -> T:
         """Calls the predicate until it returns something true, and returns that; TimeoutError after these seconds."""
@@ -192,8 +196,19 @@ class Drive:
     def failure(self, timeout: float) -> str:
         """Returns why the interface is not off after these seconds."""
         counters, stats = self._bus.error_counters(), self._bus.stats()
-        now = in_words(self._name, counters)
-        return f"{now}, and did not go bus off within {timeout:g} seconds: {self._reason(counters, stats)}"
+        now, left = in_words(self._name, counters), self._bus.rules_left()
+        is_kept = left and not self._is_only(left)
+        others = "; end_rules() ends what is left of its rule, with the bus's others" if is_kept else ""
+        return f"{now}, and did not go bus off within {timeout:g} seconds: {self._reason(counters, stats)}{others}"
+
+    def end_rule(self) -> None:
+        """Ends what is left of its rule where the bus has no other: a bus ends all its rules or none."""
+        if self._is_only(self._bus.rules_left()):
+            self._bus.end_rules()
+
+    def _is_only(self, left: int) -> bool:
+        """Whether its own is the only rule, where the bus has so many left."""
+        return left == 1 and self._injected is not None and self._injected[0] == 0
 
     def _reason(self, counters: ErrorCounters, stats: Stats) -> str:
         if counters.tec > self._counters.tec:
