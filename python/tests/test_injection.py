@@ -213,6 +213,22 @@ def test_bus_off_of_one_with_errors(server):
         assert server.rules_left() == 0
 
 
+def test_bus_off_between_two_questions(server, monkeypatch):
+    """The counts that are returned are those of an interface that is off."""
+    with server.bus("can0") as can0:
+        bus = server._observing().bus("can0")
+        stats = bus.stats
+
+        def goes_off_since():
+            can0.send(message(0x123))
+            server.wait_for(lambda: can0.error_counters().state == "off", WAIT)
+            return stats()
+
+        answers = iter([stats, stats, goes_off_since])
+        monkeypatch.setattr(bus, "stats", lambda: next(answers)())
+        assert server.bus_off("can0", timeout=WAIT) == ("off", 256, 0)
+
+
 def test_bus_off_of_one_that_restarts_by_itself():
     with Server("can0,can1", auto_restart=1) as server, server.bus("can0") as can0:
         can0.send_periodic(message(0x123), 0.002)

@@ -184,8 +184,11 @@ class Drive:
         """Returns the counts of the interface once it is off, or was, where it restarts by itself."""
         left = self._bus.rules_left()
         counters, stats = self._bus.error_counters(), self._bus.stats()
-        if counters.state == "off" or stats.lost > self._stats.lost:
+        if counters.state == "off":
             return counters
+        if stats.lost > self._stats.lost:
+            # It went off since it was asked for its counts.
+            return self._bus.error_counters()
         if self._injected is None or (left <= self._injected[0] and stats.done > self._injected[1]):
             # The first rule, or one for what frames have taken off the count that went through before it.
             missing = -(-(OFF - counters.tec) // DESTROYED)
