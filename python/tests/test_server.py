@@ -248,9 +248,12 @@ def test_without_a_bit_rate_there_is_no_load():
 
 def test_what_a_server_says_of_a_full_record():
     with Server("can0,can1", limit=4) as server, server.bus("can0") as can0:
-        with pytest.raises(can.CanOperationError, match="record full"):
+        cure = r"record full: start the server again with a higher limit= \(--limit\), or with record='live' .*$"
+        with pytest.raises(can.CanOperationError, match=f"^{cure}"):
             for _ in range(10):
                 can0.send(message(1), timeout=WAIT)
+        with pytest.raises(can.CanInitializationError, match=f"^canbusd: channel 'can1' .*: {cure}"):
+            server.bus("can1")
     assert "record full" in server.said
 
 

@@ -55,13 +55,14 @@ if TYPE_CHECKING:
 Self = TypeVar("Self", bound="CanbusdBus")
 
 LOG = logging.getLogger("can.canbusd")
-NO_BUFFERS, BUS_OFF, NOT_BUS_OFF = "no buffers", "bus off", "not bus off"
+NO_BUFFERS, BUS_OFF, NOT_BUS_OFF, RECORD_FULL = "no buffers", "bus off", "not bus off", "record full"
 # What the system's own CAN sockets report.
 ERROR_CODES = {NO_BUFFERS: errno.ENOBUFS, BUS_OFF: errno.ENETDOWN}
 # What to do, where it can be said in a few words.
 CURES = {
     NO_BUFFERS: ": the transmit queue is full; send(msg, timeout=1) waits for room, and a server's txqueue= makes more",
     BUS_OFF: ": restart() brings the interface back, as the server's auto_restart= does",
+    RECORD_FULL: ": start the server again with a higher limit= (--limit), or with record='live' (--record live)",
 }
 BUS_STATES = {
     "active": BusState.ACTIVE,
@@ -466,7 +467,8 @@ class CanbusdBus(InjectsFaults, BusABC):
             answers = connection.ask([f"open {self.channel}", "rawmode", *messages])
             faults = [answer for answer in answers if answer != "ok"]
             if faults:
-                raise SessionRefused(refusal_in(faults[0]))
+                text = refusal_in(faults[0])
+                raise SessionRefused(f"{text}{CURES.get(text, '')}")
             connection.ask_acks(self._receives_own)
             if self._receives_own:
                 # An older server does not know it, and then all messages are received ones.
