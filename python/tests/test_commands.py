@@ -305,7 +305,13 @@ def test_send_refuses_in_one_line(words, fault):
 
 
 def test_no_server(tmp_path):
-    for words in (("send", "can0", "123#"), ("dump", "can0"), ("status", "can0"), ("fault", "can0", "--left")):
+    for words in (
+        ("send", "can0", "123#"),
+        ("dump", "can0"),
+        ("status", "can0"),
+        ("restart", "can0"),
+        ("fault", "can0", "--left"),
+    ):
         status, written, said = call(*words, "--address", str(tmp_path / "socket"))
         assert (status, written) == (1, "") and said.startswith(f"canbusd {words[0]}: ") and said.count("\n") == 1
 
@@ -364,6 +370,35 @@ def test_status_that_watches():
         child.stderr.close()
     assert lines[::2] == [lines[0]] * 3 and lines[1].startswith("can0")
     assert said == ""
+
+
+def test_restart_of_interfaces():
+    with Server("can0,can1,can2", faults=Faults().destroyed(range(64))) as server:
+        with server.bus("can0") as can0, server.bus("can2") as can2:
+            for bus in (can0, can2):
+                bus.send(message(0x123), timeout=5)
+                server.expect_state(bus.channel, "off", within=WAIT)
+            cure = "`python3 -m canbusd restart can0` brings the interface back, as the server's --auto-restart does"
+            assert call("send", "can0", "123#", server=server) == (1, "", f"canbusd send: bus off: {cure}\n")
+            assert call("restart", "can0", "can9", server=server)[0] == 1
+            assert can0.error_counters().state == "off"
+            said = "canbusd restart: can1: not bus off\n"
+            assert call("restart", "can1", "can0", server=server) == (1, "", said)
+            assert (can0.error_counters(), can2.error_counters().state) == (("active", 0, 0), "off")
+            assert call("restart", "can2", server=server) == (0, "", "")
+            assert can2.error_counters() == ("active", 0, 0)
+    assert server.audit()["can0"].startswith("ok ")
+
+
+def test_a_full_record_and_its_cures():
+    with Server("can0,can1", limit=8) as server, server.bus("can0") as can0:
+        with pytest.raises(can.CanOperationError, match="^record full"):
+            while True:
+                can0.send(message(1), timeout=5)
+        status, written, said = call("status", server=server)
+    cure = "start the server again with a higher limit= (--limit), or with record='live' (--record live)"
+    assert (status, written) == (1, "")
+    assert said == (f"canbusd status: canbusd: channel 'can0' of the server at {server.address}: record full: {cure}\n")
 
 
 def test_fault_of_a_bus_that_runs():
@@ -461,8 +496,8 @@ def test_commands_and_their_help():
     status, written, _ = call("--help")
     assert status == 0
     names = re.findall(r"^  (\w+) +\w", written.split("commands:")[1], re.M)
-    assert {"dump", "send", "status", "fault", "report", "replay"} <= set(names)
-    for name in ("dump", "send", "status", "fault", "report", "replay"):
+    assert {"dump", "send", "status", "restart", "fault", "report", "replay"} <= set(names)
+    for name in ("dump", "send", "status", "restart", "fault", "report", "replay"):
         assert call(name, "--help")[0] == 0
     assert call("dance")[0] == 2
     assert call("--version") == (0, f"canbusd {canbusd.__version__}\n", "")

@@ -15,6 +15,7 @@ COMMANDS = {
     "dump": ("canbusd.commands.dump", "print frames as they come"),
     "send": ("canbusd.commands.send", "send frames"),
     "status": ("canbusd.commands.status", "print the state and the counts of interfaces"),
+    "restart": ("canbusd.commands.restart", "bring interfaces back from bus off"),
     "watch": ("canbusd.commands.watch", "show a running server in the browser"),
     "fault": ("canbusd.commands.fault", "give a running bus a rule of faults"),
     "report": ("canbusd.commands.report", "show the run of a record as a page, or as text"),
@@ -44,7 +45,7 @@ def parser_of(name: str) -> argparse.ArgumentParser:
 def help_text() -> str:
     """The commands, a line each."""
     commands = [*((name, text) for name, (_, text) in COMMANDS.items()), *PROGRAM.items()]
-    lines = "\n".join(f"  {name:<8}{text}" for name, text in commands)
+    lines = "\n".join(f"  {name:<9}{text}" for name, text in commands)
     return (
         f"commands:\n{lines}\n\nThe last three are those of the program canbusd. `python3 -m canbusd COMMAND --help` "
         "says more of each."

@@ -1,6 +1,7 @@
 """Sends frames by an interface of a server, in cansend's spelling."""
 
 import argparse
+import errno
 import re
 import sys
 from collections.abc import Iterable, Iterator, Mapping
@@ -8,6 +9,7 @@ from typing import Optional
 
 import canbusd._python_can  # noqa: F401  it says what is missing, so it comes first
 
+from can.exceptions import CanOperationError
 
 from canbusd.bus import CanbusdBus
 from canbusd.commands import NOTHING, add_address, add_database, database_of
@@ -83,5 +85,13 @@ def run(options: argparse.Namespace) -> None:
     frames = list(frames_of_words(options.frames, database_of(options)))
     has_fd = any(frame.is_fd for frame in frames)
     with CanbusdBus(options.interface, NOTHING, address=options.address, fd=has_fd, error_frames=False) as bus:
-        for frame in frames:
-            bus.send(frame.message(), timeout=options.timeout)
+        try:
+            for frame in frames:
+                bus.send(frame.message(), timeout=options.timeout)
+        except CanOperationError as fault:
+            if fault.error_code != errno.ENETDOWN:
+                raise
+            raise ValueError(
+                f"bus off: `python3 -m canbusd restart {options.interface}` brings the interface back, as the server's "
+                "--auto-restart does"
+            ) from None
