@@ -420,7 +420,7 @@ def test_fault_of_a_bus_that_runs():
         (["can0"], "a rule is missing, such as 'next 32 from ecu global bit', or --left or --end"),
         (["can0", "next 1 bad"], "rule 'next 1 bad': its verdict is .*, not 'bad'"),
         (["can0", "5 lastbit"], "'5 lastbit' is of an attempt by its number, .*"),
-        (["can0", "next 1 from can9 good"], "no such interface: next 1 from can9 good"),
+        (["can0", "next 1 from can9 good"], "no such interface: next 1 from can9 good: can9 is none of can0, can1"),
         (["can9", "next 1 good"], "no such interface: can9"),
         (
             ["-a", "./no.socket", "can0", "--left"],

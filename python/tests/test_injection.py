@@ -96,7 +96,7 @@ def test_rules_by_a_bus_of_python_can(pair):
         can0.inject("next 1 lastbit")
     can0.end_rules()
     assert can1.rules_left() == 0
-    with pytest.raises(can.CanOperationError, match="^no such interface: next 1 from ecu local crc can9$"):
+    with pytest.raises(can.CanOperationError, match="^no such interface: next 1 .* can9: ecu is none of can0, can1$"):
         can0.inject(BAD_NAME)
     with pytest.raises(ValueError, match="only rules can be injected"):
         can0.inject("0 lastbit")
@@ -104,6 +104,15 @@ def test_rules_by_a_bus_of_python_can(pair):
     for call in (lambda: can0.inject("next 1 lastbit"), can0.rules_left, can0.end_rules):
         with pytest.raises(can.CanOperationError, match="shut down"):
             call()
+
+
+def test_a_rule_that_names_an_interface_of_another_bus():
+    with Server("can0,can1", "car0") as server, server.bus("can0") as can0:
+        with pytest.raises(can.CanOperationError, match="from car0 lastbit: one of its interfaces is on another bus$"):
+            can0.inject("next 1 from car0 lastbit")
+        with pytest.raises(can.CanOperationError, match="crc car1: car1 is none of can0, can1, car0$"):
+            can0.inject("next 1 from can0 local crc car1")
+        assert can0.rules_left() == 0
 
 
 def test_rules_in_a_bench():

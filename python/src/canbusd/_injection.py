@@ -5,7 +5,7 @@ from types import TracebackType
 from typing import Optional, TypeVar
 
 from canbusd._connection import Connection
-from canbusd._protocol import refusal_in, rules_left_of
+from canbusd._protocol import interfaces_of, refusal_in, rules_left_of
 from canbusd.faults import Script, rules_of
 from canbusd.rules import Rule
 
@@ -13,6 +13,7 @@ T = TypeVar("T")
 
 #: Seconds in which a server has to answer.
 TIMEOUT = 5.0
+NO_INTERFACE = "no such interface"
 
 
 class Refused(RuntimeError):
@@ -49,7 +50,13 @@ class InjectsFaults:
         for rule in rules:
             answer = self._answer(f"fault {rule}")
             if answer:
-                raise self._refusal(f"{answer}: {rule}")
+                raise self._refusal(f"{answer}: {rule}{self._wrong_name(rule) if answer == NO_INTERFACE else ''}")
+
+    def _wrong_name(self, rule: Rule) -> str:
+        """Returns which name of a rule is none of the server's, and what these are; those of a bus are not known here."""
+        names = self._parsed(self._answer("interfaces"), interfaces_of)
+        wrong = next((name for name in rule.names if name not in names), None)
+        return f": {wrong} is none of {', '.join(names)}" if wrong else ": one of its interfaces is on another bus"
 
     def rules_left(self) -> int:
         """Returns how many rules the bus of the interface has that are not used up, those without end too."""
