@@ -274,6 +274,25 @@ def test_a_test_that_has_to_fail_has_not_failed(run, pytester):
     assert kept(pytester) == ["can0.html", "can0.log", "can0.rec"]
 
 
+@pytest.mark.parametrize("fixture", ["canbusd", "canbusd_bench"])
+def test_a_test_that_is_interrupted_has_failed(run, pytester, fixture):
+    """As by Ctrl-C; what the test before it has left is gone."""
+    result = run(
+        f"""
+    def test_it_passes({fixture}):
+        pass
+
+    def test_it_hangs({fixture}):
+        raise KeyboardInterrupt
+
+    def test_it_is_not_run({fixture}):
+        pass
+    """
+    )
+    assert result.ret == pytest.ExitCode.INTERRUPTED
+    assert kept(pytester) == ["can0.html", "can0.log", "can0.rec"]
+
+
 def test_no_links_that_lead_nowhere(run, pytester):
     run(PASSES + PASSES.replace("test_it", "test_other")).assert_outcomes(passed=2)
     assert [path for path in (pytester.path / "kept").rglob("*") if path.is_symlink() and not path.exists()] == []

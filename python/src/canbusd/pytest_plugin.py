@@ -64,6 +64,14 @@ def pytest_unconfigure(config: pytest.Config) -> None:
         os.environ.pop("CANBUSD", None)
 
 
+@pytest.hookimpl(hookwrapper=True)  # type: ignore[misc]
+def pytest_runtest_protocol(item: pytest.Item) -> Generator[None, Any, None]:
+    """Keeps that the test was interrupted, as by Ctrl-C: it has no report, and its fixtures end with the session."""
+    outcome = yield
+    if outcome.excinfo is not None:
+        item.stash[FAILED] = True
+
+
 @pytest.hookimpl(hookwrapper=True, tryfirst=True)  # type: ignore[misc]
 def pytest_runtest_makereport(item: pytest.Item) -> Generator[None, Any, None]:
     """Keeps whether the test failed, for the end of its fixtures. One that had to fail, by a mark xfail, did not."""
