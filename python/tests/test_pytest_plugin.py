@@ -83,8 +83,9 @@ def test_a_test_that_fails_says_what_was_on_the_bus(run, pytester):
 
 
 def test_what_is_kept(run, pytester):
-    run(PASSES, "--canbusd-keep=all").assert_outcomes(passed=1)
-    assert kept(pytester) == ["can0.log", "can0.rec"]
+    result = run(PASSES, "--canbusd-keep=all")
+    result.assert_outcomes(passed=1)
+    assert kept(pytester) == ["can0.html", "can0.log", "can0.rec"] and "page:" not in result.stdout.str()
     result = run(FAILS, "--canbusd-keep=none")
     result.assert_outcomes(failed=1)
     assert kept(pytester) == [] and "body       off " in result.stdout.str() and "page:" not in result.stdout.str()

@@ -151,7 +151,7 @@ class Runs:
         """Ends the runs and audits their records; a fault of one of them fails the test."""
         faults = [*self._stop(), *self._audit()]
         failed = bool(faults) or self._item.stash.get(FAILED, False)
-        if failed:
+        if failed or self._keep == "all":
             sections = [self._section(path, run, names) for path, (run, names) in self._records.items()]
             self._item.add_report_section("teardown", "canbusd", "\n\n".join(filter(None, sections)))
         if self._keep == "none" or (self._keep == "failed" and not failed):
@@ -191,7 +191,7 @@ class Runs:
                 yield f"the record {path}: there is none"
 
     def _section(self, path: Path, run: Union["Server", Bench], names: list[str]) -> str:
-        """What a failed test shows of a bus: the end of its log, states and counts, and the path of the page."""
+        """Makes the page of a bus; returns what a failed test shows: the end of its log, states, counts and that path."""
         log, left = path.with_suffix(".log"), left_by(path, record_when(run))
         lines = _summary.end_of_log(log) if log.exists() else []
         if not left.exists():
