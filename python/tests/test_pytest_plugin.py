@@ -322,10 +322,14 @@ def test_the_program_of_the_ini_file(run, pytester, monkeypatch):
     monkeypatch.setenv("PATH", "/nowhere")
     pytester.makeini("[pytest]\ncanbusd_program = the program\n")
     run(PASSES).assert_outcomes(passed=1)
+    pytester.makeini("[pytest]\ncanbusd_program = another program\n")
+    result = run(PASSES)
+    result.assert_outcomes(errors=1)
+    result.stdout.fnmatch_lines([f"*canbusd_program in the ini file names no program: {pytester.path}/another program"])
     monkeypatch.setenv("CANBUSD", "/nowhere/canbusd")
     result = run(PASSES)
     result.assert_outcomes(errors=1)
-    result.stdout.fnmatch_lines(["*CANBUSD names no program: /nowhere/canbusd*"])
+    result.stdout.fnmatch_lines(["*: CANBUSD names no program: /nowhere/canbusd*"])
 
 
 def test_with_xdist(run, pytester):

@@ -7,6 +7,9 @@ from collections.abc import Sequence
 from pathlib import Path
 from typing import NoReturn, Optional, Union
 
+#: What has set a variable where that was not its user, by its name: an option of pytest's ini file.
+SET_BY: dict[str, str] = {}
+
 
 class ProgramNotFound(FileNotFoundError):
     """There is no program canbusd where it is looked for."""
@@ -23,7 +26,7 @@ def find_program(name: str = "canbusd") -> str:
     if given:
         found: Optional[str] = shutil.which(given)
         if found is None:
-            raise ProgramNotFound(f"{variable} names no program: {given}")
+            raise ProgramNotFound(f"{SET_BY.get(variable, variable)} names no program: {given}")
         return os.path.abspath(found)
     package = Path(__file__).resolve().parent
     packed, clone = package / "program" / name, package.parent.parent.parent

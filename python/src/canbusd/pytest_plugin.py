@@ -19,7 +19,7 @@ import pytest
 
 from canbusd import _summary
 from canbusd._live import left_by
-from canbusd._program import audited
+from canbusd._program import SET_BY, audited
 from canbusd._process import FOLDERS
 from canbusd.bench import Bench
 from canbusd.record import BadRecord, read_record
@@ -52,14 +52,20 @@ def pytest_configure(config: pytest.Config) -> None:
         "canbusd.Server and canbusd.Bench",
     )
     program = str(config.getini("canbusd_program"))
-    if program and "CANBUSD" not in os.environ:
-        folder = config.inipath.parent if config.inipath else config.rootpath
-        os.environ["CANBUSD"] = str(folder / program)
+    if not program:
+        return
+    path = str((config.inipath.parent if config.inipath else config.rootpath) / program)
+    if "CANBUSD" not in os.environ:
+        os.environ["CANBUSD"] = path
         config.stash[PROGRAM] = True
+    # Also where the process of pytest-xdist that started this one has set it.
+    if os.environ["CANBUSD"] == path:
+        SET_BY["CANBUSD"] = "canbusd_program in the ini file"
 
 
 def pytest_unconfigure(config: pytest.Config) -> None:
     """Forgets the program of the ini file."""
+    SET_BY.pop("CANBUSD", None)
     if config.stash.get(PROGRAM, False):
         os.environ.pop("CANBUSD", None)
 
