@@ -410,8 +410,6 @@ def test_the_end_of_the_input():
 @pytest.mark.parametrize(
     "words, said",
     [
-        ({"names": "can0,can0"}, "bad bus"),
-        ({"names": ""}, "bad bus"),
         ({"names": "can0", "faults": "0 nonsense\n"}, "script line 1: bad line"),
         ({"names": "can0", "faults": Faults().local("crc", "can7", 0)}, "unknown interface"),
     ],
@@ -430,7 +428,7 @@ def test_a_wrong_option_is_named(options):
         Bench("can0", **options)
 
 
-@pytest.mark.parametrize("names", [[], ["can0", 1]])
+@pytest.mark.parametrize("names", [[], ["can0", 1], "can0,can0", "", ["can0,can1"], "can:0"])
 def test_names_that_are_none_are_named(names):
     with pytest.raises(ValueError, match="^names "):
         Bench(names)

@@ -238,7 +238,7 @@ def test_what_a_marker_may_not_say(run):
     )
     result.assert_outcomes(errors=3)
     result.stdout.fnmatch_lines(["*colour*"])
-    result.stdout.fnmatch_lines(["*bad bus*"])
+    result.stdout.fnmatch_lines(["*names of a bus's interfaces are *, not 'a,a'"])
     result.stdout.fnmatch_lines(["*one bus*names 2*"])
 
 

@@ -94,6 +94,14 @@ def test_ways_to_give_faults(tmp_path, form):
         ([], {}, "buses"),
         ([["can0", "can1"]], {}, "buses"),
         (["can0,can1", "can0,can2"], {}, "buses"),
+        (["can0", "can1,can0"], {}, "buses are of different interfaces, and two have 'can0'"),
+        ([str(number) for number in range(17)], {}, "buses are 1 to 16"),
+        (["can0,can0"], {}, "names of a bus's interfaces are 1 to 16 different ones .* not 'can0,can0'"),
+        (["can 0"], {}, "names .* not 'can 0'"),
+        (["can0,"], {}, "names .* not 'can0,'"),
+        (["k\N{LATIN SMALL LETTER U WITH DIAERESIS}che"], {}, "names .* 1 to 15 ASCII letters, digits, _, - and .,"),
+        (["a123456789012345"], {}, "names .* not 'a123456789012345'"),
+        ([",".join(f"can{number}" for number in range(17))], {}, "names .* 1 to 16 "),
         (["can0"], {"out": "/no/such/folder"}, "out"),
         (["can0", "can1"], {"faults": Faults()}, "faults"),
         (["can0"], {"faults": {"can1": Faults()}}, "faults"),
@@ -107,6 +115,9 @@ def test_ways_to_give_faults(tmp_path, form):
         (["can0"], {"bitrate": 500_000, "dbitrate": 499_999}, "dbitrate needs a bitrate"),
         (["can0"], {"txqueue": "10"}, "txqueue"),
         (["can0"], {"limit": True}, "limit"),
+        (["can0"], {"listen": "x"}, "listen is HOST:PORT, .* not 'x'"),
+        (["can0"], {"listen": 29536}, "listen is HOST:PORT, .* not '29536'"),
+        (["can0"], {"listen": "127.0.0.1:65536"}, "listen is HOST:PORT"),
     ],
 )
 def test_a_wrong_argument_is_named(buses, options, name):
@@ -117,9 +128,6 @@ def test_a_wrong_argument_is_named(buses, options, name):
 @pytest.mark.parametrize(
     "buses, options, said",
     [
-        (["can0,can0"], {}, "bad bus"),
-        (["can 0"], {}, "bad bus"),
-        (["can0", "can1,can0"], {}, "bad bus"),
         (["can0"], {"faults": "0 bad\n"}, "script line 1: bad line"),
         (["can0"], {"faults": "0 local crc can1\n"}, "unknown interface"),
         (["can0"], {"listen": "/no/such/folder/socket"}, "cannot listen"),
@@ -144,6 +152,12 @@ def test_the_limits_of_numbers_are_those_of_the_program(name, tmp_path):
         if not is_taken:
             with pytest.raises(ValueError, match=name):
                 Server("can0", **more, **{name: number})
+
+
+def test_names_at_their_limits():
+    buses = [",".join(f"{letter}{number:02}-_.ABCDEFGHz" for number in range(16)) for letter in "abcdefghijklmnop"]
+    with Server(*buses, listen="localhost:0") as server:
+        assert len(server.interfaces) == 256 and not server.address.endswith(":0")
 
 
 def test_a_port_in_use(server):

@@ -59,13 +59,15 @@ class SessionRefused(Exception):
     """The server refused the session; the text is its own."""
 
 
-def parse_address(text: str) -> tuple[Optional[str], Optional[tuple[str, int]]]:
+def parse_address(
+    text: str, what: str = "address", least_port: int = 1
+) -> tuple[Optional[str], Optional[tuple[str, int]]]:
     """Returns the Unix path, or the host and the port, that an address names; ValueError where it names neither."""
     if text.startswith(("/", ".")):
         return text, None
     words = HOST_PORT.fullmatch(text)
-    if not words or not 0 < int(words[3]) < 65536:
-        raise ValueError(f"address is HOST:PORT, [V6]:PORT, or a Unix path that begins with / or ., not {text!r}")
+    if not words or not least_port <= int(words[3]) < 65536:
+        raise ValueError(f"{what} is HOST:PORT, [V6]:PORT, or a Unix path that begins with / or ., not {text!r}")
     return None, (words[1] or words[2], int(words[3]))
 
 

@@ -13,12 +13,15 @@ from types import TracebackType
 from typing import Optional, TypeVar, Union
 
 from canbusd._program import find_program
+from canbusd._text import NAME
 from canbusd._wire import LEAST_BITRATE, MOST_BITRATE, MOST_DBITRATE, Rates
 
 Self = TypeVar("Self", bound="ProgramRun")
 
 #: Where runs have their folders; None is the system's place for temporary files.
 FOLDERS: "ContextVar[Optional[Path]]" = ContextVar("FOLDERS", default=None)
+#: How many interfaces a bus has at most.
+MOST_NAMES = 16
 #: The options of the program that are numbers, by the names of their arguments: the least and the most of each.
 NUMBERS: dict[str, tuple[str, int, int]] = {
     "auto_restart": ("--auto-restart", 0, 1_000_000),
@@ -66,11 +69,14 @@ def rates_of(bitrate: Optional[int], dbitrate: Optional[int]) -> Optional[Rates]
 
 
 def check_names(names: Sequence[str]) -> Sequence[str]:
-    """Returns the names of a bus's interfaces; ValueError where spaces were written between them."""
+    """Returns the names of a bus's interfaces; ValueError where spaces were written between them, or one is wrong."""
     spaced = next((name for name in names if name != name.strip()), None)
     if spaced is not None:
         right = ",".join(name.strip() for name in names)
         raise ValueError(f"names of interfaces are joined by commas without spaces, {right!r}, not {','.join(names)!r}")
+    if len(names) > MOST_NAMES or len({*names}) < len(names) or not all(map(NAME.fullmatch, names)):
+        known = f"1 to {MOST_NAMES} different ones of 1 to 15 ASCII letters, digits, _, - and ."
+        raise ValueError(f"names of a bus's interfaces are {known}, not {','.join(names)!r}")
     return names
 
 

@@ -16,7 +16,7 @@ from collections.abc import Mapping, Sequence
 from pathlib import Path
 from typing import TYPE_CHECKING, Any, NamedTuple, Optional, Union
 
-from canbusd._connection import SessionRefused, reason_of
+from canbusd._connection import SessionRefused, parse_address, reason_of
 from canbusd._injection import RuleSession
 from canbusd._live import LiveLog, LiveRecord, left_by
 from canbusd._program import audited, find_program
@@ -36,6 +36,8 @@ if TYPE_CHECKING:
 #: Seconds in which a server has to listen, and to end. Long records take their time.
 START, END = 10.0, 60.0
 ENTRIES = re.compile(r"bus (\S+) entries (\d+)")
+#: How many buses a server has at most.
+MOST_BUSES = 16
 
 
 class ServerError(RuntimeError):
@@ -59,11 +61,14 @@ def bus_words(
     The last word of each list is what the program is given: `can0,can1@FILE`.
     """
     by_bus: dict[str, list[str]] = {}
+    known: set[str] = set()
     for bus in buses:
-        names = bus.partition("@")[0].split(",")
-        if names[0] in by_bus:
-            raise ValueError(f"buses are of different interfaces, and two begin with {names[0]!r}")
-        by_bus[check_names(names)[0]] = [*names, bus]
+        names = check_names(bus.partition("@")[0].split(","))
+        twice = next((name for name in names if name in known), None)
+        if twice is not None:
+            raise ValueError(f"buses are of different interfaces, and two have {twice!r}")
+        known.update(names)
+        by_bus[names[0]] = [*names, bus]
     if faults is None:
         return by_bus
     if not isinstance(faults, Mapping):
@@ -139,8 +144,10 @@ class Server(Expectations, ProgramRun):
         listen: str = "127.0.0.1:0",
         observe: Union[str, Sequence[str]] = (),
     ) -> None:
-        if not buses or not all(isinstance(bus, str) for bus in buses):
-            raise ValueError(f"buses are given by the names of their interfaces, such as 'can0,can1', not {buses!r}")
+        if not 0 < len(buses) <= MOST_BUSES or not all(isinstance(bus, str) for bus in buses):
+            known = f"1 to {MOST_BUSES}, each by the names of its interfaces, such as 'can0,can1'"
+            raise ValueError(f"buses are {known}, not {buses!r}")
+        parse_address(str(listen), "listen", least_port=0)
         options, numbers = record_options(record, limit, flush, sync)
         numbers.update(auto_restart=auto_restart, pace_ms=pace_ms, write_bytes=write_bytes)
         options += option_words(ack, report, txqueue=txqueue, rxqueue=rxqueue, **numbers)
