@@ -42,7 +42,7 @@ class InjectsFaults:
         """Gives the bus of the interface these rules, after those that it has, from the next attempt on.
 
         `faults` are rules of Faults, such as ``Faults().next(32, sender="ecu").destroyed()``, or their text. Where one is
-        refused, as the 65th is, the exception ends with it; those before it are in force.
+        refused, as the 65th is, the exception names it; those before it are in force.
         """
         self._give(rules_of(faults))
 
