@@ -18,31 +18,23 @@ use std::marker::Model;
 use std::sync::Wait;
 
 /// A [`PassPort`] for a few calls: sends and receives that follow one another are made in one hold of the station's
-/// lock. It takes the lock for the first of them, and frees it before any other call and when it is dropped.
+/// lock. It takes the lock for the first of them, and frees it before any other call and when it is over.
 #[derive(Drop)]
-pub struct LockedPort<
-    'p,
-    'a,
-    N: RollName + MeterName,
-    F: FaultSource + Drop,
-    G: Gate + Drop,
-    R: Wait,
-> {
-    port: &'p mut PassPort<'a, N, F, G, R>,
+pub struct LockedPort<'a, N: RollName + MeterName, F: FaultSource + Drop, G: Gate + Drop, R: Wait> {
+    port: PassPort<'a, N, F, G, R>,
     hold: Option<Hold<'a, N, F, G, HubBus>>,
 }
 
-impl<'p, 'a, N: RollName + MeterName, F: FaultSource + Drop, G: Gate + Drop, R: Wait> Model
-    for LockedPort<'p, 'a, N, F, G, R> {
+impl<'a, N: RollName + MeterName, F: FaultSource + Drop, G: Gate + Drop, R: Wait> Model
+    for LockedPort<'a, N, F, G, R> {
     ghost use Rattle.can_hub.specs.PassSteps.{PortSeen};
 
     ghost Value = { PortSeen };
 
-    ghost view = { λ p. p.port.now };
+    ghost view = { λ p. p.port };
 }
 
-impl<'p, 'a, N: RollName + MeterName, F: FaultSource + Drop, G: Gate + Drop, R: Wait> LockedPort<
-    'p,
+impl<'a, N: RollName + MeterName, F: FaultSource + Drop, G: Gate + Drop, R: Wait> LockedPort<
     'a,
     N,
     F,
@@ -50,10 +42,19 @@ impl<'p, 'a, N: RollName + MeterName, F: FaultSource + Drop, G: Gate + Drop, R: 
     R,
 > {
     /// The same port; no lock is taken.
-    pub fn new(port: &'p mut PassPort<'a, N, F, G, R>) -> LockedPort<'p, 'a, N, F, G, R>
-        ensures { result ≡ port.old }
+    pub fn new(port: PassPort<'a, N, F, G, R>) -> LockedPort<'a, N, F, G, R>
+        ensures { result ≡ port.entry }
     {
         LockedPort { port, hold: None }
+    }
+
+    /// The port, once the lock is free.
+    pub fn into_port(self) -> PassPort<'a, N, F, G, R>
+        ensures { result ≡ self.entry }
+    {
+        let LockedPort { port, hold } = self;
+        drop(hold);
+        port
     }
 }
 
@@ -83,8 +84,8 @@ fn is_shared(event: &Event) -> bool
     matches!(event, Event::Send(_, _) | Event::Receive(_))
 }
 
-impl<'p, 'a, N: RollName + MeterName, F: FaultSource + Drop, G: Gate + Drop, R: Wait> Port
-    for LockedPort<'p, 'a, N, F, G, R> {
+impl<'a, N: RollName + MeterName, F: FaultSource + Drop, G: Gate + Drop, R: Wait> Port
+    for LockedPort<'a, N, F, G, R> {
     ghost use Rattle.can_hub.specs.PassSteps.{PassStep};
 
     ghost step = { PassStep F };
@@ -94,7 +95,7 @@ impl<'p, 'a, N: RollName + MeterName, F: FaultSource + Drop, G: Gate + Drop, R: 
             self.hold = None;
             return self.port.call(event);
         }
-        let port = &mut *self.port;
+        let port = &mut self.port;
         let Some(entered) = &mut port.entered else {
             return Err(PortRefusal::Bus(Refusal::NoSocket));
         };
@@ -107,7 +108,7 @@ impl<'p, 'a, N: RollName + MeterName, F: FaultSource + Drop, G: Gate + Drop, R: 
 
     // The call that a session makes most, without an event and a reply between.
     fn receive_into(&mut self, socket: SocketId, room: &mut Received) -> Result<bool, PortRefusal> {
-        let port = &mut *self.port;
+        let port = &mut self.port;
         let Some(entered) = &mut port.entered else {
             return Err(PortRefusal::Bus(Refusal::NoSocket));
         };

@@ -17,6 +17,7 @@ use can_roll::RollName;
 use can_station::{Gate, Pass, Station, StationRefusal, TooManyPasses};
 use std::alloc::{AllocError, Global};
 use std::marker::Model;
+use std::mem;
 use std::sync::{Mutex, Wait};
 
 /// A station that was entered, with a gauge of its meter and the pass.
@@ -100,6 +101,14 @@ impl<'a, N: RollName + MeterName, F: FaultSource + Drop, G: Gate + Drop, R: Wait
             entered: None,
             tally: Tally::none(),
         }
+    }
+
+    /// The port, taken out: one that has entered no station is left.
+    pub fn take(&mut self) -> PassPort<'a, N, F, G, R>
+        ensures { result ≡ self.old }
+    {
+        let left = PassPort::with_spares(self.rt, self.alloc, self.buses, self.spares);
+        mem::replace(self, left)
     }
 
     /// The station that was entered.

@@ -1,5 +1,5 @@
 ghost use Rattle.std.specs.Prelude.{◌≡◌, ◌≢◌, ◌<◌, ◌≤◌, ℕ, IfOk, IfSome, length, slice_get, take};
-ghost use Rattle.can_hub.specs.Returning.{AddsOwn, AllEmpty};
+ghost use Rattle.can_hub.specs.Returning.{AddsOwn, AllEmpty, RemovesOwn};
 
 use can_meter::MeterName;
 use can_roll::RollName;
@@ -52,17 +52,17 @@ impl<N: RollName + MeterName> ReturnedPasses<N> {
         }
     }
 
-    /// Gives out again a pass of a bus that was taken back, the last one, if there is one. All other lists stay.
+    /// Gives out again the last pass of a bus that was taken back, if there is one. All others stay.
     pub fn give_out(&mut self, bus: u8) -> Option<Pass<N>>
         ensures own { IfSome result (λ pass. pass.number ≡ bus) }
+        ensures list { RemovesOwn self.old bus result self.new }
         ensures others { (other : ℕ) → other ≢ bus →
             slice_get self.new other ≡ slice_get self.old other }
     {
-        let pass = self.lists.get_mut(usize::from(bus))?.pop()?;
-        if pass.number() == bus {
-            Some(pass)
-        } else {
-            None
+        let list = self.lists.get_mut(usize::from(bus))?;
+        match list.last() {
+            Some(pass) if pass.number() == bus => list.pop(),
+            _ => None,
         }
     }
 

@@ -5,8 +5,20 @@ use can_audit::{
 };
 use can_bus::{Event, Record, SocketId};
 use can_frame::Iface;
-use can_test_support::ONE_FRAME;
 use std::alloc::{AllocError, Global};
+
+/// The record of docs/RECORD.md: a frame goes from interface 0 to interface 1, and is taken there.
+const ONE_FRAME: &str = "canbus record 1
+bus 2 always 0000 10 100
+open 0 256 = socket 0
+open 1 1 = socket 1
+send 0 123#01FF = number 0
+attempt 0.000001 good = tried 0 0 123#01FF done 0002 0000
+receive 1 = data 0 0 123#01FF 0.000001
+receive 1 = none
+close 1 = closed 0 0
+end 7
+";
 
 pub fn texts(alloc: Global) -> Result<(), Stop> {
     let record = read_record(alloc, ONE_FRAME)?;

@@ -1,5 +1,5 @@
 -- The first lines, the last one, and what is reported of a text that has ended.
-use Rattle.std.proofs.Common.{◌≡◌, ◌≢◌, ◌^◌, ◌<◌, ◌+◌, ℕ, Bool, true, false, List, [], ◌∷◌, ◌++◌, length, drop, Some, None, Result, Ok, Err, IfErr, OnOk, inl, inr, refl, sym, ap, subst, ◌∙◌}
+use Rattle.std.proofs.Common.{◌≡◌, ◌≢◌, ◌==◌, ◌^◌, ◌<◌, ◌+◌, ℕ, Bool, true, false, List, [], ◌∷◌, ◌++◌, length, drop, Some, None, Result, Ok, Err, IfErr, OnOk, inl, inr, refl, sym, ap, subst, ◌∙◌}
 use Rattle.std.proofs.lemmas.List.{append-nil}
 use Rattle.std.proofs.lemmas.List.Elements.{All-nil}
 use Rattle.std.proofs.lemmas.Option.{none-some}
@@ -22,10 +22,11 @@ use Rattle.can_replay.specs.declared.entry_audit.EntryAudit.{EntryAudit}
 use Rattle.can_replay.specs.declared.text_fault.TextFault.{TextFault}
 use Rattle.can_replay.specs.declared.text_fault.TextFault.TheVariants as found
 use Rattle.can_replay.specs.declared.text_fault.WrongLine.{WrongLine}
-use Rattle.can_replay.specs.TextAudits.{EndsNoLine, IsCutText, IsFrontOf, IsLegalText, IsLine, IsWrongCut, IsWrongText, MayFollow, Reports, ReportsCut}
+use Rattle.can_replay.specs.TextAudits.{EndsNoLine, FaultsUncut, IsCutText, IsFrontOf, IsLegalText, IsLine, IsUncut, IsWrongCut, IsWrongText, MayFollow, Reports, ReportsCut}
 use Rattle.can_replay.specs.inner.EntryAudits.{IsGoing, IsSettled, so_far}
 use Rattle.can_replay.specs.inner.Steps.{IsUnended, IsEndLine}
 use Rattle.can_replay.proofs.LineEnds.{cut_bus, cut_end, lacks_bus, lacks_end, lacks_entry, torn_bus, torn_first}
+use Rattle.can_replay.proofs.Uncut.{ended_uncut, second_uncut, version_uncut}
 
 -- ---- the bus's line
 
@@ -216,16 +217,30 @@ cut_wrong text torn b w g going h some = record {
 pub whole_legal : (text torn : List ℕ) (count : ℕ) → torn ≡ [] → IsLegalText text count → IsLegalText (text ++ torn) count
 whole_legal text torn count none h = subst (λ (x : List ℕ). IsLegalText x count) (sym (ap (λ (x : List ℕ). text ++ x) none ∙ append-nil text)) h
 
-pub whole_fault : (text torn : List ℕ) (why : TextFault) → torn ≡ [] → Reports text (Err why) → ReportsCut (text ++ torn) (Err why)
-whole_fault text torn why none h = subst (λ (x : List ℕ). ReportsCut x (Err why)) (sym (ap (λ (x : List ℕ). text ++ x) none ∙ append-nil text)) (same why h)
+pub some_torn : (torn : List ℕ) → false ≡ (length torn == 0) → torn ≢ []
+some_torn [] is none = absurd cc
+some_torn (x ∷ xs) is none = absurd cc
+
+-- a text that has its end is not cut off
+pub not_cut : (text torn : List ℕ) (b : EntryAudit) → IsGoing text b → b.is_ended ≡ true → IsUncut (text ++ torn)
+not_cut text torn b g end = ended_uncut text torn b.version b.config g.read.entries g.read.good (g.read.begins ∙ ended_text b.is_ended b.version b.config g.read.entries end)
+
+pub whole_fault : (text torn : List ℕ) (why : TextFault) → torn ≡ [] → IsUncut (text ++ torn) → Reports text (Err why) → ReportsCut (text ++ torn) (Err why)
+whole_fault text torn why none uncut h = same why (subst (λ (x : List ℕ). Reports x (Err why)) (sym (ap (λ (x : List ℕ). text ++ x) none ∙ append-nil text)) h)
   where
-    same : (why : TextFault) → Reports text (Err why) → ReportsCut text (Err why)
-    same (found.Read what) h = h
+    same : (why : TextFault) → Reports (text ++ torn) (Err why) → ReportsCut (text ++ torn) (Err why)
+    same (found.Read fault.NoMemory) h = tt
+    same (found.Read fault.BadVersion) h = (h, uncut)
+    same (found.Read (fault.BadLine n)) h = (h, uncut)
     same (found.Wrong w) h = inl h
 
 -- within its first two lines
-pub cut_first : (text torn : List ℕ) → text ≡ [] → EndsNoLine torn → IsOfNoVersion (text ++ torn)
-cut_first text torn none h = subst IsOfNoVersion (ap (λ (x : List ℕ). x ++ torn) (sym none)) (inl (torn_first torn h))
+pub cut_first : (text torn : List ℕ) → text ≡ [] → EndsNoLine torn → FaultsUncut (text ++ torn) fault.BadVersion
+cut_first text torn none h =
+    let lacks : IsOfNoVersion (text ++ torn) = subst IsOfNoVersion (ap (λ (x : List ℕ). x ++ torn) (sym none)) (inl (torn_first torn h)) in
+    (lacks, version_uncut (text ++ torn) lacks)
 
-pub cut_second : (v : Version) (text torn : List ℕ) → text ≡ first_line v → EndsNoLine torn → IsFirstWrong (text ++ torn) 2
-cut_second v text torn is h = first_is_wrong v (text ++ torn) torn (ap (λ (x : List ℕ). x ++ torn) is) (torn_bus v torn h)
+pub cut_second : (v : Version) (text torn : List ℕ) → text ≡ first_line v → EndsNoLine torn → FaultsUncut (text ++ torn) (fault.BadLine 2)
+cut_second v text torn is h =
+    let wrong = first_is_wrong v (text ++ torn) torn (ap (λ (x : List ℕ). x ++ torn) is) (torn_bus v torn h) in
+    (wrong, second_uncut (text ++ torn) wrong)

@@ -3,6 +3,7 @@ pub mod Auditing
 pub mod Before
 pub mod PlainWords
 pub mod LineEnds
+pub mod Uncut
 pub mod TextAnswering
 pub mod Taking
 pub mod Ending

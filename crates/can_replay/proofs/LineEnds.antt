@@ -116,7 +116,7 @@ lacks_first line after may lacks v rest is = lacks v [] (same_line line after (f
 
 -- ---- bytes that end no line
 
-line_ends : (xs rest : List ℕ) → EndsNoLine (xs ++ 10 ∷ rest) → ⊥
+pub line_ends : (xs rest : List ℕ) → EndsNoLine (xs ++ 10 ∷ rest) → ⊥
 line_ends [] rest h = All-head (λ b. b ≢ 10) 10 rest h refl
 line_ends (x ∷ xs) rest h = line_ends xs rest (All-tail (λ b. b ≢ 10) x (xs ++ 10 ∷ rest) h)
 
@@ -145,3 +145,9 @@ torn_first torn h v rest is = first_ends v rest (subst EndsNoLine is h)
 
 pub torn_bus : (v : Version) (torn : List ℕ) → EndsNoLine torn → LacksBus v torn
 torn_bus v torn h c more good is = words_end (bus_words v c) more (λ none. absurd cc) (subst EndsNoLine is h)
+
+pub torn_entry : (v : Version) (c : BusConfig) (torn : List ℕ) → EndsNoLine torn → LacksEntry v c torn
+torn_entry v c torn h e more good is = words_end (entry_words e) more (event_words_then e) (subst EndsNoLine is h)
+
+pub torn_end : (n : ℕ) (torn : List ℕ) → EndsNoLine torn → LacksEnd n torn
+torn_end n torn h more is = words_end (end_words n) more (λ none. absurd cc) (subst EndsNoLine is h)

@@ -1,10 +1,11 @@
-use Rattle.std.specs.Prelude.{◌≡◌, ◌≢◌, ◌⊎◌, ℕ, Bool, false, All, List, [], ◌++◌, length, reverse, Result, Ok, Err}
+use Rattle.std.specs.Prelude.{◌≡◌, ◌≢◌, ◌⊎◌, ℕ, Bool, false, All, List, [], ◌∷◌, ◌++◌, length, reverse, Result, Ok, Err}
 use Rattle.std.specs.Io.{StopsAt}
 use Rattle.std.specs.Io.BufRead.{take_through}
 use Rattle.can_event.specs.declared.bus_config.BusConfig.{BusConfig}
 use Rattle.can_event.specs.declared.entry.Entry.{Entry}
 use Rattle.can_bus.specs.Legal.{IsLegal}
 use Rattle.can_record_text.specs.declared.fault.ReadFault.{ReadFault}
+use Rattle.can_record_text.specs.declared.fault.ReadFault.TheVariants as read
 use Rattle.can_record_text.specs.declared.version.Version.{Version}
 use Rattle.can_record_text.specs.RecordFaults.{IsTextOf, Reads}
 use Rattle.can_record_text.specs.Spelling.{entry_lines, first_line, front_lines}
@@ -69,12 +70,25 @@ pub record IsWrongCut (text : List ℕ) (w : WrongLine) : Type 0 where
   pub front : IsFrontOf text config entries
   pub wrong : IsWrongIn config entries w
 
+-- the text is not cut off: it is not the front of that of a legal record
+abbrev pub IsUncut : List ℕ → Type 0
+IsUncut text = (count : ℕ) → IsCutText text count → ⊥
+
+-- what a fault of a line says of a text that may be cut off: it is no record's, and not the front of one
+abbrev pub FaultsUncut : List ℕ → ReadFault → Type 0
+FaultsUncut text read.NoMemory = Unit {0}
+FaultsUncut text why = Reads text (Err why) × IsUncut text
+
 -- what is reported of a text that has ended, maybe cut off
 abbrev pub ReportsCut : List ℕ → Result Cut TextFault → Type 0
 ReportsCut text (Ok (cut.Whole count)) = IsLegalText text count
 ReportsCut text (Ok (cut.Off count)) = IsCutText text count
-ReportsCut text (Err (fault.Read why)) = Reads text (Err why)
+ReportsCut text (Err (fault.Read why)) = FaultsUncut text why
 ReportsCut text (Err (fault.Wrong w)) = IsWrongText text w ⊎ IsWrongCut text w
+
+-- these bytes end in LF
+abbrev pub EndsLine : List ℕ → Type 0
+EndsLine bytes = (front : List ℕ) × (bytes ≡ front ++ 10 ∷ [])
 
 -- a line: LF is only at its end, or nowhere
 pub record IsLine (line : List ℕ) : Type 0 where

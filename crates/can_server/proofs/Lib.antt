@@ -1,3 +1,5 @@
 pub mod Crossing
 pub mod Rooms
 pub mod Batching
+pub mod Attempting
+pub mod Talking

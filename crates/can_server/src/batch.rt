@@ -87,6 +87,13 @@ impl Batch {
         session.feed(alloc, piece, moment, port, &mut self.text)
     }
 
+    /// How many bytes wait to be written.
+    pub fn waiting(&self) -> usize
+        ensures { result ≡ length self.now.text.items }
+    {
+        self.text.len()
+    }
+
     /// Writes what waits: whether the writer took it.
     pub fn write<W: Write>(&mut self, out: &mut W) -> bool
         ensures wrote { IsTrue result → Wrote W.contents out.old self.old.text.items out.new }
@@ -98,6 +105,7 @@ impl Batch {
     /// after another, up to the first receive that gives none.
     pub fn take<P: Port>(&mut self, session: &Session, waiting: u64, port: &mut P) -> Taken
         ensures within { result.rooms ≤ 256 }
+        ensures all { result.are_items ≡ true → result.rooms ≡ min waiting 256 }
         ensures takes { Gives P.step (min waiting 256) session.now.dialog.stage port.old
             (texts_of (take result.rooms self.new.rooms.items)) port.new result.are_items }
     {

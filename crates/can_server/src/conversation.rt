@@ -1,7 +1,11 @@
-ghost use Rattle.std.specs.Prelude.{◌≡◌};
+ghost use Rattle.std.specs.Prelude.{◌≡◌, ◌++◌, IsTrue};
+ghost use Rattle.can_hub.specs.PassSteps.{PassStep};
+ghost use Rattle.can_proto.specs.Messages.{messages_of, kept_of};
+ghost use Rattle.can_dialog.specs.Sessions.{Wrote};
+ghost use Rattle.can_dialog.specs.Turns.{greeting};
+ghost use Rattle.can_server.specs.Conversations.{Delivers, Ends, Hears};
 
 use crate::batch::Batch;
-use crate::conn::{Conn, Out};
 use crate::opening::{FirstBytes, Opening};
 use can_bus::SocketId;
 use can_dialog::{Session, Stage};
@@ -12,7 +16,11 @@ use can_meter::MeterName;
 use can_roll::RollName;
 use can_station::{Gate, Pass, Station};
 use std::alloc::{AllocError, Global};
+use std::io::Write;
 use std::sync::{Mutex, Wait};
+
+/// What a client is told where a command was carried out that has nothing else to say.
+const DONE: &[u8] = b"< ok >";
 
 /// Where the socket of a session in raw mode is, and of which interface it is one.
 #[derive(Drop)]
@@ -37,6 +45,8 @@ pub struct Conversation<
     /// How the connection begins, and the bytes that decide it.
     opening: Opening,
     first: FirstBytes,
+    /// Whether what was said to the last piece is more than one `< ok >`.
+    said_more: bool,
 }
 
 impl<'a, N: RollName + MeterName, F: FaultSource + Drop, G: Gate + Drop, R: Wait> Conversation<
@@ -60,21 +70,36 @@ impl<'a, N: RollName + MeterName, F: FaultSource + Drop, G: Gate + Drop, R: Wait
             batch: Batch::new(alloc, most_bytes)?,
             opening: Opening::Undecided,
             first: FirstBytes::new(),
+            said_more: false,
         })
     }
 
     /// Writes the first text: whether the session goes on.
-    pub fn greet(&mut self, conn: &Conn) -> bool {
+    pub fn greet<W: Write>(&mut self, out: &mut W) -> bool
+        ensures { IsTrue result → Wrote W.contents out.old greeting out.new }
+    {
         match self.session.stage() {
-            Stage::NoBus => self.session.greet(&mut Out(conn)).is_ok(),
+            Stage::NoBus => self.session.greet(out).is_ok(),
             _ => false,
         }
     }
 
     /// Takes a piece of what the client says: whether the session goes on. Of a request of HTTP nothing is carried out.
-    pub fn feed(&mut self, alloc: Global, piece: &[u8], moment: Moment, conn: &Conn) -> bool
-        ensures { self.new.opening ≡ Opening.Request →
+    /// A session whose client does not take what is written ends.
+    pub fn feed<W: Write>(
+        &mut self,
+        alloc: Global,
+        piece: &[u8],
+        moment: Moment,
+        out: &mut W,
+    ) -> bool
+        ensures request { self.new.opening ≡ Opening.Request →
             (self.new.session ≡ self.old.session) × (self.new.port ≡ self.old.port) }
+        ensures hears { IsTrue result → Hears (PassStep F) W.contents moment
+            (messages_of (self.old.session.kept ++ piece.now)) self.old.session.dialog
+            self.old.port out.old self.new.session.dialog self.new.port out.new }
+        ensures keeps { IsTrue result →
+            self.new.session.kept ≡ kept_of (self.old.session.kept ++ piece.now) }
     {
         if self.opening == Opening::Undecided {
             self.opening = self.first.hear(piece);
@@ -82,45 +107,65 @@ impl<'a, N: RollName + MeterName, F: FaultSource + Drop, G: Gate + Drop, R: Wait
         if self.opening == Opening::Request {
             return false;
         }
-        let mut port = LockedPort::new(&mut self.port);
+        self.carry_out(alloc, piece, moment, out)
+    }
+
+    /// Carries out a piece of what the client says, as `feed` does.
+    fn carry_out<W: Write>(
+        &mut self,
+        alloc: Global,
+        piece: &[u8],
+        moment: Moment,
+        out: &mut W,
+    ) -> bool
+        ensures opening { self.new.opening ≡ self.old.opening }
+        ensures hears { IsTrue result → Hears (PassStep F) W.contents moment
+            (messages_of (self.old.session.kept ++ piece.now)) self.old.session.dialog
+            self.old.port out.old self.new.session.dialog self.new.port out.new }
+        ensures keeps { IsTrue result →
+            self.new.session.kept ≡ kept_of (self.old.session.kept ++ piece.now) }
+    {
+        let mut port = LockedPort::new(self.port.take());
         let fed = self
             .batch
             .hear(&mut self.session, alloc, piece, moment, &mut port);
-        drop(port);
+        self.port = port.into_port();
         if fed.is_err() {
             return false;
         }
-        if !self.batch.write(&mut Out(conn)) {
-            self.cut(conn);
+        self.said_more = self.batch.waiting() > DONE.len();
+        if !self.batch.write(out) {
+            self.end();
             return false;
         }
         !self.is_over()
     }
 
-    /// Gives the client up to this many items: how many it took, or `None` where there can be no more. They are
-    /// received in one hold of the bus's lock, and their texts are written after it.
-    pub fn deliver(&mut self, waiting: u64, conn: &Conn) -> Option<u64> {
-        let mut port = LockedPort::new(&mut self.port);
+    /// Gives the client up to this many items, at most 256: how many it took, or `None` where there can be no more. They
+    /// are received in one hold of the bus's lock, and their texts are written after it. A session whose client does not
+    /// take them ends.
+    pub fn deliver<W: Write>(&mut self, waiting: u64, out: &mut W) -> Option<u64>
+        ensures { Delivers (PassStep F) W.contents waiting self.old.session self.old.port
+            out.old result self.new.session self.new.port out.new }
+    {
+        let mut port = LockedPort::new(self.port.take());
         let taken = self.batch.take(&self.session, waiting, &mut port);
-        drop(port);
-        if !self.batch.write_items(taken, &mut Out(conn)) {
-            self.cut(conn);
+        self.port = port.into_port();
+        if !self.batch.write_items(taken, out) {
+            self.end();
             return None;
         }
-        taken.are_items.then_some(taken.rooms as u64)
-    }
-
-    /// Ends the session, whose client did not take what was written.
-    fn cut(&mut self, conn: &Conn)
-        ensures { self.new.opening ≡ self.old.opening }
-    {
-        self.end();
-        conn.shutdown();
+        if taken.are_items {
+            Some(taken.rooms as u64)
+        } else {
+            None
+        }
     }
 
     /// Ends the session.
     pub fn end(&mut self)
-        ensures { self.new.opening ≡ self.old.opening }
+        ensures opening { self.new.opening ≡ self.old.opening }
+        ensures ends { Ends (PassStep F) self.old.session self.old.port self.new.session self.new.port }
     {
         let _ = self.session.end(&mut self.port);
     }
@@ -128,6 +173,11 @@ impl<'a, N: RollName + MeterName, F: FaultSource + Drop, G: Gate + Drop, R: Wait
     /// Whether the client sent a request of HTTP.
     pub fn is_request(&self) -> bool {
         self.opening == Opening::Request
+    }
+
+    /// Whether what was said to the last piece is more than one `< ok >`, so that its client reads one text after another.
+    pub fn said_more(&self) -> bool {
+        self.said_more
     }
 
     /// Whether the session is over.

@@ -1,6 +1,6 @@
 //! The thread of a session that delivers its items.
 
-use crate::conn::Conn;
+use crate::conn::{Conn, Out};
 use crate::conversation::Conversation;
 use crate::serving::Clock;
 use can_fault::FaultSource;
@@ -12,8 +12,8 @@ use std::sync::{Mutex, Wait};
 use std::time::Duration;
 use std::{thread, time};
 
-/// How many milliseconds the thread waits at first. Some clients read the reply to `rawmode` and whatever came with it as
-/// one text.
+/// How many milliseconds the thread waits at first where the reply to `rawmode` went out alone. Some clients read it and
+/// whatever came with it as one text.
 const BEFORE_ITEMS_MS: u64 = 20;
 
 /// What the thread has that delivers the items of a session in raw mode.
@@ -32,6 +32,8 @@ pub struct Delivery<
     pub buses: &'s Buses<N, F, G>,
     pub talk: &'s Mutex<Conversation<'t, N, F, G, R>>,
     pub conn: &'s Conn,
+    /// Whether the client was told of its raw mode and of nothing else at once.
+    pub is_told_alone: bool,
 }
 
 impl<
@@ -44,9 +46,11 @@ impl<
     R: Wait + time::Clock,
 > Delivery<'s, 't, N, F, G, C, R> {
     /// Gives the client its items, until the session is over, its socket is closed or the record is full. Where items
-    /// are refused for another reason, as want of memory, the session ends.
+    /// are refused for another reason, as want of memory, or the client does not take them, the session ends.
     pub fn deliver_all(&self) {
-        thread::sleep(self.rt, Duration::from_millis(BEFORE_ITEMS_MS));
+        if self.is_told_alone {
+            thread::sleep(self.rt, Duration::from_millis(BEFORE_ITEMS_MS));
+        }
         let Some(place) = self.talk.lock(self.rt).place() else {
             return;
         };
@@ -58,12 +62,18 @@ impl<
             self.await_frames(place.station);
             if !self.deliver_waiting(waiting) {
                 stop_full(self.rt, place.station);
-                if !place.station.is_full() {
-                    self.talk.lock(self.rt).end();
-                    self.conn.shutdown();
-                }
+                self.end_unless_full(place.station);
                 break;
             }
+        }
+    }
+
+    /// Ends the session, and the connection with it. Where the record is full a session goes on that has not ended.
+    fn end_unless_full(&self, station: &Station<N, F, G, HubBus>) {
+        let mut talk = self.talk.lock(self.rt);
+        if talk.is_over() || !station.is_full() {
+            talk.end();
+            self.conn.shutdown();
         }
     }
 
@@ -83,7 +93,7 @@ impl<
             if left == 0 {
                 break;
             }
-            match self.talk.lock(self.rt).deliver(left, self.conn) {
+            match self.talk.lock(self.rt).deliver(left, &mut Out(self.conn)) {
                 Some(taken) => left = left.saturating_sub(taken),
                 None => return false,
             }

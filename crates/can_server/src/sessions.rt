@@ -1,5 +1,5 @@
 use crate::accepting::Visit;
-use crate::conn::Conn;
+use crate::conn::{Conn, Out};
 use crate::conversation::{Conversation, OpenSocket};
 use crate::delivering::{Delivery, stop_full};
 use crate::notice::Notice;
@@ -57,7 +57,7 @@ impl<
             conn.refuse(Cause::NoMemory);
             return Tally::none();
         };
-        if !talk.greet(conn) {
+        if !talk.greet(&mut Out(conn)) {
             return Tally::none();
         }
         let talk = Mutex::new(talk);
@@ -93,12 +93,14 @@ impl<
             bus: usize::from(place.station.number()),
             iface: place.iface,
         });
+        let is_told_alone = !talk.lock(self.rt).said_more();
         let delivery = Delivery {
             rt: self.rt,
             host: self.host,
             buses: self.buses,
             talk,
             conn,
+            is_told_alone,
         };
         let delivery = &delivery;
         thread::scope(thread::scope_env(), self.rt, |scope| {
@@ -191,7 +193,7 @@ impl<
         };
         let moment = self.host.now();
         let mut talk = talk.lock(self.rt);
-        let goes_on = talk.feed(self.alloc, &piece[..count], moment, conn);
+        let goes_on = talk.feed(self.alloc, &piece[..count], moment, &mut Out(conn));
         let station = talk.station();
         let restarted = if self.host.wants_notices() {
             talk.look_for_restart()

@@ -1,6 +1,7 @@
 //! The driver of a bus with bit rates.
-ghost use Rattle.std.specs.Prelude.{◌≡◌, IfErr, IfOk};
-ghost use Rattle.can_server.specs.Timed.{GoesBy, after_attempt, caught_up, head_moment};
+ghost use Rattle.std.specs.Prelude.{◌≡◌, ℕ, IfErr, IfOk};
+ghost use Rattle.can_server.specs.Timed.{Driven, GoesBy, MakesDue, after_attempt, caught_up, head_moment};
+ghost use Rattle.can_station.specs.Held.{Held};
 ghost use Rattle.can_station.specs.Passes.{MadeStep, head_on, next_verdict};
 
 use crate::driving::{Changes, MOST_STEPS, Stepped, makes_no_progress};
@@ -116,26 +117,51 @@ impl<
         false
     }
 
-    /// Makes the attempt that is due, and others as long as they are due too, in one hold of the lock. The attempt in
-    /// which an interface went bus off, or was restarted, is the last. Once all sessions are over nothing has to be
-    /// due.
+    /// Makes the attempt that is due, and others as long as they are due too, in one hold of the lock, as `step_all_due`
+    /// does.
     fn step_due(
         &self,
         mut hold: Hold<'_, N, F, G, HubBus>,
         bus: usize,
         timed: &mut Timed,
         pass: &mut Pass<N>,
-    ) -> Stepped {
+    ) -> Stepped
+        ensures { (now : ℕ) × (last : Held F) × MakesDue F.verdicts result
+            (record {
+              held = hold.entry;
+              pass = pass.old;
+              schedule = caught_up now timed.old.schedule;
+            })
+            (record { held = last; pass = pass.new; schedule = timed.new.schedule }) }
+    {
         let now = self.host.now();
         let is_ending = self.is_ending.load(Ordering::SeqCst);
         timed.catch_up(now);
+        self.step_all_due(&mut hold, bus, timed, pass, now, is_ending)
+    }
+
+    /// Makes the attempt that is due, and others as long as they are due too. The attempt in which an interface went bus
+    /// off, or was restarted, is the last. Once all sessions are over nothing has to be due.
+    fn step_all_due(
+        &self,
+        hold: &mut Hold<'_, N, F, G, HubBus>,
+        bus: usize,
+        timed: &mut Timed,
+        pass: &mut Pass<N>,
+        now: Moment,
+        is_ending: bool,
+    ) -> Stepped
+        ensures { MakesDue F.verdicts result
+            (record { held = hold.old; pass = pass.old; schedule = timed.old.schedule })
+            (record { held = hold.new; pass = pass.new; schedule = timed.new.schedule }) }
+    {
         timed.has_more = hold.has_work();
         for count in 0..MOST_STEPS {
             let is_due = count == 0 || is_ending || timed.schedule.early(now) == 0;
             if !timed.has_more || !is_due {
                 break;
             }
-            let Ok(attempt) = self.step_once(&mut hold, bus, &mut timed.schedule, pass) else {
+            let Ok(attempt) = self.step_once(hold, bus, &mut timed.schedule, pass) else {
                 return Stepped::Refused;
             };
             timed.has_more = hold.has_work();

@@ -22,6 +22,7 @@ use Rattle.can_rules.specs.Plans.{PlanSeen}
 use Rattle.can_session.specs.AttemptLines.{attempt_line}
 use Rattle.can_session.specs.BusSteps.{NamedBus, verdict_on, plan_left}
 use Rattle.can_session.specs.Benches.{BenchState, IsTriedIf, IsFull, is_due, tries, sourced, next_moment, said_moment, passed}
+use Rattle.can_session.specs.declared.wire_times.WireUse.{WireUse}
 use Rattle.can_session.specs.inner.Acts.{Puts}
 
 -- where there is a frame to try, an attempt is not idle
@@ -66,10 +67,11 @@ stops_full v moment b text after due (one, none) = no_frame b.bus.journal _ _ on
 -- ---- what an attempt came to and what was put out make one attempt of the bench
 
 -- the bus after an attempt
-bus_left : (b bus : NamedBus) (source of_source : Verdict) → source ≡ of_source → bus.names ≡ b.names → bus.plan ≡ plan_left b source → bus ≡ record b { journal = bus.journal; plan = plan_left b of_source }
-bus_left b bus source of_source is names plan =
-    ap (λ (ns : List (List ℕ)). record { names = ns; journal = bus.journal; plan = bus.plan }) names
-    ∙ ap (λ (p : PlanSeen). record { names = b.names; journal = bus.journal; plan = p }) (plan ∙ ap (plan_left b) is)
+bus_left : (b bus : NamedBus) (source of_source : Verdict) → source ≡ of_source → bus.names ≡ b.names → bus.plan ≡ plan_left b source → bus.used ≡ b.used → bus ≡ record b { journal = bus.journal; plan = plan_left b of_source }
+bus_left b bus source of_source is names plan used =
+    ap (λ (ns : List (List ℕ)). record { names = ns; journal = bus.journal; plan = bus.plan; used = bus.used }) names
+    ∙ ap (λ (p : PlanSeen). record { names = b.names; journal = bus.journal; plan = p; used = bus.used }) (plan ∙ ap (plan_left b) is)
+    ∙ ap (λ (u : Option WireUse). record { names = b.names; journal = bus.journal; plan = plan_left b of_source; used = u }) used
 
 -- the verdict, the moment, and what is put out, as they were made one after another
 pub record Made (verdicts : VerdictMap) (b : BenchState) (bus : NamedBus) (source verdict : Verdict) (moment : ℕ) (when : Option ℕ) (outcome : Result Attempt Refusal) : Type 0 where
@@ -80,6 +82,7 @@ pub record Made (verdicts : VerdictMap) (b : BenchState) (bus : NamedBus) (sourc
   pub answers : Answers told_attempt b.bus.journal (event.Attempt moment (verdict_on b.bus source)) outcome bus.journal
   pub names : bus.names ≡ b.bus.names
   pub plan : bus.plan ≡ plan_left b.bus source
+  pub used : bus.used ≡ b.bus.used
 
 answers_of : (verdicts : VerdictMap) (b : BenchState) (bus : NamedBus) (source verdict : Verdict) (moment : ℕ) (when : Option ℕ) (outcome : Result Attempt Refusal) → Made verdicts b bus source verdict moment when outcome
     → Answers told_attempt b.bus.journal (event.Attempt (next_moment b) (verdict_on b.bus (sourced verdicts b.bus))) outcome bus.journal
@@ -101,7 +104,7 @@ tried_by verdicts b after bus source verdict moment when outcome names said new 
           ∙ ap (λ (w : Option ℕ). attempt_line b.bus.names w outcome) (h.when_is ∙ ap (said_moment b.wire) h.moment_is);
       after_is = passes
           ∙ ap (λ (v : Verdict). passed v outcome (record b { bus = bus })) (h.verdict_is ∙ ap (verdict_on b.bus) h.source_is)
-          ∙ ap (λ (x : NamedBus). passed (verdict_on b.bus (sourced verdicts b.bus)) outcome (record b { bus = x })) (bus_left b.bus bus source (sourced verdicts b.bus) h.source_is h.names h.plan);
+          ∙ ap (λ (x : NamedBus). passed (verdict_on b.bus (sourced verdicts b.bus)) outcome (record b { bus = x })) (bus_left b.bus bus source (sourced verdicts b.bus) h.source_is h.names h.plan h.used);
     },
     sym is_tried,
   ),

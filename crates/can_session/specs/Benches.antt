@@ -21,7 +21,7 @@ use Rattle.can_dialog.specs.Turns.{ending, delivery, greeting}
 use Rattle.can_dialog.specs.Deliveries.{AreGiven}
 use Rattle.can_dialog.specs.Sessions.{SessionState, Turns, beginning}
 use Rattle.can_session.specs.BusSteps.{NamedBus, BusStep, next_number, head_on, verdict_on, plan_left}
-use Rattle.can_session.specs.Wires.{Wire, attempt_moment, wire_left, moment_left, begins_before}
+use Rattle.can_session.specs.Wires.{Wire, attempt_moment, wire_left, used_left, moment_left, begins_before}
 use Rattle.can_session.specs.declared.ignored_input.IgnoredInput.{IgnoredInput}
 use Rattle.can_session.specs.IgnoredInput.{ignored_then}
 use Rattle.can_session.specs.Orders.{Effect, order_of}
@@ -117,7 +117,11 @@ said_moment wire moment = option_map (λ w. moment) wire
 
 -- the bench when the time of an attempt has passed that came to this and had this verdict
 abbrev pub passed : Verdict → Result Attempt Refusal → BenchState → BenchState
-passed v outcome b = record b { wire = wire_left b.moment v outcome b.wire; moment = moment_left (wire_left b.moment v outcome b.wire) b.moment }
+passed v outcome b = record b {
+  wire = wire_left b.moment v outcome b.wire;
+  moment = moment_left (wire_left b.moment v outcome b.wire) b.moment;
+  bus = record b.bus { used = used_left b.moment v outcome b.wire b.bus.used };
+}
 
 -- an attempt, with the verdict that source and plan have for the next one
 pub record IsTried (verdicts : VerdictMap) (b : BenchState) (text : List ℕ) (after : BenchState) : Type 0 where

@@ -18,20 +18,22 @@ use Rattle.can_bus.specs.Answer.{Answers}
 use Rattle.can_record.specs.Outcomes.{done_reply, told_attempt}
 use Rattle.can_event.specs.declared.stats.IfaceStats.{IfaceStats}
 use Rattle.can_bus.specs.Stats.{socket_stats_of, iface_stats_of}
-use Rattle.can_proto.specs.Spelling.{no_load}
 use Rattle.can_dialog.specs.declared.port.PortRefusal.{PortRefusal}
 use Rattle.can_dialog.specs.declared.port.PortRefusal.TheVariants as port
 use Rattle.can_dialog.specs.Calls.{Call, reply_to_rule}
 use Rattle.can_dialog.specs.Calls.{Reply as CallReply}
+use Rattle.can_session.specs.Wires.{load_at}
+use Rattle.can_session.specs.declared.wire_times.WireUse.{WireUse}
 use Rattle.can_dialog.specs.Calls.Call.{Names, Attach, Open, Close, SetFilters, SetOption, Send, Receive, Restart, Attempt, CountsOfSocket, CountsOfIface, CountersOfIface, LoadAt, Inject, CountsRules, EndsRules}
 
 -- A bus as a port: each call but the look-ups and those of rules is one event of the bus.
 
--- the names of the interfaces, the bus, and the plan of its faults
+-- the names of the interfaces, the bus, the plan of its faults, and how busy its wire is, if it has bit rates
 pub record NamedBus : Type 0 where
   pub names : List (List ℕ)
   pub journal : Journal
   pub plan : PlanSeen
+  pub used : Option WireUse
 
 -- the number of the next attempt that tries a frame
 abbrev pub next_number : NamedBus → ℕ
@@ -66,7 +68,7 @@ counters_in (Some counts) = counts.counters
 
 -- one event of the bus, with the bus's reply
 abbrev pub IsEvent : {A : Type 0} → (A → Reply) → NamedBus → Event → Result A PortRefusal → NamedBus → Type 0
-IsEvent {A} told old event answer new = (outcome : Result A Refusal) × (answer ≡ passed_on outcome) × Answers told old.journal event outcome new.journal × (new.names ≡ old.names) × (new.plan ≡ old.plan)
+IsEvent {A} told old event answer new = (outcome : Result A Refusal) × (answer ≡ passed_on outcome) × Answers told old.journal event outcome new.journal × (new.names ≡ old.names) × (new.plan ≡ old.plan) × (new.used ≡ old.used)
 
 -- a rule of faults is taken, or refused as the plan refuses it
 abbrev pub IsInjected : NamedBus → List ℕ → Result (Unit {0}) PortRefusal → NamedBus → Type 0
@@ -87,7 +89,7 @@ BusStep old (Attempt moment verdict) answer new = IsEvent told_attempt old (even
 BusStep old (CountsOfSocket socket) answer new = (answer ≡ socket_stats_of old.journal.config old.journal.history socket.0) × (new ≡ old)
 BusStep old (CountsOfIface iface) answer new = (answer ≡ iface_stats_of old.journal.config old.journal.history iface) × (new ≡ old)
 BusStep old (CountersOfIface iface) answer new = (answer ≡ counters_in (iface_stats_of old.journal.config old.journal.history iface)) × (new ≡ old)
-BusStep old (LoadAt moment) answer new = (answer ≡ no_load) × (new ≡ old)
+BusStep old (LoadAt moment) answer new = (answer ≡ load_at moment old.used) × (new ≡ old)
 BusStep old (Inject rule) answer new = IsInjected old rule answer new
 BusStep old CountsRules answer new = (answer ≡ length old.plan.rules) × (new ≡ old)
 BusStep old EndsRules answer new = new ≡ record old { plan = without_rules old.plan }

@@ -16,7 +16,7 @@ use Rattle.can_session.specs.Lines.{Input, IsLine, IsOver, FindsEnd, TakesLine, 
 use Rattle.can_session.specs.declared.ignored_input.IgnoredInput.{IgnoredInput}
 use Rattle.can_session.specs.IgnoredInput.{none_ignored}
 use Rattle.can_session.specs.Orders.{order_of}
-use Rattle.can_session.specs.Wires.{unused}
+use Rattle.can_session.specs.Wires.{unused, unused_so_far}
 use Rattle.can_session.specs.Benches.{BenchState, AreCarriedOut, IsCarriedOut, IsRefused}
 
 -- A run of the bench over an input (own choice).
@@ -30,7 +30,7 @@ pub record IsBench (names : List (List ℕ)) (config : BusConfig) (capacity : �
 
 -- a bench before its first line, with a plan of faults, and bit rates if its bus has some
 abbrev pub at_start_with : PlanSeen → Option BusTiming → List (List ℕ) → BusConfig → ℕ → BenchState
-at_start_with plan timing names config capacity = record { capacity = capacity; bus = record { names = names; journal = record { config = config; history = [] }; plan = plan }; sessions = replicate 64 None; moment = 0; wire = option_map unused timing; ignored = none_ignored }
+at_start_with plan timing names config capacity = record { capacity = capacity; bus = record { names = names; journal = record { config = config; history = [] }; plan = plan; used = option_map unused_so_far timing }; sessions = replicate 64 None; moment = 0; wire = option_map unused timing; ignored = none_ignored }
 
 -- a bench before its first line, without a plan
 abbrev pub at_start : Option BusTiming → List (List ℕ) → BusConfig → ℕ → BenchState

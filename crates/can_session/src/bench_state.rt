@@ -15,7 +15,7 @@ use crate::ignored_input::IgnoredInput;
 use crate::line_prefix::{begin_output, end_output};
 use crate::order::{Order, SessionNumber, read_order};
 use crate::turns::{self, Act, BenchPort};
-use crate::wire_times::{attempt_lasts, frame_lasts, unused_wire};
+use crate::wire_times::{attempt_lasts, frame_lasts, unused_so_far, unused_wire};
 use can_bus::{Attempt, BusConfig, Record, Refusal};
 use can_dialog::Session;
 use can_event::MAX_RX_CAPACITY;
@@ -82,9 +82,10 @@ impl Bench {
         let Ok(sessions) = no_sessions(alloc) else {
             return Err(BenchFault::NoMemory);
         };
+        let used = unused_so_far(&timing);
         Ok(Bench {
             alloc,
-            port: BusPort::with_plan(alloc, names, bus, plan),
+            port: BusPort::with_plan(alloc, names, bus, plan, used),
             capacity,
             sessions,
             moment: the_start(),
@@ -311,6 +312,9 @@ impl Bench {
         };
         let lasts = attempt_lasts(wire.timing(), verdict, outcome);
         let after = wire.taken_for(self.moment, lasts);
+        if tries(outcome) {
+            self.port.note_use(wire.begin(self.moment), after.free());
+        }
         self.moment = after.free_at();
         self.wire = Some(after);
     }

@@ -1,10 +1,12 @@
-ghost use Rattle.std.specs.Prelude.{◌≡◌};
+ghost use Rattle.std.specs.Prelude.{◌≡◌, ◌<◌, ◌^◌, None, option_map};
 ghost use Rattle.can_bus.specs.Answer.{Answers};
 ghost use Rattle.can_record.specs.Outcomes.{told_attempt};
 ghost use Rattle.can_event.specs.declared.event.Event.TheVariants as event;
 ghost use Rattle.can_rules.specs.Plans.{no_plan, Injected};
 ghost use Rattle.can_session.specs.BusSteps.{next_number, head_on, verdict_on, plan_left, passed_on};
+ghost use Rattle.can_session.specs.Wires.{taken};
 
+use crate::wire_times::WireUse;
 use can_arbiter::Arbiter;
 use can_bus::{
     Attempt, Bus, Event, IfaceStats, Pending, Received, Refusal, Reply, SocketId, SocketStats,
@@ -27,6 +29,7 @@ pub struct BusPort<T: BoundedQueue<Pending>, R: BoundedQueue<Received>, A: Arbit
     names: Names,
     bus: Bus<T, R, A>,
     plan: Plan,
+    used: Option<WireUse>,
 }
 
 impl<T: BoundedQueue<Pending>, R: BoundedQueue<Received>, A: Arbiter> Model for BusPort<T, R, A> {
@@ -38,27 +41,34 @@ impl<T: BoundedQueue<Pending>, R: BoundedQueue<Received>, A: Arbiter> Model for 
 
     ghost coded = { Prim.hlevel (codes, verdict_map_code) };
 
-    ghost view = { λ p. record { names = p.names; journal = p.bus; plan = p.plan } };
+    ghost view = { λ p. record { names = p.names; journal = p.bus; plan = p.plan; used = p.used } };
 }
 
 impl<T: BoundedQueue<Pending>, R: BoundedQueue<Received>, A: Arbiter> BusPort<T, R, A> {
     /// The port of a bus whose interfaces have these names, the first interface 0. Memory that calls take
     /// is asked of `alloc`.
     pub fn new(alloc: Global, names: Names, bus: Bus<T, R, A>) -> BusPort<T, R, A>
-        ensures { result ≡ record { names = names; journal = bus; plan = no_plan } }
+        ensures { result ≡ record { names = names; journal = bus; plan = no_plan; used = None } }
     {
-        BusPort::with_plan(alloc, names, bus, Plan::new(alloc))
+        BusPort::with_plan(alloc, names, bus, Plan::new(alloc), None)
     }
 
-    /// The same, with a plan of the bus's faults.
-    pub fn with_plan(alloc: Global, names: Names, bus: Bus<T, R, A>, plan: Plan) -> BusPort<T, R, A>
-        ensures { result ≡ record { names = names; journal = bus; plan = plan } }
+    /// The same, with a plan of the bus's faults, and how busy its wire is, if it has bit rates.
+    pub fn with_plan(
+        alloc: Global,
+        names: Names,
+        bus: Bus<T, R, A>,
+        plan: Plan,
+        used: Option<WireUse>,
+    ) -> BusPort<T, R, A>
+        ensures { result ≡ record { names = names; journal = bus; plan = plan; used = used } }
     {
         BusPort {
             alloc,
             names,
             bus,
             plan,
+            used,
         }
     }
 
@@ -103,6 +113,7 @@ impl<T: BoundedQueue<Pending>, R: BoundedQueue<Received>, A: Arbiter> BusPort<T,
             (event.Attempt moment (verdict_on self.old source)) result.1 self.new.journal }
         ensures names { self.new.names ≡ self.old.names }
         ensures plan { self.new.plan ≡ plan_left self.old source }
+        ensures used { self.new.used ≡ self.old.used }
     {
         let verdict = self.next_verdict(source);
         let outcome = self.bus.attempt(moment, verdict);
@@ -117,6 +128,17 @@ impl<T: BoundedQueue<Pending>, R: BoundedQueue<Received>, A: Arbiter> BusPort<T,
         ensures same { self.new ≡ record self.old { plan = self.new.plan } }
     {
         self.plan.inject(rule, &self.names)
+    }
+
+    /// Notes an attempt that takes the wire from one nanosecond to another, if the bus has bit rates.
+    pub fn note_use(&mut self, begin: u64, end: u64)
+        requires begin { begin < 10 ^ 19 }
+        requires end { end < 10 ^ 19 }
+        ensures { self.new ≡ record self.old { used = option_map (taken begin end) self.old.used } }
+    {
+        if let Some(used) = &mut self.used {
+            used.note(begin, end);
+        }
     }
 
     /// The verdict of the next attempt, for which the source has this one. The plan counts it.
@@ -190,9 +212,11 @@ impl<T: BoundedQueue<Pending>, R: BoundedQueue<Received>, A: Arbiter> Port for B
         }
     }
 
-    // It knows no bit rate.
-    fn load(&mut self, _moment: Moment) -> BusLoad {
-        BusLoad::none()
+    fn load(&mut self, moment: Moment) -> BusLoad {
+        match &self.used {
+            Some(used) => used.load_at(moment),
+            None => BusLoad::none(),
+        }
     }
 
     fn inject(&mut self, rule: &[u8]) -> Result<(), PortRefusal> {

@@ -44,6 +44,3 @@ fn main(rt: HostRuntime) -> ExitCode {
 fn read_words(rt: &(impl Env + AllocGlobal)) -> io::Result<Vec<String>> {
     Ok(env::args(rt)?.collect(rt.alloc())?)
 }
-
-#[cfg(test)]
-mod tests;

@@ -1,9 +1,9 @@
 -- The lines that a reader holds.
-use Rattle.std.proofs.Common.{◌≡◌, ◌≢◌, ◌+◌, ◌-◌, ◌<◌, ℕ, List, [], ◌++◌, All, length, take, drop, Option, Some, None, Err, append_assoc, arith, eqb-true, eq-eqb, get_or, get_or-take, length-take-le, sym, ap, subst, ◌∙◌}
+use Rattle.std.proofs.Common.{◌≡◌, ◌≢◌, ◌+◌, ◌-◌, ◌<◌, ℕ, List, [], ◌∷◌, ◌++◌, All, length, take, drop, Option, Some, None, Err, append_assoc, arith, eqb-true, eq-eqb, get_or, get_or-take, length-take-le, sym, ap, subst, ◌∙◌}
 use Rattle.std.proofs.Math.Seq.{take-add}
 use Rattle.std.proofs.Transfers.{StopsAt-take}
 use Rattle.std.proofs.BufReadLemmas.{through_part}
-use Rattle.std.proofs.lemmas.List.{take-append-drop}
+use Rattle.std.proofs.lemmas.List.{take-append-drop, take_more}
 use Rattle.std.proofs.lemmas.List.Elements.{All-from_get_or}
 use Rattle.std.specs.Io.{IsEmptyOrEndsWith, StartsWith, StopsAt}
 use Rattle.std.specs.Io.KnownBytes.{Consumes}
@@ -12,8 +12,9 @@ use Rattle.memchr.specs.Find.{IsFirstByte, is_byte}
 use Rattle.can_record_text.specs.declared.fault.ReadFault.{ReadFault}
 use Rattle.can_record_text.specs.RecordFaults.{Reads}
 use Rattle.can_replay.specs.declared.text_audit.TextAudit.{TextAudit}
-use Rattle.can_replay.specs.TextAudits.{AreTaken, IsLine, MayFollow}
-use Rattle.canbusd_audit.specs.Audited.{GoesOn, IsAtFault}
+use Rattle.can_replay.specs.TextAudits.{AreTaken, EndsLine, FaultsUncut, IsLine, MayFollow}
+use Rattle.can_replay.proofs.Uncut.{line_uncut}
+use Rattle.canbusd_audit.specs.Audited.{GoesOn, IsAtFault, IsWrongNext}
 use Rattle.canbusd_audit.proofs.Underway.{more_read}
 
 -- ---- a line that is cut behind its LF, which is the first one
@@ -33,6 +34,9 @@ module _ (left : List ℕ) (place : ℕ) (found : IsFirstByte (is_byte 10) left 
   ends : IsEmptyOrEndsWith (take (place + 1) left) 10
   ends some = ap (λ (n : ℕ). get_or (take (place + 1) left) (n - 1) 0) long ∙ ap (λ (n : ℕ). get_or (take (place + 1) left) n 0) (omega arith) ∙ get_or-take (place + 1) left place 0 (omega arith) ∙ eqb-true _ _ found.1
 
+  line_ends : EndsLine (take (place + 1) left)
+  line_ends = (take place left, take_more left place 0 (omega (arith, found.0.high)) ∙ ap (λ (z : ℕ). take place left ++ z ∷ []) (eqb-true _ _ found.1))
+
   pub is_line : IsLine (take (place + 1) left)
   is_line = record { some = λ none. absurd (omega (arith, long, ap length none)); stops = stops }
 
@@ -51,11 +55,8 @@ module _ (held : List ℕ) (len place : ℕ) (text : List ℕ) where
   one_more : (text ++ take len held) ++ line ≡ text ++ take (len + (place + 1)) held
   one_more = append_assoc text (take len held) line ∙ ap (λ (x : List ℕ). text ++ x) (sym (take-add len (place + 1) held))
 
-  whole : (after : List ℕ) → (text ++ take len held) ++ (line ++ (drop (place + 1) left ++ after)) ≡ text ++ (held ++ after)
-  whole after =
-      append_assoc text (take len held) (line ++ (drop (place + 1) left ++ after))
-      ∙ ap (λ (x : List ℕ). text ++ (take len held ++ x)) (sym (append_assoc line (drop (place + 1) left) after) ∙ ap (λ (x : List ℕ). x ++ after) (take-append-drop (place + 1) left))
-      ∙ ap (λ (x : List ℕ). text ++ x) (sym (append_assoc (take len held) left after) ∙ ap (λ (x : List ℕ). x ++ after) (take-append-drop len held))
+  with_more : (after : List ℕ) → (text ++ take len held) ++ (line ++ after) ≡ text ++ (take (len + (place + 1)) held ++ after)
+  with_more after = sym (append_assoc (text ++ take len held) line after) ∙ ap (λ (x : List ℕ). x ++ after) one_more ∙ append_assoc text (take (len + (place + 1)) held) after
 
 -- a line more was taken
 pub takes_more : (held : List ℕ) (len place : ℕ) (old now new : TextAudit) → IsFirstByte (is_byte 10) (drop len held) (Some place) → ((text : List ℕ) → AreTaken text old → AreTaken (text ++ take len held) now)
@@ -67,10 +68,18 @@ takes_more held len place old now new found taken step text start =
 -- the line is at fault
 pub fails_in : (held : List ℕ) (len place : ℕ) (old now : TextAudit) (why : ReadFault) → IsFirstByte (is_byte 10) (drop len held) (Some place) → ((text : List ℕ) → AreTaken text old → AreTaken (text ++ take len held) now)
     → ((text after : List ℕ) → AreTaken text now → IsLine (take (place + 1) (drop len held)) → MayFollow (take (place + 1) (drop len held)) after → Reads (text ++ (take (place + 1) (drop len held) ++ after)) (Err why))
-    → (text after : List ℕ) → AreTaken text old → Reads (text ++ (held ++ after)) (Err why)
-fails_in held len place old now why found taken step text after start =
-    let rest = drop (place + 1) (drop len held) ++ after in
-    subst (λ (x : List ℕ). Reads x (Err why)) (whole held len place text after) (step (text ++ take len held) rest (taken text start) (is_line (drop len held) place found) (may_follow (drop len held) place found rest))
+    → IsWrongNext old held why
+fails_in held len place old now why found taken step =
+    let left = drop len held in
+    let end = line_ends left place found in
+    record {
+      lines = take (len + (place + 1)) held;
+      rest = drop (len + (place + 1)) held;
+      begins = sym (take-append-drop (len + (place + 1)) held);
+      ended = (take len held ++ end.0, take-add len (place + 1) held ∙ ap (λ (x : List ℕ). take len held ++ x) end.1 ∙ sym (append_assoc (take len held) end.0 (10 ∷ [])));
+      wrong = λ text after start.
+          subst (λ (x : List ℕ). Reads x (Err why)) (with_more held len place text after) (step (text ++ take len held) after (taken text start) (is_line left place found) (may_follow left place found after));
+    }
 
 -- ---- what a reader shows
 
@@ -78,17 +87,26 @@ pub goes_on_by : (old new : Option (List ℕ)) (before after : TextAudit) (bytes
 goes_on_by old new before after bytes consumed taken = λ first u.
     record { text = u.text ++ bytes; consumed = more_read first old new u.text bytes u.consumed consumed; taken = taken u.text u.taken }
 
--- what it shows is at fault, whatever follows
-at_fault : (old : Option (List ℕ)) (audit : TextAudit) (why : ReadFault) (held : List ℕ) → IfSome old (λ xs. StartsWith xs held) → ((text after : List ℕ) → AreTaken text audit → Reads (text ++ (held ++ after)) (Err why))
-    → IsAtFault old audit why
-at_fault None audit why held shows fails None u = (u.text ++ (held ++ []), tt, fails u.text [] u.taken)
+-- it begins with lines that are at fault
+held_fault : (text held after : List ℕ) (audit : TextAudit) (why : ReadFault) → AreTaken text audit → IsWrongNext audit held why → FaultsUncut (text ++ (held ++ after)) why
+held_fault text held after audit why taken w =
+    let whole : (text ++ w.lines) ++ (w.rest ++ after) ≡ text ++ (held ++ after) =
+    append_assoc text w.lines (w.rest ++ after) ∙ ap (λ (x : List ℕ). text ++ x) (sym (append_assoc w.lines w.rest after) ∙ ap (λ (x : List ℕ). x ++ after) (sym w.begins)) in
+    let ended : EndsLine (text ++ w.lines) = (text ++ w.ended.0, ap (λ (x : List ℕ). text ++ x) w.ended.1 ∙ sym (append_assoc text w.ended.0 (10 ∷ []))) in
+    subst (λ (x : List ℕ). FaultsUncut x why) whole
+    (line_uncut (text ++ w.lines) (w.rest ++ after) why ended (λ more. subst (λ (x : List ℕ). Reads x (Err why)) (sym (append_assoc text w.lines more)) (w.wrong text more taken)))
+
+at_fault : (old : Option (List ℕ)) (audit : TextAudit) (why : ReadFault) (held : List ℕ) → IfSome old (λ xs. StartsWith xs held) → IsWrongNext audit held why → IsAtFault old audit why
+at_fault None audit why held shows fails None u = (u.text ++ (held ++ []), tt, held_fault u.text held [] audit why u.taken fails)
 at_fault None audit why held shows fails (Some all) u = absurd u.consumed
-at_fault (Some xs) audit why held shows fails None u = (u.text ++ (held ++ []), tt, fails u.text [] u.taken)
+at_fault (Some xs) audit why held shows fails None u = (u.text ++ (held ++ []), tt, held_fault u.text held [] audit why u.taken fails)
 at_fault (Some xs) audit why held shows fails (Some all) u =
     let split : held ++ drop (length held) xs ≡ xs = ap (λ (x : List ℕ). x ++ drop (length held) xs) (sym shows) ∙ take-append-drop (length held) xs in
-    (u.text ++ (held ++ drop (length held) xs), ap (λ (x : List ℕ). u.text ++ x) split ∙ sym u.consumed, fails u.text (drop (length held) xs) u.taken)
+    (u.text ++ (held ++ drop (length held) xs), ap (λ (x : List ℕ). u.text ++ x) split ∙ sym u.consumed, held_fault u.text held (drop (length held) xs) audit why u.taken fails)
 
 pub may_be_at_fault : (old : Option (List ℕ)) (audit : TextAudit) (found : Option ReadFault) (why : ReadFault) (held : List ℕ) → found ≡ Some why → IfSome old (λ xs. StartsWith xs held)
-    → IfSome found (λ why. (text after : List ℕ) → AreTaken text audit → Reads (text ++ (held ++ after)) (Err why)) → IsAtFault old audit why
+    → IfSome found (λ why. IsWrongNext audit held why) → IsAtFault old audit why
 may_be_at_fault old audit None why held is shows fails = absurd cc
-may_be_at_fault old audit (Some w) why held is shows fails = at_fault old audit why held shows (grind (arith, is, fails))
+may_be_at_fault old audit (Some w) why held is shows fails =
+    let same : w ≡ why = cc in
+    at_fault old audit why held shows (subst (λ (x : ReadFault). IsWrongNext audit held x) same fails)

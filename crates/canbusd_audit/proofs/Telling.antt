@@ -13,6 +13,7 @@ use Rattle.can_event.specs.declared.reply.Reply.{Reply}
 use Rattle.can_event.specs.Spelled.{FitsReply}
 use Rattle.can_bus.specs.Legal.{legal_reply}
 use Rattle.can_bus.proofs.Fitting.{legal_is_spelled}
+use Rattle.can_record_text.specs.declared.fault.ReadFault.TheVariants as read
 use Rattle.can_record_text.specs.declared.version.Version.{Version}
 use Rattle.can_record_text.specs.Spelling.{version_of}
 use Rattle.can_record_text.specs.Values.{HasLine, HasLines}
@@ -29,7 +30,7 @@ use Rattle.canbusd_io.specs.declared.report.Report.{Report}
 use Rattle.canbusd_io.specs.declared.program_error.ProgramError.{ProgramError}
 use Rattle.canbusd_io.specs.declared.program_error.ProgramError.TheVariants as fault
 use Rattle.canbusd_io.specs.Files.{IsOfFile}
-use Rattle.canbusd_audit.specs.Audited.{AuditsFiles, Faults, FaultsBy, FaultsCut, FaultsFiles, FaultsInput, FaultsLast, FitsLines, HasNote, IsAudited, IsAuditedBy, IsBlamedCut, IsCutWritten, IsInputTaken, IsOfFiles, IsTextIn, IsTold, IsWritten, TakesLast, cut_line, entries_line}
+use Rattle.canbusd_audit.specs.Audited.{AuditsFiles, Faults, FaultsBy, FaultsCut, FaultsFiles, FaultsInput, FaultsLast, FaultsLine, FaultsWhole, FitsLines, HasNote, IsAudited, IsAuditedBy, IsBlamedCut, IsCutWritten, IsInputTaken, IsOfFiles, IsTextIn, IsTold, IsWritten, TakesLast, cut_line, entries_line}
 
 -- a reply that is told is the legal one
 told-lawful : (past_limit : Bool) (law r : Reply) → Some r ≡ (if past_limit then None else Some law) → r ≡ law
@@ -76,13 +77,24 @@ written_cut text (Ok (cut.Off count)) old new h wrote = inr (record { config = h
 written_cut text (Err why) old new h wrote = absurd wrote
 
 told_cut : (text : List ℕ) (r : Result Cut TextFault) (why : ProgramError) → ReportsCut text r → IsTold r why → FaultsBy true text why
-told_cut text (Ok (cut.Whole count)) why h is = inl (told text (Ok count) why h is)
+told_cut text (Ok (cut.Whole count)) why h is = inl (subst (FaultsWhole text) (sym is) (record { config = h.config; entries = h.entries; whole = h.whole; says = tt }))
 told_cut text (Ok (cut.Off count)) why h is = inr (subst (IsBlamedCut text) (sym is) (record { config = h.config; entries = h.entries; front = h.front; says = tt }))
-told_cut text (Err (found.Read what)) why h is = inl (told text (Err (found.Read what)) why h is)
-told_cut text (Err (found.Wrong w)) why (inl h) is = inl (told text (Err (found.Wrong w)) why h is)
+told_cut text (Err (found.Read what)) why h is = inl (subst (FaultsWhole text) (sym is) h)
+told_cut text (Err (found.Wrong w)) why (inl h) is = inl (subst (FaultsWhole text) (sym is) (record { config = h.config; entries = h.entries; whole = h.whole; says = h.wrong.told.first }))
 told_cut text (Err (found.Wrong w)) why (inr h) is = inr (subst (IsBlamedCut text) (sym is) (record { config = h.config; entries = h.entries; front = h.front; says = h.wrong.told.first }))
 
+-- of a text that is not cut off it says the same
+plain : (text : List ℕ) (why : ProgramError) → FaultsWhole text why → Faults text why
+plain text (fault.Record read.NoMemory) h = tt
+plain text (fault.Record read.BadVersion) h = h.0
+plain text (fault.Record (read.BadLine n)) h = h.0
+plain text why h = h
+
 -- ---- what is told, of the text that a reader had
+
+-- a line is at fault
+pub line_told : (first : Option (List ℕ)) (why : ProgramError) → FaultsLine first why → FaultsInput first why
+line_told first why h = (h.0, h.1, plain h.0 why h.2)
 
 pub all_written : (first old new : Option (List ℕ)) (torn : List ℕ) (before audit : TextAudit) (found : Result ℕ TextFault) (r : Result (Unit {0}) Report) → IsInputTaken first before torn → TakesLast before torn audit
     → ((text : List ℕ) → AreTaken text audit → Reports text found) → OnOk r (IsWritten found old new) → OnOk r ((text : List ℕ) × IsTextIn first text × IsAudited text old new)

@@ -1,20 +1,22 @@
 -- The lines of a text, as they are read.
-use Rattle.std.proofs.Common.{◌≡◌, ◌≢◌, ◌==◌, ◌-◌, ℕ, suc, Bool, true, false, cond, IsTrue, All, List, [], ◌∷◌, ◌++◌, length, take, Option, Some, None, Err, inl, inr, append_assoc, eqb-true, refl, sym, ap, subst, ◌∙◌, arith}
+use Rattle.std.proofs.Common.{◌≡◌, ◌≢◌, ◌==◌, ◌+◌, ◌-◌, ℕ, suc, Bool, true, false, cond, IsTrue, All, List, [], ◌∷◌, ◌++◌, length, take, Option, Some, None, Err, inl, inr, append_assoc, eqb-true, get_or, length-append, refl, sym, ap, subst, ◌∙◌, arith}
 use Rattle.std.specs.Prelude.{IfSome, slice_get}
 use Rattle.std.specs.Io.{StopsAt, appended_bytes}
 use Rattle.std.specs.Io.BufRead.{take_through}
 use Rattle.std.specs.Io.KnownBytes.{Consumes, IsAtEnd}
+use Rattle.std.proofs.BufReadLemmas.{through_part}
 use Rattle.std.proofs.lemmas.List.{append-nil}
 use Rattle.std.proofs.lemmas.List.Elements.{All-cons, All-head, All-nil, All-tail, All-take}
 use Rattle.can_record_text.specs.declared.fault.ReadFault.{ReadFault}
 use Rattle.can_record_text.specs.RecordFaults.{Reads}
 use Rattle.can_replay.specs.declared.text_audit.TextAudit.{TextAudit}
-use Rattle.can_replay.specs.TextAudits.{AreTaken, EndsNoLine, IsLine, MayFollow}
+use Rattle.can_replay.specs.TextAudits.{AreTaken, EndsLine, EndsNoLine, FaultsUncut, IsLine, MayFollow}
 use Rattle.can_replay.proofs.LineEnds.{nothing_more}
+use Rattle.can_replay.proofs.Uncut.{line_uncut}
 use Rattle.canbusd_io.specs.declared.program_error.ProgramError.{ProgramError}
 use Rattle.canbusd_io.specs.declared.program_error.ProgramError.TheVariants as fault
 use Rattle.canbusd_io.specs.Files.{IsOfReading}
-use Rattle.canbusd_audit.specs.Audited.{Faults, FaultsInput, FaultsLast, IsAtFault, IsBefore, IsInputTaken, IsNextLine, IsOfLine, IsRead, IsTextIn, IsUnderway}
+use Rattle.canbusd_audit.specs.Audited.{Faults, FaultsLast, FaultsLine, FaultsWhole, IsAtFault, IsBefore, IsInputTaken, IsNextLine, IsOfLine, IsRead, IsTextIn, IsUnderway}
 
 pub more_read : (a b c : Option (List ℕ)) (x y : List ℕ) → Consumes a b x → Consumes b c y → Consumes a c (x ++ y)
 more_read None b c x y h k = tt
@@ -54,34 +56,59 @@ text_then (Some all) (Some rest) text line h is = sym (h ∙ ap (λ (x : List �
 pub ends_torn : (first now : Option (List ℕ)) (audit : TextAudit) (torn : List ℕ) → IsUnderway first now audit → IsTextIn now torn → EndsNoLine torn → IsInputTaken first audit torn
 ends_torn first now audit torn u is unended = record { lines = u.text; is_text = text_then first now u.text torn u.consumed is; taken = u.taken; unended = unended }
 
--- a line was at fault
+-- ---- a line that ends in LF
+
+last_of : (q : List ℕ) → get_or (q ++ 10 ∷ []) (length q) 0 ≡ 10
+last_of [] = refl
+last_of (x ∷ q) = last_of q
+
+-- anything may follow it
+follows : (line after : List ℕ) → IsLine line → EndsLine line → MayFollow line after
+follows line after is end =
+    let size : length line ≡ length end.0 + 1 = ap length end.1 ∙ length-append end.0 (10 ∷ []) in
+    let last : get_or line (length line - 1) 0 ≡ 10 = ap (λ (n : ℕ). get_or line n 0) (omega (arith, size)) ∙ ap (λ (l : List ℕ). get_or l (length end.0) 0) end.1 ∙ last_of end.0 in
+    (through_part 10 line after is.stops (λ some. last) (λ none. absurd (omega (arith, none, size)))).0
+
+-- it is at fault after lines that were taken
+pub line_fault : (text line rest : List ℕ) (audit : TextAudit) (why : ReadFault) → AreTaken text audit → IsLine line → EndsLine line
+    → ((text rest : List ℕ) → AreTaken text audit → IsLine line → MayFollow line rest → Reads (text ++ (line ++ rest)) (Err why)) → FaultsUncut (text ++ (line ++ rest)) why
+line_fault text line rest audit why taken is end step =
+    let ended : EndsLine (text ++ line) = (text ++ end.0, ap (λ (x : List ℕ). text ++ x) end.1 ∙ sym (append_assoc text end.0 (10 ∷ []))) in
+    subst (λ (x : List ℕ). FaultsUncut x why) (append_assoc text line rest)
+    (line_uncut (text ++ line) rest why ended (λ more. subst (λ (x : List ℕ). Reads x (Err why)) (sym (append_assoc text line more)) (step text more taken is (follows line more is end))))
+
 fails : (first now after : Option (List ℕ)) (line : List ℕ) (audit : TextAudit) (why : ReadFault) → IsUnderway first now audit → IsRead now after line
-    → ((text rest : List ℕ) → AreTaken text audit → IsLine line → MayFollow line rest → Reads (text ++ (line ++ rest)) (Err why)) → FaultsInput first (fault.Record why)
-fails None now after line audit why u read step = (u.text ++ (line ++ []), tt, step u.text [] u.taken read.is_line (nothing_more line read.is_line))
+    → ((text rest : List ℕ) → AreTaken text audit → IsLine line → MayFollow line rest → Reads (text ++ (line ++ rest)) (Err why)) → FaultsLine first (fault.Record why)
+fails None now after line audit why u read step = (u.text ++ (line ++ []), tt, line_fault u.text line [] audit why u.taken read.is_line read.ended step)
 fails (Some all) None after line audit why u read step = absurd u.consumed
 fails (Some all) (Some xs) None line audit why u read step = absurd read.consumed
 fails (Some all) (Some xs) (Some rest) line audit why u read step =
-    (u.text ++ (line ++ rest), sym (u.consumed ∙ ap (λ (x : List ℕ). u.text ++ x) read.consumed), step u.text rest u.taken read.is_line read.before)
+    (u.text ++ (line ++ rest), sym (u.consumed ∙ ap (λ (x : List ℕ). u.text ++ x) read.consumed), line_fault u.text line rest audit why u.taken read.is_line read.ended step)
 
 of_reading : (text : List ℕ) (why : ProgramError) → IsOfReading why → Faults text why
 of_reading text fault.Read h = tt
 of_reading text fault.NoMemory h = tt
 of_reading text why h = absurd h
 
+reading_whole : (text : List ℕ) (why : ProgramError) → IsOfReading why → FaultsWhole text why
+reading_whole text fault.Read h = tt
+reading_whole text fault.NoMemory h = tt
+reading_whole text why h = absurd h
+
 -- the reader failed, or memory was refused
-pub stops : (first : Option (List ℕ)) (why : ProgramError) → IsOfReading why → FaultsInput first why
-stops None why h = ([], tt, of_reading [] why h)
-stops (Some all) why h = (all, refl, of_reading all why h)
+pub stops : (first : Option (List ℕ)) (why : ProgramError) → IsOfReading why → FaultsLine first why
+stops None why h = ([], tt, reading_whole [] why h)
+stops (Some all) why h = (all, refl, reading_whole all why h)
 
 -- a line was at fault, or the reader failed behind it
 pub fails_so : (first now after : Option (List ℕ)) (line : List ℕ) (audit : TextAudit) (what : ReadFault) (why : ProgramError) → IsOfLine what why → IsUnderway first now audit → IsRead now after line
-    → ((text rest : List ℕ) → AreTaken text audit → IsLine line → MayFollow line rest → Reads (text ++ (line ++ rest)) (Err what)) → FaultsInput first why
-fails_so first now after line audit what why (inl is) u read step = subst (FaultsInput first) (sym is) (fails first now after line audit what u read step)
+    → ((text rest : List ℕ) → AreTaken text audit → IsLine line → MayFollow line rest → Reads (text ++ (line ++ rest)) (Err what)) → FaultsLine first why
+fails_so first now after line audit what why (inl is) u read step = subst (FaultsLine first) (sym is) (fails first now after line audit what u read step)
 fails_so first now after line audit what why (inr h) u read step = stops first why h
 
 -- the same of a line that the reader still holds
-pub fails_held : (first now : Option (List ℕ)) (audit : TextAudit) (what : ReadFault) (why : ProgramError) → IsOfLine what why → IsUnderway first now audit → IsAtFault now audit what → FaultsInput first why
-fails_held first now audit what why (inl is) u fault = subst (FaultsInput first) (sym is) (fault first u)
+pub fails_held : (first now : Option (List ℕ)) (audit : TextAudit) (what : ReadFault) (why : ProgramError) → IsOfLine what why → IsUnderway first now audit → IsAtFault now audit what → FaultsLine first why
+fails_held first now audit what why (inl is) u fault = subst (FaultsLine first) (sym is) (fault first u)
 fails_held first now audit what why (inr h) u fault = stops first why h
 
 -- ---- one line
@@ -114,17 +141,35 @@ rest_is : (old : Option (List ℕ)) (line : List ℕ) → EndsNoLine line → If
 rest_is None line h is = tt
 rest_is (Some xs) line h is = is ∙ whole_through xs (subst EndsNoLine is h)
 
+-- bytes whose last one ends a line
+last_ends : (xs : List ℕ) → slice_get xs (length xs - 1) ≡ Some 10 → EndsLine xs
+last_ends [] last = absurd cc
+last_ends (x ∷ []) last =
+    let same : x ≡ 10 = cc in
+    ([], ap (λ (z : ℕ). z ∷ []) same)
+last_ends (x ∷ y ∷ ys) last =
+    let short : length (x ∷ y ∷ ys) - 1 ≡ suc (length (y ∷ ys) - 1) = omega arith in
+    let later = last_ends (y ∷ ys) (subst (λ (n : ℕ). slice_get (x ∷ y ∷ ys) n ≡ Some 10) short last) in
+    (x ∷ later.0, ap (λ (l : List ℕ). x ∷ l) later.1)
+
+ended_some : (xs q : List ℕ) → xs ≡ q ++ 10 ∷ [] → xs ≢ []
+ended_some xs [] is none = absurd cc
+ended_some xs (x ∷ q) is none = absurd cc
+
 pub next_is : (b : Bool) (old new : Option (List ℕ)) (start line : List ℕ) → start ≡ [] → StopsAt (appended_bytes start line) 10 → IfSome old (λ xs. line ≡ start ++ take_through 10 xs) → Consumes old new (appended_bytes start line)
-    → (IsTrue b → line ≢ []) → (b ≡ false → slice_get line (length line - 1) ≢ Some 10) → IsNextLine b old new line
-next_is true old new [] line empty stops_at through_lf consumed some torn = record {
-  is_line = record { some = some refl; stops = stops_at };
-  consumed = consumed;
-  before = through old new line through_lf consumed;
-}
-next_is false old new [] line empty stops_at through_lf consumed some torn =
+    → (IsTrue b → slice_get line (length line - 1) ≡ Some 10) → (b ≡ false → slice_get line (length line - 1) ≢ Some 10) → IsNextLine b old new line
+next_is true old new [] line empty stops_at through_lf consumed last torn =
+    let end = last_ends line (last refl) in
+    record {
+      is_line = record { some = ended_some line end.0 end.1; stops = stops_at };
+      ended = end;
+      consumed = consumed;
+      before = through old new line through_lf consumed;
+    }
+next_is false old new [] line empty stops_at through_lf consumed last torn =
     let ends_no = unended line stops_at (torn refl) in
     (rest_is old line ends_no through_lf, ends_no)
-next_is b old new (x ∷ xs) line empty stops_at through_lf consumed some torn = absurd cc
+next_is b old new (x ∷ xs) line empty stops_at through_lf consumed last torn = absurd cc
 
 -- ---- bytes behind the last line
 

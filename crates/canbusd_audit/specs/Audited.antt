@@ -15,7 +15,7 @@ use Rattle.can_replay.specs.declared.text_fault.TextFault.{TextFault}
 use Rattle.can_replay.specs.declared.text_fault.TextFault.TheVariants as found
 use Rattle.can_replay.specs.declared.text_fault.WrongLine.{WrongLine}
 use Rattle.can_replay.specs.declared.text_audit.TextAudit.{TextAudit}
-use Rattle.can_replay.specs.TextAudits.{AreTaken, EndsNoLine, IsFrontOf, IsLine, MayFollow}
+use Rattle.can_replay.specs.TextAudits.{AreTaken, EndsLine, EndsNoLine, FaultsUncut, IsFrontOf, IsLine, MayFollow}
 use Rattle.canbusd_io.specs.declared.program_error.ProgramError.{ProgramError}
 use Rattle.canbusd_io.specs.declared.program_error.ProgramError.TheVariants as fault
 use Rattle.canbusd_io.specs.Files.{IsOfFile, IsOfReading}
@@ -89,10 +89,15 @@ Faults text fault.Read = Unit {0}
 Faults text fault.NoMemory = Unit {0}
 Faults text why = IsBlamed text why
 
+-- the same of a text that may be cut off: where it is no record's, it is not the front of a legal one's either
+abbrev pub FaultsWhole : List ℕ → ProgramError → Type 0
+FaultsWhole text (fault.Record why) = FaultsUncut text why
+FaultsWhole text why = Faults text why
+
 -- what a fault says of a text that may be cut off
 abbrev pub FaultsBy : Bool → List ℕ → ProgramError → Type 0
 FaultsBy false text why = Faults text why
-FaultsBy true text why = Faults text why ⊎ IsBlamedCut text why
+FaultsBy true text why = FaultsWhole text why ⊎ IsBlamedCut text why
 
 -- the text is what a reader had, where that is known
 abbrev pub IsTextIn : Option (List ℕ) → List ℕ → Type 0
@@ -111,7 +116,11 @@ AuditsCut input contents old new = (text : List ℕ) × IsTextIn input text × I
 abbrev pub FaultsInput : Option (List ℕ) → ProgramError → Type 0
 FaultsInput input why = (text : List ℕ) × IsTextIn input text × Faults text why
 
--- the same of a text that may be cut off
+-- what the fault of a line with its LF says of it
+abbrev pub FaultsLine : Option (List ℕ) → ProgramError → Type 0
+FaultsLine input why = (text : List ℕ) × IsTextIn input text × FaultsWhole text why
+
+-- what a fault says of the text that a reader had, which may be cut off
 abbrev pub FaultsCut : Option (List ℕ) → ProgramError → Type 0
 FaultsCut input why = (text : List ℕ) × IsTextIn input text × FaultsBy true text why
 
@@ -142,9 +151,13 @@ FaultsLast audit torn why = (lines : List ℕ) → AreTaken lines audit → Faul
 abbrev pub TakesMore : TextAudit → List ℕ → TextAudit → Type 0
 TakesMore before lines after = (text : List ℕ) → AreTaken text before → AreTaken (text ++ lines) after
 
--- whatever follows it, this text is at fault after the lines that were taken
-abbrev pub IsWrongNext : TextAudit → List ℕ → ReadFault → Type 0
-IsWrongNext audit next why = (text after : List ℕ) → AreTaken text audit → Reads (text ++ (next ++ after)) (Err why)
+-- bytes begin with whole lines that are at fault after the lines that were taken, whatever follows them
+pub record IsWrongNext (audit : TextAudit) (next : List ℕ) (why : ReadFault) : Type 0 where
+  pub lines : List ℕ
+  pub rest : List ℕ
+  pub begins : next ≡ lines ++ rest
+  pub ended : EndsLine lines
+  pub wrong : (text after : List ℕ) → AreTaken text audit → Reads (text ++ (lines ++ after)) (Err why)
 
 -- the fault of a line, or one of reading or of memory
 abbrev pub IsOfLine : ReadFault → ProgramError → Type 0
@@ -158,6 +171,7 @@ IsBefore _ line _ = Unit {0}
 -- the next line was read
 pub record IsRead (old new : Option (List ℕ)) (line : List ℕ) : Type 0 where
   pub is_line : IsLine line
+  pub ended : EndsLine line
   pub consumed : Consumes old new line
   pub before : IsBefore old line new
 
@@ -178,7 +192,7 @@ GoesOn old new before after = (first : Option (List ℕ)) → IsUnderway first o
 
 -- after the lines that were taken, what a reader has left is at fault so
 abbrev pub IsAtFault : Option (List ℕ) → TextAudit → ReadFault → Type 0
-IsAtFault now audit why = (first : Option (List ℕ)) → IsUnderway first now audit → (text : List ℕ) × IsTextIn first text × Reads text (Err why)
+IsAtFault now audit why = (first : Option (List ℕ)) → IsUnderway first now audit → (text : List ℕ) × IsTextIn first text × FaultsUncut text why
 
 -- what a reader held was taken by an audit
 abbrev pub BecomesOf : Buffered → Option (List ℕ) → Option (List ℕ) → TextAudit → TextAudit → Type 0

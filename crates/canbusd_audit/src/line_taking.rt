@@ -1,6 +1,6 @@
 ghost use Rattle.std.specs.Prelude.{◌≡◌, ◌≢◌, ◌-◌, [], IfErr, IfOk, IsTrue, OnOk, Some, false, length, slice_get};
 ghost use Rattle.can_replay.specs.TextAudits.{AreTaken, EndsNoLine};
-ghost use Rattle.canbusd_audit.specs.Audited.{FaultsInput, FaultsLast, IsInputTaken, IsNextLine, IsOfLine, TakesLast};
+ghost use Rattle.canbusd_audit.specs.Audited.{FaultsLast, FaultsLine, IsInputTaken, IsNextLine, IsOfLine, TakesLast};
 ghost use Rattle.canbusd_io.specs.Files.{IsOfReading};
 
 use crate::buffered::{Buffered, take_held};
@@ -25,7 +25,7 @@ pub fn take_lines<'a, R: BufRead>(
 ) -> Result<u64, Report<'a>>
     requires { AreTaken [] audit.old }
     ensures taken { OnOk result (IsInputTaken (R.remaining input.old) audit.new torn.new.items) }
-    ensures fault { IfErr result (λ failure. FaultsInput (R.remaining input.old) failure.error) }
+    ensures fault { IfErr result (λ failure. FaultsLine (R.remaining input.old) failure.error) }
 {
     let mut lines = 0;
     for _ in 0..u64::MAX {
@@ -181,7 +181,7 @@ fn next_line<'a, R: BufRead>(
 
 // Whether bytes end in LF.
 fn has_end(bytes: &[u8]) -> bool
-    ensures yes { IsTrue result → bytes.now ≢ [] }
+    ensures yes { IsTrue result → slice_get bytes.now (length bytes.now - 1) ≡ Some 10 }
     ensures no { result ≡ false → slice_get bytes.now (length bytes.now - 1) ≢ Some 10 }
 {
     match bytes.last() {

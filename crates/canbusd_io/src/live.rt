@@ -4,7 +4,7 @@ ghost use Rattle.can_logfile.specs.Log.{joined, log_lines};
 ghost use Rattle.can_record_text.specs.Spelling.{end_words, entry_lines, front_lines, spell};
 ghost use Rattle.can_record_text.specs.declared.version.Version.TheVariants as version;
 ghost use Rattle.can_record_text.specs.inner.StoredLines.{HasFittingReply};
-ghost use Rattle.canbusd_io.specs.Live.{Gets, MayGet, Stays, Takes, whole_contents};
+ghost use Rattle.canbusd_io.specs.Live.{Begins, Gets, MayGet, Stays, Takes, whole_contents};
 ghost use Rattle.canbusd_io.specs.LiveLines.{LogHas, RecordHas};
 
 use crate::draft::Draft;
@@ -48,11 +48,11 @@ impl LiveRecord<File> {
     ) -> io::Result<LiveRecord<File>>
         ensures config { IfOk result (λ live. live.config ≡ config) }
         ensures front { IfOk result (λ live. RecordHas ⟦<File as Write>⟧.contents live []) }
+        ensures open { IfOk result (λ live. IsSome live.file.out) }
     {
-        let path = String::from_str(alloc, draft.draft())?;
-        let file = make(rt, &path)?;
-        let file = LiveFile::new(alloc, path, file, is_synced)?;
-        LiveRecord::begin(alloc, draft.copy(alloc)?, file, config)
+        let draft = draft.copy(alloc)?;
+        let file = make(rt, draft.draft())?;
+        LiveRecord::begin(alloc, draft, file, config, is_synced)
     }
 }
 
@@ -62,17 +62,22 @@ impl<F: Write + OpenFile + Drop> LiveRecord<F> {
         &self.file.path
     }
 
-    // The record of a bus with this configuration in a file, which gets its first two lines.
+    // The record of a bus with this configuration in a file that gets its first two lines, and nothing before them.
     fn begin(
         alloc: Global,
         draft: Draft,
-        file: LiveFile<F>,
+        file: F,
         config: BusConfig,
+        is_synced: bool,
     ) -> io::Result<LiveRecord<F>>
         ensures config { IfOk result (λ live. live.config ≡ config) }
-        ensures start { IfOk result (λ live. live.start.value ≡ file) }
+        ensures start { IfOk result (λ live.
+            Begins (whole_contents F.contents) (F.contents file) live.start.value.out) }
         ensures front { IfOk result (λ live. RecordHas F.contents live []) }
+        ensures open { IfOk result (λ live. IsSome live.file.out) }
     {
+        let path = String::from_str(alloc, draft.draft())?;
+        let file = LiveFile::new(alloc, path, file, is_synced)?;
         let start = Snapshot::of(&file);
         let file = with_front(alloc, file, config)?;
         Ok(LiveRecord {
@@ -181,7 +186,7 @@ fn with_front<F: Write + OpenFile + Drop>(
     mut file: LiveFile<F>,
     config: BusConfig,
 ) -> io::Result<LiveFile<F>>
-    ensures { IfOk result (λ live. MayGet (whole_contents F.contents) file.out live.out
+    ensures { IfOk result (λ live. Gets (whole_contents F.contents) file.out live.out
         (front_lines version.Four config [])) }
 {
     let Some(out) = &mut file.out else {
@@ -230,9 +235,34 @@ impl LiveLog<File> {
     ) -> io::Result<LiveLog<File>>
         ensures names { IfOk result (λ log. log.names ≡ names) }
         ensures none { IfOk result (λ log. LogHas ⟦<File as Write>⟧.contents log []) }
+        ensures open { IfOk result (λ log. IsSome log.file.out) }
     {
         let file = make(rt, path)?;
-        let path = String::from_str(alloc, path)?;
+        LiveLog::begin(
+            alloc,
+            String::from_str(alloc, path)?,
+            file,
+            names,
+            is_synced,
+        )
+    }
+}
+
+impl<F: Write + OpenFile + Drop> LiveLog<F> {
+    // The log of a bus with these names in a file with this path, which gets nothing.
+    fn begin(
+        alloc: Global,
+        path: String,
+        file: F,
+        names: Names,
+        is_synced: bool,
+    ) -> io::Result<LiveLog<F>>
+        ensures names { IfOk result (λ log. log.names ≡ names) }
+        ensures start { IfOk result (λ log.
+            Begins (whole_contents F.contents) (F.contents file) log.start.value.out) }
+        ensures none { IfOk result (λ log. LogHas F.contents log []) }
+        ensures open { IfOk result (λ log. IsSome log.file.out) }
+    {
         let file = LiveFile::new(alloc, path, file, is_synced)?;
         Ok(LiveLog {
             names,
@@ -240,9 +270,7 @@ impl LiveLog<File> {
             file,
         })
     }
-}
 
-impl<F: Write + OpenFile + Drop> LiveLog<F> {
     /// Where it is written.
     pub fn path(&self) -> &str {
         &self.file.path

@@ -1,13 +1,19 @@
 use Rattle.std.proofs.Common.{List, ℕ, subst}
 use Rattle.canbusd_audit.specs.Audited.{FaultsInput, FaultsLast, TakesLast}
 use Rattle.canbusd_io.specs.declared.report.Report.{Report}
-use Rattle.canbusd_audit.proofs.Telling.{all_told, all_written, last_told, noted, passed_on}
+use Rattle.canbusd_audit.proofs.Telling.{all_told, all_written, last_told, line_told, noted, passed_on}
 use Rattle.canbusd_audit.proofs.audit_job.audit_lines.Goals as goal
 
 pub tell_end-requires : goal.tell_end-requires
 tell_end-requires g c =
     let taken = c.in_ok-lines.ensures.taken in
     noted _ c.finish.result (c.finish.ensures.told _ (c.in_ok-take_last.ensures.taken taken.lines taken.taken))
+
+pub returns-in_err-lines-clause-fault : goal.returns-in_err-lines-clause-fault
+returns-in_err-lines-clause-fault g c =
+    let first = g.R.Read.remaining c.args.input.now in
+    let failure = c.in_err-lines.field-0.0 in
+    passed_on (λ (x : Report). FaultsInput first x.error) failure c.from_residual.result c.from_residual.ensures.1 (line_told first failure.error c.in_err-lines.ensures.fault)
 
 pub returns-in_err-take_last-clause-fault : goal.returns-in_err-take_last-clause-fault
 returns-in_err-take_last-clause-fault g c =

@@ -24,6 +24,7 @@ returns-clause-tried g c =
       answers = c.attempt-verdict.ensures.answer;
       names = c.attempt-verdict.ensures.names;
       plan = c.attempt-verdict.ensures.plan;
+      used = c.attempt-verdict.ensures.used;
     } in
     subst (λ (b : BenchState). Puts (IsTriedIf c.tries.result verdicts) b c.args.said.now.items c.pass.new.self c.put_attempt.new.said.items) c.self.view_is
     (tried_by verdicts old c.pass.new.self bus source verdict moment when outcome c.names.result.now c.args.said.now.items c.put_attempt.new.said.items c.tries.result made c.names.ensures c.in_ok-put_attempt.ensures c.pass.ensures c.tries.ensures)

@@ -1,5 +1,0 @@
-use Rattle.can_hub.proofs.Naming.{named}
-use Rattle.can_server_tests.proofs.tests.limits.a_delivery_that_finds_the_record_full_is_refused.Goals as goal
-
-pub is_full-requires-after_bounds : goal.is_full-requires-after_bounds
-is_full-requires-after_bounds g c κs = named c.short_bus-benches.result.items

@@ -1,8 +1,0 @@
-use Rattle.std.proofs.Common.{cond, eqb}
-use Rattle.can_station_tests.proofs.tests.gauges.a_gauge_of_another_station_is_refused.Given as goal
-
-abbrev pub ghosts-strange_gauge-N-RollName : goal.ghosts-strange_gauge-N-RollName
-ghosts-strange_gauge-N-RollName g a = record { roll = λ k. cond (eqb k 0) a.here.roll a.there.roll }
-
-abbrev pub ghosts-strange_gauge-N-MeterName : goal.ghosts-strange_gauge-N-MeterName
-ghosts-strange_gauge-N-MeterName g a = record { meter = λ k. cond (eqb k 0) a.here.meter a.there.meter }

@@ -1,0 +1,102 @@
+"""What the scripts of the gate share: the kit's own view of the crates, what earlier runs passed, and lanes of work.
+
+`rt` and its library are the kit's commands, so they are loaded from the folder that the command rt is in."""
+
+import hashlib
+import importlib.util
+import json
+import os
+import shutil
+import sys
+import tempfile
+from concurrent.futures import ThreadPoolExecutor
+from typing import Any, Callable, Dict, Iterable, List, Optional, Sequence, Tuple
+
+TOP = os.path.dirname(os.path.dirname(os.path.realpath(__file__)))
+# What a check takes at most of the memory, in bytes: so many run side by side.
+CHECK_MEMORY = 4 << 30
+
+
+def load_rtlib() -> Any:
+    """Returns the kit's library, or ends the script where there is no kit."""
+    rt = shutil.which("rt")
+    if rt is None:
+        sys.exit("canbusd: the command rt of the Rattle kit has to be on the PATH")
+    sys.dont_write_bytecode = True
+    path = os.path.join(os.path.dirname(os.path.realpath(rt)), "rtlib.py")
+    spec = importlib.util.spec_from_file_location("rtlib", path)
+    assert spec and spec.loader
+    module = importlib.util.module_from_spec(spec)
+    sys.modules["rtlib"] = module
+    spec.loader.exec_module(module)
+    return module
+
+
+def files_below(folder: str, parts: Iterable[str]) -> List[str]:
+    """Returns the files of these folders of a folder, in order."""
+    found = []
+    for part in parts:
+        for at, _, names in os.walk(os.path.join(folder, part)):
+            found += [os.path.join(at, name) for name in names]
+    return sorted(found)
+
+
+def sum_of(*things: object) -> str:
+    """Returns one sum of these: a path that begins with / is that file's text."""
+    total = hashlib.sha256()
+    for thing in things:
+        if isinstance(thing, str) and thing.startswith("/") and os.path.isfile(thing):
+            with open(thing, "rb") as file:
+                total.update(hashlib.sha256(file.read()).digest())
+        else:
+            total.update(repr(thing).encode() + b"\0")
+    return total.hexdigest()
+
+
+def kit_sum(rtlib: Any) -> str:
+    return sum_of(*[f"{rtlib.KIT}/{name}" for name in ("KIT-ID", "WHAT", "bin/rt", "bin/rtlib.py")])
+
+
+class Kept:
+    """What earlier runs on this machine passed, each under the sum of all that it was made from. A verdict that is not there is
+    made anew; with `anew` all are."""
+
+    def __init__(self, kind: str, anew: bool):
+        home = os.environ.get("CANBUSD_KEPT") or os.path.join(
+            os.environ.get("XDG_CACHE_HOME") or os.path.expanduser("~/.cache"), "canbusd-gate"
+        )
+        self.folder, self.anew = os.path.join(home, kind), anew
+
+    def get(self, key: str) -> Optional[Dict[str, Any]]:
+        if self.anew:
+            return None
+        try:
+            with open(os.path.join(self.folder, key), encoding="utf-8") as file:
+                found = json.load(file)
+        except (OSError, ValueError):
+            return None
+        return found if isinstance(found, dict) and found.get("key") == key else None
+
+    def put(self, key: str, verdict: Dict[str, Any]) -> None:
+        try:
+            os.makedirs(self.folder, exist_ok=True)
+            with tempfile.NamedTemporaryFile("w", dir=self.folder, delete=False, encoding="utf-8") as file:
+                json.dump({**verdict, "key": key}, file)
+            os.replace(file.name, os.path.join(self.folder, key))
+        except OSError as error:
+            print(f"note: nothing is kept for the next run: {error}", file=sys.stderr)
+
+
+def lanes(wanted: Optional[int] = None) -> int:
+    """Returns how many checks run side by side: one for each processor, as far as the memory that is free goes."""
+    processors = wanted or len(os.sched_getaffinity(0))
+    with open("/proc/meminfo", encoding="ascii") as file:
+        free = {line.split(":")[0]: int(line.split()[1]) << 10 for line in file}["MemAvailable"]
+    return max(1, min(processors, free // CHECK_MEMORY))
+
+
+def in_lanes(work: Callable[[str], Tuple[int, int]], names: Sequence[str], count: int) -> Tuple[int, int]:
+    """Does the work of each name, the first ones first, and returns the sums of what it counts: good, bad."""
+    with ThreadPoolExecutor(count) as pool:
+        counts = list(pool.map(work, names))
+    return sum(good for good, _ in counts), sum(bad for _, bad in counts)
