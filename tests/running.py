@@ -9,7 +9,7 @@ import subprocess
 
 import pytest
 
-from serving import ROOT, WAIT, come_true, serving
+from serving import ROOT, WAIT, come_true, one_at_a_time, serving
 
 SOURCES = os.path.join(ROOT, "canrun")
 PROGRAMS = os.path.join(ROOT, "tests", "run_c")
@@ -42,7 +42,8 @@ def command():
 @functools.lru_cache(maxsize=None)
 def sanitized_command():
     """The path of canbusd-run with sanitizers, which is built for the tests."""
-    subprocess.run(["make", "-s", "-C", SOURCES, "sanitized"], check=True)
+    with one_at_a_time("sanitized"):
+        subprocess.run(["make", "-s", "-C", SOURCES, "sanitized"], check=True)
     return os.path.join(SOURCES, "out", "sanitized", "canbusd-run")
 
 

@@ -2,6 +2,9 @@
 
 import os
 import re
+import shutil
+import subprocess
+import tempfile
 
 import pytest
 
@@ -24,10 +27,25 @@ pytestmark = needs_gcc
 ATTACK = f"can0,can1@{ROOT}/examples/bus_off_attack.script"
 SIXTEEN = ",".join(f"node{number}" for number in range(16))
 #: Those that need nothing else than can0 and can1 on one bus.
-PLAIN = ("calls", "faults", "options", "filters", "own", "fd", "epoll", "fork", "threads", "signals", "bcm", "isotp")
+PLAIN = (
+    "calls",
+    "faults",
+    "options",
+    "filters",
+    "own",
+    "fd",
+    "epoll",
+    "fork",
+    "threads",
+    "signals",
+    "bcm",
+    pytest.param("isotp", marks=pytest.mark.quiet),
+    pytest.param("isotp_state", marks=pytest.mark.quiet),
+    "edges",
+)
 
 
-@pytest.fixture(params=["", pytest.param("sanitized", marks=pytest.mark.slow)], ids=["plain", "sanitized"])
+@pytest.fixture(params=["", pytest.param("sanitized", marks=pytest.mark.sanitized)], ids=["plain", "sanitized"])
 def build(request, tmp_path):
     """Compiles a program, and runs it by canbusd-run: both as they are, and both with sanitizers."""
     return Build(request.param == "sanitized", str(tmp_path))
@@ -86,6 +104,32 @@ def test_any(build):
         server.end()
 
 
+def test_any_order(build):
+    """frames of two buses in their order, from the first on"""
+    with serving(*FAST, "can0,can1", "car0,car1") as server:
+        assert build.passes(server, "any_order") == "600 and 600\n"
+        server.end()
+
+
+def test_small_stack(build):
+    """threads with the least stack, and a program that clears its environment"""
+    with serving(*FAST, "can0,can1") as server:
+        build.passes(server, "small_stack")
+        server.end()
+
+
+@pytest.mark.parametrize("compiler", ["gcc", "clang"])
+def test_thread_sanitizer(tmp_path, compiler):
+    """a program with the thread sanitizer goes on after it has made sockets"""
+    path = str(tmp_path / "threads")
+    words = ["-g", "-O1", "-pthread", "-fsanitize=thread", "-o", path, f"{ROOT}/tests/run_c/threads.c"]
+    if not shutil.which(compiler) or subprocess.run([compiler, *words], capture_output=True, check=False).returncode:
+        pytest.skip(f"no {compiler} with the thread sanitizer")
+    with serving(*FAST, "can0,can1") as server:
+        passes(server, path, patience=200)
+        server.end()
+
+
 def test_interfaces_16(build):
     """all of a bus of 16"""
     with serving(*FAST, SIXTEEN) as server:
@@ -100,6 +144,13 @@ def test_full(build):
         server.end()
     with serving("--pace", "20", "can0,can1") as server:
         build.passes(server, "full", "wait", options=["--wait"])
+        server.end()
+
+
+def test_waiting_signal():
+    """a signal ends a write that waits for room: EINTR without SA_RESTART; a program that is killed has not sent it"""
+    with serving("--pace", "60000", "--txqueue", "1", "can0,can1") as server, tempfile.TemporaryDirectory() as folder:
+        assert passes(server, compiled("waiting", folder), options=["--wait"]) == "2 accepted\n"
         server.end()
 
 

@@ -9,7 +9,20 @@ import time
 
 import pytest
 
-from running import FAST, listening, needs, none_left, passes, run, server, settled, started, written  # noqa: F401
+from running import (  # noqa: F401
+    FAST,
+    command,
+    environment,
+    listening,
+    needs,
+    none_left,
+    passes,
+    run,
+    server,
+    settled,
+    started,
+    written,
+)
 from serving import ROOT, come_true, serving, turns
 
 pytestmark = needs("candump", "cansend")
@@ -302,6 +315,72 @@ def test_isotp(server, sending, receiving, length):
         assert written(receiver).split() == text.split()
 
 
+@needs("isotpsend", "isotprecv")
+def test_isotp_bus_off(tmp_path):
+    """a message of which frames are lost was not sent, though all were accepted: ECOMM, 2 seconds after the last"""
+    script = tmp_path / "off.script"
+    script.write_text("next 32 from ecu skip 3 global bit\n", encoding="utf-8")
+    with serving("--pace", "1", f"ecu,tester@{script}") as server:
+        with listening(server, "isotprecv", "-s", "321", "-d", "123", "tester"):
+            sent = run(server, "isotpsend", "-b", "-D", "60", "-s", "123", "-d", "321", "ecu")
+        assert (sent.returncode, sent.stderr) == (255, "write: Communication error on send\n"), sent
+        server.end()
+
+
+@needs("isotpsend", "isotprecv", "cangen")
+@pytest.mark.quiet
+@pytest.mark.parametrize("is_busy", [False, True], ids=["idle", "busy"])
+def test_isotp_stmin(is_busy):
+    """the pause that a receiver asks for is from the end of a frame on the wire to the next, also behind other traffic"""
+    with serving("--bitrate", "50000", "ecu,tester,other") as server, contextlib.ExitStack() as ending:
+        receiver = ending.enter_context(
+            listening(server, "isotprecv", "-s", "321", "-d", "123", "-m", "0A", "tester", stdout=subprocess.PIPE)
+        )
+        if is_busy:
+            ending.enter_context(
+                started(server, "cangen", "-g", "0", "-I", "100", "-L", "8", "other", options=["--wait"])
+            )
+        passes(server, "isotpsend", "-b", "-D", "60", "-s", "123", "-d", "321", "ecu")
+        assert len(written(receiver).split()) == 60
+        ending.close()
+        server.end()
+        with open(server.path("ecu.log"), encoding="utf-8") as log:
+            ends = [float(end) for end in re.findall(r"^\((\d+\.\d+)\) ecu 123#2", log.read(), re.M)]
+        # 2.2 ms are less than any of these frames takes at 50 kbit/s: 111 bits.
+        assert len(ends) == 8 and min(after - end for end, after in zip(ends, ends[1:])) >= 0.0122, ends
+        record = server.path("ecu.rec")
+        with open(record, encoding="utf-8") as entries:
+            assert is_busy or "no buffers" not in entries.read()
+
+
+def test_canplayer_log_with_faults(tmp_path):
+    """a server's own log, with error frames, is played to its end: they are accepted, and a note says where they go"""
+    log = "(0.000001) can0 123#01\n(0.000002) can0 20000080#0000000000000000\n(0.000003) can0 124#02\n"
+    (tmp_path / "faults.log").write_text(log, encoding="utf-8")
+    with serving(*FAST, "can0,can1") as server:
+        played = run(server, "canplayer", "-t", "-I", str(tmp_path / "faults.log"))
+        assert (played.returncode, played.stdout) == (0, ""), played
+        assert played.stderr == (
+            "canbusd-run: note: error message frames that are written go nowhere: the server makes its own\n"
+        )
+        assert logged(server, "can0") == ["can0 123#01", "can0 124#02"]
+
+
+@pytest.mark.slow
+@needs("cangen")
+@pytest.mark.parametrize("places", ["1", "10"])
+def test_wait_never_hangs(places, cases):
+    """as many runs as --cases, each of 1,000 frames that find the queue full again and again"""
+    words = [command(), "--wait", "cangen", "-g", "0", "-n", "1000", "can0"]
+    with serving("--pace", "0", "--txqueue", places, "--record", "none", "can0,can1") as server:
+        for _ in range(cases):
+            ended = subprocess.run(
+                words, env=environment(server), timeout=60, capture_output=True, text=True, check=False
+            )
+            assert (ended.returncode, ended.stderr) == (0, ""), ended
+        server.end()
+
+
 @needs("isotpperf", "isotpsend", "isotprecv")
 def test_isotpperf(server):
     """it measures a message between two others"""
@@ -318,7 +397,7 @@ def test_isotpperf(server):
 
 
 @needs("bcmserver")
-def test_bcmserver(server):
+def test_bcmserver(server, fixed_ports):
     """its port takes commands: a cyclic frame, and a filter for contents"""
     with started(server, "bcmserver") as running, contextlib.ExitStack() as ending:
         for _ in turns("it listens"):

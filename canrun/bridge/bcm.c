@@ -35,7 +35,9 @@ struct task {
     uint64_t due;         /* the next frame, or the timeout; 0 for never */
     uint64_t held_until;  /* the throttle; 0 where it is off */
     uint64_t reported;    /* when the program got a frame last */
-    struct last *last;    /* one for each frame of an RX task */
+    unsigned asked;       /* remote frames that have no reply yet */
+    int detected; /* with timers, and for all interfaces: the first that a frame came from, which is the only one */
+    struct last *last; /* one for each frame of an RX task */
     struct canfd_frame frames[];
 };
 
@@ -84,7 +86,7 @@ static void inform(const struct task *task, uint32_t opcode, const struct canfd_
 static void send_next(struct task *task) {
     struct session *to = sessions_for(task->index);
     if (to) {
-        raw_send(to, &task->frames[task->at], is_fd(task), false, false);
+        raw_send(to, &task->frames[task->at], is_fd(task), NULL);
     }
     task->at = (task->at + 1) % task->head.nframes;
     task->head.count -= task->head.count > 0;
@@ -146,10 +148,10 @@ static void release(struct task *task, uint64_t now) {
     task->reported = has_any ? task->reported : 0;
 }
 
-/* Whether the frames differ where the mask has bits. */
+/* Whether the frames differ where the mask has bits, in the words of 8 bytes that the kernel compares. */
 static bool differs(const struct canfd_frame *mask, const struct canfd_frame *one, const struct canfd_frame *other,
                     unsigned length) {
-    for (unsigned i = 0; i < length; i++) {
+    for (unsigned i = 0; i < (length + 7) / 8 * 8; i++) {
         if ((one->data[i] ^ other->data[i]) & mask->data[i]) {
             return true;
         }
@@ -178,7 +180,10 @@ static void compare_multiplex(struct task *task, const struct item *item, int in
 
 static void receive(struct task *task, const struct item *item, int index) {
     if (task->head.flags & RX_RTR_FRAME) {
-        return; /* The reply is sent by bcm_due, as nothing can be sent while input is read. */
+        /* The reply is sent by bcm_due, as nothing can be sent while input is read. */
+        task->asked++;
+        task->due = clock_now();
+        return;
     }
     if (task->head.flags & RX_FILTER_ID) {
         has_changed(task, &task->last[0], item, index);
@@ -193,11 +198,21 @@ static void receive(struct task *task, const struct item *item, int index) {
     }
 }
 
+/* Whether a frame of this interface is one for the task. */
+static bool is_from(struct task *task, int index) {
+    bool is_timed = nanoseconds(task->head.ival1) || nanoseconds(task->head.ival2);
+    if (task->index || task->head.flags & RX_RTR_FRAME || !is_timed) {
+        return !task->index || task->index == index;
+    }
+    task->detected = task->detected ? task->detected : index;
+    return task->detected == index;
+}
+
 void bcm_receive(const struct item *item, int index) {
     for (struct task *task = tasks; task; task = task->next) {
         if (task->is_rx && task->head.can_id == item->frame.can_id && is_fd(task) == item->is_fd &&
-            (!task->index || task->index == index)) {
-            task->due = task->head.flags & RX_RTR_FRAME ? clock_now() : 0;
+            is_from(task, index)) {
+            task->due = 0;
             receive(task, item, index);
         }
     }
@@ -219,8 +234,8 @@ static void do_due(struct task *task, uint64_t now) {
     task->due = 0;
     if (task->head.flags & RX_RTR_FRAME) {
         struct session *to = sessions_for(task->index ? task->index : bound_index);
-        if (to) {
-            raw_send(to, &task->frames[0], is_fd(task), false, false);
+        for (; to && task->asked; task->asked--) {
+            raw_send(to, &task->frames[0], is_fd(task), NULL);
         }
     } else {
         time_out(task);
@@ -312,13 +327,25 @@ static void change_head(struct task *task, const struct bcm_head *head) {
         task->head.ival2 = before.ival2;
     }
     if (task->is_rx) {
-        memset(task->last, 0, (head->nframes ? head->nframes : 1) * sizeof *task->last);
+        memset(task->last, 0, head->nframes * sizeof *task->last);
+        task->head.count = 0;
     }
+    if (head->flags & SETTIMER) {
+        task->detected = 0;
+    }
+}
+
+/* Whether a time is none, or of more than 400 days. */
+static bool is_bad(struct bcm_timeval time) {
+    return time.tv_sec < 0 || time.tv_sec > 400 * 24 * 60 * 60 || time.tv_usec < 0 || time.tv_usec >= 1000000;
 }
 
 /* Makes the task of this message, with its frames; one that there is already is changed. */
 static int set_up(const struct bcm_head *head, const char *data, int index, bool is_rx, struct task **made) {
     struct task **place = find(head, index, is_rx), *fresh = NULL;
+    if (head->flags & SETTIMER && (is_bad(head->ival1) || is_bad(head->ival2))) {
+        return refused(EINVAL, "a time is below 0, above 400 days, or has a million microseconds");
+    }
     if (*place && head->nframes > (*place)->head.nframes) {
         return refused(E2BIG, "a task can't get more frames");
     }
@@ -351,7 +378,8 @@ static int set_up_tx(const struct bcm_head *head, const char *data, int index) {
     if (head->flags & SETTIMER && !nanoseconds(head->ival1) && !nanoseconds(head->ival2)) {
         task->due = 0;
     }
-    if (head->flags & (STARTTIMER | TX_ANNOUNCE)) {
+    task->head.flags |= head->flags & STARTTIMER ? TX_ANNOUNCE : 0;
+    if (task->head.flags & TX_ANNOUNCE) {
         send_next(task);
     }
     if (head->flags & STARTTIMER) {
@@ -410,18 +438,19 @@ static int read_task(const struct bcm_head *head, int index, bool is_rx) {
     return 0;
 }
 
-static int send_once(const struct bcm_head *head, const char *data, size_t length, int index) {
+static int send_once(const struct bcm_head *head, const char *data, size_t length, int index, int reply_to) {
     struct canfd_frame frame = {0};
     if (head->nframes != 1 || length != frame_size(head->flags)) {
         return refused(EINVAL, "TX_SEND sends one frame");
     }
     memcpy(&frame, data, length);
+    struct later later = {request_done, reply_to, (int)(HEAD + length)};
     struct session *to = index ? sessions_for(index) : NULL;
-    return to ? raw_send(to, &frame, head->flags & CAN_FD_FRAME, getenv("CANBUSD_RUN_WAIT"), false)
+    return to ? raw_send(to, &frame, head->flags & CAN_FD_FRAME, raw_waits() ? &later : NULL)
               : refused(ENODEV, "to send, a task needs an interface");
 }
 
-int bcm_write(int index, const char *data, size_t length, int *taken) {
+int bcm_write(int index, const char *data, size_t length, int reply_to, int *taken) {
     struct bcm_head head;
     if (!is_bound) {
         return refused(ENOTCONN, "connect comes first");
@@ -433,11 +462,11 @@ int bcm_write(int index, const char *data, size_t length, int *taken) {
     data += HEAD;
     length -= HEAD;
     index = bound_index ? bound_index : index == WIRE_BOUND ? 0 : index;
-    bool has_frames = head.opcode == TX_SETUP || head.opcode == RX_SETUP;
+    bool has_frames = head.opcode == TX_SETUP || (head.opcode == RX_SETUP && !(head.flags & RX_FILTER_ID));
     if (length % frame_size(head.flags) || (has_frames && head.nframes > length / frame_size(head.flags))) {
         return refused(EINVAL, "frames are missing, or of the wrong size");
     }
-    *taken = (int)(HEAD + (has_frames || head.opcode == TX_SEND ? length : 0));
+    *taken = (int)(HEAD + (has_frames ? head.nframes * frame_size(head.flags) : head.opcode == TX_SEND ? length : 0));
     switch (head.opcode) {
     case TX_SETUP: return set_up_tx(&head, data, index);
     case RX_SETUP: return set_up_rx(&head, data, index);
@@ -445,7 +474,7 @@ int bcm_write(int index, const char *data, size_t length, int *taken) {
     case RX_DELETE: return delete_task(&head, index, true);
     case TX_READ: return read_task(&head, index, false);
     case RX_READ: return read_task(&head, index, true);
-    case TX_SEND: return send_once(&head, data, length, index);
+    case TX_SEND: return send_once(&head, data, length, index, reply_to);
     default: return refused(EINVAL, "the broadcast manager has no such message");
     }
 }

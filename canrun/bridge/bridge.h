@@ -1,6 +1,6 @@
 /* What the files of the bridge share. A bridge is one process for one CAN socket: at descriptor 3 it has the other end
  * of the program's pair, and it has a session of the server for each interface that the socket is bound to. It ends
- * when the last copy of the socket is closed, or the server is gone and all has been handed over. */
+ * when the last copy of the socket is closed. */
 #ifndef BRIDGE_H
 #define BRIDGE_H
 
@@ -72,16 +72,22 @@ struct options {
 enum due { DUE_NOTHING, DUE_ECHO, DUE_VERDICT };
 
 struct session {
-    int fd;               /* -1: it has ended */
-    int index;            /* of its interface */
-    bool is_receiving;    /* for what the socket is bound to, and not only to send */
-    bool is_counting;     /* a reply to session_ask_counts is due */
-    uint32_t dropped;     /* by the server, as far as is known */
+    int fd;                     /* -1: it has ended */
+    int index;                  /* of its interface */
+    bool is_receiving;          /* for what the socket is bound to, and not only to send */
+    bool is_counting;           /* a reply to session_ask_counts is due */
+    uint32_t dropped;           /* by the server, as far as is known */
+    uint64_t seen;              /* items that have come */
+    bool is_asked, is_answered; /* how many were queued for it: see order.c */
+    uint64_t queued;
     struct options given; /* what the server has */
     enum due due;         /* what has not come yet */
-    char reply[64];       /* the first reply to what was given last that is not ok */
+    char reply[160];      /* the first reply to what was given last that is not ok */
     size_t have;
     char input[32768];
+    bool has_counts; /* while a frame waits for room: how many have left the queue, and when that is looked at again */
+    uint64_t gone, look_at;
+    int64_t pause;
     uint64_t sent_end;              /* above each number that a frame of this session has got */
     uint8_t sent[NUMBERS_KEPT / 8]; /* a bit for each of the last numbers below that: whether one has got it */
 };
@@ -100,11 +106,47 @@ int session_send(struct session *session, const struct canfd_frame *frame, bool 
 /* Asks for the counts, which come in the order of the frames; nothing waits for them. */
 void session_ask_counts(struct session *session);
 
-/* Waits until a frame has left the transmit queue. Returns 0, or an errno where nobody waits any more. */
-int session_wait_for_room(struct session *session, bool is_unasked);
+/* The number that the server gave the frame which was sent last. */
+uint64_t session_last_number(const struct session *session);
+
+/* How many frames have left the transmit queue of the interface, one way or the other, and how many wait there. Returns
+ * 0, or an errno. */
+int session_counts(struct session *session, uint64_t *gone, uint64_t *waiting);
 
 /* Reads what there is, handles it, and hands it on. False where it waited, and nothing came in PATIENCE. */
 bool session_read(struct session *session, bool waits);
+
+/* ---- room.c: frames that wait for room in a transmit queue ---- */
+
+/* What is called once a frame that waited was sent, or was not: then the error is an errno. `reply_to` is the pipe of
+ * the write that waits, or NOBODY, and `value` what it returns. */
+struct later {
+    void (*done)(const struct later *later, int error);
+    int reply_to, value;
+};
+#define NOBODY (-1)
+
+/* Sends a frame. Returns an errno, or 0; SENT_LATER where the queue is full, and there is something to do later. */
+#define SENT_LATER (-1)
+int room_send(struct session *to, const struct canfd_frame *frame, bool is_fd, const struct later *later);
+
+/* Does what is due; returns how many nanoseconds there are until the next is, or -1. */
+int64_t room_due(void);
+
+/* Whether more frames may wait. */
+bool room_takes_requests(void);
+
+/* A signal ends the wait of the write whose reply comes by this pipe. */
+void room_cancel(int asks);
+
+/* What was to call this is not sent, and it is not called. */
+void room_forget(void (*done)(const struct later *later, int error));
+
+/* What waits at this interface is given up. */
+void room_leave(int index);
+
+/* Whether a frame waits whose write has returned. */
+bool room_has_unasked(void);
 
 /* ---- sessions.c: the sessions of this socket ---- */
 
@@ -126,13 +168,16 @@ int sessions_apply(void);
 /* Whether one of them has ended. */
 bool sessions_ended(void);
 
+/* Ends them all: the server is gone. Returns whether the socket was bound. */
+bool sessions_leave(void);
+
 /* ---- wait.c: waiting ---- */
 
 /* Nanoseconds of a clock that only goes forward. */
 uint64_t clock_now(void);
 
-/* Waits for the sessions, or the program where it may ask for something, at most these nanoseconds or without end (-1); what
- * the sessions bring is handled. Returns whether the program asks for something, or has closed its socket. */
+/* Waits for the sessions, or the program where it may ask for something, at most these nanoseconds or without end (-1);
+ * what the sessions bring is handled. Returns whether the program asks for something, or has closed its socket. */
 bool wait_for_input(int64_t nanoseconds, bool takes_requests);
 
 /* Waits until this session can be read or written, or until this moment of the clock; false where it has passed. */
@@ -141,13 +186,24 @@ bool wait_for_session(const struct session *session, uint64_t until);
 /* Whether the last copy of the socket has been closed. */
 bool program_is_gone(void);
 
+/* ---- order.c: what comes from several sessions ---- */
+
+/* Hands an item on, or keeps it until no session can have an older one. */
+void order_put(const struct item *item, int index);
+
+/* Hands on what is due; returns how many nanoseconds there are until it should be called again, or -1. */
+int64_t order_due(void);
+
+/* Hands on all of it. */
+void order_flush(void);
+
 /* ---- outbox.c: what is on its way to the program ---- */
 
 /* Puts a message after the others. Where there is no room it is lost, and counted. */
 void outbox_put(const void *data, size_t length, uint64_t moment, int index, uint32_t message_flags);
 
-/* The same for an errno, which a read returns. */
-void outbox_put_error(int error);
+/* Wakes who waits for the socket to be read: it has an error. */
+void outbox_ring(void);
 
 /* Hands over what the program's socket has room for. */
 void outbox_flush(void);
@@ -167,16 +223,31 @@ void outbox_server_dropped(struct session *session, uint32_t dropped);
  * nanoseconds there are until then, or -1. */
 int64_t outbox_counts_due(void);
 
+/* ---- error.c: the socket's error, as sk_err of the kernel ---- */
+
+/* The next call that takes it returns this errno: a read, a write of ISO-TP, or SO_ERROR. */
+void error_set(int error);
+
+/* Takes the error; 0 where there is none. */
+int error_take(void);
+
 /* ---- raw.c: CAN_RAW, and the options of the other protocols' sessions ---- */
 
 int raw_set(int option, const void *value, size_t length);
 int raw_get(int option, void *room, uint32_t *length);
 
-/* Sends the frame that a program has written; `is_unasked`: by a write that waits for no verdict. */
-int raw_write(int index, const void *data, size_t length, bool is_unasked);
+/* Sends the frame that a program has written; `reply_to` is NOBODY of a write that waits for no verdict. Returns an
+ * errno, 0, or SENT_LATER. */
+int raw_write(int index, const void *data, size_t length, int reply_to);
 
-/* Sends a frame by this session; where `is_waiting` it waits for room. */
-int raw_send(struct session *to, const struct canfd_frame *frame, bool is_fd, bool is_waiting, bool is_unasked);
+/* Whether these data are an error message frame. */
+bool raw_is_error(const void *data);
+
+/* Sends a frame by this session, as room_send does. */
+int raw_send(struct session *to, const struct canfd_frame *frame, bool is_fd, const struct later *later);
+
+/* Whether writes wait for room. */
+bool raw_waits(void);
 
 void raw_receive(const struct item *item, int index);
 
@@ -191,8 +262,9 @@ void raw_want_own(void);
 
 /* ---- bcm.c: CAN_BCM ---- */
 
-/* Carries out what a program writes; `taken` is what its write returns. */
-int bcm_write(int index, const char *data, size_t length, int *taken);
+/* Carries out what a program writes; `taken` is what its write returns. Returns an errno, 0, or SENT_LATER where the
+ * reply is given later, by this pipe. */
+int bcm_write(int index, const char *data, size_t length, int reply_to, int *taken);
 void bcm_receive(const struct item *item, int index);
 /* Does what is due; returns how many nanoseconds there are until the next is, or -1. */
 int64_t bcm_due(void);
@@ -204,13 +276,14 @@ int isotp_set(int option, const void *value, size_t length);
 int isotp_get(int option, void *room, uint32_t *length);
 void isotp_address(uint32_t identifiers[2]);
 
-/* Sends a message. Returns ISOTP_LATER where the reply is given later, by this pipe; else an errno, or 0. */
-#define ISOTP_LATER (-1)
+/* Sends a message. Returns SENT_LATER where the reply is given later, by this pipe; else an errno, or 0. */
 int isotp_write(const char *data, size_t length, bool is_nonblocking, int reply_to);
 void isotp_receive(const struct item *item);
 /* Does what is due; returns how many nanoseconds there are until the next is, or -1. */
 int64_t isotp_due(void);
 bool isotp_takes_requests(void);
+/* A signal ends the wait of the write whose reply comes by this pipe. */
+void isotp_cancel(int asks);
 /* A message that was accepted is sent to its end, also where the socket has been closed. */
 bool isotp_is_busy(void);
 
@@ -219,7 +292,23 @@ bool isotp_is_busy(void);
 /* Gives the reply to a request whose error, or value, is this. */
 void request_reply(int to, int error, int value);
 
+/* The same for a write that has waited. */
+void request_done(const struct later *later, int error);
+
+/* Whether these are ends of one pipe. */
+bool is_same_pipe(int one, int other);
+
 /* Carries out one request. Returns false where the last copy of the socket is closed. */
 bool request_serve(void);
+
+/* Of ISO-TP: a descriptor that is ready to be read when a request comes; and whether one is there that was not read. */
+int request_news(void);
+bool request_is_kept(void);
+
+/* No message of ISO-TP is being sent: the socket can be written. */
+void request_release(void);
+
+/* The end of a pair by which a close waits for the end of this bridge, or -1. */
+int request_closer(void);
 
 #endif

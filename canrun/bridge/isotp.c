@@ -4,28 +4,36 @@
 #include <errno.h>
 #include <stdlib.h>
 #include <string.h>
-#include <sys/types.h>
+#include <sys/socket.h>
 
-/* Received frames that wait: nothing can be sent while the server's messages are read. */
-#define WAITING 512
+/* Received frames that wait: nothing can be sent while the server's messages are read. A read brings 1,024 at most. */
+#define WAITING 8192
 
 struct isotp isotp = {
     .options = {.txpad_content = CAN_ISOTP_DEFAULT_PAD_CONTENT,
                 .rxpad_content = CAN_ISOTP_DEFAULT_PAD_CONTENT,
                 .frame_txtime = CAN_ISOTP_DEFAULT_FRAME_TXTIME},
+    .frame_txtime = CAN_ISOTP_DEFAULT_FRAME_TXTIME,
     .link = {.mtu = CAN_ISOTP_DEFAULT_LL_MTU, .tx_dl = CAN_ISOTP_DEFAULT_LL_TX_DL},
 };
 
 static struct item waiting[WAITING];
 static unsigned first_waiting, end_waiting;
 
-/* A write that waits for the end of its message, and one that waits for the end of the one before it: the pipe for its
- * reply, or NOBODY. */
-#define NOBODY (-1)
-static int waits_for_end = NOBODY, waits_for_turn = NOBODY;
+/* The write that waits for the end of its message: the pipe for its reply, or NOBODY. */
+static int waits_for_end = NOBODY;
 static size_t sent_length;
-static char next_data[ISOTP_LONGEST];
-static size_t next_length;
+
+/* Writes that wait for the end of the message before theirs, the oldest first. */
+#define TURNS 64
+struct turn {
+    struct turn *next;
+    int reply_to;
+    size_t length;
+    char data[];
+};
+static struct turn *turns;
+static unsigned turn_count;
 
 /* ---- what the other files share ---- */
 
@@ -40,6 +48,10 @@ unsigned isotp_padded(unsigned length) {
         at++;
     }
     return lengths[at];
+}
+
+uint32_t isotp_broadcast(void) {
+    return isotp.options.flags & ALL_BROADCAST;
 }
 
 bool isotp_is_well_padded(const struct canfd_frame *frame, unsigned from) {
@@ -62,12 +74,16 @@ bool isotp_is_well_padded(const struct canfd_frame *frame, unsigned from) {
     return true;
 }
 
-/* It waits for room, as the kernel's protocol sends a frame only once the one before has gone out. */
-int isotp_put(const struct canfd_frame *frame) {
+int isotp_put(const struct canfd_frame *frame, void (*done)(const struct later *later, int error)) {
     struct session *to = sessions_for(bound_index);
     struct canfd_frame sent = *frame;
+    struct later later = {done, NOBODY, 0};
     sent.flags = isotp.link.tx_flags;
-    return to ? raw_send(to, &sent, isotp.link.mtu == CANFD_MTU, true, true) : ENXIO;
+    return to ? raw_send(to, &sent, isotp.link.mtu == CANFD_MTU, raw_waits() ? &later : NULL) : ENXIO;
+}
+
+uint64_t isotp_last_number(void) {
+    return session_last_number(sessions_for(bound_index));
 }
 
 /* ---- options ---- */
@@ -91,21 +107,23 @@ static bool is_good_link(const struct can_isotp_ll_options *link) {
     return link->mtu == CANFD_MTU || (link->mtu == CAN_MTU && link->tx_dl == CAN_MAX_DLEN && !link->tx_flags);
 }
 
-static void set_options(struct can_isotp_options *options, uint32_t txtime_before) {
+static int set_options(struct can_isotp_options *options) {
     if (!(options->flags & CAN_ISOTP_RX_EXT_ADDR)) {
         options->rx_ext_address = options->ext_address;
     }
-    if (!options->frame_txtime) {
-        options->frame_txtime = txtime_before;
-    } else if (options->frame_txtime == CAN_ISOTP_FRAME_TXTIME_ZERO) {
-        options->frame_txtime = 0;
+    if (options->frame_txtime) {
+        isotp.frame_txtime = options->frame_txtime == CAN_ISOTP_FRAME_TXTIME_ZERO ? 0 : options->frame_txtime;
     }
+    if (isotp_broadcast() == ALL_BROADCAST) {
+        options->flags &= ~CAN_ISOTP_CF_BROADCAST;
+        return refused(EINVAL, "to all, a message has one frame or several, and not both");
+    }
+    return 0;
 }
 
 int isotp_set(int option, const void *value, size_t length) {
     size_t size = 0;
     void *place = place_of(option, &size);
-    uint32_t txtime = isotp.options.frame_txtime;
     struct can_isotp_ll_options link;
     if (is_bound) {
         return refused(EISCONN, "options come before bind");
@@ -123,10 +141,7 @@ int isotp_set(int option, const void *value, size_t length) {
         }
     }
     memcpy(place, value, size);
-    if (option == CAN_ISOTP_OPTS) {
-        set_options(&isotp.options, txtime);
-    }
-    return 0;
+    return option == CAN_ISOTP_OPTS ? set_options(&isotp.options) : 0;
 }
 
 int isotp_get(int option, void *room, uint32_t *length) {
@@ -145,9 +160,14 @@ static bool is_identifier(canid_t id) {
     return id == (id & (id & CAN_EFF_FLAG ? CAN_EFF_FLAG | CAN_EFF_MASK : CAN_SFF_MASK));
 }
 
+/* The filter that only this identifier passes. */
+static struct can_filter only(canid_t id) {
+    canid_t mask = (id & CAN_EFF_FLAG ? CAN_EFF_MASK : CAN_SFF_MASK) | CAN_EFF_FLAG | CAN_RTR_FLAG;
+    return (struct can_filter){id, mask};
+}
+
 int isotp_bind(int index, canid_t rx_id, canid_t tx_id) {
-    bool is_to_all = isotp.options.flags & (CAN_ISOTP_SF_BROADCAST | CAN_ISOTP_CF_BROADCAST);
-    canid_t mask = (rx_id & CAN_EFF_FLAG ? CAN_EFF_MASK : CAN_SFF_MASK) | CAN_EFF_FLAG | CAN_RTR_FLAG;
+    bool is_to_all = isotp_broadcast();
     if (!is_identifier(tx_id) || (!is_to_all && !is_identifier(rx_id))) {
         return refused(EINVAL, "an identifier has too many bits");
     }
@@ -162,8 +182,11 @@ int isotp_bind(int index, canid_t rx_id, canid_t tx_id) {
     }
     isotp.rx_id = rx_id;
     isotp.tx_id = tx_id;
-    int error = raw_want(&(struct can_filter){rx_id, mask}, is_to_all ? 0 : 1);
+    /* What it sends comes back to it, once it was on the bus. */
+    struct can_filter wanted[] = {only(tx_id), only(rx_id)};
+    int error = raw_want(wanted, is_to_all ? 1 : 2);
     raw_want_fd(isotp.link.mtu == CANFD_MTU);
+    raw_want_own();
     return error ? error : sessions_bind(index);
 }
 
@@ -180,34 +203,42 @@ void isotp_receive(const struct item *item) {
     }
 }
 
-/* Starts a message. Where its write waits for the end, ISOTP_LATER is returned, and the pipe is kept. */
+/* Starts a message. Where its write waits for the end, SENT_LATER is returned, and the pipe is kept. */
 static int start(const char *data, size_t length, int reply_to) {
-    int error = isotp_send_start(data, length);
+    int error = error_take();
+    error = error ? refused(error, "the message before did not get through") : isotp_send_start(data, length);
     if (!error && isotp_is_sending() && isotp.options.flags & CAN_ISOTP_WAIT_TX_DONE) {
         waits_for_end = reply_to;
         sent_length = length;
-        return ISOTP_LATER;
+        return SENT_LATER;
     }
     return error;
+}
+
+/* The write waits for its turn. */
+static int queue(const char *data, size_t length, int reply_to) {
+    struct turn *turn = malloc(sizeof *turn + length), **last = &turns;
+    if (!turn) {
+        return refused(ENOMEM, "no memory for a message");
+    }
+    *turn = (struct turn){NULL, reply_to, length};
+    memcpy(turn->data, data, length);
+    while (*last) {
+        last = &(*last)->next;
+    }
+    *last = turn;
+    turn_count++;
+    return SENT_LATER;
 }
 
 int isotp_write(const char *data, size_t length, bool is_nonblocking, int reply_to) {
     if (!is_bound) {
         return refused(EADDRNOTAVAIL, "bind comes first");
     }
-    if (isotp_is_sending() && is_nonblocking) {
-        return refused(EAGAIN, "a message is being sent");
-    }
-    if (!isotp_is_sending()) {
+    if (!isotp_is_busy()) {
         return start(data, length, reply_to);
     }
-    if (!length || length > ISOTP_LONGEST) {
-        return refused(EINVAL, "a message has 1 to 8300 bytes");
-    }
-    memcpy(next_data, data, length);
-    next_length = length;
-    waits_for_turn = reply_to;
-    return ISOTP_LATER;
+    return is_nonblocking ? refused(EAGAIN, "a message is being sent") : queue(data, length, reply_to);
 }
 
 void isotp_send_done(int error) {
@@ -215,42 +246,76 @@ void isotp_send_done(int error) {
         request_reply(waits_for_end, refused(error, "the message did not get through"), (int)sent_length);
         waits_for_end = NOBODY;
     } else if (error) {
-        outbox_put_error(error);
+        error_set(error);
+    }
+}
+
+/* Takes a turn out of the list, and gives the reply of its write. */
+static void leave(struct turn **place, int error) {
+    struct turn *turn = *place;
+    *place = turn->next;
+    turn_count--;
+    request_reply(turn->reply_to, error, (int)turn->length);
+    free(turn);
+}
+
+void isotp_cancel(int asks) {
+    static const char why[] = "a signal came while it waited";
+    if (waits_for_end != NOBODY && is_same_pipe(waits_for_end, asks)) {
+        isotp_send_abort();
+        isotp_send_done(refused(EINTR, why));
+    }
+    for (struct turn **place = &turns; *place; place = &(*place)->next) {
+        if (is_same_pipe((*place)->reply_to, asks)) {
+            leave(place, refused(EINTR, why));
+            return;
+        }
     }
 }
 
 bool isotp_takes_requests(void) {
-    return waits_for_turn == NOBODY;
+    return turn_count < TURNS;
 }
 
 bool isotp_is_busy(void) {
-    return isotp_is_sending() || waits_for_turn != NOBODY;
+    return isotp_is_sending() || turns;
 }
 
-/* The write that has waited for its turn. */
+/* The writes that have waited for their turn. */
 static void start_next(void) {
-    int reply_to = waits_for_turn;
-    waits_for_turn = NOBODY;
-    int error = start(next_data, next_length, reply_to);
-    if (error != ISOTP_LATER) {
-        request_reply(reply_to, error, (int)next_length);
+    while (turns && !isotp_is_sending()) {
+        struct turn *turn = turns;
+        turns = turn->next;
+        turn_count--;
+        int error = start(turn->data, turn->length, turn->reply_to);
+        if (error != SENT_LATER) {
+            request_reply(turn->reply_to, error, (int)turn->length);
+        }
+        free(turn);
+    }
+}
+
+/* What has been received: a frame of this socket, which was on the bus, or one for it. */
+static void take_item(const struct item *item) {
+    if (item->message_flags & MSG_CONFIRM) {
+        isotp_send_echo(item->number);
+    } else if (!isotp_broadcast() && item->frame.can_id == isotp.rx_id) {
+        isotp_receive_frame(&item->frame, item->moment);
     }
 }
 
 int64_t isotp_due(void) {
     while (first_waiting != end_waiting) {
         struct item item = waiting[first_waiting++ % WAITING];
-        isotp_receive_frame(&item.frame, item.moment);
+        take_item(&item);
     }
-    uint64_t next = isotp_send_due(), timeout = isotp_receive_due();
-    if (!isotp_is_sending() && waits_for_turn != NOBODY) {
-        start_next();
-        next = isotp_send_due();
-    }
+    isotp_send_due();
+    start_next();
     outbox_flush();
     if (first_waiting != end_waiting) {
         return 0;
     }
+    uint64_t next = isotp_send_due(), timeout = isotp_receive_due();
     next = timeout && (!next || timeout < next) ? timeout : next;
     uint64_t now = clock_now();
     return !next ? -1 : next > now ? (int64_t)(next - now) : 0;

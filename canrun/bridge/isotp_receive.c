@@ -22,11 +22,16 @@ static void deliver(const void *data, size_t length, uint64_t moment) {
     outbox_put(data, length, moment, bound_index, 0);
 }
 
-/* A fault is what the next read returns. */
 static void give_up(int error) {
     rx.is_open = false;
     rx.due = 0;
-    outbox_put_error(error);
+    error_set(error);
+}
+
+/* As in the kernel, nobody hears of a flow control frame that could not be sent. */
+static void flow_control_sent(const struct later *later, int error) {
+    (void)later;
+    (void)error;
 }
 
 static void send_flow_control(unsigned status) {
@@ -39,7 +44,8 @@ static void send_flow_control(unsigned status) {
     frame.data[address + 1] = isotp.flow.bs;
     frame.data[address + 2] = isotp.flow.stmin;
     rx.in_block = 0;
-    isotp_put(&frame);
+    rx.last_moment = 0;
+    isotp_put(&frame, flow_control_sent);
     rx.due = clock_now() + ISOTP_TIMEOUT;
 }
 

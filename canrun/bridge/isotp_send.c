@@ -9,11 +9,16 @@ enum { CONTINUE, WAIT, OVERFLOW_ };
 /* The longest message whose length has 12 bits. */
 #define SHORT_LENGTH 4095
 
+/* No frame is on its way: it waits for room, or could not be sent. */
+#define NO_FRAME UINT64_MAX
+
 static struct {
-    enum { IDLE, WAITS_FIRST, WAITS, SENDING } state;
+    /* It waits for flow control, the first or another; for the echo of a frame; or for the pause before the next. */
+    enum { IDLE, WAITS_FIRST, WAITS, SENDING, PAUSES } state;
     char data[ISOTP_LONGEST];
     size_t at, length;
     unsigned number, block, in_block; /* the next number; frames until a flow control frame, and since one */
+    uint64_t frame;                   /* the number of the frame whose echo is waited for */
     uint64_t gap, due;
 } tx;
 
@@ -25,6 +30,50 @@ static void end(int error) {
     tx.state = IDLE;
     tx.due = 0;
     isotp_send_done(error);
+}
+
+/* A frame has gone into the transmit queue: now it has to come back, or to be replied to, in time. */
+static void begin_waiting(void) {
+    tx.due = clock_now() + (tx.state == SENDING ? ISOTP_ECHO_TIMEOUT : ISOTP_TIMEOUT);
+}
+
+/* What could not be sent has no echo, and the message ends by that, as in the kernel. */
+static void sent_late(const struct later *later, int error) {
+    (void)later;
+    tx.frame = error ? NO_FRAME : isotp_last_number();
+    begin_waiting();
+}
+
+void isotp_send_abort(void) {
+    tx.state = IDLE;
+    tx.due = 0;
+    room_forget(sent_late);
+}
+
+/* Sends a frame of the message, after which its state is this. It is the state before, as the reply may come at once.
+ */
+static int put(const struct canfd_frame *frame, int state) {
+    tx.state = state;
+    tx.frame = NO_FRAME;
+    tx.due = 0;
+    int error = isotp_put(frame, sent_late);
+    if (error == SENT_LATER) {
+        return 0;
+    }
+    if (!error) {
+        tx.frame = isotp_last_number();
+    }
+    begin_waiting();
+    return error;
+}
+
+/* Sends the first frame of a message, or its only one: where that is refused, so is the message. */
+static int put_first(const struct canfd_frame *frame, int state) {
+    int error = put(frame, state);
+    if (error) {
+        isotp_send_abort();
+    }
+    return error;
 }
 
 /* Fills a frame with the next data, after the bytes of the protocol. */
@@ -50,7 +99,7 @@ static int send_single(void) {
     if (escape) {
         frame.data[address + 1] = (uint8_t)length;
     }
-    return isotp_put(&frame);
+    return put_first(&frame, SENDING);
 }
 
 static int send_first(void) {
@@ -67,19 +116,13 @@ static int send_first(void) {
         frame.data[address] |= (uint8_t)(tx.length >> 8);
         frame.data[address + 1] = (uint8_t)tx.length;
     }
-    /* Before it is sent, as the reply may come at once. */
-    tx.state = WAITS_FIRST;
     tx.number = 1;
-    int error = isotp_put(&frame);
-    tx.state = error ? IDLE : tx.state;
-    tx.due = error ? 0 : clock_now() + ISOTP_TIMEOUT;
-    if (!error && isotp.options.flags & CAN_ISOTP_CF_BROADCAST) {
-        tx.gap = isotp.options.flags & CAN_ISOTP_FORCE_TXSTMIN ? isotp.tx_stmin : isotp.options.frame_txtime;
+    if (isotp.options.flags & CAN_ISOTP_CF_BROADCAST) {
+        tx.gap = isotp.options.flags & CAN_ISOTP_FORCE_TXSTMIN ? isotp.tx_stmin : isotp.frame_txtime;
         tx.block = 0;
-        tx.state = SENDING;
-        tx.due = clock_now() + tx.gap;
+        return put_first(&frame, SENDING);
     }
-    return error;
+    return put_first(&frame, WAITS_FIRST);
 }
 
 int isotp_send_start(const char *data, size_t length) {
@@ -108,9 +151,19 @@ static uint64_t separation(uint8_t stmin) {
     return stmin <= 0x7F ? stmin * 1000000ull : (stmin - 0xF0) * 100000ull;
 }
 
+/* As in the kernel a frame that is refused is not sent again: the message ends as its echo does not come. */
+static void send_consecutive(void) {
+    unsigned address = isotp_address_size();
+    struct canfd_frame frame;
+    fill(&frame, address + 1);
+    frame.data[address] = (uint8_t)(CONSECUTIVE | (tx.number++ & 15));
+    tx.in_block++;
+    put(&frame, SENDING);
+}
+
 void isotp_send_flow_control(const struct canfd_frame *frame) {
     unsigned address = isotp_address_size();
-    if (tx.state != WAITS && tx.state != WAITS_FIRST) {
+    if ((tx.state != WAITS && tx.state != WAITS_FIRST) || !tx.due) {
         return;
     }
     if (frame->len < address + 3 || !isotp_is_well_padded(frame, address + 3)) {
@@ -119,40 +172,40 @@ void isotp_send_flow_control(const struct canfd_frame *frame) {
     }
     if (tx.state == WAITS_FIRST) {
         tx.block = frame->data[address + 1];
-        tx.gap = isotp.options.frame_txtime + separation(frame->data[address + 2]);
+        tx.gap = isotp.frame_txtime + separation(frame->data[address + 2]);
         tx.state = WAITS;
     }
     switch (frame->data[address] & 15) {
     case CONTINUE:
         tx.in_block = 0;
-        tx.state = SENDING;
-        tx.due = clock_now();
+        send_consecutive();
         break;
-    case WAIT: tx.due = clock_now() + ISOTP_TIMEOUT; break;
-    default: end((frame->data[address] & 15) == OVERFLOW_ ? EMSGSIZE : 0);
+    case WAIT: begin_waiting(); break;
+    case OVERFLOW_: end(EMSGSIZE); break;
+    default: end(EBADMSG);
     }
 }
 
-static void send_consecutive(void) {
-    unsigned address = isotp_address_size();
-    struct canfd_frame frame;
-    fill(&frame, address + 1);
-    frame.data[address] = (uint8_t)(CONSECUTIVE | (tx.number++ & 15));
-    bool is_last = tx.at == tx.length, is_end_of_block = tx.block && ++tx.in_block == tx.block;
-    if (is_end_of_block && !is_last) {
-        tx.state = WAITS;
+void isotp_send_echo(uint64_t number) {
+    if (tx.state != SENDING || number != tx.frame) {
+        return;
     }
-    int error = isotp_put(&frame);
-    if (error || is_last) {
-        end(error);
+    if (tx.at == tx.length) {
+        end(0);
+    } else if (tx.block && tx.in_block >= tx.block) {
+        tx.state = WAITS;
+        begin_waiting();
+    } else if (tx.gap) {
+        tx.state = PAUSES;
+        tx.due = clock_now() + tx.gap;
     } else {
-        tx.due = clock_now() + (tx.state == WAITS ? ISOTP_TIMEOUT : tx.gap);
+        send_consecutive();
     }
 }
 
 uint64_t isotp_send_due(void) {
     if (tx.due && tx.due <= clock_now()) {
-        if (tx.state == SENDING) {
+        if (tx.state == PAUSES) {
             send_consecutive();
         } else {
             end(ECOMM);

@@ -2,7 +2,9 @@
 #define _GNU_SOURCE
 #include "bridge.h"
 
+#include <errno.h>
 #include <fcntl.h>
+#include <poll.h>
 #include <signal.h>
 #include <sys/socket.h>
 #include <sys/un.h>
@@ -55,21 +57,39 @@ static int64_t sooner(int64_t one, int64_t other) {
 }
 
 static int64_t do_due(void) {
+    int64_t order = order_due();
     int64_t due = protocol == WIRE_BCM ? bcm_due() : protocol == WIRE_ISOTP ? isotp_due() : -1;
-    return sooner(due, outbox_counts_due());
+    return sooner(sooner(sooner(order, due), room_due()), outbox_counts_due());
 }
 
-/* Until the socket is closed, and what was accepted is sent. Once the server is gone and all is handed over, the
- * program reads the end of its socket: ENODEV. */
+/* Whether something that was accepted is still to be sent; frames that wait for room are given up after a while. */
+static bool is_busy(uint64_t closed) {
+    return isotp_is_busy() || (room_has_unasked() && clock_now() - closed < PATIENCE * SECOND);
+}
+
+/* Whether a signal has ended the close that waited: as in the kernel, the message is given up. */
+static bool close_is_over(void) {
+    struct pollfd polled = {request_closer(), 0, 0};
+    return polled.fd >= 0 && poll(&polled, 1, 0) > 0 && polled.revents & POLLHUP;
+}
+
+/* Until the socket is closed, and what was accepted is sent. Once the server is gone the socket has an error, and is
+ * bound to nothing. */
 static void serve(void) {
-    bool is_closed = false;
+    uint64_t closed = 0;
     for (;;) {
         int64_t due = do_due();
-        if ((is_closed && !isotp_is_busy()) || (sessions_ended() && outbox_is_empty())) {
+        if (protocol == WIRE_ISOTP && !isotp_is_busy()) {
+            request_release();
+        }
+        if (closed && (!is_busy(closed) || close_is_over())) {
             return;
         }
-        if (wait_for_input(due, !is_closed && isotp_takes_requests())) {
-            is_closed = !request_serve();
+        if (sessions_ended() && sessions_leave()) {
+            error_set(ENODEV);
+        }
+        if (wait_for_input(due, !closed && isotp_takes_requests() && room_takes_requests()) && !request_serve()) {
+            closed = clock_now();
         }
     }
 }

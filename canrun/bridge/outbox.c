@@ -67,15 +67,16 @@ static void put(const void *data, size_t length, const struct wire_trailer *trai
         outbox_flush();
         place = place_for(length + sizeof *trailer);
     }
+    if (is_counted && !uncounted++) {
+        count_at = clock_now() + COUNT_PAUSE;
+    }
     if (!place) {
         dropped++;
         return;
     }
-    memcpy(place, data, length);
-    memcpy(place + length, trailer, sizeof *trailer);
-    if (is_counted && !uncounted++) {
-        count_at = clock_now() + COUNT_PAUSE;
-    }
+    size_t front = protocol == WIRE_RAW ? 0 : sizeof *trailer;
+    memcpy(place + front, data, length);
+    memcpy(place + (front ? 0 : length), trailer, sizeof *trailer);
 }
 
 void outbox_put(const void *data, size_t length, uint64_t moment, int index, uint32_t message_flags) {
@@ -83,8 +84,8 @@ void outbox_put(const void *data, size_t length, uint64_t moment, int index, uin
     put(data, length, &trailer);
 }
 
-void outbox_put_error(int error) {
-    struct wire_trailer trailer = {.error = (uint16_t)error};
+void outbox_ring(void) {
+    struct wire_trailer trailer = {.is_error = 1};
     put("", 0, &trailer);
 }
 

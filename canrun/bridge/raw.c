@@ -27,6 +27,16 @@ static bool is_of_errors(const struct can_filter *filter) {
     return filter->can_mask & CAN_ERR_FLAG;
 }
 
+/* A filter as the kernel reduces it: one for 11 bits looks at no others. */
+static struct can_filter reduced(const struct can_filter *filter) {
+    struct can_filter result = *filter;
+    if (filter->can_mask & CAN_EFF_FLAG && !(filter->can_id & CAN_EFF_FLAG)) {
+        result.can_mask &= CAN_SFF_MASK | CAN_EFF_FLAG | CAN_RTR_FLAG;
+    }
+    result.can_id &= result.can_mask | CAN_INV_FILTER;
+    return result;
+}
+
 static uint32_t error_classes(void) {
     uint32_t classes = options.errors;
     for (size_t i = 0; i < filter_count; i++) {
@@ -44,7 +54,8 @@ static int filter_words(char words[FILTER_TEXT + 20]) {
         if (is_of_errors(&filters[i])) {
             continue;
         }
-        length += (size_t)sprintf(words + length, " %X %X", filters[i].can_id, filters[i].can_mask);
+        struct can_filter filter = reduced(&filters[i]);
+        length += (size_t)sprintf(words + length, " %X %X", filter.can_id, filter.can_mask);
         if (length > FILTER_TEXT) {
             return -1;
         }
@@ -169,28 +180,31 @@ void raw_want_own(void) {
 
 /* ---- frames ---- */
 
-int raw_send(struct session *to, const struct canfd_frame *frame, bool is_fd, bool is_waiting, bool is_unasked) {
+bool raw_waits(void) {
+    return getenv("CANBUSD_RUN_WAIT");
+}
+
+int raw_send(struct session *to, const struct canfd_frame *frame, bool is_fd, const struct later *later) {
     if (frame->len > (is_fd ? CANFD_MAX_DLEN : CAN_MAX_DLEN)) {
         return refused(EINVAL, "the frame is too long");
     }
+    /* The server makes its own error message frames, and takes none: they are accepted, as by vcan, and go nowhere. */
     if (frame->can_id & CAN_ERR_FLAG) {
-        return refused(EINVAL, "error message frames can't be sent");
+        return 0;
     }
-    for (;;) {
-        int error = session_send(to, frame, is_fd);
-        if (error != ENOBUFS || !is_waiting) {
-            return error;
-        }
-        error = session_wait_for_room(to, is_unasked);
-        if (error) {
-            return error;
-        }
-    }
+    return room_send(to, frame, is_fd, later);
 }
 
-int raw_write(int index, const void *data, size_t length, bool is_unasked) {
+bool raw_is_error(const void *data) {
+    canid_t identifier;
+    memcpy(&identifier, data, sizeof identifier);
+    return identifier & CAN_ERR_FLAG;
+}
+
+int raw_write(int index, const void *data, size_t length, int reply_to) {
     struct canfd_frame frame = {0};
-    bool is_fd = length == CANFD_MTU, is_waiting = is_unasked || getenv("CANBUSD_RUN_WAIT");
+    bool is_fd = length == CANFD_MTU;
+    struct later later = {reply_to == NOBODY ? NULL : request_done, reply_to, (int)length};
     struct session *to = sessions_for(index == WIRE_BOUND ? bound_index : index);
     if (!to) {
         return ENXIO;
@@ -199,15 +213,16 @@ int raw_write(int index, const void *data, size_t length, bool is_unasked) {
         return refused(EINVAL, is_fd ? "CAN_RAW_FD_FRAMES is off" : "a frame has 16 bytes, or 72");
     }
     memcpy(&frame, data, length);
-    return raw_send(to, &frame, is_fd, is_waiting, is_unasked);
+    return raw_send(to, &frame, is_fd, raw_waits() || !later.done ? &later : NULL);
 }
 
 /* The rule of linux/can.h, for filters that the server has no room for. */
 static bool passes(canid_t identifier) {
     bool any = false, all = true;
     for (size_t i = 0; i < filter_count; i++) {
-        canid_t differs = (identifier ^ filters[i].can_id) & filters[i].can_mask & ~CAN_INV_FILTER;
-        bool matches = !differs != !!(filters[i].can_id & CAN_INV_FILTER);
+        struct can_filter filter = reduced(&filters[i]);
+        canid_t differs = (identifier ^ filter.can_id) & filter.can_mask & ~CAN_INV_FILTER;
+        bool matches = !differs != !!(filter.can_id & CAN_INV_FILTER);
         if (!is_of_errors(&filters[i])) {
             any |= matches;
             all &= matches;

@@ -3,8 +3,11 @@
 #include "bridge.h"
 
 #include <errno.h>
+#include <poll.h>
 #include <string.h>
+#include <sys/epoll.h>
 #include <sys/socket.h>
+#include <sys/stat.h>
 #include <unistd.h>
 
 struct reply {
@@ -29,17 +32,62 @@ void request_reply(int to, int error, int value) {
     put_reply(to, error, &reply);
 }
 
+void request_done(const struct later *later, int error) {
+    request_reply(later->reply_to, error, later->value);
+}
+
+bool is_same_pipe(int one, int other) {
+    struct stat first, second;
+    return !fstat(one, &first) && !fstat(other, &second) && first.st_ino == second.st_ino &&
+           first.st_dev == second.st_dev;
+}
+
+/* The write whose reply comes by this pipe waits no longer; it may have had its reply. */
+static int cancel(int asks) {
+    if (protocol == WIRE_ISOTP) {
+        isotp_cancel(asks);
+    }
+    room_cancel(asks);
+    close(asks);
+    return SENT_LATER;
+}
+
 static int send_message(const struct wire_request *request, const char *data, size_t length, int to,
                         struct reply *reply) {
     reply->head.value = (int)length;
     switch (protocol) {
-    case WIRE_BCM: return bcm_write(request->ifindex, data, length, &reply->head.value);
+    case WIRE_BCM: return bcm_write(request->ifindex, data, length, to, &reply->head.value);
     case WIRE_ISOTP: return isotp_write(data, length, request->number, to);
-    default: return raw_write(request->ifindex, data, length, false);
+    default:
+        /* A byte of data has the library say that this frame goes nowhere. */
+        reply->head.length = length >= CAN_MTU && raw_is_error(data);
+        return raw_write(request->ifindex, data, length, to);
     }
 }
 
+/* The other end of the pair by which a close waits, once the socket is closed. */
+static int closer = -1;
+
+int request_closer(void) {
+    return closer;
+}
+
+/* The program closes a copy of the socket. Where it was the last, and a message is being sent, the close waits for the
+ * end of this bridge. */
+static int begin_close(int pair) {
+    struct pollfd polled = {pair, POLLIN, 0};
+    if (isotp_is_busy() && poll(&polled, 1, PATIENCE * 1000) > 0 && program_is_gone() && closer < 0) {
+        closer = pair;
+    } else {
+        close(pair);
+    }
+    return SENT_LATER;
+}
+
 static int bind_to(const struct wire_request *request) {
+    if (protocol == WIRE_BCM && is_bound) {
+        return refused(EISCONN, "the socket is connected already");
+    }
     return protocol == WIRE_ISOTP ? isotp_bind(request->ifindex, request->rx_id, request->tx_id)
                                   : sessions_bind(request->ifindex);
 }
@@ -62,7 +110,7 @@ static int get_address(struct reply *reply) {
     return 0;
 }
 
-/* Carries out a request whose data are these, and whose reply goes there; returns an errno, 0, or ISOTP_LATER. */
+/* Carries out a request whose data are these, and whose reply goes there; returns an errno, 0, or SENT_LATER. */
 static int carry_out(const struct wire_request *request, const char *data, size_t length, int to, struct reply *reply) {
     switch (request->kind) {
     case WIRE_SEND: return send_message(request, data, length, to, reply);
@@ -71,8 +119,57 @@ static int carry_out(const struct wire_request *request, const char *data, size_
     case WIRE_GET: return get_option(request->option, reply);
     case WIRE_SOCKET_SET: outbox_set(request->option, request->number); return 0;
     case WIRE_ADDRESS: return get_address(reply);
+    case WIRE_ERROR: reply->head.value = error_take(); return 0;
+    case WIRE_CLOSE: return begin_close(to);
+    case WIRE_CANCEL: return cancel(to);
     default: return refused(EINVAL, "library and bridge are not of the same version");
     }
+}
+
+/* While a message of ISO-TP is being sent its request stays in the socket, so that the program's end has no room, and
+ * is not ready to be written. So do those that come after it, which are read all the same. */
+static int kept_length;
+static unsigned kept_count;
+
+static ssize_t next_request(struct msghdr *message) {
+    if (protocol != WIRE_ISOTP) {
+        return recvmsg(PROGRAM, message, MSG_DONTWAIT | MSG_CMSG_CLOEXEC);
+    }
+    setsockopt(PROGRAM, SOL_SOCKET, SO_PEEK_OFF, &kept_length, sizeof kept_length);
+    ssize_t length = recvmsg(PROGRAM, message, MSG_DONTWAIT | MSG_CMSG_CLOEXEC | MSG_PEEK | MSG_TRUNC);
+    kept_length += length > 0 ? (int)length : 0;
+    kept_count += length > 0;
+    return length;
+}
+
+int request_news(void) {
+    static int news = -1;
+    struct epoll_event event = {.events = EPOLLIN | EPOLLET};
+    if (news < 0 && (news = epoll_create1(EPOLL_CLOEXEC)) >= 0) {
+        epoll_ctl(news, EPOLL_CTL_ADD, PROGRAM, &event);
+    }
+    epoll_wait(news, &event, 1, 0);
+    return news;
+}
+
+bool request_is_kept(void) {
+    if (protocol != WIRE_ISOTP) {
+        return false;
+    }
+    setsockopt(PROGRAM, SOL_SOCKET, SO_PEEK_OFF, &kept_length, sizeof kept_length);
+    return recv(PROGRAM, &(char){0}, 1, MSG_DONTWAIT | MSG_PEEK | MSG_TRUNC) > 0;
+}
+
+void request_release(void) {
+    while (kept_count) {
+        if (recv(PROGRAM, &(char){0}, 1, MSG_DONTWAIT) >= 0) {
+            kept_count--;
+        } else if (errno != ECONNRESET) {
+            /* ECONNRESET, where the program has left something unread, comes once in place of a request. */
+            kept_count = 0;
+        }
+    }
+    kept_length = 0;
 }
 
 bool request_serve(void) {
@@ -87,27 +184,28 @@ bool request_serve(void) {
     struct wire_request request;
     static struct reply reply;
     int to;
-    ssize_t length = recvmsg(PROGRAM, &message, MSG_DONTWAIT | MSG_CMSG_CLOEXEC);
+    ssize_t length = next_request(&message);
     if (length <= 0) {
         /* ECONNRESET: it has left frames unread. What it has sent before its end comes first. */
         return length < 0 && (errno == EAGAIN || errno == EINTR || errno == ECONNRESET);
     }
+    length = MIN(length, (ssize_t)sizeof data);
     struct cmsghdr *rights = CMSG_FIRSTHDR(&message);
     if (!rights) {
         if (protocol == WIRE_RAW) {
-            raw_write(WIRE_BOUND, data, (size_t)length, true);
+            raw_write(WIRE_BOUND, data, (size_t)length, NOBODY);
         }
         return true;
     }
     memcpy(&to, CMSG_DATA(rights), sizeof to);
-    if ((size_t)length < sizeof request) {
+    memcpy(&request, data, MIN((size_t)length, sizeof request));
+    if ((size_t)length < sizeof request || request.length > (size_t)length - sizeof request) {
         close(to);
         return true;
     }
-    memcpy(&request, data, sizeof request);
     reply.head = (struct wire_reply){0};
-    int error = carry_out(&request, data + sizeof request, (size_t)length - sizeof request, to, &reply);
-    if (error != ISOTP_LATER) {
+    int error = carry_out(&request, data + sizeof request, request.length, to, &reply);
+    if (error != SENT_LATER) {
         put_reply(to, error, &reply);
     }
     return true;

@@ -14,10 +14,6 @@
 
 /* The longest text of commands that are given at once: filters, and the echo. */
 #define LONGEST 2048
-/* How often the counts are looked at while a write waits for room, in nanoseconds: at first, and at last. */
-#define SHORT_PAUSE 100000
-#define LONG_PAUSE 2000000
-
 /* What a refusal of the server is to a program: as SocketCAN has it. */
 static int error_of(const char *reply) {
     static const struct {
@@ -61,7 +57,7 @@ static void keep_number(struct session *session, uint64_t number) {
         session->sent_end = number;
     }
     for (; session->sent_end <= number; session->sent_end++) {
-        session->sent[session->sent_end % NUMBERS_KEPT / 8] &= (uint8_t)~(1 << session->sent_end % 8);
+        session->sent[session->sent_end % NUMBERS_KEPT / 8] &= (uint8_t) ~(1 << session->sent_end % 8);
     }
     session->sent[number % NUMBERS_KEPT / 8] |= (uint8_t)(1 << number % 8);
 }
@@ -69,6 +65,10 @@ static void keep_number(struct session *session, uint64_t number) {
 static bool is_own_number(const struct session *session, uint64_t number) {
     bool is_kept = number < session->sent_end && session->sent_end - number <= NUMBERS_KEPT;
     return is_kept && session->sent[number % NUMBERS_KEPT / 8] >> number % 8 & 1;
+}
+
+uint64_t session_last_number(const struct session *session) {
+    return session->sent_end - 1;
 }
 
 /* Takes the text that accepts a frame, with its number; false where it is another. */
@@ -97,12 +97,15 @@ static uint32_t message_flags(const struct session *session, const struct item *
 /* ---- what the server says ---- */
 
 static void handle_reply(struct session *session, const char *text) {
+    unsigned long queued;
     unsigned dropped;
     bool is_accepted = session->due == DUE_VERDICT && note_sent(session, text);
     if (is_accepted || (session->due == DUE_ECHO && !strcmp(text, "echo"))) {
         session->due = DUE_NOTHING;
-    } else if (session->is_counting && sscanf(text, "stats %*u %u", &dropped) == 1) {
+    } else if (session->is_counting && sscanf(text, "stats %lu %u", &queued, &dropped) == 2) {
         session->is_counting = false;
+        session->is_answered = session->is_asked;
+        session->queued = queued;
         outbox_server_dropped(session, dropped);
     } else if (session->due && !*session->reply && strcmp(text, "ok") != 0) {
         snprintf(session->reply, sizeof session->reply, "%s", text);
@@ -127,9 +130,12 @@ static void handle_input(struct session *session) {
         *last = 0;
         if (!message_to_item(open_at, &item)) {
             handle_reply(session, open_at);
-        } else if (session->is_receiving) {
+            continue;
+        }
+        session->seen++;
+        if (session->is_receiving) {
             item.message_flags = message_flags(session, &item);
-            item_received(&item, session->index);
+            order_put(&item, session->index);
         }
     }
     session->have = (size_t)(end - at);
@@ -249,36 +255,16 @@ void session_ask_counts(struct session *session) {
     }
 }
 
-/* How many frames have left the transmit queue, one way or the other. */
-static int count_of_gone(struct session *session, uint64_t *count) {
-    unsigned long done, lost;
+int session_counts(struct session *session, uint64_t *gone, uint64_t *waiting) {
+    unsigned long done, kept, lost;
     int error = session_command(session, "< stats >");
     if (error) {
         return error;
     }
-    if (sscanf(session->reply, "stats %*u %*u %*u %*u %lu %*u %lu", &done, &lost) != 2) {
+    if (sscanf(session->reply, "stats %*u %*u %*u %*u %lu %lu %lu", &done, &kept, &lost) != 3) {
         return refused(ENETDOWN, session->reply);
     }
-    *count = done + lost;
+    *gone = done + lost;
+    *waiting = kept;
     return 0;
-}
-
-/* A refused send is an entry of the server's record, a look at the counts is none. */
-int session_wait_for_room(struct session *session, bool is_unasked) {
-    uint64_t before = 0, count = 0, closed = 0;
-    int error = count_of_gone(session, &before);
-    for (int64_t pause = SHORT_PAUSE; !error; pause = MIN(pause * 2, LONG_PAUSE)) {
-        wait_for_input(pause, false);
-        if (program_is_gone()) {
-            closed = closed ? closed : clock_now();
-            if (!is_unasked || clock_now() - closed > PATIENCE * SECOND) {
-                return refused(ENETDOWN, "the program has ended");
-            }
-        }
-        error = count_of_gone(session, &count);
-        if (!error && count != before) {
-            return 0;
-        }
-    }
-    return error;
 }

@@ -49,6 +49,25 @@ static int start_all(struct session *started[INTERFACE_MOST], int *count) {
     return *count || error ? error : refused(ENODEV, "CANBUSD_INTERFACES has no interface");
 }
 
+/* Ends all sessions, and what waits for them. */
+static void end_all(void) {
+    order_flush();
+    while (session_count) {
+        struct session *session = sessions[session_count - 1];
+        room_leave(session->index);
+        session_count--;
+        session_end(session);
+    }
+}
+
+bool sessions_leave(void) {
+    bool was_bound = is_bound;
+    end_all();
+    is_bound = false;
+    bound_index = 0;
+    return was_bound;
+}
+
 /* As in the kernel, a bind that is refused changes nothing. */
 int sessions_bind(int index) {
     struct session *started[INTERFACE_MOST];
@@ -68,9 +87,7 @@ int sessions_bind(int index) {
         }
         return error;
     }
-    while (session_count) {
-        session_end(sessions[--session_count]);
-    }
+    end_all();
     memcpy(sessions, started, (size_t)count * sizeof *started);
     session_count = count;
     is_bound = true;

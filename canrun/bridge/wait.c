@@ -17,25 +17,30 @@ static int wait_for(struct pollfd *polled, nfds_t count, int64_t nanoseconds) {
 }
 
 bool wait_for_input(int64_t nanoseconds, bool takes_requests) {
-    static struct pollfd polled[1 + INTERFACE_MOST];
+    static struct pollfd polled[2 + INTERFACE_MOST];
     short events = (short)((takes_requests ? POLLIN : 0) | (outbox_is_empty() ? 0 : POLLOUT));
+    /* A socket that keeps its requests is ready to be read as long as it does. */
+    int news = takes_requests && protocol == WIRE_ISOTP ? request_news() : -1;
+    bool is_kept = news >= 0 && request_is_kept();
     /* A socket whose other end is closed is ready for ever, though nobody asks. */
-    polled[0] = (struct pollfd){takes_requests || !program_is_gone() ? PROGRAM : -1, events, 0};
+    polled[0] = (struct pollfd){takes_requests || !program_is_gone() ? PROGRAM : request_closer(), events, 0};
+    polled[0].events &= (short)(news >= 0 ? ~POLLIN : ~0);
+    polled[1] = (struct pollfd){news, POLLIN, 0};
     for (int i = 0; i < session_count; i++) {
-        polled[1 + i] = (struct pollfd){outbox_is_crowded() ? -1 : sessions[i]->fd, POLLIN, 0};
+        polled[2 + i] = (struct pollfd){outbox_is_crowded() ? -1 : sessions[i]->fd, POLLIN, 0};
     }
-    if (wait_for(polled, 1 + (nfds_t)session_count, nanoseconds) <= 0) {
-        return false;
+    if (wait_for(polled, 2 + (nfds_t)session_count, is_kept ? 0 : nanoseconds) <= 0) {
+        return is_kept;
     }
     if (polled[0].revents & POLLOUT) {
         outbox_flush();
     }
     for (int i = 0; i < session_count; i++) {
-        if (polled[1 + i].revents) {
+        if (polled[2 + i].revents) {
             session_read(sessions[i], false);
         }
     }
-    return takes_requests && polled[0].revents & (POLLIN | POLLHUP | POLLERR);
+    return takes_requests && (is_kept || polled[0].revents & (POLLIN | POLLHUP | POLLERR) || polled[1].revents);
 }
 
 bool wait_for_session(const struct session *session, uint64_t until) {

@@ -2,9 +2,11 @@
 #define _GNU_SOURCE
 #include "program.h"
 #include "server.h"
+#include "virtual.h"
 
 #include "../shared/address.h"
 #include "../shared/interfaces.h"
+#include "../virtual/run.h"
 
 #include <errno.h>
 #include <stdio.h>
@@ -13,12 +15,14 @@
 #include <unistd.h>
 
 #define LIBRARY "libcanbusd-run.so"
+#define VIRTUAL_LIBRARY "libcanbusd-virtual.so"
 /* The statuses of env, timeout and their kin: a fault of the command itself, a program that can't be run, and none. */
 enum { STATUS_FAULT = 125, STATUS_NOT_RUN = 126, STATUS_NOT_FOUND = 127 };
 
 /* clang-format off */
 static const char HELP[] =
     "usage: canbusd-run [--address ADDR] [--interfaces NAME,..] [--wait] [--] PROGRAM [ARGUMENT ..]\n"
+    "       canbusd-run --virtual [--date D] [--until S] [--stall S] [--seed N] [--jitter MICROS] [--] PROGRAM ..\n"
     "       canbusd-run --help | --version\n"
     "\n"
     "Runs PROGRAM, and what it starts, so that CAN sockets (CAN_RAW, CAN_BCM, CAN_ISOTP) are sockets of a canbusd\n"
@@ -31,13 +35,27 @@ static const char HELP[] =
     "  --wait                wait for a server that is not there yet, and in each write for room in a full\n"
     "                        transmit queue; without it the run fails, and the write with ENOBUFS\n"
     "\n"
+    "With --virtual the clock of PROGRAM, and of all that it starts, a server too, is simulated: it stands still while\n"
+    "one of them runs, and jumps to the next moment once all wait. Hours take seconds, and each run is the same. CAN\n"
+    "sockets are then those of programs that canbusd-run starts inside, as in a script.\n"
+    "\n"
+    "  --date D              the date at the start: 2026-01-31, 2026-01-31T12:00:00 (UTC), seconds since 1970, or now\n"
+    "                        (default: 2026-01-01)\n"
+    "  --until S             end PROGRAM after so many seconds of its clock (SIGTERM)\n"
+    "  --stall S             give up, with status 125, where nothing goes on for so many seconds of real time\n"
+    "                        (default: 30; 0: never)\n"
+    "  --seed N              another order of those that are due at one moment, the same for each N (default: 0, by age)\n"
+    "  --jitter MICROS       each timed wait is longer by up to so many microseconds, which N determines (default: 0)\n"
+    "\n"
     "CANBUSD_RUN_DEBUG=1 in the environment writes each call that is refused, and why, to standard error.\n"
     "The status is the program's; 125 where canbusd-run fails, 126 where PROGRAM can't be run, 127 where there is none.\n";
 /* clang-format on */
 
 struct words {
     const char *address, *interfaces;
-    int waits;
+    int waits, is_virtual;
+    const char *virtual_word; /* an option that only --virtual has */
+    struct virtual_options virtual;
     char **program;
 };
 
@@ -58,8 +76,42 @@ static const char *value_of(const char *name, char ***at) {
     return (**at)[length] ? NULL : (*at)[1] ? *++*at : "";
 }
 
+/* Takes an option of --virtual; false where it is none. `fault` is set where its value is wrong. */
+static int take_virtual(char ***at, struct words *words, int *status) {
+    static const char *const names[] = {"date", "until", "stall", "seed", "jitter"};
+    for (size_t i = 0; i < sizeof names / sizeof *names; i++) {
+        char option[16];
+        snprintf(option, sizeof option, "--%s", names[i]);
+        const char *value = value_of(option, at);
+        if (value) {
+            const char *wrong = virtual_option(&words->virtual, names[i], value);
+            words->virtual_word = names[i];
+            if (wrong) {
+                fprintf(stderr, "canbusd-run: %s %s: %s\n", option, value, wrong);
+                *status = STATUS_FAULT;
+            }
+            return 1;
+        }
+    }
+    return 0;
+}
+
+/* What does not go together: canbusd-run starts no server, so with --virtual there is none yet. */
+static int check_words(const struct words *words) {
+    if (words->virtual_word && !words->is_virtual) {
+        return fault("only --virtual has this option", words->virtual_word);
+    }
+    if (words->is_virtual && (words->address || words->interfaces || words->waits)) {
+        return fault("--virtual has no --address, --interfaces or --wait: PROGRAM starts the server, and canbusd-run "
+                     "again for programs with CAN sockets",
+                     NULL);
+    }
+    return *words->program ? 0 : fault("which program? --help shows how it is used", NULL);
+}
+
 /* Returns 0, or a status after a line on standard error. */
 static int read_words(char **at, struct words *words) {
+    int status = 0;
     for (; *at && !strncmp(*at, "--", 2); at++) {
         const char *value;
         if (!(*at)[2]) {
@@ -68,6 +120,12 @@ static int read_words(char **at, struct words *words) {
         }
         if (!strcmp(*at, "--wait")) {
             words->waits = 1;
+        } else if (!strcmp(*at, "--virtual")) {
+            words->is_virtual = 1;
+        } else if (take_virtual(&at, words, &status)) {
+            if (status) {
+                return status;
+            }
         } else if ((value = value_of("--address", &at))) {
             words->address = value;
         } else if ((value = value_of("--interfaces", &at))) {
@@ -80,7 +138,7 @@ static int read_words(char **at, struct words *words) {
         }
     }
     words->program = at;
-    return *at ? 0 : fault("which program? --help shows how it is used", NULL);
+    return check_words(words);
 }
 
 /* Has the program find these interfaces, which the server has to have; returns 0, or a status after a line. */
@@ -112,16 +170,16 @@ static void put_first(const char *variable, const char *text, const char *separa
     }
 }
 
-/* Has the loader load the library before all others; the bridge is beside it. */
-static int preload(void) {
-    char path[PATH_MAX], library[PATH_MAX + sizeof LIBRARY];
+/* Has the loader load a library before all others; what it needs is beside it. */
+static int preload(const char *name) {
+    char path[PATH_MAX], library[PATH_MAX + sizeof VIRTUAL_LIBRARY];
     ssize_t length = readlink("/proc/self/exe", path, sizeof path - 1);
     if (length < 0) {
         return fault("/proc/self/exe can't be read", strerror(errno));
     }
     path[length] = 0;
     *strrchr(path, '/') = 0;
-    snprintf(library, sizeof library, "%s/" LIBRARY, path);
+    snprintf(library, sizeof library, "%s/%s", path, name);
     if (strpbrk(library, " :")) {
         return fault("the loader takes no library from a path with a space or a colon; move canbusd to another",
                      library);
@@ -150,9 +208,24 @@ static int become(char **program) {
     return error == ENOENT ? STATUS_NOT_FOUND : STATUS_NOT_RUN;
 }
 
+/* Runs the program, and all that it starts, with a simulated clock. */
+static int run_virtual(const struct words *words) {
+    char path[PATH_MAX];
+    int status = 0, error = program_find(words->program[0], path);
+    if (getenv(RUN_SETTING)) {
+        return fault("--virtual: this is a run in virtual time already", NULL);
+    }
+    if (error) {
+        fault(words->program[0], strerror(error));
+        return error == ENOENT ? STATUS_NOT_FOUND : STATUS_NOT_RUN;
+    }
+    status = preload(VIRTUAL_LIBRARY);
+    return status ? status : virtual_run(&words->virtual, path, words->program);
+}
+
 int main(int count, char **all) {
     const char *address = getenv("CANBUSD_ADDRESS");
-    struct words words = {.address = address && *address ? address : ADDRESS_DEFAULT};
+    struct words words = {.virtual = VIRTUAL_DEFAULTS};
     struct server server;
     if (count > 1 && !strcmp(all[1], "--help")) {
         return fputs(HELP, stdout) < 0 || fflush(stdout) ? STATUS_FAULT : 0;
@@ -164,6 +237,12 @@ int main(int count, char **all) {
     if (status) {
         return status;
     }
+    if (words.is_virtual) {
+        return run_virtual(&words);
+    }
+    if (!words.address) {
+        words.address = address && *address ? address : ADDRESS_DEFAULT;
+    }
     if (!server_find(words.address, words.waits, &server)) {
         return STATUS_FAULT;
     }
@@ -173,6 +252,6 @@ int main(int count, char **all) {
         setenv("CANBUSD_RUN_WAIT", "1", 1);
     }
     status = words.interfaces ? show_interfaces(words.interfaces) : 0;
-    status = status ? status : preload();
+    status = status ? status : preload(LIBRARY);
     return status ? status : become(words.program);
 }

@@ -11,14 +11,13 @@
 
 static const char GONE[] = "the server is gone";
 
-/* Sends it with the write end of the pipe. Returns an errno, or 0. */
-static int put_request(int fd, int reply_to, const struct wire_request *request, const struct iovec *data,
-                       size_t pieces) {
-    struct iovec parts[1 + WIRE_PARTS] = {{(void *)request, sizeof *request}};
+int put_request(int fd, int with, const struct wire_request *request, const struct iovec *data, size_t pieces) {
+    struct iovec parts[1 + pieces];
     union {
         char room[CMSG_SPACE(sizeof(int))];
         struct cmsghdr align;
     } control = {.room = {0}};
+    parts[0] = (struct iovec){(void *)request, sizeof *request};
     if (pieces) {
         memcpy(parts + 1, data, pieces * sizeof *data);
     }
@@ -28,42 +27,57 @@ static int put_request(int fd, int reply_to, const struct wire_request *request,
     rights->cmsg_level = SOL_SOCKET;
     rights->cmsg_type = SCM_RIGHTS;
     rights->cmsg_len = CMSG_LEN(sizeof(int));
-    memcpy(CMSG_DATA(rights), &reply_to, sizeof(int));
+    memcpy(CMSG_DATA(rights), &with, sizeof(int));
     /* Requests are taken at once, so there is room soon also where the program does not want to wait. */
-    long sent;
-    while ((sent = syscall(SYS_sendmsg, fd, &message, MSG_NOSIGNAL)) < 0 && errno == EINTR) {
-    }
-    return sent >= 0 ? 0 : errno;
+    return syscall(SYS_sendmsg, fd, &message, MSG_NOSIGNAL) >= 0 ? 0 : errno;
 }
 
-/* Reads up to this many bytes; fewer only at the end. A signal is no reason to forget what became of a request. */
-static size_t read_whole(int fd, void *data, size_t length) {
+/* Where the reply comes, and of what. */
+struct asked {
+    int fd, reply_from;
+    const char *what;
+    bool may_end; /* a signal ends the wait */
+};
+
+/* Has the bridge end the wait of a write; the reply says whether that came too late. */
+static void cancel(struct asked *asked) {
+    struct wire_request request = {.kind = WIRE_CANCEL};
+    while (put_request(asked->fd, asked->reply_from, &request, NULL, 0) == EINTR) {
+    }
+    asked->may_end = false;
+}
+
+/* Reads up to this many bytes; fewer only at the end. A signal is no reason to forget what became of a request; the
+ * kernel goes on by itself where its handler has SA_RESTART. */
+static size_t read_whole(struct asked *asked, void *data, size_t length) {
     size_t done = 0;
     while (done < length) {
-        long part = syscall(SYS_read, fd, (char *)data + done, length - done);
+        long part = syscall(SYS_read, asked->reply_from, (char *)data + done, length - done);
         if (part > 0) {
             done += (size_t)part;
         } else if (part == 0 || errno != EINTR) {
             break;
+        } else if (asked->may_end) {
+            cancel(asked);
         }
     }
     return done;
 }
 
-static int get_reply(int fd, const char *what, struct answer *answer) {
+static int get_reply(struct asked *asked, struct answer *answer) {
     struct wire_reply head;
     char text[256] = "";
-    if (read_whole(fd, &head, sizeof head) < sizeof head) {
-        return refuse(what, ENXIO, GONE);
+    if (read_whole(asked, &head, sizeof head) < sizeof head) {
+        return refuse(asked->what, ENXIO, GONE);
     }
     if (head.error) {
-        read_whole(fd, text, MIN(head.length, sizeof text - 1));
-        return refuse(what, head.error, text);
+        read_whole(asked, text, MIN(head.length, sizeof text - 1));
+        return refuse(asked->what, head.error, text);
     }
     if (answer) {
         answer->value = head.value;
         answer->length = head.length;
-        read_whole(fd, answer->data, MIN(head.length, answer->room));
+        read_whole(asked, answer->data, MIN(head.length, answer->room));
     }
     return 0;
 }
@@ -71,13 +85,13 @@ static int get_reply(int fd, const char *what, struct answer *answer) {
 int ask(int fd, const char *what, const struct wire_request *request, const struct iovec *data, size_t pieces,
         struct answer *answer) {
     int ends[2], before = errno;
-    if (pieces > WIRE_PARTS) {
-        return refuse(what, EMSGSIZE, "too many pieces");
-    }
     if (syscall(SYS_pipe2, ends, O_CLOEXEC)) {
-        return refuse(what, ENOBUFS, "there is no descriptor for the reply");
+        return refuse(what, errno, "there is no descriptor for the reply");
     }
-    int error = put_request(fd, ends[1], request, data, pieces);
+    struct asked asked = {fd, ends[0], what, request->kind == WIRE_SEND};
+    int error;
+    while ((error = put_request(fd, ends[1], request, data, pieces)) == EINTR && !asked.may_end) {
+    }
     syscall(SYS_close, ends[1]);
     int result = 0;
     if (error == EPIPE || error == ECONNRESET) {
@@ -85,10 +99,18 @@ int ask(int fd, const char *what, const struct wire_request *request, const stru
     } else if (error) {
         result = refuse(what, error, "the request did not reach the bridge");
     } else {
-        result = get_reply(ends[0], what, answer);
+        result = get_reply(&asked, answer);
     }
     error = result ? errno : before;
     syscall(SYS_close, ends[0]);
     errno = error;
     return result;
+}
+
+int take_error(int fd) {
+    struct answer answer = {0};
+    int before = errno;
+    int error = ask(fd, "getsockopt", &(struct wire_request){.kind = WIRE_ERROR}, NULL, 0, &answer) ? 0 : answer.value;
+    errno = before;
+    return error;
 }

@@ -29,7 +29,8 @@ uint64_t kept_stamp(int fd) {
 
 static bool is_of_interface(unsigned long request) {
     return request == SIOCGIFNAME || request == SIOCGIFINDEX || request == SIOCGIFMTU || request == SIOCGIFFLAGS ||
-           request == SIOCGIFHWADDR || request == SIOCGIFTXQLEN;
+           request == SIOCGIFHWADDR || request == SIOCGIFTXQLEN || request == SIOCGIFMETRIC || request == SIOCGIFMAP ||
+           request == SIOCSIFFLAGS;
 }
 
 static bool is_of_stamp(unsigned long request) {
@@ -38,7 +39,7 @@ static bool is_of_stamp(unsigned long request) {
 }
 
 /* The facts of an interface of the server, which always is up. */
-static int interface_ioctl(unsigned long request, struct ifreq *interface) {
+static int fact_of_interface(unsigned long request, struct ifreq *interface) {
     if (request == SIOCGIFNAME) {
         char name[IFNAMSIZ];
         int result = name_of_index(interface->ifr_ifindex, name);
@@ -56,11 +57,23 @@ static int interface_ioctl(unsigned long request, struct ifreq *interface) {
     case SIOCGIFMTU: interface->ifr_mtu = CANFD_MTU; break;
     case SIOCGIFFLAGS: interface->ifr_flags = IFF_UP | IFF_RUNNING | IFF_NOARP; break;
     case SIOCGIFTXQLEN: interface->ifr_qlen = TXQUEUE; break;
+    case SIOCGIFMETRIC: interface->ifr_metric = 0; break;
+    case SIOCGIFMAP: memset(&interface->ifr_map, 0, sizeof interface->ifr_map); break;
+    case SIOCSIFFLAGS: return interface->ifr_flags & IFF_UP ? 0 : refuse("ioctl", EPERM, "interfaces are always up");
     default:
         memset(&interface->ifr_hwaddr, 0, sizeof interface->ifr_hwaddr);
         interface->ifr_hwaddr.sa_family = ARPHRD_CAN;
     }
     return 0;
+}
+
+static int interface_ioctl(unsigned long request, void *argument) {
+    struct ifreq interface;
+    if (!copy_from(&interface, argument, sizeof interface)) {
+        return fail(EFAULT);
+    }
+    int result = fact_of_interface(request, &interface);
+    return result || copy_to(argument, &interface, sizeof interface) ? result : fail(EFAULT);
 }
 
 static int stamp_ioctl(int fd, unsigned long request, void *argument) {
@@ -70,8 +83,7 @@ static int stamp_ioctl(int fd, unsigned long request, void *argument) {
         return refuse("ioctl", ENOENT, "no frame has been received by this descriptor");
     }
     int64_t parts[2] = {(int64_t)(stamp / SECOND), (int64_t)(stamp % SECOND / (is_micro ? 1000 : 1))};
-    memcpy(argument, parts, sizeof parts);
-    return 0;
+    return copy_to(argument, parts, sizeof parts) ? 0 : fail(EFAULT);
 }
 
 EXPORT int ioctl(int fd, unsigned long request, ...) {

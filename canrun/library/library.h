@@ -37,6 +37,7 @@
     X(if_indextoname)     \
     X(if_nameindex)       \
     X(if_freenameindex)   \
+    X(close)              \
     X(read)               \
     X(readv)              \
     X(recv)               \
@@ -68,6 +69,13 @@ int fail(int error);
 /* The same. With CANBUSD_RUN_DEBUG=1 a line of standard error says what was refused, and why. */
 int refuse(const char *what, int error, const char *why);
 
+/* Copies from or to memory that a program names; false where there is none, EFAULT. It leaves errno as it was. */
+bool copy_from(void *room, const void *program, size_t length);
+bool copy_to(void *program, const void *data, size_t length);
+
+/* The most pieces of a message, as the kernel has it. */
+#define PIECES_MOST 1024
+
 /* What a reply brings, besides its error. The data are cut where there is no room. */
 struct answer {
     int value;
@@ -75,11 +83,16 @@ struct answer {
     size_t room, length;
 };
 
-/* Asks the bridge of a socket; the data are at most WIRE_PARTS pieces. Returns 0, or -1 and errno; `what` is the call
- * that is refused then. */
-#define WIRE_PARTS 64
+/* Asks the bridge of a socket; the data are these pieces. Returns 0, or -1 and errno; `what` is the call that is
+ * refused then. */
 int ask(int fd, const char *what, const struct wire_request *request, const struct iovec *data, size_t pieces,
         struct answer *answer);
+
+/* Sends a request with a descriptor, and waits for no reply. Returns an errno, or 0. */
+int put_request(int fd, int with, const struct wire_request *request, const struct iovec *data, size_t pieces);
+
+/* Takes the error that a socket has by itself, as SO_ERROR does; 0 where it has none. It leaves errno as it was. */
+int take_error(int fd);
 
 /* Makes a CAN socket. */
 int can_socket(int type, int protocol);

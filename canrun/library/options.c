@@ -16,10 +16,12 @@
 static int bind_can(const char *call, int fd, enum wire_protocol protocol, const struct sockaddr *address,
                     socklen_t length) {
     struct sockaddr_can can = {0};
-    if (!address || length < (protocol == WIRE_ISOTP ? ISOTP_ADDRESS : SHORT_ADDRESS)) {
+    if (length > sizeof(struct sockaddr_storage) || length < (protocol == WIRE_ISOTP ? ISOTP_ADDRESS : SHORT_ADDRESS)) {
         return refuse(call, EINVAL, "the address is too short");
     }
-    memcpy(&can, address, MIN(length, sizeof can));
+    if (!copy_from(&can, address, MIN(length, sizeof can))) {
+        return fail(EFAULT);
+    }
     if (can.can_family != AF_CAN) {
         return refuse(call, EINVAL, "the address is not of AF_CAN");
     }
@@ -50,6 +52,20 @@ EXPORT int connect(int fd, const struct sockaddr *address, socklen_t length) {
                                 : refuse("connect", EOPNOTSUPP, "CAN_RAW and CAN_ISOTP have bind in its place");
 }
 
+/* Copies a value into the room that the program gives, and says how long it is: as it is, or as much as was copied. */
+static int copy_value(void *room, socklen_t *room_length, const void *value, socklen_t length, bool is_whole) {
+    socklen_t has;
+    if (!copy_from(&has, room_length, sizeof has)) {
+        return fail(EFAULT);
+    }
+    if ((int)has < 0) {
+        return fail(EINVAL);
+    }
+    has = MIN(has, length);
+    socklen_t shown = is_whole ? length : has;
+    return copy_to(room, value, has) && copy_to(room_length, &shown, sizeof shown) ? 0 : fail(EFAULT);
+}
+
 EXPORT int getsockname(int fd, struct sockaddr *restrict address, socklen_t *restrict length) {
     enum wire_protocol protocol = protocol_of(fd);
     uint32_t identifiers[2] = {0, 0};
@@ -67,9 +83,7 @@ EXPORT int getsockname(int fd, struct sockaddr *restrict address, socklen_t *res
     can.can_addr.tp.rx_id = identifiers[0];
     can.can_addr.tp.tx_id = identifiers[1];
     socklen_t whole = protocol == WIRE_ISOTP ? ISOTP_ADDRESS : SHORT_ADDRESS;
-    memcpy(address, &can, MIN(*length, whole));
-    *length = whole;
-    return 0;
+    return copy_value(address, length, &can, whole, true);
 }
 
 /* The level of a protocol's own options; the broadcast manager has none. */
@@ -78,11 +92,15 @@ static int level_of(enum wire_protocol protocol) {
 }
 
 static int refuse_level(const char *call, enum wire_protocol protocol) {
-    return refuse(call, protocol == WIRE_RAW ? EINVAL : ENOPROTOOPT, "this protocol has no options of this level");
+    return refuse(call, protocol == WIRE_BCM ? EOPNOTSUPP : EINVAL, "this protocol has no options of this level");
 }
 
 /* An option of SOL_SOCKET is the kernel's; of some the bridge has to know too. */
 static int set_socket_option(int fd, int option, const void *value, socklen_t length) {
+    char name[IFNAMSIZ] = "";
+    if (option == SO_BINDTODEVICE && copy_from(name, value, MIN(length, sizeof name - 1)) && *name) {
+        return index_of_name(name) < 0 ? -1 : 0; /* As in the kernel, a CAN socket does not mind. */
+    }
     int result = real()->setsockopt(fd, SOL_SOCKET, option, value, length);
     bool is_told = option == SO_RCVBUF || option == SO_RCVBUFFORCE || option == SO_RXQ_OVFL ||
                    option == SO_TIMESTAMPING_OLD || option == SO_TIMESTAMPING_NEW;
@@ -111,49 +129,54 @@ EXPORT int setsockopt(int fd, int level, int option, const void *value, socklen_
         return refuse("setsockopt", EINVAL, "the value is too long");
     }
     struct iovec data = {(void *)value, length};
-    return ask(fd, "setsockopt", &(struct wire_request){.kind = WIRE_SET, .option = option}, &data, 1, NULL);
+    return ask(fd, "setsockopt", &(struct wire_request){.kind = WIRE_SET, .option = option, .length = length}, &data, 1,
+               NULL);
 }
 
-/* What SO_DOMAIN, SO_TYPE and SO_PROTOCOL are of a CAN socket; -1 for other options. */
-static int socket_fact(enum wire_protocol protocol, int option) {
+/* What SO_DOMAIN, SO_TYPE, SO_PROTOCOL and SO_ERROR are of a CAN socket; -1 for other options. The kernel's CAN sockets
+ * have no protocol there. */
+static int socket_fact(int fd, enum wire_protocol protocol, int option) {
     switch (option) {
+    case SO_ERROR: return take_error(fd);
     case SO_DOMAIN: return AF_CAN;
     case SO_TYPE: return protocol == WIRE_RAW ? SOCK_RAW : SOCK_DGRAM;
-    case SO_PROTOCOL: return protocol == WIRE_RAW ? CAN_RAW : protocol == WIRE_BCM ? CAN_BCM : CAN_ISOTP;
+    case SO_PROTOCOL: return 0;
     default: return -1;
     }
 }
 
 /* The kernel's rules for how much of a value is returned: a short one is cut, but never a list of filters. */
-static int get_protocol_option(int fd, int option, void *value, socklen_t *length) {
+static int get_protocol_option(int fd, enum wire_protocol protocol, int option, void *value, socklen_t *length) {
     char whole[WIRE_REPLY];
     struct answer answer = {.data = whole, .room = sizeof whole};
-    if ((int)*length < 0) {
-        return refuse("getsockopt", EINVAL, "the length is below 0");
+    socklen_t has;
+    if (!copy_from(&has, length, sizeof has)) {
+        return fail(EFAULT);
     }
     if (ask(fd, "getsockopt", &(struct wire_request){.kind = WIRE_GET, .option = option}, NULL, 0, &answer)) {
         return -1;
     }
-    if (option == CAN_RAW_FILTER && *length < answer.length) {
-        *length = (socklen_t)answer.length;
-        return refuse("getsockopt", ERANGE, "the filters need more room");
+    socklen_t needed = (socklen_t)answer.length;
+    if (protocol == WIRE_RAW && option == CAN_RAW_FILTER && (int)has >= 0 && has < needed) {
+        return copy_to(length, &needed, sizeof needed) ? refuse("getsockopt", ERANGE, "the filters need more room")
+                                                       : fail(EFAULT);
     }
-    *length = MIN(*length, (socklen_t)answer.length);
-    memcpy(value, whole, *length);
-    return 0;
+    return copy_value(value, length, whole, needed, false);
 }
 
 EXPORT int getsockopt(int fd, int level, int option, void *restrict value, socklen_t *restrict length) {
     enum wire_protocol protocol = protocol_of(fd);
-    int fact = protocol && level == SOL_SOCKET ? socket_fact(protocol, option) : -1;
+    const struct ucred nobody = {0, (uid_t)-1, (gid_t)-1};
+    int fact = protocol && level == SOL_SOCKET ? socket_fact(fd, protocol, option) : -1;
+    if (protocol && level == SOL_SOCKET && option == SO_PEERCRED) {
+        return copy_value(value, length, &nobody, sizeof nobody, false);
+    }
     if (!protocol || (level == SOL_SOCKET && fact < 0)) {
         return real()->getsockopt(fd, level, option, value, length);
     }
     if (fact >= 0) {
-        *length = MIN(*length, (socklen_t)sizeof fact);
-        memcpy(value, &fact, *length);
-        return 0;
+        return copy_value(value, length, &fact, sizeof fact, false);
     }
-    return level == level_of(protocol) ? get_protocol_option(fd, option, value, length)
+    return level == level_of(protocol) ? get_protocol_option(fd, protocol, option, value, length)
                                        : refuse_level("getsockopt", protocol);
 }

@@ -9,6 +9,7 @@
 #include <poll.h>
 #include <stdint.h>
 #include <string.h>
+#include <sys/syscall.h>
 #include <time.h>
 
 #define SECOND 1000000000u
@@ -41,8 +42,8 @@ static void add_control(struct msghdr *message, size_t room, int type, const voi
     }
     struct cmsghdr head = {.cmsg_len = CMSG_LEN(length), .cmsg_level = SOL_SOCKET, .cmsg_type = type};
     char *place = (char *)message->msg_control + used;
-    memcpy(place, &head, sizeof head);
-    memcpy(place + CMSG_LEN(0), data, length);
+    copy_to(place, &head, sizeof head);
+    copy_to(place + CMSG_LEN(0), data, length);
     message->msg_controllen = MIN(used + CMSG_SPACE(length), room);
 }
 
@@ -57,97 +58,199 @@ static void make_control(struct msghdr *message, size_t room, const struct wire_
     }
 }
 
-/* Copies data into the pieces that a program lends; returns how many bytes found room. */
-static size_t scatter(const struct msghdr *message, const char *data, size_t length) {
+/* Copies data into the pieces that a program lends; returns how many bytes found room, or -1 and EFAULT. */
+static ssize_t scatter(const struct msghdr *message, const char *data, size_t length) {
     size_t done = 0;
     for (size_t i = 0; i < message->msg_iovlen && done < length; i++) {
         size_t part = MIN(message->msg_iov[i].iov_len, length - done);
-        memcpy(message->msg_iov[i].iov_base, data + done, part);
+        if (!copy_to(message->msg_iov[i].iov_base, data + done, part)) {
+            return fail(EFAULT);
+        }
         done += part;
     }
-    return done;
+    return (ssize_t)done;
 }
 
-/* The address of who sent it; of ISO-TP that of the socket. */
-static void make_name(int fd, enum wire_protocol protocol, struct msghdr *message, int ifindex) {
+/* The address of who sent it; of ISO-TP it has no identifiers, as in the kernel. */
+static bool make_name(enum wire_protocol protocol, struct msghdr *message, int ifindex) {
     struct sockaddr_can can = {.can_family = AF_CAN, .can_ifindex = ifindex};
     socklen_t length = offsetof(struct sockaddr_can, can_addr);
-    if (protocol == WIRE_ISOTP) {
-        uint32_t identifiers[2] = {0, 0};
-        struct answer answer = {.data = identifiers, .room = sizeof identifiers};
-        ask(fd, "recvfrom", &(struct wire_request){.kind = WIRE_ADDRESS}, NULL, 0, &answer);
-        can.can_addr.tp.rx_id = identifiers[0];
-        can.can_addr.tp.tx_id = identifiers[1];
-        length += (socklen_t)sizeof identifiers;
-    }
-    memcpy(message->msg_name, &can, MIN(message->msg_namelen, length));
+    length += protocol == WIRE_ISOTP ? 2 * (socklen_t)sizeof(canid_t) : 0;
+    bool is_copied = copy_to(message->msg_name, &can, MIN(message->msg_namelen, length));
     message->msg_namelen = length;
+    return is_copied;
 }
 
 static ssize_t no_device(void) {
     return refuse("read", ENODEV, "the server is gone, and its interfaces with it");
 }
 
-/* The next datagram: its message's length, and its trailer; -1 and errno where there is none. */
-static ssize_t take(int fd, struct msghdr *message, int flags, struct wire_trailer *trailer) {
-    ssize_t length = real()->recvmsg(fd, message, flags & ~(MSG_TRUNC | MSG_OOB));
+/* Where a datagram goes: that of CAN_RAW into room of its own, with its trailer after the frame, but for the first
+ * bytes, which the kernel writes to the program where that has room for them in a piece; the others into the pieces of
+ * the program, after the trailer. */
+struct datagram {
+    struct wire_trailer trailer;
+    char frame[CANFD_MTU + sizeof(struct wire_trailer)];
+};
+
+/* The next datagram, as it comes: its message's length, and its trailer; -1 and errno where there is none. */
+static ssize_t take_any(int fd, enum wire_protocol protocol, struct msghdr *message, int flags,
+                        struct datagram *datagram) {
+    ssize_t length = real()->recvmsg(fd, message, (flags & ~MSG_OOB) | (protocol == WIRE_RAW ? 0 : MSG_TRUNC));
     if (length < 0) {
         return errno == ECONNRESET ? no_device() : -1;
     }
-    if (length < (ssize_t)sizeof *trailer) {
+    if (length < (ssize_t)sizeof datagram->trailer) {
         return no_device();
     }
-    length -= (ssize_t)sizeof *trailer;
-    memcpy(trailer, (char *)message->msg_iov->iov_base + length, sizeof *trailer);
-    if (trailer->error) {
-        return refuse("read", trailer->error, "a message has not come whole, or has not got through");
+    if (protocol == WIRE_RAW && message->msg_iovlen == 2) {
+        memcpy(datagram->frame, message->msg_iov->iov_base, CAN_MTU);
+    }
+    length -= (ssize_t)sizeof datagram->trailer;
+    if (protocol == WIRE_RAW) {
+        memcpy(&datagram->trailer, datagram->frame + length, sizeof datagram->trailer);
     }
     return length;
 }
 
+/* The next datagram that is a message. One that says that the socket has an error is followed by the next where another
+ * call has taken the error. */
+static ssize_t take(int fd, enum wire_protocol protocol, struct msghdr *message, int flags, struct datagram *datagram) {
+    size_t control = message->msg_controllen;
+    ssize_t length;
+    while ((length = take_any(fd, protocol, message, flags, datagram)) >= 0 && datagram->trailer.is_error) {
+        if (flags & MSG_PEEK) {
+            take_any(fd, protocol, message, MSG_DONTWAIT, datagram);
+        }
+        int error = take_error(fd);
+        if (error) {
+            return refuse("read", error, "a message has not come whole, or its interface is gone");
+        }
+        message->msg_controllen = control;
+    }
+    return length;
+}
+
+/* What the kernel's CAN_ISOTP refuses: other flags, and a socket that is not bound, to which nothing can have come. */
+static int check_isotp(int fd, int flags) {
+    struct answer answer = {0};
+    if (flags & ~(MSG_DONTWAIT | MSG_TRUNC | MSG_PEEK)) {
+        return refuse("read", EINVAL, "CAN_ISOTP has no such flag");
+    }
+    int before = errno;
+    bool has_any = syscall(SYS_recvfrom, fd, NULL, 0L, MSG_PEEK | MSG_DONTWAIT, NULL, NULL) >= 0;
+    errno = before;
+    if (!has_any && !ask(fd, "read", &(struct wire_request){.kind = WIRE_ADDRESS}, NULL, 0, &answer) && !answer.value) {
+        return refuse("read", EADDRNOTAVAIL, "bind comes first");
+    }
+    return 0;
+}
+
+/* How many bytes of a message found room. */
+static size_t room_of(const struct msghdr *message, size_t length) {
+    size_t room = 0;
+    for (size_t i = 0; i < message->msg_iovlen && room < length; i++) {
+        room += message->msg_iov[i].iov_len;
+    }
+    return MIN(room, length);
+}
+
+/* Writes the pieces of a datagram; returns how many there are. */
+static size_t lay_out(struct iovec *parts, enum wire_protocol protocol, const struct msghdr *user,
+                      struct datagram *datagram) {
+    if (protocol != WIRE_RAW) {
+        parts[0] = (struct iovec){&datagram->trailer, sizeof datagram->trailer};
+        memcpy(parts + 1, user->msg_iov, user->msg_iovlen * sizeof *parts);
+        return 1 + user->msg_iovlen;
+    }
+    if (user->msg_iovlen == 1 && user->msg_iov->iov_len >= CAN_MTU) {
+        parts[0] = (struct iovec){user->msg_iov->iov_base, CAN_MTU};
+        parts[1] = (struct iovec){datagram->frame + CAN_MTU, sizeof datagram->frame - CAN_MTU};
+        return 2;
+    }
+    parts[0] = (struct iovec){datagram->frame, sizeof datagram->frame};
+    return 1;
+}
+
+/* Copies what comes of a frame after the bytes that the kernel has written. */
+static ssize_t copy_rest(const struct iovec *part, const char *frame, size_t length) {
+    size_t done = MIN(part->iov_len, length);
+    return done <= CAN_MTU || copy_to((char *)part->iov_base + CAN_MTU, frame + CAN_MTU, done - CAN_MTU) ? (ssize_t)done
+                                                                                                         : fail(EFAULT);
+}
+
 static ssize_t can_recvmsg(int fd, enum wire_protocol protocol, struct msghdr *user, int flags) {
-    char datagram[protocol == WIRE_RAW ? CANFD_MTU + sizeof(struct wire_trailer) : WIRE_LARGEST];
-    struct iovec whole = {datagram, sizeof datagram};
-    struct msghdr message = {
-        .msg_iov = &whole, .msg_iovlen = 1, .msg_control = user->msg_control, .msg_controllen = user->msg_controllen};
-    struct wire_trailer trailer;
+    struct datagram datagram;
+    struct iovec parts[2 + user->msg_iovlen];
+    bool is_raw = protocol == WIRE_RAW;
+    struct msghdr message = {.msg_iov = parts,
+                             .msg_iovlen = lay_out(parts, protocol, user, &datagram),
+                             .msg_control = user->msg_control,
+                             .msg_controllen = user->msg_controllen};
+    if (protocol == WIRE_ISOTP && check_isotp(fd, flags)) {
+        return -1;
+    }
     if (flags & MSG_ERRQUEUE) {
         return fail(EAGAIN);
     }
-    ssize_t length = take(fd, &message, flags, &trailer);
-    if (length < 0) {
+    ssize_t length = take(fd, protocol, &message, flags, &datagram);
+    ssize_t done = length < 0                          ? -1
+                   : is_raw && message.msg_iovlen == 2 ? copy_rest(user->msg_iov, datagram.frame, (size_t)length)
+                   : is_raw                            ? scatter(user, datagram.frame, (size_t)length)
+                                                       : (ssize_t)room_of(user, (size_t)length);
+    if (done < 0) {
         return -1;
     }
-    size_t done = scatter(user, datagram, (size_t)length);
-    keep_stamp(fd, trailer.nanoseconds);
-    if (user->msg_name) {
-        make_name(fd, protocol, user, trailer.ifindex);
+    keep_stamp(fd, datagram.trailer.nanoseconds);
+    if (user->msg_name && !make_name(protocol, user, datagram.trailer.ifindex)) {
+        return fail(EFAULT);
     }
     if (user->msg_control) {
-        make_control(&message, user->msg_controllen, &trailer);
+        make_control(&message, user->msg_controllen, &datagram.trailer);
     }
     user->msg_controllen = message.msg_controllen;
-    user->msg_flags = (message.msg_flags & ~MSG_TRUNC) | (int)trailer.message_flags;
-    user->msg_flags |= done < (size_t)length ? MSG_TRUNC : 0;
+    user->msg_flags = (message.msg_flags & ~MSG_TRUNC) | (int)datagram.trailer.message_flags;
+    user->msg_flags |= done < length ? MSG_TRUNC : 0;
     /* The kernel's CAN_RAW and CAN_BCM return what was copied, whatever MSG_TRUNC asks for. */
-    return protocol == WIRE_ISOTP && flags & MSG_TRUNC ? length : (ssize_t)done;
+    return protocol == WIRE_ISOTP && flags & MSG_TRUNC ? length : done;
 }
 
 static ssize_t receive(int fd, enum wire_protocol protocol, void *data, size_t length, int flags, struct sockaddr *from,
                        socklen_t *room) {
     struct iovec part = {data, length};
-    struct msghdr message = {
-        .msg_iov = &part, .msg_iovlen = 1, .msg_name = from, .msg_namelen = from && room ? *room : 0};
+    struct msghdr message = {.msg_iov = &part, .msg_iovlen = 1, .msg_name = from};
+    if (from && (!room || !copy_from(&message.msg_namelen, room, sizeof *room))) {
+        return fail(EFAULT);
+    }
     ssize_t result = can_recvmsg(fd, protocol, &message, flags);
-    if (result >= 0 && from && room) {
-        *room = message.msg_namelen;
+    if (result >= 0 && from && !copy_to(room, &message.msg_namelen, sizeof *room)) {
+        return fail(EFAULT);
     }
     return result;
 }
 
+/* The same as can_recvmsg for a message that the program names. */
+static ssize_t receive_named(int fd, enum wire_protocol protocol, struct msghdr *named, int flags) {
+    struct msghdr message;
+    if (!copy_from(&message, named, sizeof message)) {
+        return fail(EFAULT);
+    }
+    if (message.msg_iovlen > PIECES_MOST) {
+        return fail(EMSGSIZE);
+    }
+    struct iovec parts[message.msg_iovlen + 1], *theirs = message.msg_iov;
+    if (!copy_from(parts, theirs, message.msg_iovlen * sizeof *parts)) {
+        return fail(EFAULT);
+    }
+    message.msg_iov = parts;
+    ssize_t result = can_recvmsg(fd, protocol, &message, flags);
+    message.msg_iov = theirs;
+    return result < 0 || copy_to(named, &message, sizeof message) ? result : fail(EFAULT);
+}
+
 EXPORT ssize_t recvmsg(int fd, struct msghdr *message, int flags) {
     enum wire_protocol protocol = protocol_of(fd);
-    return protocol ? can_recvmsg(fd, protocol, message, flags) : real()->recvmsg(fd, message, flags);
+    return protocol ? receive_named(fd, protocol, message, flags) : real()->recvmsg(fd, message, flags);
 }
 
 EXPORT ssize_t recvfrom(int fd, void *restrict data, size_t length, int flags, struct sockaddr *restrict from,
@@ -173,15 +276,15 @@ EXPORT ssize_t read(int fd, void *data, size_t length) {
 
 EXPORT ssize_t readv(int fd, const struct iovec *parts, int count) {
     enum wire_protocol protocol = protocol_of(fd);
-    size_t length = 0;
-    if (!protocol || count < 0) {
+    if (!protocol || count < 0 || count > PIECES_MOST) {
         return real()->readv(fd, parts, count);
     }
-    for (int i = 0; i < count; i++) {
-        length += parts[i].iov_len;
+    struct iovec copy[count + 1];
+    struct msghdr message = {.msg_iov = copy, .msg_iovlen = (size_t)count};
+    if (!copy_from(copy, parts, (size_t)count * sizeof *copy)) {
+        return fail(EFAULT);
     }
-    struct msghdr message = {.msg_iov = (struct iovec *)parts, .msg_iovlen = (size_t)count};
-    return length ? can_recvmsg(fd, protocol, &message, 0) : 0;
+    return room_of(&message, 1) ? can_recvmsg(fd, protocol, &message, 0) : 0;
 }
 
 /* What is left of `timeout` since it began at `end` minus itself; as the kernel, it is looked at after each message. */
@@ -207,11 +310,12 @@ EXPORT int recvmmsg(int fd, struct mmsghdr *messages, unsigned count, int flags,
         end.tv_nsec += timeout->tv_nsec;
     }
     while (done < count) {
-        ssize_t length = can_recvmsg(fd, protocol, &messages[done].msg_hdr, flags & ~MSG_WAITFORONE);
-        if (length < 0) {
+        ssize_t length = receive_named(fd, protocol, &messages[done].msg_hdr, flags & ~MSG_WAITFORONE);
+        unsigned got = (unsigned)length;
+        if (length < 0 || !copy_to(&messages[done].msg_len, &got, sizeof got)) {
             return done ? (int)done : -1;
         }
-        messages[done++].msg_len = (unsigned)length;
+        done++;
         flags |= flags & MSG_WAITFORONE ? MSG_DONTWAIT : 0;
         if (timeout && is_over(timeout, &end)) {
             break;

@@ -6,44 +6,141 @@
 #include <fcntl.h>
 #include <linux/can.h>
 #include <string.h>
+#include <sys/syscall.h>
 
 /* Whether a write may not wait. Only ISO-TP's ever does for long, so that others need not ask. */
 static bool is_nonblocking(int fd, enum wire_protocol protocol, int flags) {
     return protocol == WIRE_ISOTP && (flags & MSG_DONTWAIT || fcntl(fd, F_GETFL) & O_NONBLOCK);
 }
 
+/* The index of the interface that a message is sent to by its address, or an errno below 0. */
+static int address_index(const struct msghdr *message, int32_t *index) {
+    struct sockaddr_can can = {0};
+    if (message->msg_namelen < offsetof(struct sockaddr_can, can_addr)) {
+        return refuse("sendto", EINVAL, "the address is too short");
+    }
+    if (!copy_from(&can, message->msg_name, MIN(message->msg_namelen, sizeof can))) {
+        return fail(EFAULT);
+    }
+    if (can.can_family != AF_CAN) {
+        return refuse("sendto", EINVAL, "the address is not of AF_CAN");
+    }
+    /* No interface has an index below 0, nor this one. */
+    *index = can.can_ifindex < 0 ? INT32_MAX : can.can_ifindex;
+    return 0;
+}
+
+/* While a message of ISO-TP is being sent its request takes room in the socket, so that this is not ready to be
+ * written: it is at a quarter of SO_SNDBUF. */
+#define FILLERS 64
+static size_t add_fillers(int fd, size_t length, struct iovec fillers[FILLERS]) {
+    static char nothing[16384];
+    int room = 0;
+    socklen_t size = sizeof room;
+    real()->getsockopt(fd, SOL_SOCKET, SO_SNDBUF, &room, &size);
+    size_t count = 0;
+    for (; count < FILLERS && length < (size_t)room / 4; count++) {
+        fillers[count] = (struct iovec){nothing, MIN(sizeof nothing, (size_t)room / 4 - length)};
+        length += fillers[count].iov_len;
+    }
+    return count;
+}
+
+/* An error message frame was accepted, and goes nowhere: said once. */
+static void note_error_frame(void) {
+    static const char text[] =
+        "canbusd-run: note: error message frames that are written go nowhere: the server makes its "
+        "own\n";
+    static int is_said;
+    if (!__atomic_exchange_n(&is_said, 1, __ATOMIC_RELAXED)) {
+        syscall(SYS_write, STDERR_FILENO, text, sizeof text - 1);
+    }
+}
+
+static ssize_t ask_to_send(int fd, enum wire_protocol protocol, const struct wire_request *request,
+                           const struct iovec *parts, size_t count) {
+    struct answer answer = {0};
+    if (protocol != WIRE_ISOTP) {
+        int result = ask(fd, "write", request, parts, count, &answer);
+        if (!result && answer.length) {
+            note_error_frame();
+        }
+        return result ? -1 : answer.value;
+    }
+    struct iovec all[count + FILLERS];
+    memcpy(all, parts, count * sizeof *parts);
+    size_t more = add_fillers(fd, request->length, all + count);
+    return ask(fd, "write", request, all, count + more, &answer) ? -1 : answer.value;
+}
+
+/* The most pieces that go with a request as they are. */
+#define PIECES 64
+
+/* Joins pieces that are too many for one call of the kernel with the request. */
+static ssize_t send_joined(int fd, enum wire_protocol protocol, const struct wire_request *request,
+                           const struct msghdr *message) {
+    char whole[request->length + 1];
+    size_t length = 0;
+    for (size_t i = 0; i < message->msg_iovlen; length += message->msg_iov[i++].iov_len) {
+        if (!copy_from(whole + length, message->msg_iov[i].iov_base, message->msg_iov[i].iov_len)) {
+            return fail(EFAULT);
+        }
+    }
+    return ask_to_send(fd, protocol, request, &(struct iovec){whole, length}, 1);
+}
+
+/* Sends a message; the pieces may be no memory of the program's, but what names them is. */
 static ssize_t can_sendmsg(int fd, enum wire_protocol protocol, const struct msghdr *message, int flags) {
     struct wire_request request = {
         .kind = WIRE_SEND, .ifindex = WIRE_BOUND, .number = is_nonblocking(fd, protocol, flags)};
-    struct answer answer = {0};
     size_t length = 0;
     for (size_t i = 0; i < message->msg_iovlen; i++) {
         length += message->msg_iov[i].iov_len;
-    }
-    if (length > WIRE_LARGEST) {
-        return refuse("write", EINVAL, "the message is too long");
-    }
-    if (message->msg_name && protocol != WIRE_ISOTP) {
-        struct sockaddr_can can = {0};
-        memcpy(&can, message->msg_name, MIN(message->msg_namelen, sizeof can));
-        if (message->msg_namelen < offsetof(struct sockaddr_can, can_addr) || can.can_family != AF_CAN) {
-            return refuse("sendto", EINVAL, "the address is too short, or not of AF_CAN");
+        if (message->msg_iov[i].iov_len > WIRE_LARGEST || length > WIRE_LARGEST) {
+            return refuse("write", EINVAL, "the message is too long");
         }
-        request.ifindex = can.can_ifindex;
     }
-    return ask(fd, "write", &request, message->msg_iov, message->msg_iovlen, &answer) ? -1 : answer.value;
+    request.length = (uint32_t)length;
+    if (message->msg_name && protocol != WIRE_ISOTP && address_index(message, &request.ifindex)) {
+        return -1;
+    }
+    return message->msg_iovlen > PIECES ? send_joined(fd, protocol, &request, message)
+                                        : ask_to_send(fd, protocol, &request, message->msg_iov, message->msg_iovlen);
+}
+
+/* The same for a message that the program names. */
+static ssize_t send_named(int fd, enum wire_protocol protocol, const struct msghdr *named, int flags) {
+    struct msghdr message;
+    if (!copy_from(&message, named, sizeof message)) {
+        return fail(EFAULT);
+    }
+    if (message.msg_iovlen > PIECES_MOST) {
+        return fail(EMSGSIZE);
+    }
+    struct iovec parts[message.msg_iovlen + 1];
+    if (!copy_from(parts, message.msg_iov, message.msg_iovlen * sizeof *parts)) {
+        return fail(EFAULT);
+    }
+    message.msg_iov = parts;
+    if ((int)message.msg_namelen < 0) {
+        return fail(EINVAL);
+    }
+    return can_sendmsg(fd, protocol, &message, flags);
 }
 
 static ssize_t send_one(int fd, enum wire_protocol protocol, const void *data, size_t length, int flags,
                         const struct sockaddr *to, socklen_t to_length) {
     struct iovec part = {(void *)data, length};
     struct msghdr message = {.msg_iov = &part, .msg_iovlen = 1, .msg_name = (void *)to, .msg_namelen = to_length};
+    if (to && to_length > sizeof(struct sockaddr_storage)) {
+        return fail(EINVAL);
+    }
     return can_sendmsg(fd, protocol, &message, flags);
 }
 
 EXPORT ssize_t sendmsg(int fd, const struct msghdr *message, int flags) {
     enum wire_protocol protocol = protocol_of(fd);
-    return protocol ? can_sendmsg(fd, protocol, message, flags) : real()->sendmsg(fd, message, flags);
+    return protocol ? send_named(fd, protocol, message, flags) : real()->sendmsg(fd, message, flags);
 }
 
 EXPORT ssize_t sendto(int fd, const void *data, size_t length, int flags, const struct sockaddr *to,
@@ -65,11 +162,10 @@ EXPORT ssize_t write(int fd, const void *data, size_t length) {
 
 EXPORT ssize_t writev(int fd, const struct iovec *parts, int count) {
     enum wire_protocol protocol = protocol_of(fd);
-    if (count < 0 || !protocol) {
+    if (count < 0 || count > PIECES_MOST || !protocol) {
         return real()->writev(fd, parts, count);
     }
-    return can_sendmsg(fd, protocol, &(struct msghdr){.msg_iov = (struct iovec *)parts, .msg_iovlen = (size_t)count},
-                       0);
+    return send_named(fd, protocol, &(struct msghdr){.msg_iov = (struct iovec *)parts, .msg_iovlen = (size_t)count}, 0);
 }
 
 EXPORT int sendmmsg(int fd, struct mmsghdr *messages, unsigned count, int flags) {
@@ -79,11 +175,14 @@ EXPORT int sendmmsg(int fd, struct mmsghdr *messages, unsigned count, int flags)
         return real()->sendmmsg(fd, messages, count, flags);
     }
     for (; done < count; done++) {
-        ssize_t length = can_sendmsg(fd, protocol, &messages[done].msg_hdr, flags);
+        ssize_t length = send_named(fd, protocol, &messages[done].msg_hdr, flags);
+        unsigned sent = (unsigned)length;
         if (length < 0) {
             return done ? (int)done : -1;
         }
-        messages[done].msg_len = (unsigned)length;
+        if (!copy_to(&messages[done].msg_len, &sent, sizeof sent)) {
+            return done ? (int)done : fail(EFAULT);
+        }
     }
     return (int)done;
 }

@@ -18,6 +18,10 @@ static enum wire_protocol protocol_for(int type, int protocol) {
         int protocol, type;
         enum wire_protocol wire;
     } known[] = {{CAN_RAW, SOCK_RAW, WIRE_RAW}, {CAN_BCM, SOCK_DGRAM, WIRE_BCM}, {CAN_ISOTP, SOCK_DGRAM, WIRE_ISOTP}};
+    if (type < 0 || type > SOCK_PACKET) {
+        refuse("socket", EINVAL, "there is no such type of sockets");
+        return 0;
+    }
     if (protocol < 0 || protocol >= CAN_NPROTO) {
         refuse("socket", EINVAL, "this is no protocol of linux/can.h");
         return 0;
@@ -101,7 +105,8 @@ EXPORT int accept(int fd, struct sockaddr *restrict address, socklen_t *restrict
 }
 
 EXPORT int accept4(int fd, struct sockaddr *restrict address, socklen_t *restrict length, int flags) {
-    return protocol_of(fd) ? refuse_call("accept4") : real()->accept4(fd, address, length, flags);
+    bool is_odd = flags & ~(SOCK_NONBLOCK | SOCK_CLOEXEC);
+    return protocol_of(fd) && !is_odd ? refuse_call("accept4") : real()->accept4(fd, address, length, flags);
 }
 
 EXPORT int shutdown(int fd, int how) {

@@ -12,6 +12,7 @@
 #include <signal.h>
 #include <stdio.h>
 #include <string.h>
+#include <sys/mman.h>
 #include <sys/syscall.h>
 #include <sys/wait.h>
 #include <unistd.h>
@@ -20,11 +21,50 @@
 #define BRIDGE_END 3
 #define STACK 16384
 
+/* What the bridge has to know of the environment. */
+static const char *const SETTINGS[] = {
+    "CANBUSD_ADDRESS", "CANBUSD_INTERFACES", "CANBUSD_RUN_WAIT", "CANBUSD_RUN_VIRTUAL",
+#ifdef __SANITIZE_ADDRESS__
+    "ASAN_OPTIONS",    "UBSAN_OPTIONS",
+#endif
+};
+#define SETTING_COUNT (sizeof SETTINGS / sizeof *SETTINGS)
+
+/* Runs a function in a copy of the process that shares its memory, on this stack, while the caller waits. Returns the
+ * copy's number, or an errno below 0. It is not clone of the C library, which the thread sanitizer takes for a fork. */
+#ifdef __x86_64__
+static long copy_process(int (*function)(void *), void *stack, void *argument) {
+    long result;
+    register long none asm("r10") = 0, no_tls asm("r8") = 0;
+    register void *given asm("r9") = argument;
+    asm volatile("syscall\n\t"
+                 "test %%rax, %%rax\n\t"
+                 "jnz 1f\n\t"
+                 "xor %%ebp, %%ebp\n\t"
+                 "mov %%r9, %%rdi\n\t"
+                 "call *%%rbx\n\t"
+                 "1:"
+                 : "=a"(result)
+                 : "0"((long)SYS_clone), "D"((long)(CLONE_VM | CLONE_VFORK)), "S"(stack), "d"(0L), "r"(none),
+                   "r"(no_tls), "r"(given), "b"(function)
+                 : "rcx", "r11", "memory");
+    return result;
+}
+#else
+static long copy_process(int (*function)(void *), void *stack, void *argument) {
+    int result = clone(function, stack, CLONE_VM | CLONE_VFORK, argument);
+    return result < 0 ? -errno : result;
+}
+#endif
+
+/* What a start needs, in memory of its own: a thread of the program may have a small stack. */
 struct start {
     int end, failed;
-    const char *program;
-    char *const *environment;
-    char *stack_end;
+    pid_t bridge;
+    char program[PATH_MAX];
+    char slot[40]; /* the setting that names the bridge's place in a run of virtual time */
+    char *environment[SETTING_COUNT + 2];
+    char stacks[2][STACK] __attribute__((aligned(16)));
 };
 
 /* These two run in copies of the process that share its memory; the caller waits, and so does the first for the second.
@@ -47,8 +87,11 @@ static int become_bridge(void *argument) {
 
 static int leave_child(void *argument) {
     struct start *start = argument;
-    if (clone(become_bridge, start->stack_end, CLONE_VM | CLONE_VFORK, start) < 0) {
-        start->failed = errno;
+    long child = copy_process(become_bridge, start->stacks[0] + STACK, start);
+    if (child < 0) {
+        start->failed = (int)-child;
+    } else {
+        start->bridge = (pid_t)child;
     }
     syscall(SYS_exit, 0);
     return 0;
@@ -66,15 +109,6 @@ static int find_bridge(char path[PATH_MAX]) {
     return length < PATH_MAX ? 0 : ENAMETOOLONG;
 }
 
-/* What the bridge has to know of the environment. */
-static const char *const SETTINGS[] = {
-    "CANBUSD_ADDRESS", "CANBUSD_INTERFACES", "CANBUSD_RUN_WAIT",
-#ifdef __SANITIZE_ADDRESS__
-    "ASAN_OPTIONS",    "UBSAN_OPTIONS",
-#endif
-};
-#define SETTING_COUNT (sizeof SETTINGS / sizeof *SETTINGS)
-
 /* The setting of this name, with the name, as the environment has it; NULL where it has none. */
 static char *setting(const char *name) {
     const size_t length = strlen(name);
@@ -86,35 +120,65 @@ static char *setting(const char *name) {
     return NULL;
 }
 
-static void gather(char *environment[SETTING_COUNT + 1]) {
-    size_t count = 0;
+/* The settings that there were at the start, for a program that clears its environment. */
+static char *settings_before[SETTING_COUNT];
+
+__attribute__((constructor)) static void keep_settings(void) {
     for (size_t i = 0; i < SETTING_COUNT; i++) {
-        environment[count] = setting(SETTINGS[i]);
-        count += environment[count] != NULL;
+        char *now = setting(SETTINGS[i]);
+        settings_before[i] = now ? strdup(now) : NULL;
     }
-    environment[count] = NULL;
 }
 
-int start_bridge(int end) {
-    char program[PATH_MAX], *environment[SETTING_COUNT + 1];
-    char stacks[2][STACK] __attribute__((aligned(16)));
-    struct start start = {.end = end, .program = program, .environment = environment, .stack_end = stacks[0] + STACK};
+/* In virtual time (canrun/virtual) a bridge is a thread of the run, which its library counts. */
+extern uint32_t canbusd_virtual_bear(void) __attribute__((weak));
+extern void canbusd_virtual_born(uint32_t slot, pid_t pid) __attribute__((weak));
+
+static void gather(char *environment[SETTING_COUNT + 2], char *slot) {
+    size_t count = 0;
+    for (size_t i = 0; i < SETTING_COUNT; i++) {
+        char *now = setting(SETTINGS[i]);
+        environment[count] = now ? now : settings_before[i];
+        count += environment[count] != NULL;
+    }
+    environment[count] = slot;
+    environment[count + !!slot] = NULL;
+}
+
+static int start_by(struct start *start) {
     sigset_t all, before;
-    int error = find_bridge(program);
+    int error = find_bridge(start->program);
     if (error) {
         return error;
     }
-    gather(environment);
+    bool is_virtual = canbusd_virtual_bear && canbusd_virtual_born && setting("CANBUSD_RUN_VIRTUAL");
+    uint32_t slot = is_virtual ? canbusd_virtual_bear() : 0;
+    snprintf(start->slot, sizeof start->slot, "CANBUSD_RUN_SLOT=%u", slot);
+    gather(start->environment, is_virtual ? start->slot : NULL);
     /* A handler of the program must not run in a copy. */
     sigfillset(&all);
     pthread_sigmask(SIG_BLOCK, &all, &before);
-    int child = clone(leave_child, stacks[1] + STACK, CLONE_VM | CLONE_VFORK, &start);
+    long child = copy_process(leave_child, start->stacks[1] + STACK, start);
     if (child < 0) {
-        start.failed = errno;
+        start->failed = (int)-child;
     } else {
         while (syscall(SYS_wait4, child, NULL, __WCLONE, NULL) < 0 && errno == EINTR) {
         }
     }
+    if (is_virtual) {
+        canbusd_virtual_born(slot, start->failed ? 0 : start->bridge);
+    }
     pthread_sigmask(SIG_SETMASK, &before, NULL);
-    return start.failed;
+    return start->failed;
+}
+
+int start_bridge(int end) {
+    struct start *start = mmap(NULL, sizeof *start, PROT_READ | PROT_WRITE, MAP_PRIVATE | MAP_ANONYMOUS, -1, 0);
+    if (start == MAP_FAILED) {
+        return ENOMEM;
+    }
+    start->end = end;
+    int error = start_by(start);
+    munmap(start, sizeof *start);
+    return error;
 }

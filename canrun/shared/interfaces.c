@@ -14,9 +14,17 @@ static void next_name(const char **list, char name[IFNAMSIZ]) {
     *list += length + ((*list)[length] == ',');
 }
 
+/* What there was at the start, for a program that clears its environment. */
+static char names_before[INTERFACE_NAMES];
+
+__attribute__((constructor)) static void keep_names(void) {
+    const char *list = getenv("CANBUSD_INTERFACES");
+    strncpy(names_before, list ? list : "", sizeof names_before - 1);
+}
+
 static const char *all_names(void) {
     const char *list = getenv("CANBUSD_INTERFACES");
-    return list ? list : "";
+    return list ? list : names_before;
 }
 
 int interface_index(const char *name) {

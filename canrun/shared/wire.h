@@ -6,8 +6,8 @@
  * Library to bridge: a request and its data, with the write end of a pipe (SCM_RIGHTS) that takes the one reply. What
  * comes without a pipe is the frame of a write that did not go through the library, and gets no reply.
  *
- * Bridge to library: a frame, or a message of the broadcast manager or of ISO-TP, and a trailer. A read of the size of
- * a frame cuts the trailer off, so that a read that does not go through the library gets a whole frame too. */
+ * Bridge to library: a frame and a trailer, so that a read that does not go through the library gets a whole frame too,
+ * as one of its size cuts the trailer off; or the same trailer and a message of the broadcast manager or of ISO-TP. */
 #ifndef WIRE_H
 #define WIRE_H
 
@@ -29,6 +29,10 @@ enum wire_kind {
     WIRE_GET,  /* the same; the value is the reply's data */
     WIRE_SOCKET_SET, /* `option` of SOL_SOCKET, which the kernel has set, so that the bridge knows of it */
     WIRE_ADDRESS,    /* the index is the reply's value; of ISO-TP the two identifiers are its data */
+    WIRE_ERROR,      /* takes the socket's error, which is the reply's value; 0 where another has taken it */
+    WIRE_CLOSE,      /* the socket is closed once nothing more comes by what is no pipe, but one end of a pair; the end
+                      * of a message is waited for until nothing more comes by the other */
+    WIRE_CANCEL, /* a signal ends the wait of the request whose pipe this is the read end of; the reply is its own */
 };
 #define WIRE_BOUND (-1)
 
@@ -38,6 +42,7 @@ struct wire_request {
     int32_t option;
     int32_t number;        /* the first number of a value of SOL_SOCKET; of WIRE_SEND, whether the write may not wait */
     uint32_t rx_id, tx_id; /* WIRE_BIND of ISO-TP */
+    uint32_t length;       /* of the data; a message of ISO-TP is followed by what only takes room */
 };
 
 struct wire_reply {
@@ -52,7 +57,7 @@ struct wire_trailer {
     uint32_t dropped;       /* frames lost before this one, where SO_RXQ_OVFL asks for it */
     uint32_t message_flags; /* MSG_DONTROUTE, MSG_CONFIRM */
     uint16_t is_stamped;    /* SO_TIMESTAMPING asks for the moment */
-    uint16_t error;         /* an errno that the read returns, without a message; or 0 */
+    uint16_t is_error;      /* there is no message, but the socket had an error; WIRE_ERROR takes it */
 };
 
 #endif

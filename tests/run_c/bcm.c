@@ -54,7 +54,7 @@ static void faults(void) {
     FAILS(write(loose, &one, size_of(1)), ENOTCONN);
     FAILS(bind(loose, (struct sockaddr *)&(struct sockaddr_can){.can_family = AF_CAN}, sizeof(struct sockaddr_can)),
           EOPNOTSUPP);
-    FAILS(setsockopt(loose, SOL_CAN_BASE + CAN_BCM, 1, &(int){1}, sizeof(int)), ENOPROTOOPT);
+    FAILS(setsockopt(loose, SOL_CAN_BASE + CAN_BCM, 1, &(int){1}, sizeof(int)), EOPNOTSUPP);
     CHECK(connect(loose, (struct sockaddr *)&(struct sockaddr_can){.can_family = AF_CAN},
                   sizeof(struct sockaddr_can)) == 0);
     FAILS(write(loose, &one, size_of(1)), ENODEV); /* On all interfaces nothing can be sent. */

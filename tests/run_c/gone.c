@@ -13,10 +13,15 @@ int main(void) {
     struct can_frame other;
     CHECK(comes(reader, PATIENCE));
     FAILS(read(reader, &other, sizeof other), ENODEV);
-    FAILS(recv(reader, &other, sizeof other, MSG_DONTWAIT), ENODEV);
+    FAILS(recv(reader, &other, sizeof other, MSG_DONTWAIT), EAGAIN); /* Once. */
+    CHECK(!comes(reader, QUIET));
     frame = frame_of(0x123, 2);
     CHECK(comes(writer, PATIENCE));
     FAILS(write(writer, &frame, sizeof frame), ENXIO);
+    int error = 0;
+    socklen_t length = sizeof error;
+    CHECK(getsockopt(writer, SOL_SOCKET, SO_ERROR, &error, &length) == 0 && error == ENODEV);
+    FAILS(recv(writer, &other, sizeof other, MSG_DONTWAIT), EAGAIN);
     int late = socket(PF_CAN, SOCK_RAW, CAN_RAW);
     struct sockaddr_can address = {.can_family = AF_CAN, .can_ifindex = 0};
     CHECK(late >= 0);

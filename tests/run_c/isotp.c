@@ -1,57 +1,6 @@
 /* CAN_ISOTP: the frames of ISO 15765-2, both ways, and each errno, with a raw socket at the other end that plays a
  * peer. */
-#include "check.h"
-#include <linux/can/isotp.h>
-
-#define RX 0x321
-#define TX 0x123
-
-static int peer;
-
-static int made(void) {
-    int fd = socket(PF_CAN, SOCK_DGRAM, CAN_ISOTP);
-    CHECK(fd >= 0);
-    return fd;
-}
-
-static int bind_isotp(int fd, canid_t rx, canid_t tx) {
-    struct sockaddr_can address = address_of("can0");
-    address.can_addr.tp.rx_id = rx;
-    address.can_addr.tp.tx_id = tx;
-    return bind(fd, (struct sockaddr *)&address, sizeof address);
-}
-
-static void set_options(int fd, struct can_isotp_options options) {
-    CHECK(setsockopt(fd, SOL_CAN_ISOTP, CAN_ISOTP_OPTS, &options, sizeof options) == 0);
-}
-
-/* The next frame on the bus has these bytes. */
-static void sees(const char *bytes, size_t length) {
-    struct canfd_frame frame = {0};
-    CHECK(comes(peer, PATIENCE) && read(peer, &frame, sizeof frame) > 0);
-    if (frame.can_id != TX || frame.len != length || memcmp(frame.data, bytes, length) != 0) {
-        fprintf(stderr, "%X of %u bytes:", frame.can_id, frame.len);
-        for (int i = 0; i < frame.len; i++) {
-            fprintf(stderr, " %02X", frame.data[i]);
-        }
-        fprintf(stderr, ", not as expected\n");
-        exit(1);
-    }
-}
-#define SEES(bytes) sees(bytes, sizeof(bytes) - 1)
-
-static void says(const char *bytes, size_t length) {
-    struct can_frame frame = {.can_id = RX, .can_dlc = (unsigned char)length};
-    memcpy(frame.data, bytes, length);
-    CHECK(write(peer, &frame, sizeof frame) == sizeof frame);
-}
-#define SAYS(bytes) says(bytes, sizeof(bytes) - 1)
-
-static void reads(int fd, const char *data, size_t length) {
-    static char room[9000];
-    CHECK(comes(fd, PATIENCE));
-    CHECK(read(fd, room, sizeof room) == (ssize_t)length && !memcmp(room, data, length));
-}
+#include "isotp.h"
 
 static void faults(void) {
     int fd = made();
@@ -65,7 +14,7 @@ static void faults(void) {
     address.can_addr.tp.tx_id = 1;
     FAILS(bind(fd, (struct sockaddr *)&address, sizeof address), ENODEV);
     FAILS(connect(fd, (struct sockaddr *)&address, sizeof address), EOPNOTSUPP);
-    FAILS(setsockopt(fd, SOL_CAN_RAW, 1, &link, 3), ENOPROTOOPT);
+    FAILS(setsockopt(fd, SOL_CAN_RAW, 1, &link, 3), EINVAL);
     FAILS(setsockopt(fd, SOL_CAN_ISOTP, 99, &link, 3), ENOPROTOOPT);
     FAILS(setsockopt(fd, SOL_CAN_ISOTP, CAN_ISOTP_LL_OPTS, &link, 2), EINVAL);
     link.tx_dl = 9;
@@ -106,7 +55,7 @@ static void single_frames(void) {
     reads(fd, "xy", 2);
     CHECK(comes(fd, PATIENCE));
     CHECK(recvfrom(fd, data, sizeof data, 0, (struct sockaddr *)&from, &length) == 1 && data[0] == 'z');
-    CHECK(from.can_ifindex == (int)if_nametoindex("can0") && from.can_addr.tp.rx_id == RX && length == 16);
+    CHECK(from.can_ifindex == (int)if_nametoindex("can0") && !from.can_addr.tp.rx_id && length == 16);
     CHECK(close(fd) == 0);
 }
 
@@ -226,9 +175,7 @@ static void long_messages(bool is_fd) {
 }
 
 int main(void) {
-    peer = bound("can1");
-    struct can_filter only = {TX, CAN_EFF_FLAG | CAN_SFF_MASK};
-    CHECK(setsockopt(peer, SOL_CAN_RAW, CAN_RAW_FILTER, &only, sizeof only) == 0);
+    meet_peer();
     faults();
     single_frames();
     several_frames();

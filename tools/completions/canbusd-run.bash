@@ -4,7 +4,7 @@ _canbusd_run() {
     COMPREPLY=()
     for ((place = 1; place < COMP_CWORD; place++)); do
         case ${COMP_WORDS[place]} in
-        --address | --interfaces) ((place += 1)) ;;
+        --address | --interfaces | --date | --until | --stall | --seed | --jitter) ((place += 1)) ;;
         =) ((place += 1)) ;;
         --) ((place += 1)) && break ;;
         -*) ;;
@@ -17,10 +17,11 @@ _canbusd_run() {
         compopt -o default
     elif [ "$before" = --address ]; then
         compopt -o default
-    elif [ "$before" = --interfaces ]; then
+    elif [[ $before =~ ^--(interfaces|date|until|stall|seed|jitter)$ ]]; then
         :
     elif [ "${text#-}" != "$text" ] && [ "${COMP_WORDS[COMP_CWORD - 1]}" != -- ]; then
-        mapfile -t COMPREPLY < <(compgen -W "--address --interfaces --wait --help --version" -- "$text")
+        mapfile -t COMPREPLY < <(compgen -W "--address --interfaces --wait --virtual --date --until --stall \
+            --seed --jitter --help --version" -- "$text")
     else
         mapfile -t COMPREPLY < <(compgen -c -- "$text")
     fi

@@ -1,0 +1,15 @@
+/* The socket's error, as sk_err of the kernel: what happened last is what one call returns. */
+#include "bridge.h"
+
+static int socket_error;
+
+void error_set(int error) {
+    socket_error = error;
+    outbox_ring();
+}
+
+int error_take(void) {
+    int error = socket_error;
+    socket_error = 0;
+    return error;
+}

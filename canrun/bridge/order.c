@@ -1,0 +1,108 @@
+/* The order of what the sessions of a socket bring: that of their moments. A server hands over what each session has
+ * received by itself, so an item waits until it is known that no session has an older one under way: after it came,
+ * each session is asked how many items were queued for it, and those have to come first. */
+#include "bridge.h"
+
+#include <stdlib.h>
+
+/* Items that wait at most; past that the oldest go as they are. */
+#define HELD 4096
+/* How soon a question is put again that found no room, in nanoseconds. */
+#define PAUSE 1000000
+
+static struct held {
+    struct item item;
+    int index;
+    unsigned rank; /* how many came by this interface before with the same moment: on a bus, the same frame by each */
+} held[HELD];
+static unsigned count;
+/* A question is open, for items up to this moment. */
+static bool is_open;
+static uint64_t until;
+
+static int compare(const void *one, const void *other) {
+    const struct held *first = one, *second = other;
+    if (first->item.moment != second->item.moment) {
+        return first->item.moment < second->item.moment ? -1 : 1;
+    }
+    return first->rank != second->rank ? (int)(first->rank - second->rank) : first->index - second->index;
+}
+
+/* Hands on what is not after this moment. */
+static void release(uint64_t moment) {
+    unsigned done = 0;
+    qsort(held, count, sizeof *held, compare);
+    for (; done < count && held[done].item.moment <= moment; done++) {
+        item_received(&held[done].item, held[done].index);
+    }
+    for (unsigned i = done; i < count; i++) {
+        held[i - done] = held[i];
+    }
+    count -= done;
+    is_open = false;
+    outbox_flush();
+}
+
+void order_put(const struct item *item, int index) {
+    if (!is_bound || bound_index || session_count < 2) {
+        item_received(item, index);
+        return;
+    }
+    if (count == HELD) {
+        release(UINT64_MAX);
+    }
+    static struct last {
+        uint64_t moment;
+        unsigned rank;
+    } lasts[INTERFACE_MOST];
+    struct last *last = &lasts[index - INTERFACE_FIRST];
+    last->rank = last->moment == item->moment ? last->rank + 1 : 0;
+    last->moment = item->moment;
+    held[count++] = (struct held){*item, index, last->rank};
+}
+
+void order_flush(void) {
+    release(UINT64_MAX);
+}
+
+/* Begins to ask: about all that has come until now. */
+static void ask_all(void) {
+    until = 0;
+    for (unsigned i = 0; i < count; i++) {
+        until = held[i].item.moment > until ? held[i].item.moment : until;
+    }
+    for (int i = 0; i < session_count; i++) {
+        sessions[i]->is_asked = sessions[i]->is_answered = false;
+    }
+    is_open = true;
+}
+
+/* Whether all that was queued for this session when it was asked has come. */
+static bool has_come(struct session *session) {
+    if (!session->is_receiving) {
+        return true;
+    }
+    if (!session->is_asked && !session->is_counting) {
+        session_ask_counts(session);
+        session->is_asked = session->is_counting;
+    }
+    return session->is_asked && session->is_answered && session->seen >= session->queued;
+}
+
+int64_t order_due(void) {
+    while (count) {
+        bool has_all = true, waits = false;
+        if (!is_open) {
+            ask_all();
+        }
+        for (int i = 0; i < session_count; i++) {
+            has_all &= has_come(sessions[i]);
+            waits |= sessions[i]->is_receiving && !sessions[i]->is_asked;
+        }
+        if (!has_all) {
+            return waits ? PAUSE : -1;
+        }
+        release(until);
+    }
+    return -1;
+}

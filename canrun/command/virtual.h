@@ -1,0 +1,17 @@
+/* The options of `canbusd-run --virtual`. */
+#ifndef COMMAND_VIRTUAL_H
+#define COMMAND_VIRTUAL_H
+
+#include "../virtual/coordinator.h"
+
+#include <stdbool.h>
+
+/* What is there without options: 2026, no end, 30 seconds without a step. */
+#define VIRTUAL_DEFAULTS \
+    { .epoch = 1767225600ull * 1000000000ull, .until = UINT64_MAX, .stall = 30 }
+
+/* Takes `--date D`, `--until S`, `--stall S`, `--seed N` and `--jitter MICROS`: the name without --, and the value.
+ * Returns NULL, or what is wrong with it. */
+const char *virtual_option(struct virtual_options *options, const char *name, const char *value);
+
+#endif

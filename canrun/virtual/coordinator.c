@@ -1,0 +1,541 @@
+/* The coordinator of a run: it starts the program, hands out the epoll, sees who ends, and decides where no thread can:
+ * when signals are due, when a thread sleeps in a call that the library does not see, and when nothing can go on. */
+#define _GNU_SOURCE
+#include "coordinator.h"
+#include "messages.h"
+#include "outside.h"
+#include "proc.h"
+#include "tree.h"
+#include "turns.h"
+
+#include <errno.h>
+#include <fcntl.h>
+#include <poll.h>
+#include <sched.h>
+#include <signal.h>
+#include <stdio.h>
+#include <stdlib.h>
+#include <string.h>
+#include <sys/epoll.h>
+#include <sys/mman.h>
+#include <sys/prctl.h>
+#include <sys/socket.h>
+#include <sys/syscall.h>
+#include <sys/un.h>
+#include <sys/wait.h>
+#include <time.h>
+#include <unistd.h>
+
+/* Milliseconds between two looks at who has the turn, and while births or others outside are waited for. */
+#define WATCH_MS 4
+#define SOON_MS 1
+#define STATUS_STUCK 125
+/* Milliseconds that programs have to end once PROGRAM has. */
+#define END_MS 2000
+/* Looks between two at how long a thread has run, and seconds between two at how busy the processor is. */
+#define RARELY 50
+#define PROCESSOR_SECONDS 0.25
+#define PROCESSES 4096
+
+static struct {
+    const struct virtual_options *options;
+    int own, listening;
+    pid_t root;
+    int root_status, status;
+    bool has_ended, is_over;
+    volatile sig_atomic_t number; /* of a signal that ends the run */
+    uint64_t seen_turns;
+    int looks;
+    double since; /* real time since which nothing has gone on */
+    uint64_t run_before;
+} coordinator = {.root_status = -1};
+
+/* The coordinator has no descriptors to ask for. */
+bool register_process(void) {
+    return false;
+}
+
+static double real_now(void) {
+    struct timespec t;
+    clock_gettime(CLOCK_MONOTONIC, &t);
+    return (double)t.tv_sec + (double)t.tv_nsec * 1e-9;
+}
+
+/* ---- processes of the run ---- */
+
+static void watch_process(uint32_t pid) {
+    int fd = (int)syscall(SYS_pidfd_open, pid, 0);
+    struct epoll_event event = {.events = EPOLLIN, .data.u64 = (uint64_t)pid << 32 | (uint32_t)fd};
+    if (fd >= 0) {
+        epoll_ctl(coordinator.own, EPOLL_CTL_ADD, fd, &event);
+    }
+}
+
+/* A process says that it is there; it gets the epoll. */
+static void admit(void) {
+    int fd = accept4(coordinator.listening, NULL, NULL, SOCK_CLOEXEC);
+    struct ucred peer = {0};
+    socklen_t length = sizeof peer;
+    char byte = 0;
+    struct iovec part = {&byte, 1};
+    union {
+        char room[CMSG_SPACE(sizeof(int))];
+        struct cmsghdr align;
+    } control = {.room = {0}};
+    struct msghdr message = {
+        .msg_iov = &part, .msg_iovlen = 1, .msg_control = &control, .msg_controllen = sizeof control};
+    struct cmsghdr *rights = CMSG_FIRSTHDR(&message);
+    if (fd < 0) {
+        return;
+    }
+    rights->cmsg_level = SOL_SOCKET;
+    rights->cmsg_type = SCM_RIGHTS;
+    rights->cmsg_len = CMSG_LEN(sizeof(int));
+    memcpy(CMSG_DATA(rights), &run_epoll, sizeof(int));
+    if (!getsockopt(fd, SOL_SOCKET, SO_PEERCRED, &peer, &length) && peer.pid > 0) {
+        bool is_known = false;
+        for (uint32_t i = 0; i < run->used; i++) {
+            is_known |= run->slots[i].pid == (uint32_t)peer.pid && run->slots[i].tid &&
+                        run->slots[i].state != SLOT_BORN && run->slots[i].state != SLOT_FREE;
+        }
+        if (!is_known) {
+            watch_process((uint32_t)peer.pid);
+        }
+    }
+    sendmsg(fd, &message, MSG_NOSIGNAL);
+    close(fd);
+}
+
+static uint32_t parent_of(uint32_t pid) {
+    char text[512];
+    proc_read(pid, 0, "stat", text, sizeof text);
+    char *at = strrchr(text, ')');
+    return at && at[1] ? (uint32_t)atoi(at + 4) : 0;
+}
+
+static void forget(uint32_t pid) {
+    for (uint32_t i = 0; i < run->used; i++) {
+        struct slot *slot = &run->slots[i];
+        if (slot->pid == pid && slot->state != SLOT_FREE) {
+            bool has_turn = (run->turn & ~DECIDING) == i;
+            free_slot(slot);
+            if (has_turn) {
+                run->turn = NOBODY;
+            }
+        }
+    }
+    for (int i = 0; i < ALARMS; i++) {
+        if (run->alarms[i].pid == pid) {
+            run->alarms[i].pid = 0;
+        }
+    }
+}
+
+static void reap(void) {
+    int status;
+    for (pid_t pid; (pid = waitpid(-1, &status, WNOHANG)) > 0;) {
+        if (pid == coordinator.root) {
+            coordinator.root_status = status;
+        }
+    }
+}
+
+/* A process has ended: its parent gets to know it before anybody goes on. */
+static void process_ended(uint32_t pid, int fd) {
+    uint32_t parent = parent_of(pid);
+    close(fd);
+    if (parent && parent != (uint32_t)getpid()) {
+        settle(parent);
+        wake(key_of_signals(parent), SLOTS);
+        wake_descriptors(parent);
+    }
+    forget(pid);
+    for (uint32_t i = 0; i < run->used; i++) {
+        struct slot *slot = &run->slots[i];
+        if (slot->state == SLOT_WAITS && slot->kind == KIND_CHILD) {
+            slot->flags |= IS_WOKEN;
+        }
+    }
+    reap();
+}
+
+/* ---- deciding ---- */
+
+static void give_up(void) {
+    coordinator.status = STATUS_STUCK;
+    coordinator.is_over = true;
+}
+
+static bool is_stalled(void) {
+    double now = real_now();
+    if (!coordinator.since) {
+        coordinator.since = now;
+    }
+    return coordinator.options->stall > 0 && now - coordinator.since > coordinator.options->stall;
+}
+
+static void send_alarm(struct alarm *alarm) {
+    siginfo_t info = {.si_signo = alarm->number, .si_code = SI_TIMER};
+    info.si_value.sival_ptr = (void *)(uintptr_t)alarm->value;
+    uint32_t pid = alarm->pid;
+    uint64_t due = alarm->deadline;
+    alarm->deadline = alarm->period ? due + alarm->period : NEVER;
+    if (alarm->tid) {
+        syscall(SYS_rt_tgsigqueueinfo, pid, alarm->tid, alarm->number, &info);
+    } else if (alarm->id == 1) {
+        kill((pid_t)pid, alarm->number);
+    } else {
+        syscall(SYS_rt_sigqueueinfo, pid, alarm->number, &info);
+    }
+    settle(pid);
+    wake(key_of_signals(pid), SLOTS);
+    wake_descriptors(pid);
+}
+
+static void send_alarms(void) {
+    struct alarm *first = NULL;
+    for (int i = 0; i < ALARMS; i++) {
+        struct alarm *alarm = &run->alarms[i];
+        if (alarm->pid && alarm->number && (!first || alarm->deadline < first->deadline)) {
+            first = alarm;
+        }
+    }
+    if (first && first->deadline != NEVER) {
+        run->now = first->deadline > run->now ? first->deadline : run->now;
+        send_alarm(first);
+    }
+}
+
+static void end_by_until(void) {
+    say("the time is over (--until)");
+    run->now = run->until;
+    run->until = NEVER;
+    kill(coordinator.root, SIGTERM);
+    settle((uint32_t)coordinator.root);
+}
+
+/* Nobody waits for a moment: what comes from outside of the run may go on with it. */
+static int wait_idle(void) {
+    struct epoll_event event = {.events = EPOLLIN | EPOLLONESHOT, .data.u64 = 1};
+    if (coordinator.has_ended) {
+        return SOON_MS;
+    }
+    epoll_ctl(coordinator.own, EPOLL_CTL_MOD, run_epoll, &event);
+    if (is_stalled()) {
+        say("all wait, and nobody for a moment: for one another, or for what is outside of the run:");
+        say_waits();
+        give_up();
+    }
+    return 50;
+}
+
+/* Hands the turn on; how many milliseconds it is to be waited where that can't be yet. */
+static int decide(void) {
+    bool ignores = false;
+    for (int tries = 0;; tries++) {
+        uint32_t next = next_turn(ignores);
+        ignores = false;
+        if (next != NOBODY) {
+            coordinator.since = 0;
+            coordinator.looks = 0;
+            hand_turn(next);
+            return WATCH_MS;
+        }
+        switch (run->pause) {
+        case PAUSE_BIRTH: outside_births(++coordinator.looks); break;
+        case PAUSE_OUTSIDE:
+            ignores = outside_sleeps();
+            if (ignores || tries < 3) {
+                continue;
+            }
+            break;
+        case PAUSE_ALARM: send_alarms(); return 0;
+        case PAUSE_UNTIL: end_by_until(); continue;
+        default: return wait_idle();
+        }
+        if (outside_runs()) {
+            coordinator.since = 0;
+        }
+        if (is_stalled()) {
+            say("who is waited for does not go on for %.0f s:", coordinator.options->stall);
+            say_waits();
+            give_up();
+        }
+        return SOON_MS;
+    }
+}
+
+static bool is_asked(void) {
+    struct pollfd polled = {coordinator.listening, POLLIN, 0};
+    return poll(&polled, 1, 0) > 0;
+}
+
+/* Somebody has the turn: whether it is handed on. It may run for long, but not for ever. */
+static void watch(void) {
+    uint32_t turn = run->turn;
+    if (run->turns != coordinator.seen_turns || turn == NOBODY) {
+        coordinator.seen_turns = run->turns;
+        coordinator.looks = 0;
+        coordinator.since = 0;
+        coordinator.run_before = 0;
+        return;
+    }
+    outside_watch(turn & ~DECIDING, ++coordinator.looks, is_asked);
+    if (run->turn != turn || coordinator.looks % RARELY) {
+        return;
+    }
+    struct slot *slot = &run->slots[turn & ~DECIDING];
+    uint64_t used = proc_usage(slot->pid, slot->tid).run;
+    coordinator.run_before = coordinator.run_before ? coordinator.run_before : used;
+    double stall = coordinator.options->stall;
+    if (stall > 0 && (double)(used - coordinator.run_before) > stall * SECOND) {
+        say("%s has run for %.0f s without waiting; if it looks for what another thread does, that one gets no turn "
+            "(--stall S for more)",
+            who(slot->pid, slot->tid), stall);
+        give_up();
+    }
+}
+
+/* ---- the processor: all of a run is on one, where a thread wakes another fastest ---- */
+
+static void pin(uint32_t tid, int processor) {
+    cpu_set_t one;
+    CPU_ZERO(&one);
+    CPU_SET(processor, &one);
+    sched_setaffinity((pid_t)tid, sizeof one, &one);
+}
+
+/* Others may run there too. Where the run waits for it most of the time it goes where this process has been put, which
+ * the kernel moves. */
+static void find_processor(void) {
+    static double looked_at;
+    static struct usage before;
+    double now = real_now();
+    if (now - looked_at < PROCESSOR_SECONDS) {
+        return;
+    }
+    looked_at = now;
+    struct usage all = {0, 0, 0};
+    for (uint32_t i = 0; i < run->used; i++) {
+        if (run->slots[i].state != SLOT_FREE) {
+            struct usage one = proc_usage(run->slots[i].pid, run->slots[i].tid);
+            all.run += one.run;
+            all.waited += one.waited;
+        }
+    }
+    bool is_slow = all.waited - before.waited > 2 * (all.run - before.run) + 50000000 && all.waited > before.waited;
+    before = all;
+    int here = sched_getcpu();
+    for (uint32_t i = 0; is_slow && here >= 0 && i < run->used; i++) {
+        if (run->slots[i].state != SLOT_FREE && run->slots[i].tid) {
+            pin(run->slots[i].tid, here);
+        }
+    }
+}
+
+/* ---- the run ---- */
+
+static void note_signal(int number) {
+    coordinator.number = number;
+}
+
+static void no_signal(int number) {
+    (void)number;
+}
+
+static void handle_events(int patience) {
+    struct epoll_event events[64];
+    sigset_t none;
+    sigemptyset(&none);
+    int count = epoll_pwait(coordinator.own, events, 64, patience, &none);
+    for (int i = 0; i < count; i++) {
+        if (events[i].data.u64 == 0) {
+            admit();
+        } else if (events[i].data.u64 > 1) {
+            process_ended((uint32_t)(events[i].data.u64 >> 32), (int)(uint32_t)events[i].data.u64);
+        }
+    }
+    reap();
+}
+
+/* PROGRAM has ended: what it leaves has two seconds. */
+static void end_rest(void) {
+    static uint32_t pids[TREE_MOST];
+    if (coordinator.has_ended) {
+        size_t count = tree_below((uint32_t)getpid(), pids, TREE_MOST);
+        coordinator.is_over = !count || real_now() - coordinator.since > END_MS * 1e-3;
+        return;
+    }
+    coordinator.has_ended = true;
+    coordinator.since = real_now();
+    size_t count = tree_below((uint32_t)getpid(), pids, TREE_MOST);
+    for (size_t i = 0; i < count; i++) {
+        kill((pid_t)pids[i], SIGTERM);
+    }
+    coordinator.is_over = !count;
+}
+
+static void loop(void) {
+    int patience = 0;
+    while (!coordinator.is_over) {
+        double ended = coordinator.has_ended ? coordinator.since : 0;
+        handle_events(patience);
+        if (coordinator.number) {
+            coordinator.status = 128 + coordinator.number;
+            return;
+        }
+        if (run->turn == NOBODY) {
+            patience = decide();
+        } else {
+            watch();
+            patience = WATCH_MS;
+        }
+        find_processor();
+        coordinator.since = ended ? ended : coordinator.since;
+        if (coordinator.root_status >= 0) {
+            end_rest();
+        }
+    }
+}
+
+static bool make_run(const struct virtual_options *options) {
+    int fd = memfd_create("canbusd-virtual", MFD_CLOEXEC);
+    char path[64];
+    if (fd < 0 || ftruncate(fd, sizeof *run)) {
+        return false;
+    }
+    run = mmap(NULL, sizeof *run, PROT_READ | PROT_WRITE, MAP_SHARED, fd, 0);
+    if (run == MAP_FAILED) {
+        return false;
+    }
+    run->epoch = options->epoch;
+    run->until = options->until;
+    run->seed = options->seed;
+    run->random = options->seed * 0x9e3779b97f4a7c15ull + 0x2545f4914f6cdd1dull;
+    run->jitter = options->jitter;
+    run->coordinator = getpid();
+    run->turn = NOBODY;
+    run->magic = RUN_MAGIC;
+    snprintf(path, sizeof path, "/proc/%d/fd/%d", getpid(), fd);
+    setenv(RUN_SETTING, path, 1);
+    snprintf(path, sizeof path, "--seed %lu --jitter %lu", options->seed, options->jitter / 1000);
+    setenv(RUN_OPTIONS, path, 1);
+    return true;
+}
+
+static bool make_descriptors(void) {
+    struct sockaddr_un name = {.sun_family = AF_UNIX};
+    int length = snprintf(name.sun_path + 1, sizeof name.sun_path - 1, RUN_SOCKET, getpid());
+    struct epoll_event admits = {.events = EPOLLIN, .data.u64 = 0}, idle = {.events = 0, .data.u64 = 1};
+    run_epoll = epoll_create1(EPOLL_CLOEXEC);
+    coordinator.own = epoll_create1(EPOLL_CLOEXEC);
+    coordinator.listening = socket(AF_UNIX, SOCK_SEQPACKET | SOCK_CLOEXEC | SOCK_NONBLOCK, 0);
+    return !bind(coordinator.listening, (struct sockaddr *)&name,
+                 (socklen_t)(offsetof(struct sockaddr_un, sun_path) + 1 + (size_t)length)) &&
+           !listen(coordinator.listening, 1024) &&
+           !epoll_ctl(coordinator.own, EPOLL_CTL_ADD, coordinator.listening, &admits) &&
+           !epoll_ctl(coordinator.own, EPOLL_CTL_ADD, run_epoll, &idle);
+}
+
+/* The signals of this process before it handled any. */
+static void become_program(const char *file, char **words, const sigset_t *mask) {
+    int here = sched_getcpu();
+    pin(0, here < 0 ? 0 : here);
+    prctl(PR_SET_PDEATHSIG, SIGKILL);
+    sigprocmask(SIG_SETMASK, mask, NULL);
+    execv(file, words);
+    int error = errno;
+    fprintf(stderr, "canbusd-run: %s: %s\n", words[0], strerror(error));
+    _exit(error == ENOENT ? 127 : 126);
+}
+
+static void set_signals(sigset_t *before) {
+    sigset_t blocked;
+    sigemptyset(&blocked);
+    static const int numbers[] = {SIGTERM, SIGHUP, SIGUSR2};
+    for (size_t i = 0; i < sizeof numbers / sizeof *numbers; i++) {
+        sigaction(numbers[i], &(struct sigaction){.sa_handler = note_signal}, NULL);
+        sigaddset(&blocked, numbers[i]);
+    }
+    sigaction(SIGURG, &(struct sigaction){.sa_handler = no_signal}, NULL);
+    sigaddset(&blocked, SIGURG);
+    sigprocmask(SIG_BLOCK, &blocked, before);
+}
+
+static int status_of(int status) {
+    return WIFEXITED(status) ? WEXITSTATUS(status) : 128 + WTERMSIG(status);
+}
+
+/* The coordinator's process, which is the guard's child. */
+static int coordinate(const struct virtual_options *options, const char *file, char **words, pid_t guard) {
+    sigset_t before;
+    coordinator.options = options;
+    prctl(PR_SET_CHILD_SUBREAPER, 1);
+    prctl(PR_SET_PDEATHSIG, SIGUSR2);
+    prctl(PR_SET_TIMERSLACK, 1000);
+    set_signals(&before);
+    if (getppid() != guard) {
+        return STATUS_STUCK;
+    }
+    if (!make_run(options) || !make_descriptors()) {
+        fprintf(stderr, "canbusd-run: virtual time can't be had: %s\n", strerror(errno));
+        return STATUS_STUCK;
+    }
+    struct slot *slot = &run->slots[take_slot()];
+    slot->parent = (uint32_t)getpid();
+    slot->state = SLOT_BORN;
+    coordinator.root = fork();
+    if (!coordinator.root) {
+        become_program(file, words, &before);
+    }
+    slot->pid = (uint32_t)coordinator.root;
+    signal(SIGINT, SIG_IGN);
+    signal(SIGQUIT, SIG_IGN);
+    loop();
+    run->has_ended = 1;
+    tree_kill();
+    if (getenv("CANBUSD_RUN_DEBUG")) {
+        say("%lu moments, %lu turns, %.6f s went by as programs looked at the clock again and again", run->moments,
+            run->turns, (double)run->spun / SECOND);
+    }
+    return coordinator.status ? coordinator.status : status_of(coordinator.root_status);
+}
+
+/* ---- the guard: nothing is left of a run whose coordinator is killed ---- */
+
+static volatile sig_atomic_t guarded;
+
+static void pass_on(int number) {
+    if (guarded) {
+        kill((pid_t)guarded, number);
+    }
+}
+
+int virtual_run(const struct virtual_options *options, const char *file, char **words) {
+    pid_t guard = getpid();
+    int status;
+    prctl(PR_SET_CHILD_SUBREAPER, 1);
+    setenv("PYTHONHASHSEED", "0", 0);
+    pid_t child = fork();
+    if (child < 0) {
+        fprintf(stderr, "canbusd-run: virtual time can't be had: %s\n", strerror(errno));
+        return STATUS_STUCK;
+    }
+    if (!child) {
+        _exit(coordinate(options, file, words, guard));
+    }
+    guarded = child;
+    signal(SIGINT, SIG_IGN);
+    signal(SIGQUIT, SIG_IGN);
+    signal(SIGTERM, pass_on);
+    signal(SIGHUP, pass_on);
+    while (waitpid(child, &status, 0) < 0 && errno == EINTR) {
+    }
+    if (WIFEXITED(status)) {
+        return WEXITSTATUS(status);
+    }
+    tree_kill();
+    fprintf(stderr, "canbusd-run: virtual time: its coordinator was ended by signal %d, and the run with it\n",
+            WTERMSIG(status));
+    return STATUS_STUCK;
+}

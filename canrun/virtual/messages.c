@@ -1,0 +1,81 @@
+/* What the coordinator says: see messages.h. */
+#define _GNU_SOURCE
+#include "messages.h"
+#include "proc.h"
+#include "turns.h"
+
+#include <stdarg.h>
+#include <stdio.h>
+#include <string.h>
+
+#define TOLD 256
+#define LISTED 10
+
+static void put(const char *format, va_list list) {
+    char text[1000];
+    vsnprintf(text, sizeof text, format, list);
+    fprintf(stderr, "canbusd-run: virtual time: at %.6f s %s\n", (double)run->now / SECOND, text);
+}
+
+void say(const char *format, ...) {
+    va_list list;
+    va_start(list, format);
+    put(format, list);
+    va_end(list);
+}
+
+bool say_once(uint32_t pid, const char *format, ...) {
+    static struct {
+        uint32_t pid;
+        const char *format;
+    } told[TOLD];
+    static int count;
+    va_list list;
+    for (int i = 0; i < count; i++) {
+        if (told[i].pid == pid && told[i].format == format) {
+            return false;
+        }
+    }
+    if (count < TOLD) {
+        told[count].pid = pid;
+        told[count++].format = format;
+    }
+    va_start(list, format);
+    put(format, list);
+    va_end(list);
+    return true;
+}
+
+const char *who(uint32_t pid, uint32_t tid) {
+    static char text[2][100];
+    static int turn;
+    char name[32];
+    size_t length = proc_read(pid, tid, "comm", name, sizeof name);
+    char *to = text[turn++ % 2];
+    name[length ? length - 1 : 0] = 0;
+    if (tid && tid != pid) {
+        snprintf(to, sizeof text[0], "%s (thread %u of process %u)", name, tid, pid);
+    } else {
+        snprintf(to, sizeof text[0], "%s (process %u)", name, pid);
+    }
+    return to;
+}
+
+void say_waits(void) {
+    static const char *const kinds[] = {"a moment",      "a descriptor", "a lock, condition or semaphore",
+                                        "a child's end", "a signal",     "a thread's end"};
+    int listed = 0;
+    for (uint32_t i = 0; i < run->used; i++) {
+        struct slot *slot = &run->slots[i];
+        if (slot->state == SLOT_FREE || slot->rank >= RANK_SESSION) {
+            continue; /* A server always waits for its clients. */
+        }
+        if (listed++ == LISTED) {
+            fprintf(stderr, "  ..\n");
+            return;
+        }
+        const char *what = slot->state == SLOT_OUTSIDE ? "something inside of a call that is not seen"
+                                                       : kinds[slot->kind % (sizeof kinds / sizeof *kinds)];
+        fprintf(stderr, "  %s waits for %s\n", who(slot->pid, slot->tid), what);
+    }
+}

@@ -1,0 +1,22 @@
+/* What the coordinator says, on standard error. */
+#ifndef MESSAGES_H
+#define MESSAGES_H
+
+#include "run.h"
+
+#include <stdbool.h>
+#include <stddef.h>
+
+/* A line, with the moment of the run. */
+void say(const char *format, ...) __attribute__((format(printf, 1, 2)));
+
+/* The same once for each thing that it is about. Returns whether it was said now. */
+bool say_once(uint32_t pid, const char *format, ...) __attribute__((format(printf, 2, 3)));
+
+/* Who a thread is: its name, process and thread. */
+const char *who(uint32_t pid, uint32_t tid);
+
+/* Lists who waits for what, at most ten. */
+void say_waits(void);
+
+#endif

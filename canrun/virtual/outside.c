@@ -1,0 +1,305 @@
+/* Threads whose waits the library does not see: see outside.h. */
+#define _GNU_SOURCE
+#include "outside.h"
+#include "../command/program.h"
+#include "messages.h"
+#include "proc.h"
+#include "tree.h"
+#include "turns.h"
+
+#include <dirent.h>
+#include <stdio.h>
+#include <stdlib.h>
+#include <string.h>
+#include <sys/syscall.h>
+#include <unistd.h>
+
+#define LIBRARY "libcanbusd-virtual.so"
+/* After how many looks it is seen whether a program loads the library at all. */
+#define FOREIGN_LOOKS 4
+/* After how many more looks a thread that has the turn is known to sleep. */
+#define SLEEP_LOOKS 4
+/* The parent of a process that nobody has taken a slot for. */
+#define STRANGER UINT32_MAX
+
+/* ---- programs that do not load the library ---- */
+
+static bool has_library(uint32_t pid) {
+    char path[32], line[PATH_MAX + 200];
+    bool has_it = false, has_any = false;
+    snprintf(path, sizeof path, "/proc/%u/maps", pid);
+    FILE *maps = fopen(path, "re");
+    while (maps && !has_it && fgets(line, sizeof line, maps)) {
+        has_it = strstr(line, LIBRARY) != NULL;
+        has_any = true;
+    }
+    if (maps) {
+        fclose(maps);
+    }
+    return has_it || !has_any;
+}
+
+/* Why a process is not in virtual time, NULL where it is, or has not begun. */
+static const char *obstacle_of(uint32_t pid, int looks) {
+    char path[32], name[PATH_MAX];
+    snprintf(path, sizeof path, "/proc/%u/exe", pid);
+    ssize_t length = readlink(path, name, sizeof name - 1);
+    name[length > 0 ? length : 0] = 0;
+    const char *slash = strrchr(name, '/');
+    if (length <= 0 || (slash && !strcmp(slash, "/canbusd-bridge")) || has_library(pid)) {
+        return NULL;
+    }
+    const char *obstacle = program_obstacle(path);
+    return obstacle ? obstacle : looks > 20 * FOREIGN_LOOKS ? "has lost LD_PRELOAD, as by env -i" : NULL;
+}
+
+static bool find_foreign(struct slot *slot, int looks) {
+    if (slot->is_foreign || looks < FOREIGN_LOOKS || looks % FOREIGN_LOOKS) {
+        return slot->is_foreign;
+    }
+    const char *obstacle = obstacle_of(slot->pid, looks);
+    if (obstacle) {
+        slot->is_foreign = 1;
+        say_once(slot->pid,
+                 "%s %s, so it sees the real time; the clock of the run stands still while it runs or sleeps",
+                 who(slot->pid, 0), obstacle);
+    }
+    return slot->is_foreign;
+}
+
+/* ---- whether a thread sleeps ---- */
+
+struct called {
+    long number;
+    unsigned long arguments[6];
+    bool is_known;
+};
+
+static struct called called_by(uint32_t pid, uint32_t tid) {
+    char text[256], *at;
+    struct called called = {.number = -1};
+    if (!proc_read(pid, tid, "syscall", text, sizeof text) || text[0] == 'r') {
+        return called;
+    }
+    called.number = strtol(text, &at, 10);
+    for (int i = 0; i < 6; i++) {
+        called.arguments[i] = strtoul(at, &at, 16);
+    }
+    called.is_known = true;
+    return called;
+}
+
+/* Whether a call ends by itself in real time. */
+static bool is_timed(const struct called *called) {
+    const unsigned long *a = called->arguments;
+    switch (called->number) {
+    case SYS_nanosleep:
+    case SYS_clock_nanosleep: return true;
+    case SYS_poll: return (int)a[2] > 0;
+    case SYS_epoll_wait:
+    case SYS_epoll_pwait: return (int)a[3] > 0;
+    case SYS_ppoll: return a[2] != 0;
+    case SYS_select:
+    case SYS_pselect6: return a[4] != 0;
+    case SYS_futex: return ((a[1] & 127) == 0 || (a[1] & 127) == 9) && a[3] != 0;
+    case SYS_rt_sigtimedwait: return a[2] != 0;
+    default: return false;
+    }
+}
+
+/* Whether a thread that is thought to be outside has come back meanwhile, and sleeps on the word of its slot. */
+static bool waits_for_turn(uint32_t pid, uint32_t tid, const struct called *called) {
+    for (uint32_t i = 0; i < run->used && called->number == SYS_futex; i++) {
+        struct slot *slot = &run->slots[i];
+        uint32_t outside = SLOT_OUTSIDE;
+        if (slot->pid == pid && slot->tid == tid && ((uintptr_t)&slot->go & 4095) == (called->arguments[0] & 4095)) {
+            __atomic_compare_exchange_n((uint32_t *)&slot->state, &outside, SLOT_READY, 0, __ATOMIC_SEQ_CST,
+                                        __ATOMIC_SEQ_CST);
+            return true;
+        }
+    }
+    return false;
+}
+
+/* Whether a thread sleeps until another one does something. */
+static bool sleeps(uint32_t pid, uint32_t tid) {
+    char state = proc_state(pid, tid);
+    if (state == 'T' || state == 't') {
+        say_once(pid, "%s is stopped; the run goes on without it", who(pid, 0));
+        return true;
+    }
+    if (state == 'Z' || state == 'X') {
+        return true;
+    }
+    struct called called = called_by(pid, tid);
+    if (waits_for_turn(pid, tid, &called)) {
+        return false;
+    }
+    if (state == 'S' && called.is_known && is_timed(&called)) {
+        say_once(pid, "%s waits in real time (system call %ld); the clock of the run stands still meanwhile",
+                 who(pid, tid), called.number);
+        return false;
+    }
+    return state == 'S';
+}
+
+/* How often a thread has been given a processor. */
+static uint64_t times_run(uint32_t pid, uint32_t tid) {
+    return proc_usage(pid, tid).times;
+}
+
+/* One pass over a process's threads, or one of them; adds how often they ran. */
+static bool all_sleep(uint32_t pid, uint32_t tid, uint64_t *times) {
+    char path[40];
+    bool do_sleep = true;
+    if (tid) {
+        *times += times_run(pid, tid);
+        return sleeps(pid, tid);
+    }
+    snprintf(path, sizeof path, "/proc/%u/task", pid);
+    DIR *folder = opendir(path);
+    for (struct dirent *entry; folder && do_sleep && (entry = readdir(folder));) {
+        uint32_t one = (uint32_t)atoi(entry->d_name);
+        if (one) {
+            *times += times_run(pid, one);
+            do_sleep = sleeps(pid, one);
+        }
+    }
+    if (folder) {
+        closedir(folder);
+    }
+    return do_sleep;
+}
+
+static bool one_pass(uint64_t *times) {
+    *times = 0;
+    for (uint32_t i = 0; i < run->used; i++) {
+        struct slot *slot = &run->slots[i];
+        if (slot->state == SLOT_OUTSIDE && !all_sleep(slot->pid, slot->is_foreign ? 0 : slot->tid, times)) {
+            return false;
+        }
+    }
+    return true;
+}
+
+bool outside_sleeps(void) {
+    uint64_t before, now;
+    outside_strangers();
+    /* Twice, as one may have woken another that had been looked at. */
+    return one_pass(&before) && one_pass(&now) && before == now;
+}
+
+/* ---- who has the turn, and sleeps ---- */
+
+static void take_back(uint32_t index) {
+    struct slot *slot = &run->slots[index];
+    uint32_t runs = SLOT_RUNS, has = index, outside = SLOT_OUTSIDE;
+    if (!__atomic_compare_exchange_n((uint32_t *)&slot->state, &runs, SLOT_OUTSIDE, 0, __ATOMIC_SEQ_CST,
+                                     __ATOMIC_SEQ_CST)) {
+        return;
+    }
+    if (!__atomic_compare_exchange_n((uint32_t *)&run->turn, &has, NOBODY, 0, __ATOMIC_SEQ_CST, __ATOMIC_SEQ_CST)) {
+        __atomic_compare_exchange_n((uint32_t *)&slot->state, &outside, SLOT_RUNS, 0, __ATOMIC_SEQ_CST,
+                                    __ATOMIC_SEQ_CST);
+    }
+}
+
+/* Whether it has slept for a few looks: one that waits for a disk or for memory runs soon. */
+static bool is_asleep_for_long(uint32_t index, char state, uint64_t times) {
+    static struct {
+        uint32_t index;
+        uint64_t times;
+        int looks;
+    } last;
+    bool sleeps_now = state == 'S' || state == 'T' || state == 't';
+    if (!sleeps_now || last.index != index || last.times != times) {
+        last.index = index;
+        last.times = times;
+        last.looks = 0;
+        return false;
+    }
+    return ++last.looks >= SLEEP_LOOKS;
+}
+
+void outside_watch(uint32_t index, int looks, bool (*is_asked)(void)) {
+    struct slot *slot = &run->slots[index];
+    char state = proc_state(slot->pid, slot->tid);
+    uint64_t before = times_run(slot->pid, slot->tid);
+    if (state == 'Z' || state == 'X') {
+        if (slot->pid != slot->tid || state == 'Z') {
+            free_slot(slot); /* A thread that has ended unseen; of a process its end is seen. */
+            run->turn = NOBODY;
+        }
+    } else if (find_foreign(slot, looks)) {
+        take_back(index);
+    } else if (is_asleep_for_long(index, state, before) && !is_asked()) {
+        outside_strangers();
+        take_back(index);
+    }
+}
+
+/* Whether a process has a slot that it knows of. */
+static bool has_begun(uint32_t pid) {
+    for (uint32_t i = 0; i < run->used; i++) {
+        if (run->slots[i].pid == pid && run->slots[i].tid && run->slots[i].state != SLOT_FREE) {
+            return true;
+        }
+    }
+    return false;
+}
+
+bool outside_runs(void) {
+    for (uint32_t i = 0; i < run->used; i++) {
+        struct slot *slot = &run->slots[i];
+        bool is_awaited = slot->state == SLOT_BORN || slot->state == SLOT_OUTSIDE;
+        char state = is_awaited && slot->pid ? proc_state(slot->pid, slot->tid) : 'X';
+        if (state == 'R' || state == 'D') {
+            return true;
+        }
+    }
+    return false;
+}
+
+void outside_births(int looks) {
+    for (uint32_t i = 0; i < run->used; i++) {
+        struct slot *slot = &run->slots[i];
+        if (slot->state != SLOT_BORN || !slot->pid || slot->parent == 0) {
+            continue;
+        }
+        char state = proc_state(slot->pid, 0);
+        if (state == 'X' || state == 'Z' || (slot->parent == STRANGER && has_begun(slot->pid))) {
+            free_slot(slot);
+        } else if (find_foreign(slot, looks)) {
+            slot->tid = slot->pid;
+            slot->state = SLOT_OUTSIDE;
+        }
+    }
+}
+
+static bool is_known(uint32_t pid) {
+    for (uint32_t i = 0; i < run->used; i++) {
+        if (run->slots[i].pid == pid && run->slots[i].state != SLOT_FREE) {
+            return true;
+        }
+    }
+    return false;
+}
+
+void outside_strangers(void) {
+    static uint32_t pids[TREE_MOST];
+    for (uint32_t i = 0; i < run->used; i++) {
+        if (run->slots[i].state == SLOT_BORN && !run->slots[i].pid) {
+            return; /* It may be the one that has this slot. */
+        }
+    }
+    size_t count = tree_below((uint32_t)getpid(), pids, TREE_MOST);
+    for (size_t i = 0; i < count; i++) {
+        char state = is_known(pids[i]) ? 'Z' : proc_state(pids[i], 0);
+        if (state != 'Z' && state != 'X') {
+            struct slot *slot = &run->slots[take_slot()];
+            slot->pid = pids[i];
+            slot->parent = STRANGER;
+            slot->state = SLOT_BORN;
+        }
+    }
+}

@@ -1,0 +1,24 @@
+/* Threads whose waits the library does not see: what the coordinator finds of them in /proc. */
+#ifndef OUTSIDE_H
+#define OUTSIDE_H
+
+#include <stdbool.h>
+#include <stdint.h>
+
+/* Looks at who has the turn and has not handed it on for so many looks; takes it back where that thread sleeps, but not
+ * where it may wait for the coordinator, which `is_asked`. */
+void outside_watch(uint32_t index, int looks, bool (*is_asked)(void));
+
+/* Whether all that are outside sleep, and none by a clock that goes on. */
+bool outside_sleeps(void);
+
+/* Whether one that is outside, or has not begun, has a processor or waits for one. */
+bool outside_runs(void);
+
+/* Looks at those that were born and have not begun. */
+void outside_births(int looks);
+
+/* Processes of the run that have not said that they are there, as those of popen, are taken into it. */
+void outside_strangers(void);
+
+#endif

@@ -1,0 +1,115 @@
+/* What /proc says: see proc.h. */
+#define _GNU_SOURCE
+#include "proc.h"
+#include "raw.h"
+#include "turns.h"
+
+#include <fcntl.h>
+#include <stdio.h>
+#include <stdlib.h>
+#include <string.h>
+#include <time.h>
+
+/* How long the sender of a signal waits for who takes it: at most a second. */
+#define SETTLE_LOOKS 5000
+#define SETTLE_PAUSE 200000
+
+static char *put_number(char *at, uint32_t number) {
+    char digits[12];
+    int count = 0;
+    do {
+        digits[count++] = (char)('0' + number % 10);
+        number /= 10;
+    } while (number);
+    while (count) {
+        *at++ = digits[--count];
+    }
+    return at;
+}
+
+size_t proc_read(uint32_t pid, uint32_t tid, const char *name, char *text, size_t room) {
+    char path[96] = "/proc/", *at = put_number(path + 6, pid);
+    if (tid) {
+        memcpy(at, "/task/", 6);
+        at = put_number(at + 6, tid);
+    }
+    *at++ = '/';
+    strcpy(at, name);
+    long fd = RAW(SYS_openat, AT_FDCWD, path, O_RDONLY | O_CLOEXEC);
+    text[0] = 0;
+    if (fd < 0) {
+        return 0;
+    }
+    long length = RAW(SYS_read, fd, text, room - 1);
+    RAW(SYS_close, fd);
+    text[length > 0 ? length : 0] = 0;
+    return length > 0 ? (size_t)length : 0;
+}
+
+char proc_state(uint32_t pid, uint32_t tid) {
+    char text[512];
+    if (!proc_read(pid, tid, "stat", text, sizeof text)) {
+        return 'X';
+    }
+    char *at = strrchr(text, ')');
+    return at && at[1] && at[2] ? at[2] : 'X';
+}
+
+struct usage proc_usage(uint32_t pid, uint32_t tid) {
+    char text[100], *at = text;
+    struct usage usage = {0, 0, 0};
+    if (proc_read(pid, tid, "schedstat", text, sizeof text)) {
+        usage.run = strtoull(at, &at, 10);
+        usage.waited = strtoull(at, &at, 10);
+        usage.times = strtoull(at, &at, 10);
+    }
+    return usage;
+}
+
+static uint64_t mask_in(const char *text, const char *name) {
+    const char *at = strstr(text, name);
+    return at ? strtoull(at + strlen(name), NULL, 16) : 0;
+}
+
+bool proc_has_signal(uint32_t pid) {
+    char text[4096];
+    if (!proc_read(pid, 0, "status", text, sizeof text)) {
+        return false;
+    }
+    uint64_t pending = mask_in(text, "\nShdPnd:\t") | mask_in(text, "\nSigPnd:\t");
+    return pending & ~mask_in(text, "\nSigBlk:\t");
+}
+
+/* Whether all threads of a process that has taken its signals sleep or have turns to come. */
+static bool is_settled(uint32_t pid) {
+    bool is_there = false;
+    for (uint32_t i = 0; i < run->used; i++) {
+        struct slot *slot = &run->slots[i];
+        if (slot->pid != pid || slot->state == SLOT_FREE || i == (run->turn & ~DECIDING)) {
+            continue;
+        }
+        is_there = true;
+        char state = proc_state(pid, slot->tid);
+        if (slot->tid && (state == 'R' || state == 'X' || state == 'Z')) {
+            return false; /* Who has ended is there until the coordinator has seen it. */
+        }
+    }
+    return !is_there || !proc_has_signal(pid);
+}
+
+void settle(uint32_t pid) {
+    struct timespec pause = {0, SETTLE_PAUSE};
+    uint32_t before = my.slot ? my.slot->state : 0;
+    if (my.slot) {
+        my.slot->state = SLOT_TAKEN; /* The turn of one that waits for this is not taken back. */
+    }
+    for (int i = 0; i < SETTLE_LOOKS && !is_settled(pid); i++) {
+        RAW(SYS_sched_yield, 0);
+        if (i > 3) {
+            RAW(SYS_nanosleep, &pause, NULL);
+        }
+    }
+    if (my.slot) {
+        my.slot->state = before;
+    }
+}

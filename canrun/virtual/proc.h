@@ -1,0 +1,24 @@
+/* What /proc says of a thread. */
+#ifndef PROC_H
+#define PROC_H
+
+#include <stdbool.h>
+#include <stddef.h>
+#include <stdint.h>
+
+/* Reads /proc/PID/task/TID/NAME, or /proc/PID/NAME where tid is 0; returns how many bytes, 0 where there is none. */
+size_t proc_read(uint32_t pid, uint32_t tid, const char *name, char *text, size_t room);
+
+/* The letter of its state as proc(5) has it; X where it has ended. */
+char proc_state(uint32_t pid, uint32_t tid);
+
+/* How long a thread has run and has waited for a processor, in nanoseconds, and how often it was given one. */
+struct usage {
+    uint64_t run, waited, times;
+};
+struct usage proc_usage(uint32_t pid, uint32_t tid);
+
+/* Whether a signal that is not blocked still waits for this process. */
+bool proc_has_signal(uint32_t pid);
+
+#endif

@@ -1,0 +1,33 @@
+/* System calls without the C library, whose functions this library replaces. */
+#ifndef RAW_H
+#define RAW_H
+
+#include <errno.h>
+#include <sys/syscall.h>
+
+static inline long raw_call(long number, long a, long b, long c, long d, long e, long f) {
+    long result;
+    register long r10 __asm__("r10") = d;
+    register long r8 __asm__("r8") = e;
+    register long r9 __asm__("r9") = f;
+    __asm__ volatile("syscall"
+                     : "=a"(result)
+                     : "a"(number), "D"(a), "S"(b), "d"(c), "r"(r10), "r"(r8), "r"(r9)
+                     : "rcx", "r11", "memory");
+    return result;
+}
+
+#define RAW_6(nr, a, b, c, d, e, f, ...) raw_call(nr, (long)(a), (long)(b), (long)(c), (long)(d), (long)(e), (long)(f))
+/* RAW(number, arguments ..): what the kernel returns, which is minus an errno where it fails. */
+#define RAW(...) RAW_6(__VA_ARGS__, 0, 0, 0, 0, 0, 0, 0)
+
+/* The same as the C library returns it. */
+static inline long answer(long result) {
+    if (result < 0 && result > -4096) {
+        errno = (int)-result;
+        return -1;
+    }
+    return result;
+}
+
+#endif

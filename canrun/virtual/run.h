@@ -1,0 +1,106 @@
+/* What all threads of a run in virtual time share: one block of memory, and one epoll.
+ *
+ * One thread of the run has the turn; it runs, and the clock stands still. All others sleep on a word of their slots.
+ * Who has to wait for something (a moment, a descriptor, a lock, a child) writes into its slot what that is, and hands
+ * the turn to the next one that can go on; where there is none, the clock goes to the least moment that one waits for.
+ * Which descriptors are ready is seen in the epoll, in which each thread registers those that it waits for. So nobody
+ * has to find out who sleeps, and the order is the same in each run.
+ *
+ * Some waits go past this library: those inside of the C library, and those of programs that do not load it. They are
+ * `outside`: the coordinator finds that who has the turn sleeps, takes it back, and looks at /proc before the clock
+ * goes on. */
+#ifndef RUN_H
+#define RUN_H
+
+#include <stdbool.h>
+#include <stdint.h>
+
+#define RUN_MAGIC 0x3276646273756e63ull
+#define SLOTS 2048
+#define ALARMS 256
+#define PORTS 256
+#define NEVER UINT64_MAX
+#define SECOND 1000000000ull
+/* CLOCK_MONOTONIC at the start. */
+#define UPTIME (1000 * SECOND)
+/* The turn of nobody is the coordinator's. Who decides whose turn is next marks it by this bit. */
+#define NOBODY 0x7fffffffu
+#define DECIDING 0x80000000u
+
+enum state {
+    SLOT_FREE,
+    SLOT_BORN,    /* a thread or process that has been made and has not begun yet */
+    SLOT_READY,   /* it only waits for its turn */
+    SLOT_RUNS,    /* it has the turn */
+    SLOT_WAITS,   /* for what its other fields say */
+    SLOT_OUTSIDE, /* it sleeps in a call that this library does not see, or is a program without it */
+    SLOT_TAKEN,   /* being filled */
+};
+
+/* What has come for one that waits; none of these: its moment. */
+enum { HAS_EVENT = 1, IS_WOKEN = 2, IS_INTERRUPTED = 4 };
+
+/* What a thread waits for, for messages. */
+enum kind { KIND_MOMENT, KIND_DESCRIPTOR, KIND_LOCK, KIND_CHILD, KIND_SIGNAL, KIND_THREAD };
+
+struct slot {
+    _Atomic uint32_t go; /* the word that it sleeps on: how often it was given the turn */
+    _Atomic uint32_t state;
+    _Atomic uint32_t flags;
+    _Atomic uint32_t pid, tid;
+    uint32_t parent;     /* of a process that is born */
+    uint32_t rank;       /* of those that can go on in one moment, the lowest goes first */
+    uint32_t generation; /* of its wait for descriptors */
+    uint32_t kind;
+    _Atomic uint32_t is_foreign; /* a program that does not load this library */
+    _Atomic uint64_t deadline;   /* nanoseconds of the run, or NEVER */
+    _Atomic uint64_t key;        /* of the lock, child or thread that it waits for */
+    uint64_t since;              /* the number of its wait: who waits longer is woken first */
+    uint64_t ticket;             /* its place among those that can go on, 0 before it has one */
+    uint64_t thread;             /* pthread_self */
+} __attribute__((aligned(128)));
+
+/* A timer that sends a signal: alarm, setitimer, timer_create. */
+struct alarm {
+    _Atomic uint32_t pid; /* 0: free */
+    uint32_t tid;         /* 0: to the process */
+    int32_t number;
+    uint32_t id;
+    uint64_t value;
+    _Atomic uint64_t deadline;
+    uint64_t period;
+    uint32_t overrun;
+};
+
+/* Why nobody has the turn. */
+enum pause { PAUSE_NONE, PAUSE_BIRTH, PAUSE_OUTSIDE, PAUSE_ALARM, PAUSE_IDLE, PAUSE_UNTIL };
+
+struct run {
+    uint64_t magic;
+    uint64_t epoch; /* CLOCK_REALTIME at the start */
+    uint64_t until;
+    uint64_t seed, random; /* 0: the order is that of the slots */
+    uint64_t jitter;       /* nanoseconds that a timed wait is longer at most */
+    int32_t coordinator;
+    uint32_t has_ended;
+    _Atomic uint64_t now __attribute__((aligned(64)));
+    _Atomic uint32_t turn;
+    _Atomic uint32_t used; /* slots that were ever used */
+    _Atomic uint32_t pause;
+    _Atomic uint32_t births; /* a word to wait on for one that is born */
+    _Atomic uint64_t waits, tickets;
+    _Atomic uint64_t turns, moments; /* how often the turn was handed on, and the clock went on */
+    _Atomic uint64_t spun;           /* nanoseconds that went by as threads looked at the clock again and again */
+    _Atomic uint32_t ports[PORTS];   /* TCP ports that programs of the run listen at */
+    struct slot slots[SLOTS];
+    struct alarm alarms[ALARMS];
+};
+
+/* The setting that has the path of the memory; the coordinator listens at an abstract name with its process number. */
+#define RUN_SETTING "CANBUSD_RUN_VIRTUAL"
+#define RUN_SLOT "CANBUSD_RUN_SLOT"
+/* The options that repeat the run, for reports. */
+#define RUN_OPTIONS "CANBUSD_RUN_OPTIONS"
+#define RUN_SOCKET "canbusd-virtual/%d"
+
+#endif

@@ -1,0 +1,134 @@
+/* A program, or a bridge, becomes part of the run. */
+#define _GNU_SOURCE
+#include "calls.h"
+
+#include <fcntl.h>
+#include <limits.h>
+#include <stdio.h>
+#include <stdlib.h>
+#include <string.h>
+#include <sys/mman.h>
+#include <sys/socket.h>
+#include <sys/un.h>
+#include <unistd.h>
+
+/* The least number of the run's descriptor in a program, so that it is in nobody's way. */
+#define HIGH_DESCRIPTOR 900
+
+/* The coordinator, which sees who asks by the connection, sends the epoll. */
+static int take_epoll(int fd) {
+    char byte = 0;
+    struct iovec part = {&byte, 1};
+    union {
+        char room[CMSG_SPACE(sizeof(int))];
+        struct cmsghdr align;
+    } control = {.room = {0}};
+    struct msghdr message = {
+        .msg_iov = &part, .msg_iovlen = 1, .msg_control = &control, .msg_controllen = sizeof control};
+    struct cmsghdr *rights;
+    int epoll;
+    while (RAW(SYS_recvmsg, fd, &message, MSG_CMSG_CLOEXEC) == -EINTR) {
+    }
+    rights = CMSG_FIRSTHDR(&message);
+    if (!rights || rights->cmsg_type != SCM_RIGHTS) {
+        return -1;
+    }
+    memcpy(&epoll, CMSG_DATA(rights), sizeof epoll);
+    int high = (int)RAW(SYS_fcntl, epoll, F_DUPFD_CLOEXEC, HIGH_DESCRIPTOR);
+    if (high >= 0) {
+        RAW(SYS_close, epoll);
+        return high;
+    }
+    return epoll;
+}
+
+bool register_process(void) {
+    struct sockaddr_un name = {.sun_family = AF_UNIX};
+    int length = snprintf(name.sun_path + 1, sizeof name.sun_path - 1, RUN_SOCKET, run->coordinator);
+    int fd = (int)RAW(SYS_socket, AF_UNIX, SOCK_SEQPACKET | SOCK_CLOEXEC, 0);
+    if (fd < 0) {
+        return false;
+    }
+    socklen_t size = (socklen_t)(offsetof(struct sockaddr_un, sun_path) + 1 + (size_t)length);
+    int epoll = RAW(SYS_connect, fd, &name, size) ? -1 : take_epoll(fd);
+    RAW(SYS_close, fd);
+    if (epoll >= 0) {
+        if (run_epoll >= 0) {
+            RAW(SYS_close, run_epoll);
+        }
+        run_epoll = epoll;
+    }
+    return epoll >= 0;
+}
+
+static struct run *map_run(const char *path) {
+    int fd = (int)RAW(SYS_openat, AT_FDCWD, path, O_RDWR | O_CLOEXEC);
+    if (fd < 0) {
+        return NULL;
+    }
+    struct run *at = mmap(NULL, sizeof *at, PROT_READ | PROT_WRITE, MAP_SHARED, fd, 0);
+    RAW(SYS_close, fd);
+    return at == MAP_FAILED || at->magic != RUN_MAGIC ? NULL : at;
+}
+
+/* The slot of this process: it had one before execve; or its parent took one for it; or it gets one. */
+static uint32_t find_slot(void) {
+    uint32_t pid = (uint32_t)RAW(SYS_getpid, 0), parent = (uint32_t)RAW(SYS_getppid, 0), found = NOBODY;
+    const char *given = getenv(RUN_SLOT);
+    if (given) {
+        uint32_t index = (uint32_t)atoi(given) % SLOTS;
+        return run->slots[index].state == SLOT_BORN ? index : take_slot();
+    }
+    for (uint32_t i = 0; i < run->used; i++) {
+        struct slot *slot = &run->slots[i];
+        bool is_old = slot->pid == pid && slot->tid && slot->state != SLOT_FREE && slot->state != SLOT_BORN;
+        bool has_it = i == (run->turn & ~DECIDING);
+        if (is_old && (found == NOBODY || has_it)) {
+            found = i;
+        }
+    }
+    for (uint32_t i = 0; i < run->used && found != NOBODY; i++) {
+        if (i != found && run->slots[i].pid == pid && run->slots[i].state != SLOT_BORN) {
+            free_slot(&run->slots[i]); /* The other threads ended with execve. */
+        }
+    }
+    for (uint32_t i = 0; i < run->used && found == NOBODY; i++) {
+        struct slot *slot = &run->slots[i];
+        if (slot->state == SLOT_BORN && slot->parent && (slot->pid == pid || (!slot->pid && slot->parent == parent))) {
+            found = i;
+        }
+    }
+    return found == NOBODY ? take_slot() : found;
+}
+
+static void recognize(void) {
+    char path[PATH_MAX];
+    long length = RAW(SYS_readlinkat, AT_FDCWD, "/proc/self/exe", path, sizeof path - 1);
+    path[length > 0 ? length : 0] = 0;
+    const char *name = strrchr(path, '/');
+    is_server = name && !strcmp(name, "/canbusd");
+#ifdef FOR_BRIDGE
+    is_bridge = true;
+#endif
+}
+
+__attribute__((constructor(103))) static void start(void) {
+    const char *path = getenv(RUN_SETTING);
+    struct run *at = path && *path ? map_run(path) : NULL;
+    if (!at) {
+        return;
+    }
+    run = at;
+    recognize();
+    if (!register_process()) {
+        static const char text[] = "canbusd-run: virtual time: its coordinator does not reply\n";
+        RAW(SYS_write, 2, text, sizeof text - 1);
+        RAW(SYS_exit_group, 125);
+    }
+    uint32_t index = find_slot();
+    run->slots[index].is_foreign = 0;
+#ifndef FOR_BRIDGE
+    start_signals();
+#endif
+    begin_slot(index);
+}

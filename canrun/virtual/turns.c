@@ -1,0 +1,370 @@
+/* Turns: see turns.h. */
+#define _GNU_SOURCE
+#include "turns.h"
+#include "raw.h"
+
+#include <linux/futex.h>
+#include <sys/epoll.h>
+#include <time.h>
+
+struct run *run;
+int run_epoll = -1;
+bool is_server, is_bridge;
+__thread struct my my;
+void (*handle_deferred)(void);
+
+/* How long a thread sleeps before it looks whether the coordinator is still there, in real time. */
+#define LIVE_SECONDS 1
+#define BIRTH_NANOSECONDS 20000000
+
+static uint64_t next_random(void) {
+    uint64_t x = run->random;
+    x ^= x << 13;
+    x ^= x >> 7;
+    x ^= x << 17;
+    run->random = x;
+    return x;
+}
+
+/* ---- slots ---- */
+
+uint32_t take_slot(void) {
+    for (uint32_t i = 0; i < SLOTS; i++) {
+        struct slot *slot = &run->slots[i];
+        uint32_t none = SLOT_FREE;
+        if (slot->state != SLOT_FREE || !__atomic_compare_exchange_n((uint32_t *)&slot->state, &none, SLOT_TAKEN, 0,
+                                                                     __ATOMIC_SEQ_CST, __ATOMIC_SEQ_CST)) {
+            continue;
+        }
+        slot->flags = slot->is_foreign = 0;
+        slot->pid = slot->tid = slot->parent = 0;
+        slot->rank = slot->kind = 0;
+        slot->deadline = NEVER;
+        slot->key = slot->ticket = slot->thread = 0;
+        slot->generation++;
+        uint32_t used = run->used;
+        while (used < i + 1 && !__atomic_compare_exchange_n((uint32_t *)&run->used, &used, i + 1, 0, __ATOMIC_SEQ_CST,
+                                                            __ATOMIC_SEQ_CST)) {
+        }
+        return i;
+    }
+    static const char text[] = "canbusd-run: virtual time: more than 2048 threads\n";
+    RAW(SYS_write, 2, text, sizeof text - 1);
+    RAW(SYS_exit_group, 125);
+    return 0;
+}
+
+void free_slot(struct slot *slot) {
+    slot->pid = slot->tid = 0;
+    slot->deadline = NEVER;
+    slot->key = 0;
+    slot->state = SLOT_FREE;
+}
+
+void begin_slot(uint32_t index) {
+    struct slot *slot = &run->slots[index];
+    my.slot = slot;
+    my.index = index;
+    slot->pid = (uint32_t)RAW(SYS_getpid, 0);
+    slot->tid = (uint32_t)RAW(SYS_gettid, 0);
+    slot->rank = is_bridge ? RANK_BRIDGE : is_server ? RANK_DRIVER : RANK_PROGRAM;
+    if (has_turn()) {
+        slot->state = SLOT_RUNS; /* execve: the process goes on as another program */
+        return;
+    }
+    slot->state = SLOT_READY;
+    run->births++;
+    RAW(SYS_futex, &run->births, FUTEX_WAKE, 64);
+    ring();
+    await_turn();
+    slot->state = SLOT_RUNS;
+    slot->ticket = 0;
+}
+
+struct slot *my_slot(void) {
+    if (!my.slot) {
+        begin_slot(take_slot());
+    }
+    return my.slot;
+}
+
+/* ---- who can go on ---- */
+
+static void collect_events(void) {
+    struct epoll_event events[32];
+    long count;
+    do {
+        count = RAW(SYS_epoll_pwait, run_epoll, events, 32, 0, NULL, 8);
+        if (count == -EBADF && register_process()) {
+            count = 32; /* A program that closes all descriptors has closed this one. */
+            continue;
+        }
+        for (long i = 0; i < count; i++) {
+            uint32_t index = (uint32_t)events[i].data.u64, generation = (uint32_t)(events[i].data.u64 >> 32);
+            struct slot *slot = &run->slots[index % SLOTS];
+            if (slot->generation == generation && slot->state == SLOT_WAITS && slot->kind == KIND_DESCRIPTOR) {
+                slot->flags |= HAS_EVENT;
+            }
+        }
+    } while (count == 32);
+}
+
+struct look {
+    uint32_t best;
+    bool has_birth, has_outside;
+    uint64_t next;
+};
+
+static bool can_go_on(const struct slot *slot, uint64_t now) {
+    return slot->state == SLOT_READY || (slot->state == SLOT_WAITS && (slot->flags || slot->deadline <= now));
+}
+
+/* Gives a place to each that can go on now and could not before, and finds the first. */
+static struct look look_round(void) {
+    struct look look = {.best = NOBODY, .next = NEVER};
+    uint64_t now = run->now, round = 0;
+    for (uint32_t i = 0; i < run->used; i++) {
+        struct slot *slot = &run->slots[i], *best = &run->slots[look.best % SLOTS];
+        uint32_t state = slot->state;
+        look.has_birth |= state == SLOT_BORN;
+        look.has_outside |= state == SLOT_OUTSIDE;
+        if (!can_go_on(slot, now)) {
+            if (state == SLOT_WAITS && slot->deadline < look.next) {
+                look.next = slot->deadline;
+            }
+            continue;
+        }
+        if (!slot->ticket) {
+            round = round ? round : ++run->tickets;
+            slot->ticket = round << 16 | (run->seed ? next_random() & 0xffff : i);
+        }
+        if (look.best == NOBODY || slot->rank < best->rank ||
+            (slot->rank == best->rank && slot->ticket < best->ticket)) {
+            look.best = i;
+        }
+    }
+    return look;
+}
+
+/* Sets the clock to the next moment that one waits for, where the coordinator has nothing to do before. */
+static bool go_on(uint64_t next) {
+    uint64_t alarm = NEVER;
+    for (int i = 0; i < ALARMS; i++) {
+        if (run->alarms[i].pid && run->alarms[i].number && run->alarms[i].deadline < alarm) {
+            alarm = run->alarms[i].deadline;
+        }
+    }
+    uint64_t least = alarm < next ? alarm : next;
+    run->pause = least == NEVER ? PAUSE_IDLE : least > run->until ? PAUSE_UNTIL : alarm <= next ? PAUSE_ALARM : 0;
+    if (run->pause) {
+        return false;
+    }
+    run->now = next;
+    run->moments++;
+    return true;
+}
+
+static bool wait_for_birth(void) {
+    struct timespec patience = {0, BIRTH_NANOSECONDS};
+    for (int i = 0; i < 2; i++) {
+        uint32_t seen = run->births;
+        bool has_birth = false;
+        for (uint32_t k = 0; k < run->used; k++) {
+            has_birth |= run->slots[k].state == SLOT_BORN;
+        }
+        if (!has_birth) {
+            return true;
+        }
+        if (!i) {
+            RAW(SYS_futex, &run->births, FUTEX_WAIT, seen, &patience);
+        }
+    }
+    return false;
+}
+
+uint32_t next_turn(bool ignores_outside) {
+    collect_events();
+    for (;;) {
+        struct look look = look_round();
+        if (look.has_birth) {
+            if (wait_for_birth()) {
+                continue;
+            }
+            run->pause = PAUSE_BIRTH;
+            return NOBODY;
+        }
+        if (look.best != NOBODY) {
+            return look.best;
+        }
+        if (look.has_outside && !ignores_outside) {
+            run->pause = PAUSE_OUTSIDE;
+            return NOBODY;
+        }
+        if (!go_on(look.next)) {
+            return NOBODY;
+        }
+    }
+}
+
+/* ---- turns ---- */
+
+void ring(void) {
+    if (run->turn == NOBODY) {
+        RAW(SYS_kill, run->coordinator, SIGURG);
+    }
+}
+
+void hand_turn(uint32_t index) {
+    run->turns++;
+    run->turn = index;
+    if (index == NOBODY) {
+        ring();
+    } else {
+        run->slots[index].go++;
+        RAW(SYS_futex, &run->slots[index].go, FUTEX_WAKE, 1);
+    }
+}
+
+bool has_turn(void) {
+    return (run->turn & ~DECIDING) == my.index && my.slot;
+}
+
+static void check_coordinator(void) {
+    if (run->has_ended || RAW(SYS_kill, run->coordinator, 0) == -ESRCH) {
+        RAW(SYS_exit_group, 125); /* Nothing is left of a run whose coordinator is gone. */
+    }
+}
+
+void await_turn(void) {
+    struct timespec patience = {LIVE_SECONDS, 0};
+    for (;;) {
+        uint32_t seen = my.slot->go;
+        if (has_turn()) {
+            return;
+        }
+        /* With a timeout it returns EINTR after any handler, also of SA_RESTART. */
+        long result = RAW(SYS_futex, &my.slot->go, FUTEX_WAIT, seen, &patience);
+        if (result == -ETIMEDOUT) {
+            check_coordinator();
+        } else if (result == -EINTR && !has_turn()) {
+            my.slot->flags |= IS_INTERRUPTED; /* A signal of the C library's own, as that of pthread_cancel. */
+            ring();
+        }
+    }
+}
+
+/* Hands the turn on, and waits for the next one; the slot says what for. */
+static void give_turn(void) {
+    uint32_t mine = my.index;
+    my.is_deciding++;
+    if (__atomic_compare_exchange_n((uint32_t *)&run->turn, &mine, my.index | DECIDING, 0, __ATOMIC_SEQ_CST,
+                                    __ATOMIC_SEQ_CST)) {
+        uint32_t next = next_turn(false);
+        if (next == my.index) {
+            run->turn = next;
+        } else {
+            hand_turn(next);
+        }
+    } else {
+        ring();
+    }
+    my.is_deciding--;
+    if (handle_deferred) {
+        handle_deferred();
+    }
+    await_turn();
+    my.slot->state = SLOT_RUNS;
+    my.slot->ticket = 0;
+}
+
+void regain_turn(void) {
+    if (!has_turn()) {
+        my_slot()->state = SLOT_READY;
+        ring();
+        await_turn();
+        my.slot->state = SLOT_RUNS;
+        my.slot->ticket = 0;
+    }
+}
+
+uint32_t wait_turn(uint64_t deadline, uint64_t key, enum kind kind) {
+    struct slot *slot = my_slot();
+    if (deadline != NEVER && run->jitter) {
+        deadline += next_random() % (run->jitter / 1000 + 1) * 1000;
+    }
+    slot->flags = 0;
+    slot->deadline = deadline;
+    slot->key = key;
+    slot->kind = kind;
+    slot->since = ++run->waits;
+    if (is_server) {
+        slot->rank = my.has_talked ? RANK_SESSION : RANK_DRIVER;
+    }
+    slot->state = SLOT_WAITS;
+    give_turn();
+    slot->deadline = NEVER;
+    slot->key = 0;
+    return slot->flags;
+}
+
+void yield_turn(void) {
+    my_slot()->state = SLOT_READY;
+    give_turn();
+}
+
+uint64_t after(uint64_t nanoseconds) {
+    uint64_t now = run->now;
+    return nanoseconds >= NEVER / 4 ? NEVER : now + nanoseconds; /* 146 years are without end. */
+}
+
+/* ---- keys ---- */
+
+static uint64_t mixed(uint64_t a, uint64_t b) {
+    uint64_t x = (a * 0x9e3779b97f4a7c15ull ^ b) * 0xbf58476d1ce4e5b9ull;
+    x ^= x >> 29;
+    return x ? x : 1;
+}
+
+uint64_t key_of(const volatile void *at, uint64_t salt) {
+    return mixed((uint64_t)(uintptr_t)at + salt, my_slot()->pid);
+}
+
+/* The same in each process that maps it: only the place in its page is known. */
+uint64_t key_of_any(const volatile void *at, uint64_t salt) {
+    return mixed(((uint64_t)(uintptr_t)at & 4095) + salt, 0);
+}
+
+uint64_t key_of_children(uint32_t pid) {
+    return mixed(pid, 0x6368696c64);
+}
+
+uint64_t key_of_signals(uint32_t pid) {
+    return mixed(pid, 0x7369676e);
+}
+
+void wake(uint64_t key, int most) {
+    while (most-- > 0) {
+        struct slot *first = NULL;
+        for (uint32_t i = 0; i < run->used; i++) {
+            struct slot *slot = &run->slots[i];
+            if (slot->state == SLOT_WAITS && slot->key == key && !(slot->flags & IS_WOKEN) &&
+                (!first || slot->since < first->since)) {
+                first = slot;
+            }
+        }
+        if (!first) {
+            return;
+        }
+        first->flags |= IS_WOKEN;
+        ring();
+    }
+}
+
+void wake_descriptors(uint32_t pid) {
+    for (uint32_t i = 0; i < run->used; i++) {
+        struct slot *slot = &run->slots[i];
+        if (slot->state == SLOT_WAITS && slot->pid == pid && slot->kind == KIND_DESCRIPTOR) {
+            slot->flags |= HAS_EVENT;
+        }
+    }
+}

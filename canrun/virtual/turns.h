@@ -1,0 +1,87 @@
+/* Turns: whose it is, waiting for one, and who is next. Of programs, bridges and the coordinator. */
+#ifndef TURNS_H
+#define TURNS_H
+
+#include "run.h"
+
+#include <signal.h>
+#include <stdbool.h>
+
+/* NULL: there is no virtual time, and all calls are the kernel's. */
+extern struct run *run;
+extern int run_epoll;
+
+/* Descriptors that a thread has in the epoll, also between two waits. */
+#define WATCHED 4
+
+/* What a thread of a program knows of itself. */
+struct my {
+    struct slot *slot;
+    uint32_t index;
+    uint32_t is_deciding; /* a signal that comes now is handled after it */
+    uint32_t handled;     /* signals that a handler had */
+    bool has_to_return;   /* the last one had no SA_RESTART */
+    uint32_t looks;
+    uint64_t looked_at, step;
+    bool has_talked;
+    uint32_t watched_next;
+    int watched[WATCHED]; /* 0: none; a descriptor 0 is put there for each wait */
+};
+extern __thread struct my my __attribute__((tls_model("initial-exec")));
+
+/* The rank of this program's threads, and of a server's that use sockets or only drive a bus. */
+enum { RANK_PROGRAM, RANK_BRIDGE, RANK_SESSION, RANK_DRIVER };
+extern bool is_server, is_bridge;
+
+/* The slot of this thread, which gets one if need be. */
+struct slot *my_slot(void);
+
+/* Takes a free slot for a thread or process that is born. It has the lowest number, so it is the same in each run. */
+uint32_t take_slot(void);
+void free_slot(struct slot *slot);
+
+/* This thread begins with this slot, and waits for its first turn. */
+void begin_slot(uint32_t index);
+
+/* Waits for a moment, and for what sets flags. Returns the flags. `deadline` may be NEVER. */
+uint32_t wait_turn(uint64_t deadline, uint64_t key, enum kind kind);
+
+/* Lets all others go on that can in this moment. */
+void yield_turn(void);
+
+/* Waits for the turn, where it was taken from this thread. */
+void regain_turn(void);
+bool has_turn(void);
+void await_turn(void);
+
+/* Lets those go on that wait for this key, the longest first. */
+void wake(uint64_t key, int most);
+
+/* Lets all of a process's threads look again that wait for descriptors. */
+void wake_descriptors(uint32_t pid);
+
+/* A moment from now, and the moment at which a clock shows this. */
+uint64_t after(uint64_t nanoseconds);
+
+/* Who can go on next: the number of its slot, or NOBODY and run->pause. Only for who has the turn. */
+uint32_t next_turn(bool ignores_outside);
+void hand_turn(uint32_t index);
+
+/* Has the coordinator look whose turn it is, where it is nobody's. */
+void ring(void);
+
+/* Whether a process handled all signals that it was sent, or has ended; waits for it for a while. */
+void settle(uint32_t pid);
+
+/* Keys of what is waited for in one process, and in any. */
+uint64_t key_of(const volatile void *at, uint64_t salt);
+uint64_t key_of_any(const volatile void *at, uint64_t salt);
+uint64_t key_of_children(uint32_t pid);
+uint64_t key_of_signals(uint32_t pid);
+
+/* Handles signals that came while this thread decided; NULL where no program has handlers. */
+extern void (*handle_deferred)(void);
+/* Asks the coordinator for the epoll. Returns false where there is none. */
+bool register_process(void);
+
+#endif

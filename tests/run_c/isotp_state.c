@@ -1,0 +1,197 @@
+/* CAN_ISOTP: what state a socket is in while a message is sent, and after it has failed: poll, SO_ERROR, the next
+ * write, close, signals. */
+#include "isotp.h"
+
+static short polled(int fd, short events) {
+    struct pollfd one = {fd, events, 0};
+    CHECK(poll(&one, 1, 0) >= 0);
+    return one.revents;
+}
+
+static int error_of(int fd) {
+    int error = -1;
+    socklen_t length = sizeof error;
+    CHECK(getsockopt(fd, SOL_SOCKET, SO_ERROR, &error, &length) == 0 && length == sizeof error);
+    return error;
+}
+
+static void becomes_writable(int fd) {
+    struct pollfd one = {fd, POLLOUT, 0};
+    CHECK(poll(&one, 1, PATIENCE) == 1 && one.revents & POLLOUT);
+}
+
+/* Before bind nothing goes, and nothing comes. */
+static void unbound(void) {
+    int fd = made();
+    FAILS(write(fd, "x", 1), EADDRNOTAVAIL);
+    FAILS(recv(fd, &(char){0}, 1, MSG_DONTWAIT), EADDRNOTAVAIL);
+    FAILS(read(fd, &(char){0}, 1), EADDRNOTAVAIL);
+    CHECK(bind_isotp(fd, RX, TX) == 0);
+    FAILS(recv(fd, &(char){0}, 1, MSG_DONTWAIT), EAGAIN);
+    FAILS(recv(fd, &(char){0}, 1, MSG_WAITALL), EINVAL);
+    CHECK(close(fd) == 0);
+}
+
+/* While a message waits for flow control it is not ready to be written, and a write that may not wait says so. */
+static void busy(void) {
+    int fd = made();
+    struct sockaddr_can own;
+    socklen_t length = sizeof own;
+    CHECK(bind_isotp(fd, RX, TX) == 0);
+    CHECK(polled(fd, POLLOUT | POLLIN) == POLLOUT);
+    CHECK(write(fd, "0123456789", 10) == 10);
+    SEES("\x10\x0A"
+         "012345");
+    CHECK(polled(fd, POLLOUT | POLLIN) == 0);
+    FAILS(send(fd, "y", 1, MSG_DONTWAIT), EAGAIN);
+    FAILS(send(fd, "", 0, MSG_DONTWAIT), EAGAIN);
+    CHECK(getsockname(fd, (struct sockaddr *)&own, &length) == 0 && own.can_addr.tp.tx_id == TX);
+    CHECK(polled(fd, POLLOUT | POLLIN) == 0);
+    SAYS("\x30\0\0");
+    SEES("\x21"
+         "6789");
+    becomes_writable(fd);
+    CHECK(write(fd, "z", 1) == 1);
+    SEES("\1z");
+    CHECK(close(fd) == 0);
+}
+
+/* A fault of a message that is sent is the error of the socket: what takes it first gets it, and nobody else. */
+static void fault(const char *control, size_t length, int error) {
+    int fd = made();
+    CHECK(bind_isotp(fd, RX, TX) == 0);
+    for (int how = 0; how < 3; how++) {
+        CHECK(write(fd, "0123456789", 10) == 10);
+        SEES("\x10\x0A"
+             "012345");
+        if (length) {
+            says(control, length);
+        }
+        becomes_writable(fd);
+        if (how == 0) {
+            CHECK(error_of(fd) == error);
+        } else if (how == 1) {
+            FAILS(write(fd, "x", 1), error);
+        } else {
+            FAILS(recv(fd, &(char){0}, 1, 0), error);
+        }
+        CHECK(error_of(fd) == 0);
+        FAILS(recv(fd, &(char){0}, 1, MSG_DONTWAIT), EAGAIN);
+    }
+    CHECK(write(fd, "x", 1) == 1);
+    SEES("\1x");
+    CHECK(close(fd) == 0);
+}
+#define FAULT(bytes, error) fault(bytes, sizeof(bytes) - 1, error)
+
+/* The same of a message that is received; data that came before it stay. */
+static void received_fault(void) {
+    int fd = made();
+    CHECK(bind_isotp(fd, RX, TX) == 0);
+    SAYS("\x10\x14"
+         "012345");
+    SEES("\x30\0\0");
+    SAYS("\x22"
+         "6789abc");
+    CHECK(comes(fd, PATIENCE));
+    CHECK(error_of(fd) == EILSEQ);
+    SAYS("\1a");
+    reads(fd, "a", 1);
+    SAYS("\x10\x14"
+         "012345");
+    SEES("\x30\0\0");
+    CHECK(comes(fd, PATIENCE));
+    FAILS(write(fd, "x", 1), ETIMEDOUT);
+    CHECK(close(fd) == 0);
+}
+
+static void on_signal(int number) {
+    (void)number;
+}
+
+/* A signal whose handler has no SA_RESTART ends a write that waits. */
+static void signals(void) {
+    int fd = made();
+    struct sigaction action = {.sa_handler = on_signal};
+    CHECK(sigaction(SIGALRM, &action, NULL) == 0);
+    CHECK(bind_isotp(fd, RX, TX) == 0);
+    CHECK(write(fd, "0123456789", 10) == 10);
+    SEES("\x10\x0A"
+         "012345");
+    struct itimerval soon = {.it_value = {0, 50000}};
+    CHECK(setitimer(ITIMER_REAL, &soon, NULL) == 0);
+    FAILS(write(fd, "y", 1), EINTR);
+    SAYS("\x30\0\0");
+    SEES("\x21"
+         "6789");
+    CHECK(close(fd) == 0);
+    fd = made();
+    set_options(fd, (struct can_isotp_options){.flags = CAN_ISOTP_WAIT_TX_DONE});
+    CHECK(bind_isotp(fd, RX, TX) == 0);
+    CHECK(setitimer(ITIMER_REAL, &soon, NULL) == 0);
+    FAILS(write(fd, "0123456789", 10), EINTR);
+    SEES("\x10\x0A"
+         "012345");
+    SAYS("\x30\0\0"); /* It was given up. */
+    CHECK(!comes(peer, QUIET));
+    CHECK(close(fd) == 0);
+}
+
+/* close waits for the end of the message, so that a new socket sees nothing of it. */
+static void closing(void) {
+    int fd = made();
+    CHECK(bind_isotp(fd, RX, TX) == 0);
+    CHECK(write(fd, "0123456789", 10) == 10);
+    SEES("\x10\x0A"
+         "012345");
+    pid_t child = fork();
+    if (child == 0) {
+        usleep(QUIET * 1000);
+        SAYS("\x30\0\0");
+        _exit(0);
+    }
+    close(fd); /* The child has a copy: nobody waits. */
+    SEES("\x21"
+         "6789");
+    int status;
+    CHECK(waitpid(child, &status, 0) == child && status == 0);
+}
+
+static void closing_last(void) {
+    int fd = made(), ends[2];
+    CHECK(pipe(ends) == 0);
+    pid_t child = fork();
+    if (child == 0) {
+        struct timespec before, after;
+        CHECK(bind_isotp(fd, RX, TX) == 0);
+        CHECK(write(fd, "0123456789", 10) == 10);
+        CHECK(read(ends[0], &(char){0}, 1) == 1); /* The other copy is closed. */
+        clock_gettime(CLOCK_MONOTONIC, &before);
+        CHECK(close(fd) == 0);
+        clock_gettime(CLOCK_MONOTONIC, &after);
+        /* Nobody sends flow control: the message ends a second after its first frame. */
+        CHECK(after.tv_sec - before.tv_sec + (after.tv_nsec - before.tv_nsec) / 1e9 > 0.3);
+        _exit(0);
+    }
+    close(fd);
+    SEES("\x10\x0A"
+         "012345");
+    CHECK(write(ends[1], "x", 1) == 1);
+    int status;
+    CHECK(waitpid(child, &status, 0) == child && status == 0);
+}
+
+int main(void) {
+    meet_peer();
+    unbound();
+    busy();
+    FAULT("\x32\0\0", EMSGSIZE);
+    FAULT("\x35\0\0", EBADMSG);
+    FAULT("\x30\0", EBADMSG);
+    FAULT("", ECOMM);
+    received_fault();
+    signals();
+    closing();
+    closing_last();
+    return 0;
+}
