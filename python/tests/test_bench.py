@@ -543,19 +543,23 @@ def test_a_bit_rate_for_data():
         assert [attempt.timestamp for attempt in bench.run(until=1)] == [0.000092, 0.000773]
 
 
-def test_a_bench_counts_no_load():
-    for rates in ({}, {"bitrate": 5_000}):
+def test_the_load_of_a_bench():
+    """45 bits of a frame under 123 without data, 3 of intermission: 9.6 ms at 5 kbit/s."""
+    for rates, load in (({}, (0, 0, 0, 0)), ({"bitrate": 5_000}, (0, 9_600, 5_000, 5_000))):
         with Bench("can0", **rates) as bench:
             session = bench.open("can0")
             session.send(0x123)
             bench.run()
-            assert session.load() == (0, 0, 0, 0)
+            assert session.load() == load
 
 
 def test_an_answer_of_another_program(monkeypatch):
     with Bench("can0") as bench:
         session = bench.open("can0")
-        for word, answer in (("load", "load 0 0"), ("status", "status off"), ("stats", "ok"), ("faults", "stats 1")):
+        others = [("load", "load 0 0"), ("status", "status off"), ("stats", "ok"), ("faults", "stats 1")]
+        # What is no number, and no state.
+        others += [("faults", "faults x"), ("status", "status off 1 -1"), ("status", "status idle 0 0")]
+        for word, answer in others:
             monkeypatch.setattr(session, "call", lambda message: [answer] if message == word else [])
             ask = {"faults": session.rules_left}.get(word) or getattr(session, word)
             with pytest.raises(Refused, match=f"^another version of canbusd answers: {answer.removeprefix('ok')}$"):

@@ -561,7 +561,7 @@ def test_the_file_descriptor_is_readable_while_there_are_frames(pair):
 
 def test_sixty_four_buses_and_no_more():
     before = len(os.listdir("/proc/self/fd"))
-    with Server(",".join(f"can{number}" for number in range(16))) as server:
+    with Server(",".join(f"can{number}" for number in range(16)), observe=()) as server:
         buses = [server.bus(f"can{number % 16}") for number in range(64)]
         with pytest.raises(can.CanInitializationError, match="too many sessions"):
             server.bus("can0")

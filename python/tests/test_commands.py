@@ -1,4 +1,4 @@
-"""python3 -m canbusd: dump, send, status, report and replay, each as a process."""
+"""canbusd COMMAND: dump, send, status, report and replay, each as a process."""
 
 import contextlib
 import json
@@ -294,7 +294,7 @@ def test_send_of_several_frames_and_flags():
         (("can0", "123"), "canbusd send: 123: no frame such as"),
         (("can0", "800#"), "canbusd send: 800#: no identifier"),
         (("can0", "20000040#0000000000000000"), "nobody sends"),
-        (("can7", "123#"), "no such interface"),
+        (("can7", "123#"), "no such interface; the server has can0, can1"),
         (("--address", "nowhere", "can0", "123#"), "address"),
     ],
 )
@@ -347,6 +347,7 @@ def test_status_has_the_load_of_buses_with_a_bit_rate():
     ]
 
 
+@pytest.mark.quiet
 def test_status_of_a_busy_bus():
     with Server("can0,can1", bitrate=5_000, txqueue=1_000) as server, server.bus("can0") as sender:
         # 26 seconds of frames.
@@ -378,7 +379,7 @@ def test_restart_of_interfaces():
             for bus in (can0, can2):
                 bus.send(message(0x123), timeout=5)
                 server.expect_state(bus.channel, "off", within=WAIT)
-            cure = "`python3 -m canbusd restart can0` brings the interface back, as the server's --auto-restart does"
+            cure = "`canbusd restart can0` brings the interface back, as the server's --auto-restart does"
             assert call("send", "can0", "123#", server=server) == (1, "", f"canbusd send: bus off: {cure}\n")
             assert call("restart", "can0", "can9", server=server)[0] == 1
             assert can0.error_counters().state == "off"
@@ -391,7 +392,7 @@ def test_restart_of_interfaces():
 
 
 def test_a_full_record_and_its_cures():
-    with Server("can0,can1", limit=8) as server, server.bus("can0") as can0:
+    with Server("can0,can1", limit=8, observe=()) as server, server.bus("can0") as can0:
         with pytest.raises(can.CanOperationError, match="^record full"):
             while True:
                 can0.send(message(1), timeout=5)
@@ -419,9 +420,9 @@ def test_fault_of_a_bus_that_runs():
     [
         (["can0"], "a rule is missing, such as 'next 32 from ecu global bit', or --left or --end"),
         (["can0", "next 1 bad"], "rule 'next 1 bad': its verdict is .*, not 'bad'"),
-        (["can0", "5 lastbit"], "'5 lastbit' is of an attempt by its number, .*"),
+        (["can0", "5 lastbit"], "'5 lastbit' names an attempt by number, .*"),
         (["can0", "next 1 from can9 good"], "no such interface: next 1 from can9 good: can9 is none of can0, can1"),
-        (["can9", "next 1 good"], "no such interface: can9"),
+        (["can9", "next 1 good"], "can9: no such interface; the server has can0, can1"),
         (
             ["-a", "./no.socket", "can0", "--left"],
             r"./no.socket: No such file .* \(is `canbusd serve` running there\?\)",
@@ -495,11 +496,17 @@ def test_report_of_a_record(record):
 def test_commands_and_their_help():
     status, written, _ = call("--help")
     assert status == 0
-    names = re.findall(r"^  (\w+) +\w", written.split("commands:")[1], re.M)
-    assert {"dump", "send", "status", "restart", "fault", "report", "replay"} <= set(names)
-    for name in ("dump", "send", "status", "restart", "fault", "report", "replay"):
-        assert call(name, "--help")[0] == 0
-    assert call("dance")[0] == 2
+    names = re.findall(r"^  (\w+) +\w", written.split("commands:\n")[1].split("\n\n")[0], re.M)
+    assert set(names) == {
+        *("serve", "bench", "audit"),
+        *("dump", "send", "status", "watch", "fault", "restart", "restbus", "convert", "report", "replay"),
+    }
+    for name in names:
+        status, page, _ = call(name, "--help")
+        assert status == 0 and call("help", name) == (0, page, "")
+        assert f"canbusd {name}" in page
+    assert call("help")[:2] == (0, written)
+    assert call("dance")[0] == call("help", "dance")[0] == call()[0] == 2
     assert call("--version") == (0, f"canbusd {canbusd.__version__}\n", "")
 
 

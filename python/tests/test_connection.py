@@ -196,7 +196,7 @@ def test_a_server_is_asked_for_no_bit_rates_where_none_is_given(play, caplog):
     assert not caplog.records and "load" not in played.seen
 
 
-@pytest.mark.parametrize("answer", ["load 432 1080000", "error unknown command"])
+@pytest.mark.parametrize("answer", ["load 432 1080000", "load 432 1080000 x -1", "error unknown command"])
 def test_the_load_of_an_older_server(play, answer):
     played = play()
     played.answers["load"] = f"< {answer} >"
@@ -260,6 +260,7 @@ class Overtaken:
         return self._lock.locked()
 
 
+@pytest.mark.quiet
 @pytest.mark.parametrize("what", ["frame", "answer"])
 def test_what_another_thread_has_just_read_is_not_waited_for(play, what):
     played = play()

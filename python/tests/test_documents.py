@@ -2,6 +2,7 @@
 
 import importlib.util
 import re
+import shutil
 import subprocess
 import sys
 from pathlib import Path
@@ -37,11 +38,16 @@ def test_the_tests_of_the_documents_need_their_faults(installed, tmp_path):
 
 def test_the_code_of_the_package(installed):
     code = blocks("docs/PYTHON.md")
-    runs = [block for block in code if "hypothesis" not in block or importlib.util.find_spec("hypothesis")]
+    runs = [
+        block
+        for block in code
+        if ("hypothesis" not in block or importlib.util.find_spec("hypothesis"))
+        and ("candump" not in block or shutil.which("candump"))
+    ]
     program = "\n".join(["from canbusd import Bench, Faults, Server", *runs])
     with Server("can0,can1") as server:
         env = {**installed, "CANBUSD_ADDRESS": server.address}
         done = subprocess.run([sys.executable, "-c", program], env=env, capture_output=True, text=True, check=False)
     assert done.returncode == 0, done.stderr
     assert re.match("Timestamp: .* ID: +0?123 .* 01 02 03 ", done.stdout)
-    assert len(code) == 9
+    assert len(code) == 10

@@ -44,9 +44,13 @@ def test_a_state_comes(tmp_path):
         assert server.state("can0") == "active"
         with pytest.raises(AssertionError) as failure:
             server.expect_state("can0", "passive", within=0.05)
-        assert str(failure.value) == (
-            "can0 is active (transmit count 0, receive count 0), and was not passive within 0.05 seconds"
+        first, heading, *seen = str(failure.value).split("\n")
+        assert first == (
+            "can0 is active (transmit count 0, receive count 0), and was not passive within 0.05 seconds: it was off, then "
+            "active"
         )
+        assert heading == "the last frames that were seen:"
+        assert seen[2].endswith("can0 20000040#0000000000000000  bus off")
         with pytest.raises(ValueError, match="state"):
             server.expect_state("can0", "bus off")
     assert server.audit()["can0"].startswith("ok ")
@@ -96,7 +100,7 @@ def test_error_message_frames_are_shown_in_words():
 
 
 def test_a_frame_that_waits_is_shown():
-    with Server("can0,can1", pace_ms=300, observe="can1") as server, server.bus("can0") as can0:
+    with Server("can0,can1", pace_ms=3000, observe="can1") as server, server.bus("can0") as can0:
         can0.send_many([message(1), message(2)])
         with pytest.raises(AssertionError, match=r"\ncan0 is active .*: sent 2, done ., waiting ., lost 0$"):
             server.expect(id=3, within=0.05)
@@ -124,13 +128,130 @@ def test_nothing_was_seen(observed):
         observed.expect(within=0.05)
 
 
-def test_what_can_be_observed(server, observed):
-    with pytest.raises(ValueError, match="observe="):
+def test_what_can_be_observed(observed):
+    with Server("can0,can1", observe=()) as server, pytest.raises(ValueError, match="observe="):
         server.expect(id=1)
     with pytest.raises(ValueError, match="channel is one of the observed, can1, not 'can0'"):
         observed.expect(id=1, channel="can0")
     with pytest.raises(ValueError, match="can9"):
         Server("can0", observe="can9")
+
+
+def test_all_interfaces_are_observed_without_a_word(pair, server):
+    """A frame that several have received is one, and its channel is the first that has it from another."""
+    can0, can1 = pair
+    can0.send(message(0x123, [1]))
+    can1.send(message(0x123, [2]))
+    can0.send(message(0x124))
+    # Each interface by itself, that of the sender too.
+    assert server.expect(id=0x123, channel="can0", within=WAIT).data == b"\1"
+    assert server.expect(id=0x123, channel="can0", within=WAIT).data == b"\2"
+    assert server.expect(id=0x123, channel="can1", within=0).data == b"\1"
+    found = server.expect(id=0x124, within=WAIT)
+    assert (found.arbitration_id, found.channel) == (0x124, "can1")
+    server.expect_no_frame(within=0.05)
+    server.expect_no_frame(within=0, channel="can0")
+
+
+def test_each_frame_is_found_once(server, pair):
+    can0, can1 = pair
+    for number in range(100):
+        (can0, can1)[number % 2].send(message(0x100, [number]))
+        assert server.expect(id=0x100, within=WAIT).data[0] == number
+    server.expect_no_frame(within=0)
+
+
+def test_a_frame_is_seen_though_its_receivers_miss_it():
+    """ISO 11898-1: an error passive receiver that sees a fault does not destroy the frame, and only it misses it."""
+    with Server("can0,can1,can2") as server, server.bus("can0") as can0, server.bus("can1") as can1:
+        server.inject(Faults().next(17, sender="can1").destroyed().next(1, sender="can0").local("crc", ["can1"]))
+        can1.send(message(0x700))
+        server.expect_state("can1", "passive", within=WAIT)
+        can0.send(message(0x123))
+        assert server.expect(id=0x123, channel="can2", within=WAIT)
+        server.expect(id=0x123, channel="can0", within=0)
+        server.expect_no_frame(id=0x123, channel="can1", within=0)
+
+
+@pytest.mark.parametrize("auto_restart", [1, 5])
+def test_short_bus_offs_are_never_missed(auto_restart):
+    with Server("can0,can1", pace_ms=0, auto_restart=auto_restart) as server, server.bus("can0") as can0:
+        for number in range(1, 31):
+            server.inject(Faults().next(32, sender="can0").destroyed())
+            can0.send(message(0x123))
+            # Frames of another keep attempts going, so that it restarts at once.
+            server.wait_for(lambda: can0.stats().lost == number, WAIT)
+            assert server.expect_state("can0", "off", within=WAIT).tec in (0, 256)
+            assert server.expect_state("can0", "active", within=WAIT) == ("active", 0, 0)
+
+
+def test_a_state_that_was_before_does_not_count(server, pair):
+    """It is off: that it was active before is no news, and that it was off counts once."""
+    server.inject(Faults().next(32, sender="can0").destroyed())
+    pair[0].send(message(1))
+    server.wait_for(lambda: server.state("can0") == "off", WAIT)
+    with pytest.raises(AssertionError, match="and was not active within 0 seconds: it was active, then warning, then"):
+        server.expect_state("can0", "active", within=0)
+    for state in ("warning", "passive", "off", "off"):
+        assert server.expect_state("can0", state, within=0)
+    pair[0].restart()
+    server.expect_state("can0", "active", within=0)
+    with pytest.raises(AssertionError, match="and was not off within 0 seconds\n"):
+        server.expect_state("can0", "off", within=0)
+
+
+def test_a_failure_names_what_was_seen_just_before(server, pair):
+    """Nothing else has looked for frames until then."""
+    pair[0].send(message(0x124))
+    server.wait_for(lambda: pair[0].stats().done, WAIT)
+    with pytest.raises(AssertionError, match=r"the last frames that were seen:\n  \(\d+\.\d+\) can1 124#$"):
+        server.expect_state("can0", "off", within=0)
+
+
+def test_more_frames_than_a_socket_holds_are_seen(tmp_path):
+    """Nobody expects anything while they come, and a Unix socket holds some 4,000 of them."""
+    options = {"pace_ms": 0, "txqueue": 64, "rxqueue": 1024, "listen": str(tmp_path / "socket")}
+    with Server("can0,can1", **options) as server, server.bus("can0") as can0:
+        can0.send_many([message(number % 256, number.to_bytes(2, "big")) for number in range(12_000)], 10 * WAIT)
+        server.expect(id=0xFF, data=(511).to_bytes(2, "big"), within=WAIT)
+        server.expect_no_frame(id=0x7FF, within=0)
+        assert server.expect(id=11_999 % 256, data=(11_999).to_bytes(2, "big"), within=WAIT)
+
+
+def test_frames_that_were_dropped_are_no_frames_that_did_not_come(monkeypatch):
+    with Server("can0,can1", pace_ms=0, rxqueue=1) as server, server.bus("can0") as can0:
+        stats = server._observing().session("can1").stats
+        monkeypatch.setattr(server._observing().session("can1"), "stats", lambda: stats()._replace(dropped=3))
+        lost = r"is not known: 3 frames were dropped at can1 \(rxqueue\)"
+        with pytest.raises(AssertionError, match=f"^whether there was no frame 001 {lost}"):
+            server.expect_no_frame(id=1, within=0)
+        can0.send(message(2))
+        server.expect(id=2, within=WAIT)
+        # They were before.
+        server.expect_no_frame(id=1, within=0)
+
+
+def test_expecting_from_now(server, pair):
+    pair[0].send(message(1))
+    server.wait_for(lambda: pair[0].stats().done, WAIT)
+    server.expect_from_now()
+    server.expect_no_frame(within=0)
+    pair[0].send(message(2))
+    assert server.expect(within=WAIT).arbitration_id == 2
+
+
+@pytest.mark.parametrize("wrong", ["0x123", 1.5, True])
+def test_an_identifier_is_a_number(server, wrong):
+    with pytest.raises(ValueError, match=f"^id is a number, .*, or the name of a message, not {wrong!r}$"):
+        server.expect(id=wrong)
+
+
+def test_many_interfaces_have_one_observer_a_bus():
+    names = [f"can{number}" for number in range(20)]
+    with Server(",".join(names[:10]), ",".join(names[10:])) as server, server.bus("can19") as bus:
+        bus.send(message(1))
+        assert server.expect(id=1, within=WAIT).channel == "can10"
+        assert server.expect_state("can19", "active").tec == 0
 
 
 def test_waiting_for_something(observed, can0):

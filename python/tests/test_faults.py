@@ -118,7 +118,9 @@ def test_only_rules_are_injected():
     assert [str(rule) for rule in found] == RULES.splitlines()[:-1]
     assert rules_of(Faults()) == []
     for other in (rules(), "5 good", RULES):
-        with pytest.raises(ValueError, match="^'5 good' is of an attempt by its number, so of the start"):
+        with pytest.raises(
+            ValueError, match="^'5 good' names an attempt by number, which is only possible at the start"
+        ):
             rules_of(other)
 
 

@@ -1,5 +1,6 @@
 """Rules that are given while a bus runs: to servers, benches and buses of python-can."""
 
+import itertools
 import threading
 
 import can
@@ -46,7 +47,7 @@ def test_rules_for_a_server_that_runs():
 
 
 def test_a_rule_is_no_entry_of_the_record():
-    with Server("can0,can1") as server:
+    with Server("can0,can1", observe=()) as server:
         server.inject("next 1 lastbit")
         assert server.rules_left() == 1
         server.end_rules()
@@ -67,7 +68,7 @@ def test_the_bus_is_named_where_there_are_several():
 def test_what_a_server_does_not_take():
     with Server("can0,can1") as server:
         for wrong, text in (
-            (Faults().last_bit(0), "'0 lastbit' is of an attempt by its number"),
+            (Faults().last_bit(0), "'0 lastbit' names an attempt by number"),
             ("next 1 bad\n", "its verdict is .* not 'bad'"),
             (Faults().next(1), "without its fault"),
             (BAD_NAME, "can9|ecu"),
@@ -98,7 +99,7 @@ def test_rules_by_a_bus_of_python_can(pair):
     assert can1.rules_left() == 0
     with pytest.raises(can.CanOperationError, match="^no such interface: next 1 .* can9: ecu is none of can0, can1$"):
         can0.inject(BAD_NAME)
-    with pytest.raises(ValueError, match="only rules can be injected"):
+    with pytest.raises(ValueError, match=r"only possible at the start; inject\(\) takes rules$"):
         can0.inject("0 lastbit")
     can0.shutdown()
     for call in (lambda: can0.inject("next 1 lastbit"), can0.rules_left, can0.end_rules):
@@ -225,7 +226,7 @@ def test_bus_off_of_one_with_errors(server):
 def test_bus_off_between_two_questions(server, monkeypatch):
     """The counts that are returned are those of an interface that is off."""
     with server.bus("can0") as can0:
-        bus = server._observing().bus("can0")
+        bus = server._observing().session("can0")
         stats = bus.stats
 
         def goes_off_since():
@@ -233,7 +234,7 @@ def test_bus_off_between_two_questions(server, monkeypatch):
             server.wait_for(lambda: can0.error_counters().state == "off", WAIT)
             return stats()
 
-        answers = iter([stats, stats, goes_off_since])
+        answers = itertools.chain([stats, stats, goes_off_since], itertools.repeat(stats))
         monkeypatch.setattr(bus, "stats", lambda: next(answers)())
         assert server.bus_off("can0", timeout=WAIT) == ("off", 256, 0)
 
@@ -241,7 +242,8 @@ def test_bus_off_between_two_questions(server, monkeypatch):
 def test_bus_off_of_one_that_restarts_by_itself():
     with Server("can0,can1", auto_restart=1) as server, server.bus("can0") as can0:
         can0.send_periodic(message(0x123), 0.002)
-        server.bus_off("can0", timeout=WAIT)
+        assert server.bus_off("can0", timeout=WAIT).state == "off"
+        assert server.expect_state("can0", "active", within=WAIT) == ("active", 0, 0)
     assert sum("can0" in attempt.off for attempt in server.record().attempts) == 1
 
 
@@ -251,7 +253,7 @@ def test_bus_off_of_one_that_sends_nothing(server):
             server.bus_off("can1", timeout=0.05)
         assert str(failure.value) == (
             "can1 is active (transmit count 0, receive count 0), and did not go bus off within 0.05 seconds: it sent "
-            "nothing in that time"
+            "nothing in that time\nno frame was seen"
         )
         # Its rule destroys no frame of a later test on this server.
         assert server.rules_left() == 0
@@ -259,7 +261,7 @@ def test_bus_off_of_one_that_sends_nothing(server):
         can0.send_periodic(message(0x123), 0.002)
         with pytest.raises(AssertionError) as failure:
             server.bus_off("can0", timeout=0.5)
-        assert str(failure.value).partition(": ")[2] == (
+        assert str(failure.value).split("\n")[0].partition(": ")[2] == (
             "its frames went through, by an earlier rule or a line of the script; end_rules() ends what is left of its "
             "rule, with the bus's others"
         )

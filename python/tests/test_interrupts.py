@@ -72,6 +72,7 @@ print("in step")
 """
 
 
+@pytest.mark.quiet
 @pytest.mark.parametrize("reader", ["read by nobody else", "read by another thread"])
 @pytest.mark.parametrize("call", ["send", "recv", "send_many"])
 def test_an_interrupt_leaves_the_bus_in_step(call, reader):

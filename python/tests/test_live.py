@@ -125,8 +125,8 @@ def test_an_entry_that_is_wrong_is_so_each_time(tmp_path):
         ({"record": "always"}, "^record is 'end', 'live' or 'none', not 'always'$"),
         ({"flush": 1}, "^flush and sync are of"),
         ({"sync": True}, "^flush and sync are of"),
-        ({"record": "live", "limit": 100}, "^limit is of"),
-        ({"record": "none", "limit": 1_000_000}, "^limit is of"),
+        ({"record": "live", "limit": 100}, "^limit= needs record='end'"),
+        ({"record": "none", "limit": 1_000_000}, "^limit= needs record='end'"),
         ({"record": "live", "flush": -1}, "^flush is a whole number from 0 to 60000, not -1$"),
         ({"record": "live", "flush": 60_001}, "^flush is"),
         ({"record": "none", "flush": 0.5}, "^flush is"),
@@ -154,7 +154,8 @@ def test_attempts_of_a_record_that_is_written_at_the_end():
 @needs_live
 def test_a_server_is_looked_at_while_it_runs(tmp_path):
     faults = Faults().last_bit(0)
-    with Server("ecu,tester", "car0", record="live", flush=0, faults={"ecu": faults}, out=tmp_path) as server:
+    options = {"record": "live", "flush": 0, "faults": {"ecu": faults}, "out": tmp_path, "observe": ()}
+    with Server("ecu,tester", "car0", **options) as server:
         assert (server.record("ecu").lines, server.log("ecu"), server.attempts("tester")) == ([], [], [])
         with server.bus("ecu") as ecu, server.bus("tester") as tester:
             for number in range(100):

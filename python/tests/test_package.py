@@ -67,11 +67,18 @@ def test_a_clone_without_an_installation(tmp_path, words):
     assert "1 passed" in done.stdout, done.stdout + done.stderr
 
 
+def test_an_older_python():
+    """Python 3.8 would fail in the middle of a module."""
+    asks = "import sys; sys.version_info = (3, 8, 19, 'final', 0); import canbusd"
+    done = subprocess.run([sys.executable, "-c", asks], env=ENVIRONMENT, capture_output=True, text=True, check=False)
+    assert done.stderr.endswith("ImportError: canbusd needs Python 3.9 or later, and this is 3.8\n")
+
+
 def test_one_version(installed):
     version = canbusd.__version__
     assert INFO.name == f"canbusd-{version}.dist-info"
     assert email.message_from_string((INFO / "METADATA").read_text(encoding="utf-8"))["Version"] == version
-    assert re.search(r"^## (\S+)", (CLONE / "CHANGELOG.md").read_text(encoding="utf-8"), re.M)[1] == version
+    assert re.search(r"^## (\d\S+)", (CLONE / "CHANGELOG.md").read_text(encoding="utf-8"), re.M)[1] == version
     manual = (CLONE / "canbusd.1").read_text(encoding="utf-8").splitlines()[0]
     assert manual.endswith(f' "canbusd {version}"')
     asks = "from importlib.metadata import version; print(version('canbusd'))"

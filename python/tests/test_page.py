@@ -353,6 +353,27 @@ def test_events_follow(shown):
     assert "error passive: transmit count 128" in shown.run("at('chosen').textContent")
 
 
+def test_time_since_the_start(opened):
+    """beside moments of the clock, in the list of events; a bench's moments begin with the run"""
+    cells = "[...document.querySelectorAll('#events .row')].map(row => [row.cells?.length ?? row.children.length,"
+    cells += " row.children[2].textContent])"
+    start = 1_732_540_000
+    attempts = [
+        f"attempt {start + k}.500000 global-bit = tried 0 0 123# destroyed 0000 000{k // 32}" for k in range(1, 33)
+    ]
+    shown = opened(record_of("open 0 256 = socket 0", "send 0 123# = number 0", *attempts))
+    assert shown.run(cells) == [
+        [5, "since the start"],
+        [5, "11.000000"],
+        [5, "15.000000"],
+        [5, "31.000000"],
+        [5, "31.000000"],
+    ]
+    assert shown.run(CUT) == []
+    shown = opened(bus_off())
+    assert shown.run(cells)[0] == [4, "kind"]
+
+
 def test_filters(opened):
     shown = opened(long_run())
 
@@ -386,6 +407,7 @@ def test_what_was_lost_is_on_the_page(shown):
     assert "refused: bus off" in shown.run("at('ifaces').textContent")
 
 
+@pytest.mark.quiet
 def test_a_held_key_and_the_load(opened):
     shown = opened(long_run())
     shown.ask("Performance.enable", timeDomain="threadTicks")

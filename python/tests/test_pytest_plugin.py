@@ -2,7 +2,9 @@
 
 import os
 import re
+from importlib.util import find_spec as is_there
 from pathlib import Path
+from xml.etree import ElementTree
 
 import pytest
 from conftest import needs_live
@@ -89,6 +91,71 @@ def test_what_is_kept(run, pytester):
     result = run(FAILS, "--canbusd-keep=none")
     result.assert_outcomes(failed=1)
     assert kept(pytester) == [] and "body       off " in result.stdout.str() and "page:" not in result.stdout.str()
+
+
+def test_a_failed_test_in_a_junit_file(run, pytester):
+    for words in ([], ["-n", "1"]) if is_there("xdist") else ([],):
+        run(
+            f"""
+    {FAILS}
+    def test_that_passes(canbusd):
+        canbusd.start("sleep 1000")
+
+    @pytest.mark.canbusd("a,b", "c")
+    def test_a_program(canbusd):
+        canbusd.start("sh -c 'echo said; exit 3'").expect("said")
+        assert False
+    """,
+            "--junitxml=junit.xml",
+            *words,
+        ).assert_outcomes(failed=2, passed=1, errors=1)
+        found = {}
+        for case in ElementTree.parse(pytester.path / "junit.xml").iter("testcase"):
+            for one in case.iter("property"):
+                found.setdefault(case.get("name"), []).append((one.get("name"), one.get("value")))
+        assert found.keys() == {"test_it", "test_a_program"}
+        facts = dict(found["test_it"])
+        assert [*facts] == ["canbusd_story", "canbusd_log", "canbusd_states", "canbusd_page"]
+        assert facts["canbusd_story"].startswith("2 nodes, 32 attempts: body went bus off in attempt 31\n")
+        assert facts["canbusd_log"].splitlines()[1].endswith("body 20000080#0000000000000000  bus error")
+        assert "\nbody       off     256 " in facts["canbusd_states"]
+        assert Path(facts["canbusd_page"]).read_text(encoding="utf-8").endswith("</html>\n")
+        pages = [Path(value).name for name, value in found["test_a_program"] if name == "canbusd_page"]
+        assert pages == ["a.html", "c.html"]
+        program = "sh -c 'echo said; exit 3': status 3, 1 line of output:\n  said"
+        assert found["test_a_program"][-1] == ("canbusd_program", program)
+
+
+def test_a_program_that_dies_fails_the_test(run):
+    """and its output and status are in the report, as those of one that the end of a failed test has ended"""
+    result = run(
+        """
+    def test_death(canbusd):
+        canbusd.wait_for(lambda program=canbusd.start("sh -c 'echo last; exit 3'"): program.status, timeout=20)
+
+    def test_one_that_may_end(canbusd):
+        canbusd.start("true", may_end=True)
+
+    def test_one_that_stays(canbusd):
+        canbusd.start(["sh", "-c", "echo first; exec sleep 1000"]).expect("first")
+        assert False
+
+    def test_a_server_that_is_killed(canbusd):
+        canbusd.start("sh -c 'exec sleep 1000'")
+        canbusd.kill()
+    """
+    )
+    result.assert_outcomes(passed=3, errors=1, failed=1)
+    result.stdout.fnmatch_lines(
+        [
+            "sh -c 'echo last; exit 3' ended by itself, which `may_end=True` allows",
+            "sh -c 'echo last; exit 3': status 3, 1 line of output:",
+            "  last",
+        ]
+    )
+    result.stdout.fnmatch_lines(
+        ["sh -c 'echo first; exec sleep 1000': stopped, status -15, 1 line of output:", "  first"]
+    )
 
 
 def test_a_record_that_is_wrong_fails_the_test(run):
@@ -357,3 +424,39 @@ def test_an_expectation_that_fails_shows_what_was_seen(run):
     )
     # The fault is shown at the line of the test.
     done.stdout.no_fnmatch_line("*expectations.py*")
+
+
+def test_a_server_that_tests_share_is_expected_from_each_test_on(run):
+    """What the fixtures of a test do is of the test."""
+    done = run(
+        """
+    @pytest.fixture(scope="module")
+    def server():
+        with canbusd.Server("can0,can1") as running, running.bus("can0") as can0:
+            running.can0 = can0
+            yield running
+
+    @pytest.fixture
+    def sent(server):
+        server.can0.send(can.Message(arbitration_id=0x123, is_extended_id=False))
+        server.wait_for(lambda: server.can0.stats().waiting == 0, 20)
+        server.inject(canbusd.Faults().next(32, sender="can0").destroyed())
+        server.can0.send(can.Message(arbitration_id=0x124, is_extended_id=False))
+        server.wait_for(lambda: server.state("can0") == "off", 20)
+        server.can0.restart()
+
+    def test_one(server, sent):
+        server.expect(id=0x123, within=0)
+        server.expect_state("can0", "off", within=0)
+
+    def test_two(server):
+        server.expect_no_frame(within=0)
+        with pytest.raises(AssertionError):
+            server.expect_state("can0", "off", within=0)
+
+    def test_three(server, sent):
+        server.expect(id=0x123, within=0)
+        server.expect_state("can0", "off", within=0)
+    """
+    )
+    done.assert_outcomes(passed=3)

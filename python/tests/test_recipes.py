@@ -10,7 +10,7 @@ import pytest
 
 RECIPES = Path(__file__).resolve().parents[2] / "docs" / "RECIPES.md"
 MOST_LINES = 25
-NEEDED = {"can-isotp": "isotp"}
+NEEDED = {"can-isotp": "isotp", "udsoncan": "udsoncan", "a-rest-bus": "canmatrix"}
 
 
 def recipes():
@@ -39,7 +39,7 @@ def written(installed, tmp_path_factory):
 
 
 def test_all_recipes_are_there():
-    assert len(recipes()) == 10
+    assert len(recipes()) == 14
     for name, code in recipes().items():
         assert f"(#{name})" in RECIPES.read_text(encoding="utf-8")
         assert code.count("\n") <= MOST_LINES, name
@@ -48,7 +48,7 @@ def test_all_recipes_are_there():
 @pytest.mark.parametrize("name", recipes())
 def test_a_recipe(written, name):
     if name in NEEDED:
-        pytest.importorskip(NEEDED[name], reason=f"{name} is not installed, and Debian 12 has no package of it")
+        pytest.importorskip(NEEDED[name], reason=f"{NEEDED[name]} is not installed; Debian 12 has canmatrix only")
     assert re.search(rf"^PASSED test_{name}\.py::", written, re.M), written
     assert not re.search(rf"^(FAILED|ERROR) test_{name}\.py", written, re.M), written
 

@@ -7,9 +7,12 @@ import struct
 import zlib
 from array import array
 
+import pytest
+
+from canbusd import Bench, Faults
 from canbusd.record import parse_record
 from canbusd.report import KINDS, page, part
-from canbusd.story import events_of, facts_of, heading_of
+from canbusd.story import duration_words, events_of, facts_of, heading_of
 
 NAMES = ("can0", "can1")
 
@@ -70,13 +73,45 @@ def test_the_events_of_bus_off():
         ),
         (31, "lost", "can0 lost 2 frames: bus off empties its transmit queue"),
         (31, "refused", "can0 refused 2 sends: it was bus off"),
-        (32, "restart", "can0 is back on the bus, with both counts 0"),
+        (32, "restart", "can0 is back on the bus, with both counts 0; it was off for 2 µs, and no frame was tried"),
     ]
     assert heading_of(run, NAMES, events_of(run, NAMES)) == (
         "2 nodes, 32 attempts: can0 went bus off in attempt 31",
         31,
     )
     assert facts_of(run) == "32 attempts: 32 destroyed. 2 idle attempts. 1 restart. 39 entries in the record."
+
+
+@pytest.mark.parametrize(
+    "micros, words",
+    [
+        (1, "1 µs"),
+        (999, "999 µs"),
+        (203_100, "203.1 ms"),
+        (1_250_000, "1.2 s"),
+        (59_900_000, "59.9 s"),
+        (125_000_000, "2 min 5.0 s"),
+    ],
+)
+def test_durations(micros, words):
+    assert duration_words(micros) == words
+
+
+def test_how_long_a_node_was_off():
+    """in time and in attempts of others, from the one in which it went off to the last before it was back"""
+    with Bench("can0,can1", faults=Faults().destroyed(range(32))) as bench:
+        can0, can1 = bench.open("can0"), bench.open("can1")
+        can0.send(0x123)
+        for number in range(32):
+            bench.attempt(at=number / 1_000)
+        for number in range(3):
+            can1.send(0x124)
+            bench.attempt(at=0.1 + number)
+        can0.restart()
+        # A restart has the moment of the attempt before it.
+        events = events_of(bench.record().replay, NAMES)
+    (back,) = [event.words for event in events if event.kind == "restart"]
+    assert back == "can0 is back on the bus, with both counts 0; it was off for 2.1 s, attempts 31 to 34"
 
 
 def test_the_facts_of_a_record_that_is_cut_off():

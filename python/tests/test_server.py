@@ -116,7 +116,9 @@ def test_ways_to_give_faults(tmp_path, form):
         (["can0"], {"txqueue": "10"}, "txqueue"),
         (["can0"], {"limit": True}, "limit"),
         (["can0"], {"listen": "x"}, "listen is HOST:PORT, .* not 'x'"),
-        (["can0"], {"listen": 29536}, "listen is HOST:PORT, .* not '29536'"),
+        (["can0"], {"listen": 29536}, r"listen is HOST:PORT, .* not '29536' \(127\.0\.0\.1:29536\?\)$"),
+        (["can0"], {"listen": ":29536"}, r"not ':29536' \(127\.0\.0\.1:29536\?\)$"),
+        (["can0"], {"listen": "can.sock"}, r"not 'can\.sock' \(\./can\.sock\?\)$"),
         (["can0"], {"listen": "127.0.0.1:65536"}, "listen is HOST:PORT"),
     ],
 )
@@ -212,6 +214,7 @@ def test_the_options_reach_the_program():
     assert (record.tx_capacity, record.auto_restart, record.limit, record.reporting) == (3, 7, 500, 3)
 
 
+@pytest.mark.quiet
 def test_the_bit_rates_reach_the_program(caplog):
     frames = [message(1, b"\x55" * 4), message(2, bytes(64), is_fd=True, bitrate_switch=True), message(3)]
     with Server("can0,can1", bitrate=5_000, dbitrate=20_000) as server:
@@ -261,7 +264,7 @@ def test_without_a_bit_rate_there_is_no_load():
 
 
 def test_what_a_server_says_of_a_full_record():
-    with Server("can0,can1", limit=4) as server, server.bus("can0") as can0:
+    with Server("can0,can1", limit=4, observe=()) as server, server.bus("can0") as can0:
         cure = r"record full: start the server again with a higher limit= \(--limit\), or with record='live' .*$"
         with pytest.raises(can.CanOperationError, match=f"^{cure}"):
             for _ in range(10):
@@ -300,12 +303,14 @@ def test_files_and_processes_are_gone_in_the_end():
 
 
 @pytest.mark.parametrize("how", ["os.kill(os.getpid(), 9)", "raise KeyboardInterrupt"])
-def test_the_end_of_its_process_ends_a_server(tmp_path, how):
+@pytest.mark.parametrize("observe, entries", [((), 0), (None, 8)])
+def test_the_end_of_its_process_ends_a_server(tmp_path, how, observe, entries):
+    """Each of the two sessions that observe its interfaces is opened, has two options, and is closed."""
     (tmp_path / "out").mkdir()
     program = f"""
 import os
 from canbusd.server import Server
-server = Server("can0,can1", out={str(tmp_path / 'out')!r})
+server = Server("can0,can1", out={str(tmp_path / 'out')!r}, observe={observe!r})
 {how}
 """
     package = str(Path(canbusd.__file__).parents[1])
@@ -314,7 +319,7 @@ server = Server("can0,can1", out={str(tmp_path / 'out')!r})
     # It ends by itself, with log and record.
     record = tmp_path / "out" / "can0.rec"
     for _ in range(WAIT * 100):
-        if record.exists() and record.read_text().endswith("end 0\n"):
+        if record.exists() and record.read_text().endswith(f"end {entries}\n"):
             break
         time.sleep(0.01)
     else:
@@ -346,11 +351,14 @@ FORKED = {
 }
 
 
-@pytest.mark.parametrize("run", ["server", "bench"])
-@pytest.mark.parametrize("does", FORKED)
+# A bench has no `kill` and no buses of its own.
+OF_A_SERVER = ("it kills it", "it drops a bus")
+
+
+@pytest.mark.parametrize(
+    "does, run", [(does, run) for does in FORKED for run in ("server", "bench") if run == "server" or does not in OF_A_SERVER]
+)
 def test_a_forked_process_leaves_the_run_to_its_parent(does, run):
-    if run == "bench" and does in ("it kills it", "it drops a bus"):
-        pytest.skip("a bench has none of it")
     program = f"""
 import gc, os, sys
 import can
@@ -405,14 +413,15 @@ def test_a_server_that_many_threads_stop(server):
 
 @pytest.fixture
 def launcher(tmp_path):
-    """The program as it is installed: a script in bin/, which starts servers by another one."""
+    """The program as it is installed: a script in bin/, which starts servers and Python's commands by others."""
     place = tmp_path / "libexec" / "canbusd"
     place.mkdir(parents=True)
     (tmp_path / "bin").mkdir()
     shutil.copy(CLONE / "tools" / "canbusd.sh", tmp_path / "bin" / "canbusd")
     (tmp_path / "bin" / "canbusd").chmod(0o755)
     (place / "canbusd").symlink_to(find_program())
-    (place / "serve").symlink_to(CLONE / "tools" / "serve")
+    for name in ("serve", "commands"):
+        (place / name).symlink_to(CLONE / "tools" / name)
     return tmp_path / "bin"
 
 

@@ -42,7 +42,7 @@ except can.CanInitializationError as fault:
         assert can1.recv(WAIT).arbitration_id == 0x123
     assert done.stdout.splitlines() == [
         f"canbusd.bus canbusd: channel 'can0' of the server at {server.address}",
-        f"canbusd: channel 'can7' of the server at {server.address}: no such interface",
+        f"canbusd: channel 'can7' of the server at {server.address}: no such interface; the server has can0, can1",
     ]
 
 

@@ -332,6 +332,8 @@ def test_the_page_of_a_server_with_a_bit_rate(tmp_path):
             with server.bus("can0", bitrate=5_000) as bus:
                 bus.send(message(0x123))
                 browser.until("byIdentifier.has('123')")
+            # The nodes are known to be on one bus, whose load is there once.
+            browser.until("at('ifaces').rows[2].cells[9].textContent === ''")
             browser.run("showTab('tab-identifiers')")
             browser.settle()
             assert "100.0 %" in browser.run("at('identifiers').innerText")

@@ -1,5 +1,6 @@
 """The wheel, and pip from the clone: the program comes with the package, and the same files give the same wheel."""
 
+import configparser
 import os
 import re
 import shutil
@@ -66,6 +67,18 @@ def test_what_is_in_the_wheel(wheel):
     assert {"canbusd/py.typed", "canbusd/page/page.js"} <= set(names)
 
 
+def test_its_commands_are_those_of_make_install(wheel, tmp_path):
+    done("make", "-s", "-C", CLONE, "install", f"PREFIX={tmp_path}")
+    with zipfile.ZipFile(wheel) as opened:
+        (name,) = (name for name in opened.namelist() if name.endswith("/entry_points.txt"))
+        found = configparser.ConfigParser(delimiters="=")
+        found.read_string(opened.read(name).decode())
+    commands = {*found["console_scripts"]}
+    assert commands == {"canbusd", "canbusd-run", "candump2bench"}
+    # What `canbusd-report` does is `canbusd report`.
+    assert commands | {"canbusd-report"} == {*os.listdir(tmp_path / "bin")}
+
+
 @pytest.mark.skipif(shutil.which("objdump") is None, reason="no objdump (binutils) to look at symbols with")
 def test_its_platform_is_that_of_the_program():
     for file in (CLONE / "dist").iterdir():
@@ -91,6 +104,39 @@ def tries_the_package(environment, folder):
         )  # fmt: skip
     assert written.stdout == "1 < hi >\n1 < ok >\n"
     assert environment("-m", "canbusd", "audit", "run.rec").stdout == "ok 0 entries\n"
+    tries_the_commands(folder / "venv" / "bin", folder)
+
+
+def tries_the_commands(bin, folder):
+    """Those on the PATH: of the program, of the package, canbusd-run and candump2bench."""
+    env = {"PATH": f"{bin}:/usr/bin:/bin", "HOME": str(folder)}
+
+    def written(*words, **options):
+        return done(*words, cwd=folder, env=env, **options).stdout
+
+    assert written("canbusd", "--version") == f"canbusd {canbusd.__version__}\n"
+    assert written("canbusd", "help", "bench") == written("canbusd", "bench", "--help")
+    assert written("canbusd", "audit", "run.rec") == "ok 0 entries\n"
+    assert "</html>" in written("canbusd", "report", "--names", "can0", "run.rec")
+    (folder / "run.log").write_text("(1.000000) can0 123#1122\n")
+    bench = written("candump2bench", "--listen", "can1", "run.log")
+    assert "1 < frame 123 1.000000 1122 >\n" in written("canbusd", "bench", "can1,can0", input=bench)
+    with subprocess.Popen(
+        ["canbusd", "serve", "--listen", "./socket", "can0,can1"],
+        cwd=folder,
+        env=env,
+        stdout=subprocess.PIPE,
+        text=True,
+    ) as server:
+        assert server.stdout.readline() == "listening ./socket\n"
+        env["CANBUSD_ADDRESS"] = "./socket"
+        written("canbusd", "send", "can0", "123#11")
+        assert written("canbusd-run", "env").count("CANBUSD_INTERFACES=can0,can1") == 1
+        server.send_signal(signal.SIGINT)
+        assert server.wait(timeout=WAIT) == 0
+    # A variable that names the package's own command changes nothing.
+    env["CANBUSD"] = str(bin / "canbusd")
+    assert written("canbusd", "audit", "run.rec") == "ok 0 entries\n"
 
 
 def test_the_wheel_needs_no_clone(wheel, environment, tmp_path):
@@ -137,3 +183,8 @@ def test_a_source_distribution_says_where_the_program_is(environment, tmp_path):
         "-c", "import canbusd\ntry: canbusd.Server('can0')\nexcept canbusd.ProgramNotFound as e: print(e)"
     )
     assert "install the wheel" in said.stdout
+    # What is on the PATH is the package's own command, and no program.
+    own = [tmp_path / "venv" / "bin" / "canbusd", "audit", "run.rec"]
+    path = {"PATH": f"{own[0].parent}:/usr/bin:/bin"}
+    said = subprocess.run(own, env=path, capture_output=True, text=True, timeout=WAIT, check=False)
+    assert said.returncode == 1 and "no program canbusd" in said.stderr

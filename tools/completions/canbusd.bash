@@ -5,18 +5,20 @@ _canbusd() {
     # The value of an option follows a blank or `=`, at which bash parts words unless COMP_WORDBREAKS lacks it.
     [ "$before" != = ] || before=${COMP_WORDS[COMP_CWORD - 2]}
     case $text in --*=*) before=${text%%=*} ;; esac
+    local package="dump send status watch fault restart restbus convert report replay"
     local options="--ack --report --txqueue --rxqueue --limit --auto-restart --bitrate --dbitrate --help"
     case $COMP_CWORD,$before,${COMP_WORDS[1]} in
     # A file follows a redirection.
     *,*[\<\>]*,*) compopt -o default ;;
-    1,*) _canbusd_offer "bench serve audit help --help --version" ;;
+    1,*) _canbusd_offer "bench serve audit $package help --help --version" ;;
     *,audit)
         case $text in
         -*) _canbusd_offer "--cut --help" ;;
         *) compopt -o default ;;
         esac
         ;;
-    *,help) _canbusd_offer "bench serve audit" ;;
+    *,restbus | *,convert | *,report | *,replay) compopt -o default ;;
+    *,help) _canbusd_offer "bench serve audit $package" ;;
     *,bench) _canbusd_word "$options --record --log --strict" ;;
     *,serve) _canbusd_word "$options --listen --sessions --pace --write --out --record --flush --sync --until-eof --verbose" ;;
     esac

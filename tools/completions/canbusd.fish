@@ -10,17 +10,29 @@ function __canbusd_scripts
     end
 end
 
-set -l commands bench serve audit help
+set -l package dump send status watch fault restart restbus convert report replay
+set -l commands bench serve audit $package help
 set -l first "not __fish_seen_subcommand_from $commands"
 set -l runs "__fish_seen_subcommand_from bench serve"
 complete -c canbusd --no-files
 complete -c canbusd -n $first -a bench -d "Run a bus from lines of standard input"
 complete -c canbusd -n $first -a serve -d "Serve clients on buses"
 complete -c canbusd -n $first -a audit -d "Check a record"
+complete -c canbusd -n $first -a dump -d "Print frames as they come"
+complete -c canbusd -n $first -a send -d "Send frames"
+complete -c canbusd -n $first -a status -d "Print the state and the counts of interfaces"
+complete -c canbusd -n $first -a watch -d "Show a running server in the browser"
+complete -c canbusd -n $first -a fault -d "Give a running bus a rule of faults"
+complete -c canbusd -n $first -a restart -d "Bring interfaces back from bus off"
+complete -c canbusd -n $first -a restbus -d "Send what the other nodes of a DBC file send"
+complete -c canbusd -n $first -a convert -d "Make an ASC, BLF or candump log"
+complete -c canbusd -n $first -a report -d "Show the run of a record"
+complete -c canbusd -n $first -a replay -d "Replay a record"
 complete -c canbusd -n $first -a help -d "Show the help of a command"
 complete -c canbusd -n $first -l version -d "Show the version"
 complete -c canbusd -l help -d "Show the help"
-complete -c canbusd -n "__fish_seen_subcommand_from help" -a "bench serve audit"
+complete -c canbusd -n "__fish_seen_subcommand_from help" -a "bench serve audit $package"
+complete -c canbusd -n "__fish_seen_subcommand_from restbus convert report replay" -F
 complete -c canbusd -n "__fish_seen_subcommand_from audit" -F
 complete -c canbusd -n "__fish_seen_subcommand_from audit" -l cut -d "Audit a record that is cut off"
 complete -c canbusd -n $runs -a "(__canbusd_scripts)"

@@ -16,6 +16,16 @@ _canbusd() {
             bench\:"run a bus from lines of standard input"
             serve\:"serve clients on buses"
             audit\:"check a record"
+            dump\:"print frames as they come"
+            send\:"send frames"
+            status\:"print the state and the counts of interfaces"
+            watch\:"show a running server in the browser"
+            fault\:"give a running bus a rule of faults"
+            restart\:"bring interfaces back from bus off"
+            restbus\:"send what the other nodes of a DBC file send"
+            convert\:"make an ASC, BLF or candump log"
+            report\:"show the run of a record"
+            replay\:"replay a record"
             help\:"show the help of a command"
         ))' \
         '*::argument:->argument'
@@ -58,7 +68,8 @@ _canbusd() {
             '--cut[audit a record that is cut off]' \
             '*:record:_files'
         ;;
-    help) _arguments '1:command:(bench serve audit)' ;;
+    restbus | convert | report | replay) _arguments '*:file:_files' ;;
+    help) _arguments '1:command:(bench serve audit dump send status watch fault restart restbus convert report replay)' ;;
     esac
 }
 

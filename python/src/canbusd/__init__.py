@@ -10,7 +10,12 @@ pytest.
 """
 
 import importlib
+import sys
 from typing import TYPE_CHECKING, Any
+
+if sys.version_info < (3, 9):
+    # Else the first module says that a type is not subscriptable.
+    raise ImportError("canbusd needs Python 3.9 or later, and this is %d.%d" % sys.version_info[:2])
 
 if TYPE_CHECKING:
     from canbusd._program import ProgramNotFound
@@ -19,9 +24,13 @@ if TYPE_CHECKING:
     from canbusd.bus import CanbusdBus
     from canbusd.faults import Faults
     from canbusd.frames import BadFrame, Frame
+    from canbusd.isotp import IsoTp, IsoTpError
+    from canbusd.programs import Program
     from canbusd.record import Attempt, BadRecord, Item, Record, read_record
+    from canbusd.rest_bus import RestBus
     from canbusd.server import Result, Server, ServerError
     from canbusd.signals import Database, DatabaseError, load_database
+    from canbusd.virtual import is_virtual
 
 #: The one of the program, of the wheel and of the folder canbusd-0.2.0.dist-info beside this package.
 __version__ = "0.2.0"
@@ -38,16 +47,21 @@ __all__ = [
     "ErrorCounters",
     "Faults",
     "Frame",
+    "IsoTp",
+    "IsoTpError",
     "Item",
     "Load",
+    "Program",
     "ProgramNotFound",
     "Record",
     "Refused",
+    "RestBus",
     "Result",
     "Server",
     "ServerError",
     "Session",
     "Stats",
+    "is_virtual",
     "load_database",
     "read_record",
 ]
@@ -59,9 +73,13 @@ _HOMES = {
     "bus": ["CanbusdBus"],
     "faults": ["Faults"],
     "frames": ["BadFrame", "Frame"],
+    "isotp": ["IsoTp", "IsoTpError"],
+    "programs": ["Program"],
     "record": ["Attempt", "BadRecord", "Item", "Record", "read_record"],
+    "rest_bus": ["RestBus"],
     "server": ["Result", "Server", "ServerError"],
     "signals": ["Database", "DatabaseError", "load_database"],
+    "virtual": ["is_virtual"],
 }
 
 

@@ -1,10 +1,10 @@
-"""python3 -m canbusd COMMAND .."""
+"""canbusd COMMAND .., which `python3 -m canbusd COMMAND ..` is too."""
 
 import argparse
 import importlib
 import sys
 from collections.abc import Callable
-from typing import Optional
+from typing import NoReturn, Optional
 
 from canbusd import __version__
 from canbusd._command import run_command
@@ -15,9 +15,11 @@ COMMANDS = {
     "dump": ("canbusd.commands.dump", "print frames as they come"),
     "send": ("canbusd.commands.send", "send frames"),
     "status": ("canbusd.commands.status", "print the state and the counts of interfaces"),
-    "restart": ("canbusd.commands.restart", "bring interfaces back from bus off"),
     "watch": ("canbusd.commands.watch", "show a running server in the browser"),
     "fault": ("canbusd.commands.fault", "give a running bus a rule of faults"),
+    "restart": ("canbusd.commands.restart", "bring interfaces back from bus off"),
+    "restbus": ("canbusd.commands.restbus", "send what the other nodes of a DBC file send"),
+    "convert": ("canbusd.commands.convert", "make an ASC, BLF or candump log of another"),
     "report": ("canbusd.commands.report", "show the run of a record as a page, or as text"),
     "replay": ("canbusd.commands.replay", "replay a record, and list what happened in it"),
 }
@@ -27,13 +29,26 @@ PROGRAM = {
     "bench": "run a script of sessions and attempts, the same at each run",
     "audit": "check a record",
 }
+TEXT = """\
+commands:
+{commands}
+
+`canbusd COMMAND --help` has the options of each, and examples. All but fault, report, replay and those of the
+program need python-can.
+
+  canbusd serve can0,can1
+  canbusd dump can0
+  canbusd send can1 123#DEADBEEF
+
+canbusd-run runs programs with CAN sockets, such as candump; candump2bench turns a log into an input of `bench`.
+"""
 
 
 def parser_of(name: str) -> argparse.ArgumentParser:
     """The parser of a command."""
     module = importlib.import_module(COMMANDS[name][0])
     parser = argparse.ArgumentParser(
-        prog=f"python3 -m canbusd {name}",
+        prog=f"canbusd {name}",
         description=module.__doc__,
         epilog=getattr(module, "EPILOG", None),
         formatter_class=argparse.RawDescriptionHelpFormatter,
@@ -43,29 +58,38 @@ def parser_of(name: str) -> argparse.ArgumentParser:
 
 
 def help_text() -> str:
-    """The commands, a line each."""
-    commands = [*((name, text) for name, (_, text) in COMMANDS.items()), *PROGRAM.items()]
-    lines = "\n".join(f"  {name:<9}{text}" for name, text in commands)
-    return (
-        f"commands:\n{lines}\n\nThe last three are those of the program canbusd. `python3 -m canbusd COMMAND --help` "
-        "says more of each."
+    """The commands, a line each, and how to go on."""
+    commands = [*PROGRAM.items(), *((name, text) for name, (_, text) in COMMANDS.items())]
+    return TEXT.format(commands="\n".join(f"  {name:<9}{text}" for name, text in commands))
+
+
+def main_parser() -> argparse.ArgumentParser:
+    """The parser of the first word."""
+    parser = argparse.ArgumentParser(
+        prog="canbusd",
+        usage="canbusd COMMAND ..",
+        description="Simulated CAN buses",
+        epilog=help_text(),
+        formatter_class=argparse.RawDescriptionHelpFormatter,
+        add_help=False,
     )
+    parser.add_argument("-h", "--help", action="help", help="show this help; after COMMAND, that of the command")
+    version = f"canbusd {__version__}"
+    parser.add_argument("-V", "--version", action="version", version=version, help="show the version")
+    names = [*PROGRAM, *COMMANDS, "help"]
+    parser.add_argument("command", choices=names, metavar="COMMAND", help=argparse.SUPPRESS)
+    return parser
 
 
 def main(given: Optional[list[str]] = None) -> None:
     """Carries out a command."""
     arguments = sys.argv[1:] if given is None else given
-    parser = argparse.ArgumentParser(
-        prog="python3 -m canbusd",
-        description="Tools for canbusd, the server of simulated CAN buses, and the program itself.",
-        epilog=help_text(),
-        formatter_class=argparse.RawDescriptionHelpFormatter,
-    )
-    parser.add_argument("--version", action="version", version=f"canbusd {__version__}")
-    parser.add_argument("command", choices=[*COMMANDS, *PROGRAM], metavar="COMMAND", help="one of those below")
-    name = parser.parse_args(arguments[:1]).command
+    if arguments[:1] == ["help"]:
+        # `help COMMAND` is `COMMAND --help`.
+        arguments = [*arguments[1:2], "--help"]
+    name = main_parser().parse_args(arguments[:1]).command
     if name in PROGRAM:
-        run_command(lambda: run_program(arguments), f"canbusd {name}")
+        run_command(lambda: run_program("canbusd", arguments), f"canbusd {name}")
     try:
         options = parser_of(name).parse_args(arguments[1:])
     except ImportError as fault:
@@ -74,6 +98,11 @@ def main(given: Optional[list[str]] = None) -> None:
         sys.exit(f"canbusd {name}: {fault}")
     run: Callable[[argparse.Namespace], Optional[int]] = importlib.import_module(COMMANDS[name][0]).run
     run_command(lambda: run(options), f"canbusd {name}")
+
+
+def canbusd_run() -> NoReturn:
+    """The command canbusd-run of the wheel: becomes the program of this name."""
+    run_command(lambda: run_program("canbusd-run", sys.argv[1:]), "canbusd-run")
 
 
 if __name__ == "__main__":

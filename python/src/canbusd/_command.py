@@ -6,7 +6,7 @@ import os
 import signal
 import sys
 from collections.abc import Callable
-from typing import Optional
+from typing import NoReturn, Optional
 
 from canbusd.record import BadRecord, Record, read_record
 
@@ -15,7 +15,7 @@ class BadWords(ValueError):
     """Why the words of a command are refused: the exit status is 2 then, as with those that argparse refuses."""
 
 
-def run_command(work: Callable[[], Optional[int]], name: str) -> None:
+def run_command(work: Callable[[], Optional[int]], name: str) -> NoReturn:
     """Calls a command's work, and exits. A fault is reported in one line on standard error, with status 1.
 
     Where the reader of standard output goes, as `head` does, and at Ctrl-C the command ends silently, as others do.

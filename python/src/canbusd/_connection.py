@@ -22,6 +22,7 @@ from collections.abc import Callable, Sequence
 from typing import NoReturn, Optional, TypeVar, Union
 
 from canbusd._protocol import LONGEST_ANSWER
+from canbusd._text import seconds_words
 from canbusd.frames import HANDED_OVER, MESSAGE
 
 DEFAULT_ADDRESS = "127.0.0.1:29536"
@@ -67,8 +68,16 @@ def parse_address(
         return text, None
     words = HOST_PORT.fullmatch(text)
     if not words or not least_port <= int(words[3]) < 65536:
-        raise ValueError(f"{what} is HOST:PORT, [V6]:PORT, or a Unix path that begins with / or ., not {text!r}")
+        known = "HOST:PORT, [V6]:PORT, or a Unix path that begins with / or ."
+        raise ValueError(f"{what} is {known}, not {text!r}{meant(text)}")
     return None, (words[1] or words[2], int(words[3]))
+
+
+def meant(text: str) -> str:
+    """Returns the address that a text with a part of one may mean, as a question; nothing where it may mean none."""
+    if re.fullmatch(":?[0-9]{1,5}", text):
+        return f" (127.0.0.1:{text.lstrip(':')}?)"
+    return f" (./{text}?)" if re.fullmatch("[^:]*[.][^:]*", text) else ""
 
 
 def server_address(given: Optional[str] = None) -> str:
@@ -203,7 +212,7 @@ class Connection:
                 self._write(memoryview(data)[sent or 0 :], deadline)
             answers = self._wait(self._answered, deadline)
             if answers is None:
-                raise NoAnswer(f"no answer within {self._timeout:g} seconds")
+                raise NoAnswer(f"no answer within {seconds_words(self._timeout)}")
             return answers
 
     def ask_acks(self, notes_own: bool = False) -> None:
@@ -237,6 +246,10 @@ class Connection:
     def frames_at_hand(self) -> int:
         """Returns how many frames were read already, and wait to be taken."""
         return len(self._frames)
+
+    def socket_fileno(self) -> int:
+        """Returns the file descriptor of the socket. It is readable where the server has sent something, if only an answer."""
+        return self._socket.fileno()
 
     def fileno(self) -> int:
         """Returns a file descriptor that is readable where `frame` would return at once; NotImplementedError if
@@ -305,7 +318,7 @@ class Connection:
         if greeting.startswith("error "):
             raise SessionRefused(greeting[len("error ") :])
         if greeting != "hi":
-            shown = f"`{greeting[:60]}`" if greeting else f"nothing within {self._timeout:g} seconds"
+            shown = f"`{greeting[:60]}`" if greeting else f"nothing within {seconds_words(self._timeout)}"
             raise NoAnswer(f"no server of canbusd: {shown} in place of its greeting")
 
     def _answered(self) -> Optional[list[str]]:
@@ -336,7 +349,7 @@ class Connection:
             if sent is None:
                 with self._lock:
                     # Half a command was written perhaps.
-                    self._stop(f"the server took no commands within {self._timeout:g} seconds")
+                    self._stop(f"the server took no commands within {seconds_words(self._timeout)}")
                 raise NoAnswer(self._end)
             left = left[sent:]
 

@@ -16,6 +16,12 @@ TIMEOUT = 5.0
 NO_INTERFACE = "no such interface"
 
 
+def no_interface(connection: Connection) -> str:
+    """Returns the refusal of an interface that a server does not have, with those that it has."""
+    names = interfaces_of(connection.ask(["interfaces"])[0])
+    return f"{NO_INTERFACE}; the server has {', '.join(names)}" if names else NO_INTERFACE
+
+
 class Refused(RuntimeError):
     """The bus or the session refused what it was asked; the text is canbusd's, such as `no buffers` or `bus off`."""
 
@@ -79,8 +85,9 @@ class RuleSession(InjectsFaults):
         self._connection = Connection(address, TIMEOUT)
         answer = self._answer(f"open {channel}")
         if answer:
+            text = no_interface(self._connection) if answer == NO_INTERFACE else answer
             self._connection.close()
-            raise Refused(f"{answer}: {channel}")
+            raise Refused(f"{channel}: {text}")
 
     def __enter__(self) -> "RuleSession":
         return self

@@ -1,122 +1,429 @@
 """The sessions by which a server is seen from inside a test: see canbusd.expectations."""
 
 import contextlib
-import itertools
+import os
 import select
+import threading
 import time
 from collections import deque
 from collections.abc import Callable, Iterator, Sequence
-from typing import Optional
+from itertools import groupby, islice
+from typing import Optional, TypeVar
 
-from can.exceptions import CanError
-from can.message import Message
+from canbusd._connection import Connection, NoAnswer, SessionRefused, reason_of
+from canbusd._injection import TIMEOUT, InjectsFaults
+from canbusd._protocol import ErrorCounters, Stats, counters_of, in_words, options, refusal_in, stats_of
+from canbusd._received import MOST_KEPT, MOST_SHOWN, Received, Seen, StateSeen, state_in
+from canbusd._wanted import Wanted
+from canbusd.frames import Frame, described_line
 
-from canbusd._protocol import in_words
-from canbusd.bus import CanbusdBus
-from canbusd.commands import NOTHING
-from canbusd.frames import described_line, frame_like
+T = TypeVar("T")
 
-# How many of the frames that were seen a failure shows.
-MOST_SHOWN = 10
-# How many frames are read before the time is looked at.
-MOST_AT_ONCE = 1000
+# Up to how many interfaces a server has all of them are observed, where `observe` names none; of more the first of each
+# bus, since each that is observed makes each frame an entry more of the record.
+MOST_OBSERVED = 8
+# Up to how many of them have a session from the start, which receives their states at least. A server has 64 sessions.
+MOST_WITH_STATES = 16
+# How many frames a session keeps as they came, where nobody expects anything.
+MOST_UNREAD = 20_000
+# Seconds for which what comes is left to come, so that much of it is read at once, where nobody waits for it.
+NAP = 0.02
+# Seconds after which who waits looks for what another thread has read.
+LONGEST_NAP = 0.05
+
+
+def observed_by_default(buses: Sequence[Sequence[str]]) -> list[str]:
+    """Returns which interfaces are observed where none is named."""
+    names = [name for bus in buses for name in bus]
+    return names if len(names) <= MOST_OBSERVED else [bus[0] for bus in buses]
+
+
+def fault(kind: str, text: str) -> Exception:
+    """The exception of python-can of this kind, if there is python-can, else a RuntimeError."""
+    try:
+        from can import exceptions
+    except ImportError:
+        return RuntimeError(text)
+    found: Exception = getattr(exceptions, kind)(text)
+    return found
+
+
+class ObservingSession(InjectsFaults):
+    """A session on an interface that receives frames, or error message frames only. It needs no python-can."""
+
+    def __init__(self, address: str, name: str, has_frames: bool) -> None:
+        self.name = name
+        #: How many frames were taken here.
+        self.taken = 0
+        # What was read, and is not handed on yet.
+        self._texts: deque[str] = deque()
+        words = [] if has_frames else ["filter 0"]
+        asked = [f"open {name}", "rawmode", *words, *options(fd=True), "origin 1", "status"]
+        try:
+            self._connection = Connection(address, TIMEOUT)
+            *answers, status = self._connection.ask(asked)
+            refused = [answer for answer in map(refusal_in, answers) if answer]
+            if refused:
+                self._connection.close()
+                raise SessionRefused(refused[0])
+        except (OSError, SessionRefused) as reason:
+            raise fault("CanInitializationError", f"{name}: no session to observe it: {reason_of(reason)}") from None
+        #: The state of the interface at first, and its error counts.
+        self.first = self._parsed(status, counters_of)
+
+    def error_counters(self) -> ErrorCounters:
+        """Returns the state of the interface and its error counts."""
+        return self._parsed(self._answer("status"), counters_of)
+
+    def stats(self) -> Stats:
+        """Returns the counts of this socket and of its interface."""
+        return self._parsed(self._answer("stats"), stats_of)
+
+    def read(self) -> int:
+        """Reads what has come, without waiting; returns how many frames are not handed on."""
+        try:
+            # An exception of a signal's handler loses none: each is kept as it is returned.
+            self._texts.extend(iter(self._next, None))
+        except ConnectionError as reason:
+            raise fault("CanOperationError", f"{self.name}: {reason}") from None
+        return len(self._texts)
+
+    def hand_on(self, add: Callable[[str, str], None]) -> None:
+        """Hands on what has come, as messages of the protocol, without waiting; what came before the end of the session too."""
+        try:
+            self.read()
+        except Exception:
+            if not self._texts:
+                raise
+        while self._texts:
+            add(self.name, self._texts[0])
+            self._texts.popleft()
+            self.taken += 1
+
+    def fileno(self) -> int:
+        """The file descriptor by which something comes."""
+        return self._connection.socket_fileno()
+
+    def close(self) -> None:
+        """Ends the session."""
+        self._connection.close()
+
+    def _next(self) -> Optional[str]:
+        return self._connection.frame(0)
+
+    def _answer(self, message: str) -> str:
+        try:
+            return refusal_in(self._connection.ask([message])[0])
+        except NoAnswer as reason:
+            raise fault("CanTimeoutError", f"{self.name}: {reason}") from None
+        except ConnectionError as reason:
+            raise fault("CanOperationError", f"{self.name}: {reason}") from None
 
 
 class Observer:
-    """The sessions of a server's own: one on each interface that is observed, and on each whose state is asked for.
+    """The sessions of a server's own: one on each interface, unless none is observed; then on each whose state is asked.
 
-    `opened` opens a bus on an interface, one of these names. Frames are kept for each observed interface until `expect`
-    finds one: that and those before it are taken, so the next `expect` looks at what came after them.
+    Who expects something reads them, and looks at all that came. A thread reads them meanwhile, so that nothing is
+    dropped while the test does something else.
     """
 
-    def __init__(self, opened: Callable[..., CanbusdBus], names: Sequence[str], observed: Sequence[str]) -> None:
-        self._opened, self._all = opened, names
-        self._observed = {name: opened(name, fd=True) for name in observed}
-        self._frames: dict[str, deque[Message]] = {name: deque() for name in observed}
-        self._seen: deque[str] = deque(maxlen=MOST_SHOWN)
-        self._asked: dict[str, CanbusdBus] = {}
+    def __init__(self, address: str, buses: Sequence[Sequence[str]], observed: Sequence[str]) -> None:
+        self._address = address
+        self.received = Received(buses, observed)
+        self._sessions: dict[str, ObservingSession] = {}
+        # By the name of each interface that is observed, how many frames its socket had dropped when it was last expected.
+        self._dropped: dict[str, int] = {}
+        self._lock = threading.RLock()
+        # How many wait for frames, and read them.
+        self._waiting = 0
+        self._reader: Optional[Reader] = None
+        names = [name for bus in buses for name in bus]
+        self._all = names
+        if observed:
+            # Of many interfaces only those whose frames count have one from the start.
+            for name in names if len(names) <= MOST_WITH_STATES else observed:
+                self.session(name)
+            self._reader = Reader(list(self._sessions.values()), self._read_along)
 
-    def bus(self, name: str) -> CanbusdBus:
-        """Returns a session on an interface, which receives nothing unless the interface is observed."""
-        bus = self._observed.get(name) or self._asked.get(name)
-        if bus is None:
-            bus = self._asked[name] = self._opened(name, can_filters=NOTHING, error_frames=False)
-        return bus
+    def session(self, name: str) -> ObservingSession:
+        """Returns the session on an interface, which is opened where there is none."""
+        with self._lock:
+            found = self._sessions.get(name)
+            if found is None:
+                if name not in self._all:
+                    known = f"no such interface; the server has {', '.join(self._all)}"
+                    raise fault("CanInitializationError", f"{name}: {known}")
+                found = ObservingSession(self._address, name, name in self.received.observed)
+                self._sessions[name] = found
+                self.received.begin(name, found.first)
+            return found
 
-    def find(self, matches: Callable[[Message], bool], channel: Optional[str], within: float) -> Optional[Message]:
-        """Takes the first frame that matches, of those that came since the last that was taken and within seconds."""
-        looked_at = dict.fromkeys(self._names(channel), 0)
+    def settle(self) -> None:
+        """Takes all that the interfaces have received up to now."""
+        with self._lock:
+            sessions = list(self._sessions.values())
+        deadline = time.monotonic() + TIMEOUT
+        for session in sessions:
+            queued = session.stats().queued
+            while True:
+                self._gather()
+                left = deadline - time.monotonic()
+                if session.taken >= queued:
+                    break
+                if left <= 0:
+                    raise fault("CanTimeoutError", f"{session.name}: frames did not come within {TIMEOUT:g} seconds")
+                wait_for_input([session], left)
+
+    def wait(self, look: Callable[[], Optional[T]], may_be: Callable[[Seen], bool], within: float) -> Optional[T]:
+        """Returns what `look` finds in what was received; None where that is nothing within these seconds.
+
+        It looks at once, then after each arrival that may be what it looks for, and at the end.
+        """
         deadline = time.monotonic() + within
+        with self._waits():
+            while True:
+                self.settle()
+                with self._lock:
+                    found, arrived = look(), self.received.arrived
+                left = deadline - time.monotonic()
+                if found is not None or left <= 0:
+                    return found
+                self._await(may_be, arrived, deadline)
+
+    def _await(self, may_be: Callable[[Seen], bool], arrived: int, deadline: float) -> None:
+        """Waits for an arrival that may be looked for, of those after as many as this."""
         while True:
-            self._read(0)
-            for name, first in looked_at.items():
-                message = take_first(self._frames[name], matches, first)
-                if message is not None:
-                    return message
-                looked_at[name] = len(self._frames[name])
+            with self._lock:
+                if any(may_be(seen) for seen in self.received.arrived_since(arrived)):
+                    return
+                arrived = self.received.arrived
             left = deadline - time.monotonic()
             if left <= 0:
-                return None
-            self._read(left)
+                return
+            wait_for_input(list(self._sessions.values()), left)
+            self._gather()
+
+    def find(self, matches: Callable[[Frame], bool], channel: Optional[str], within: float) -> Optional[Seen]:
+        """Takes the first frame that matches, of those that came since the last that was taken and within seconds."""
+        self.received.channels(channel)
+
+        def look() -> Optional[Seen]:
+            return next((seen for seen in self.received.untaken(channel) if matches(seen.frame)), None)
+
+        found = self.wait(look, lambda seen: matches(seen.frame), within)
+        if found is not None:
+            self.take(found, channel)
+        return found
+
+    def take(self, seen: Seen, channel: Optional[str]) -> None:
+        """Takes a frame, and those before it: the next are looked for after it."""
+        with self._lock:
+            self.received.take(seen, channel)
+        self._note_dropped()
+
+    def collect(
+        self, matches: Callable[[Frame], bool], channel: Optional[str], count: int, within: float
+    ) -> list[Seen]:
+        """Returns the first so many frames that match, of those that were not taken; fewer after these seconds."""
+        self.received.channels(channel)
+        left = count
+
+        def found() -> list[Seen]:
+            return list(islice((seen for seen in self.received.untaken(channel) if matches(seen.frame)), count))
+
+        def look() -> Optional[list[Seen]]:
+            nonlocal left
+            frames = found()
+            left = count - len(frames)
+            return None if left else frames
+
+        def may_be(seen: Seen) -> bool:
+            nonlocal left
+            left -= matches(seen.frame)
+            return left <= 0
+
+        frames = self.wait(look, may_be, within)
+        with self._lock:
+            return found() if frames is None else frames
+
+    def untaken(self, channel: Optional[str]) -> list[Seen]:
+        """Returns the frames that were not taken yet."""
+        with self._lock:
+            return list(self.received.untaken(channel))
+
+    def contents(self, wanted: Wanted, channel: Optional[str]) -> list[object]:
+        """Returns what was said of what is looked for since the last expectation, each once in a row."""
+        said = (wanted.content(seen.frame) for seen in self.untaken(channel))
+        return [content for content, _ in groupby(content for content in said if content is not None)]
+
+    def last_content(self, wanted: Wanted, channel: Optional[str]) -> Optional[object]:
+        """Returns what was said last of what is looked for, up to the last expectation."""
+        self.settle()
+        with self._lock:
+            said = (wanted.content(seen.frame) for seen in self.received.taken(channel))
+            return next((content for content in said if content is not None), None)
+
+    def said_instead(self, wanted: Wanted, channel: Optional[str]) -> str:
+        """Says what was said in place of what is looked for, for the text of a failure; nothing if nothing was."""
+        contents = [str(content) for content in self.contents(wanted, channel)]
+        if not contents or not wanted.has_content:
+            return ""
+        return f": it was {', '.join(['..'] * (len(contents) > MOST_SHOWN) + contents[-MOST_SHOWN:])}"
+
+    def find_state(self, name: str, state: str, within: float) -> Optional[StateSeen]:
+        """Returns when an interface came into a state, since the last that was expected and within seconds."""
+        self.session(name)
+
+        def may_be(seen: Seen) -> bool:
+            counters = state_in(seen.words)
+            return name in seen.channels and counters is not None and counters.state == state
+
+        return self.wait(lambda: self.received.expected_state(name, state), may_be, within)
+
+    def skip_to_state(self, name: str, state: str) -> Optional[StateSeen]:
+        """Returns the last time that an interface came into this state, if it did since the one that was expected last; the
+        next is expected after that."""
+        self.settle()
+        with self._lock:
+            found = None
+            while self.received.later_state(name, state):
+                found = self.received.expected_state(name, state)
+            return found
+
+    def states_since(self, name: str) -> list[str]:
+        """Returns the states in which an interface was since the one that was expected last, and that itself."""
+        with self._lock:
+            return self.received.states_since(name)
+
+    def forget(self) -> None:
+        """All that was received up to now is before what is expected next."""
+        self.settle()
+        with self._lock:
+            self.received.take_all()
+        self._note_dropped()
+
+    def missed(self, channel: Optional[str]) -> str:
+        """Says how many frames were lost, of those that were not taken, for the text of a failure; nothing if none was."""
+        texts = []
+        for name in self.received.channels(channel):
+            dropped = self._sessions[name].stats().dropped - self._dropped.get(name, 0)
+            if dropped:
+                texts.append(f"{dropped} frames were dropped at {name} (rxqueue)")
+        with self._lock:
+            forgotten = self.received.missed(channel)
+        if forgotten:
+            texts.append(f"of more than {MOST_KEPT} since the last expectation the first {forgotten} were forgotten")
+        return f": {', and '.join(texts)}" if texts else ""
+
+    def _note_dropped(self) -> None:
+        """What was dropped up to now was before what is expected next."""
+        for name in self.received.observed:
+            self._dropped[name] = self._sessions[name].stats().dropped
 
     def shown(self) -> str:
         """Returns the last frames that were seen, as lines of a log, and how the interfaces are, for a failure."""
-        if not self._observed:
+        observed = self.received.observed
+        if not observed:
             return ""
-        lines = [f"the last frames that {' and '.join(self._observed)} saw:"] if self._seen else ["no frame was seen"]
-        lines += [f"  {line}" for line in self._seen]
-        for name, bus in self._observed.items():
-            dropped = bus.stats().dropped
+        with self._lock:
+            lines = [self.line(seen) for seen in self.received.last()]
+        who = "were seen" if len(observed) == len(self._all) else f"{' and '.join(observed)} saw"
+        heading = f"the last frames that {who}:" if lines else "no frame was seen"
+        shown = ["", heading, *(f"  {line}" for line in lines)]
+        for name in observed:
+            dropped = self._sessions[name].stats().dropped
             if dropped:
-                lines.append(f"{dropped} frames were dropped at {name}: they came too fast for `rxqueue`")
-        return "\n".join(["", *lines, *self._states()])
+                shown.append(f"{dropped} frames were dropped at {name}: they came too fast for `rxqueue`")
+        return "\n".join([*shown, *self._states()])
+
+    def channel(self, seen: Seen) -> str:
+        """The first interface that received a frame from another, else the one that sent it."""
+        return seen.channel(self.received.names_of(seen))
+
+    def line(self, seen: Seen, channel: Optional[str] = None) -> str:
+        """The line of a log that shows a frame, as this interface saw it or the first."""
+        return described_line(channel or self.channel(seen), seen.frame)
+
+    def close(self) -> None:
+        """Ends the sessions."""
+        if self._reader is not None:
+            self._reader.end()
+        for session in self._sessions.values():
+            session.close()
 
     def _states(self) -> Iterator[str]:
         """Yields how each interface is that had an error, or has frames that were not put on the bus."""
         for name in self._all:
-            # Without a place for one more session there is nothing to say.
-            with contextlib.suppress(CanError):
-                counters, stats = self.bus(name).error_counters(), self.bus(name).stats()
-                if counters != ("active", 0, 0) or stats.waiting or stats.lost:
-                    counts = f"sent {stats.sent}, done {stats.done}, waiting {stats.waiting}, lost {stats.lost}"
-                    yield f"{in_words(name, counters)}: {counts}"
+            try:
+                session = self.session(name)
+            except Exception:  # Without a place for one more session there is nothing to say.
+                continue
+            counters, stats = session.error_counters(), session.stats()
+            if counters != ("active", 0, 0) or stats.waiting or stats.lost:
+                counts = f"sent {stats.sent}, done {stats.done}, waiting {stats.waiting}, lost {stats.lost}"
+                yield f"{in_words(name, counters)}: {counts}"
 
-    def close(self) -> None:
-        """Ends the sessions."""
-        for bus in [*self._observed.values(), *self._asked.values()]:
-            bus.shutdown()
+    @contextlib.contextmanager
+    def _waits(self) -> Iterator[None]:
+        """Who waits reads by itself, and the thread does not."""
+        with self._lock:
+            self._waiting += 1
+        try:
+            yield
+        finally:
+            with self._lock:
+                self._waiting -= 1
 
-    def _names(self, channel: Optional[str]) -> list[str]:
-        """The observed interfaces at which a frame may be."""
-        if not self._observed:
-            raise ValueError("no interface is observed from the start of the server: give it observe='tester'")
-        if channel is not None and channel not in self._observed:
-            raise ValueError(f"channel is one of the observed, {', '.join(self._observed)}, not {channel!r}")
-        return list(self._observed) if channel is None else [channel]
+    def _gather(self) -> None:
+        """Takes what has come."""
+        with self._lock:
+            for session in self._sessions.values():
+                session.hand_on(self.received.add)
 
-    def _read(self, seconds: float) -> None:
-        """Reads what there is, or what comes within these seconds."""
-        buses = {bus: name for name, bus in self._observed.items()}
-        for bus in select.select(list(buses), [], [], seconds)[0]:
-            for message in received(bus):
-                self._frames[buses[bus]].append(message)
-                self._seen.append(described_line(buses[bus], frame_like(message)))
-
-
-def received(bus: CanbusdBus) -> Iterator[Message]:
-    """Yields what a bus has at hand, or a part of it where frames come without end."""
-    for _ in range(MOST_AT_ONCE):
-        message = bus.recv(0)
-        if message is None:
-            return
-        yield message
+    def _read_along(self) -> None:
+        """Reads what has come, unless somebody waits for it: it is looked at once somebody does, or it is much."""
+        with self._lock:
+            if not self._waiting:
+                unread = [session.read() for session in self._sessions.values()]
+                if max(unread) > MOST_UNREAD:
+                    self._gather()
 
 
-def take_first(frames: "deque[Message]", matches: Callable[[Message], bool], first: int) -> Optional[Message]:
-    """Takes the first message from this place on that matches, and those before it; nothing where none does."""
-    for place, message in enumerate(itertools.islice(frames, first, None), first):
-        if matches(message):
-            for _ in range(place + 1):
-                frames.popleft()
-            return message
-    return None
+def wait_for_input(sessions: Sequence[ObservingSession], seconds: float) -> None:
+    """Waits until something comes to one of these, or for these seconds; not for long, since another thread may read it."""
+    poll = select.poll()
+    for session in sessions:
+        poll.register(session.fileno(), select.POLLIN)
+    poll.poll(min(seconds, LONGEST_NAP) * 1000)
+
+
+class Reader:
+    """A thread that calls `read` while something comes to these sessions, at most every 20 milliseconds."""
+
+    def __init__(self, sessions: Sequence[ObservingSession], read: Callable[[], None]) -> None:
+        self._ended = threading.Event()
+        self._end_reader, self._end_writer = os.pipe()
+        poll = select.poll()
+        for number in (self._end_reader, *(session.fileno() for session in sessions)):
+            poll.register(number, select.POLLIN)
+        self._thread = threading.Thread(target=self._run, args=(poll, read), name="canbusd observer", daemon=True)
+        self._thread.start()
+
+    def _run(self, poll: "select.poll", read: Callable[[], None]) -> None:
+        while True:
+            poll.poll()
+            if self._ended.wait(NAP):
+                return
+            try:
+                read()
+            except Exception:  # The connection has ended, as who expects something next finds.
+                return
+
+    def end(self) -> None:
+        """Ends the thread."""
+        if not self._ended.is_set():
+            self._ended.set()
+            os.write(self._end_writer, b"!")
+            self._thread.join()
+            os.close(self._end_reader)
+            os.close(self._end_writer)

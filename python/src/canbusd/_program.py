@@ -19,7 +19,7 @@ def find_program(name: str = "canbusd") -> str:
     """Returns the path of a program: `$CANBUSD`, else that of the package, of its clone, or on the PATH.
 
     A wheel has the programs in the package. Where the package is in a clone, it is `./canbusd` of that. For another
-    name the variable is that: `$CANBUSD_RUN` for canbusd-run.
+    name the variable is that: `$CANBUSD_RUN` for canbusd-run. A command that pip made of this package is none of them.
     """
     variable = name.upper().replace("-", "_")
     given = os.environ.get(variable)
@@ -27,14 +27,16 @@ def find_program(name: str = "canbusd") -> str:
         found: Optional[str] = shutil.which(given)
         if found is None:
             raise ProgramNotFound(f"{SET_BY.get(variable, variable)} names no program: {given}")
-        return os.path.abspath(found)
+        if not is_own_command(found):
+            return os.path.abspath(found)
     package = Path(__file__).resolve().parent
     packed, clone = package / "program" / name, package.parent.parent.parent
     if packed.is_file():
         return str(packed)
     if (clone / name).is_file() and (clone / "crates.txt").is_file():
         return str(clone / name)
-    found = shutil.which(name)
+    places = (shutil.which(name, path=place) for place in os.get_exec_path())
+    found = next((place for place in places if place is not None and not is_own_command(place)), None)
     if found is None:
         raise ProgramNotFound(
             f"no program {name}: this package was installed without it and it is not on the PATH; install the wheel, or "
@@ -43,11 +45,22 @@ def find_program(name: str = "canbusd") -> str:
     return found
 
 
-def run_program(words: Sequence[str]) -> NoReturn:
+def is_own_command(path: str) -> bool:
+    """Whether this is a command that pip made of the package, which would look for the program again."""
+    try:
+        with open(path, "rb") as file:
+            return b"from canbusd." in file.read(1024)
+    except OSError:
+        # A program that may be run and not read.
+        return False
+
+
+def run_program(name: str, words: Sequence[str]) -> NoReturn:
     """Becomes the program with these words; a server by the launcher beside it, which ends it at Ctrl-C."""
-    program = find_program()
+    program = find_program(name)
     launcher = os.path.join(os.path.dirname(program), "serve")
-    command = [launcher, program, *words] if words[0] == "serve" and os.path.isfile(launcher) else [program, *words]
+    has_launcher = name == "canbusd" and words[0] == "serve" and os.path.isfile(launcher)
+    command = [launcher, program, *words] if has_launcher else [program, *words]
     os.execv(command[0], command)
 
 

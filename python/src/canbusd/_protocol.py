@@ -72,36 +72,43 @@ def refusal_in(answer: str) -> str:
     return "" if answer == "ok" else answer.removeprefix("error ")
 
 
+def numbers(words: Sequence[str], count: int) -> Optional[list[int]]:
+    """Returns the numbers that these words write in decimal digits; None where they are not that, or not so many."""
+    is_right = len(words) == count and all(word.isascii() and word.isdigit() for word in words)
+    return [int(word) for word in words] if is_right else None
+
+
+def numbers_after(first: str, answer: str, count: int) -> Optional[list[int]]:
+    """Returns so many numbers after the first word of an answer; None for another message."""
+    words = answer.split()
+    return numbers(words[1:], count) if words[:1] == [first] else None
+
+
 def counters_of(answer: str) -> Optional[ErrorCounters]:
     """Returns what the answer `status passive 128 0` says; None for another message."""
     words = answer.split()
-    if len(words) != 4 or words[0] != "status":
+    counts = numbers(words[2:], 2)
+    if counts is None or words[0] != "status" or words[1] not in STATES:
         return None
-    return ErrorCounters(words[1], int(words[2]), int(words[3]))
+    return ErrorCounters(words[1], *counts)
 
 
 def stats_of(answer: str) -> Optional[Stats]:
     """Returns what the answer `stats 1 0 1 0 0 0 0 0` says; None for another message."""
-    words = answer.split()
-    if len(words) != 9 or words[0] != "stats":
-        return None
-    return Stats(*map(int, words[1:]))
+    counts = numbers_after("stats", answer, 8)
+    return None if counts is None else Stats(*counts)
 
 
 def load_of(answer: str) -> Optional[Load]:
     """Returns what the answer `load 432 1080000 500000 2000000` says; None for another message."""
-    words = answer.split()
-    if len(words) != 5 or words[0] != "load":
-        return None
-    return Load(*map(int, words[1:]))
+    counts = numbers_after("load", answer, 4)
+    return None if counts is None else Load(*counts)
 
 
 def rules_left_of(answer: str) -> Optional[int]:
     """Returns how many rules of faults are left, as the answer `faults 3` says; None for another message."""
-    words = answer.split()
-    if len(words) != 2 or words[0] != "faults":
-        return None
-    return int(words[1])
+    counts = numbers_after("faults", answer, 1)
+    return None if counts is None else counts[0]
 
 
 def interfaces_of(answer: str) -> Optional[list[str]]:

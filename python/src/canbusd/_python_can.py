@@ -23,5 +23,6 @@ except ModuleNotFoundError as fault:
 
 FOUND = str(getattr(can, "__version__", "unknown"))
 _numbers = re.match(r"(\d+)\.(\d+)", FOUND)
-if _numbers and (int(_numbers[1]), int(_numbers[2])) < LEAST:
+# Debian 13 has one that calls itself 0.0.0; it is 4.5.
+if _numbers and (0, 0) < (int(_numbers[1]), int(_numbers[2])) < LEAST:
     raise NoPythonCan(f"{WANTED}, and found {FOUND}: {CURE}")

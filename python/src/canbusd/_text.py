@@ -1,4 +1,4 @@
-"""The name of an interface, and lines of a file as a fault shows them."""
+"""The name of an interface, lines of a file as a fault shows them, and numbers in words."""
 
 import re
 
@@ -8,3 +8,8 @@ NAME = re.compile("[A-Za-z0-9_.-]{1,15}")
 def shown(line: str) -> str:
     """The beginning of a line, without what a terminal would take for commands."""
     return "".join(char if " " <= char <= "~" else "?" for char in line[:60]) + (" .." if len(line) > 60 else "")
+
+
+def seconds_words(seconds: float) -> str:
+    """A number of seconds: `1 second`, `0.5 seconds`."""
+    return f"{seconds:g} second{'' if seconds == 1 else 's'}"

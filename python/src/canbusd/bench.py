@@ -15,7 +15,7 @@ import os
 import re
 import select
 import threading
-from collections.abc import Sequence
+from collections.abc import Mapping, Sequence
 from dataclasses import replace
 from pathlib import Path
 from typing import TYPE_CHECKING, Optional, Union
@@ -44,6 +44,9 @@ from canbusd.rules import MOST_RULES, check_rules, parse_rule
 
 if TYPE_CHECKING:
     from can.message import Message
+
+    from canbusd._rest_bench import BenchRestBus
+    from canbusd._rest_nodes import Source
 
 #: Seconds after which a bench that says nothing is given up.
 TIMEOUT = 30.0
@@ -161,7 +164,7 @@ class Session(InjectsFaults):
         return self._parsed(self._answer("stats"), stats_of)
 
     def load(self) -> Load:
-        """Returns `Load(0, 0, 0, 0)`: only a server counts how busy its buses are."""
+        """Returns how busy the wire was, in the last whole second before the moment that is set, and in all."""
         return self._parsed(self._answer("load"), load_of)
 
     def set_filters(self, filters: Optional[Filters] = None) -> None:
@@ -302,6 +305,23 @@ class Bench(ProgramRun):
                 raise
             self._greet()
             return session
+
+    def rest_bus(
+        self,
+        database: "Source",
+        without: Union[str, Sequence[str]] = (),
+        nodes: Optional[Mapping[str, str]] = None,
+        interface: Optional[str] = None,
+    ) -> "BenchRestBus":
+        """Returns the rest bus of a database, or of its file: all nodes but those `without`, which send in `rest.run(until=..)`.
+
+        A node sends by the interface that `nodes` has for it, else by `interface`, else by the one with its name.
+        """
+        from canbusd._rest_bench import BenchRestBus
+        from canbusd._rest_nodes import database_of, interfaces_of
+
+        known = database_of(database)
+        return BenchRestBus(known, interfaces_of(known, without, nodes or {}, interface, self.names), self)
 
     def inject(self, faults: Script) -> None:
         """Gives the bus these rules of faults, after those that it has, from the next attempt on.

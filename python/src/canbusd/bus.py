@@ -31,7 +31,7 @@ from canbusd._connection import (
     reason_of,
     server_address,
 )
-from canbusd._injection import InjectsFaults
+from canbusd._injection import NO_INTERFACE, InjectsFaults, no_interface
 from canbusd._protocol import (
     ErrorCounters,
     Filters,
@@ -468,7 +468,9 @@ class CanbusdBus(InjectsFaults, BusABC):
             faults = [answer for answer in answers if answer != "ok"]
             if faults:
                 text = refusal_in(faults[0])
-                raise SessionRefused(f"{text}{CURES.get(text, '')}")
+                raise SessionRefused(
+                    no_interface(connection) if text == NO_INTERFACE else f"{text}{CURES.get(text, '')}"
+                )
             connection.ask_acks(self._receives_own)
             if self._receives_own:
                 # An older server does not know it, and then all messages are received ones.

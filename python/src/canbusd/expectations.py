@@ -1,27 +1,29 @@
-"""A running server seen from inside a test: the states of its interfaces, and the frames that some of them see.
+"""A running server seen from inside a test: the states of its interfaces, and the frames that they see.
 
-    with Server("ecu,tester", observe="tester") as server:
+    with Server("ecu,tester") as server:
         ...
         server.expect(id=0x123, within=1.0)
         server.expect_state("ecu", "off")
 
-Only what sessions get is seen here. What an attempt was, and why it failed, is in the record: `Server.attempts`.
+Only what sessions get is seen here: what they received since the last expectation, and nothing that is looked up now and
+then. What an attempt was, and why it failed, is in the record: `Server.attempts`.
 """
 
 import time
-from collections.abc import Callable
-from typing import TYPE_CHECKING, Optional, TypeVar
+from collections.abc import Callable, Sequence
+from typing import TYPE_CHECKING, Any, Optional, TypeVar, Union
 
 from canbusd._connection import LONGEST_POLL, POLL
 from canbusd._protocol import STATES, ErrorCounters, Stats, in_words
+from canbusd._wanted import Wanted
 from canbusd.faults import Faults, Script
-from canbusd.frames import described_line, frame_like
+from canbusd.signals import Value
+from canbusd.supervision import Supervision
 
 if TYPE_CHECKING:
     from can.message import Message
 
-    from canbusd._observer import Observer
-    from canbusd.bus import CanbusdBus
+    from canbusd._observer import Observer, ObservingSession
 
 #: The transmit error count from which an interface is bus off, and what a destroyed frame adds to it.
 OFF, DESTROYED = 256, 8
@@ -43,31 +45,7 @@ def wait_for(predicate: Callable[[], T], timeout: float) -> Optional[T]:
         pause = min(2 * pause, LONGEST_POLL)
 
 
-def matcher(
-    id: Optional[int], data: Optional[bytes], is_extended_id: Optional[bool], is_error_frame: bool
-) -> "Callable[[Message], bool]":
-    """Returns whether a message has these fields; None is any. An identifier above 7FF is one of 29 bits."""
-
-    def matches(message: "Message") -> bool:
-        return (
-            message.is_error_frame == is_error_frame
-            and (id is None or message.arbitration_id == id)
-            and (data is None or bytes(message.data) == bytes(data))
-            and (is_extended_id is None or message.is_extended_id == is_extended_id)
-        )
-
-    if is_extended_id is None and id is not None and not is_error_frame:
-        is_extended_id = id > 0x7FF
-    return matches
-
-
-def named(id: Optional[int], data: Optional[bytes]) -> str:
-    """The frame that was looked for, for a failure: `frame 123 with data 11 22`, `frame 123`, `frame`."""
-    digits = "" if id is None else f" {id:03X}" if id <= 0x7FF else f" {id:08X}"
-    return f"frame{digits}" + ("" if data is None else f" with data {bytes(data).hex(' ').upper() or 'of no byte'}")
-
-
-class Expectations:
+class Expectations(Supervision):
     """What a test expects of a running server; the mixin of Server."""
 
     def _observing(self) -> "Observer":
@@ -83,11 +61,8 @@ class Expectations:
         return self._observing().shown()
 
     def error_counters(self, name: str) -> ErrorCounters:
-        """Returns the state of an interface and its error counts, while the server runs.
-
-        The first question about an interface that is not observed opens a session there, which the record shows.
-        """
-        return self._observing().bus(name).error_counters()
+        """Returns the state of an interface and its error counts, while the server runs."""
+        return self._observing().session(name).error_counters()
 
     def state(self, name: str) -> str:
         """Returns the state of an interface while the server runs: `active`, `warning`, `passive` or `off`."""
@@ -101,12 +76,15 @@ class Expectations:
         ended then, unless the bus has others, which would end with it: it is left, as the text says.
         """
         __tracebackhide__ = True
-        drive = Drive(self._observing().bus(name), name, self.inject)
+        observer = self._observing()
+        drive = Drive(observer.session(name), name, self.inject)
         try:
             counters = wait_for(drive.off, timeout)
             if counters is None:
                 raise AssertionError(f"{drive.failure(timeout)}{self._shown()}")
-            return counters
+            # Where it restarts by itself it may be back.
+            was = observer.skip_to_state(name, "off")
+            return was.counters if was is not None and counters.state != "off" else counters
         finally:
             drive.end_rule()
 
@@ -118,63 +96,106 @@ class Expectations:
             raise TimeoutError(f"not so within {timeout:g} seconds{self._shown()}")
         return found
 
+    def expect_from_now(self) -> None:
+        """Expectations look only at what comes from now on. The pytest plugin calls it at the start of each test."""
+        self._observing().forget()
+
     def expect(
         self,
-        id: Optional[int] = None,
+        id: Union[int, str, None] = None,
         data: Optional[bytes] = None,
         *,
+        signal: Optional[str] = None,
+        above: Optional[float] = None,
+        below: Optional[float] = None,
+        equals: Optional[Value] = None,
+        between: Optional[Sequence[float]] = None,
         within: float = 1.0,
         channel: Optional[str] = None,
         is_extended_id: Optional[bool] = None,
         is_error_frame: bool = False,
     ) -> "Message":
-        """Returns the first frame that an observed interface sees and that has this identifier and data.
+        """Returns the first frame that was seen, or is within these seconds, and that has this identifier and data.
 
-        Frames that were seen before count, from the one after that which the last `expect` returned. AssertionError
-        after these seconds; its text ends with what was seen. An identifier above 7FF has 29 bits unless
-        `is_extended_id` says otherwise.
+        `id` may be the name of a message of the server's database. A `signal`, `EngineSpeed` or `Engine.EngineSpeed`, has
+        to be there, and `above`, `below` or `equals` this value, or `between` these two. Frames that were seen before
+        count, from the one after that which the last expectation returned; with a `channel` only those that this interface
+        received. A frame that several interfaces received is one. AssertionError after these seconds; its text ends with
+        what was seen. An identifier above 7FF has 29 bits unless `is_extended_id` says otherwise.
         """
         __tracebackhide__ = True
-        matches = matcher(id, data, is_extended_id, is_error_frame)
-        found = self._observing().find(matches, channel, within)
+        wanted = self._wanted(
+            id, data, signal=signal, above=above, below=below, equals=equals, between=between,
+            is_extended_id=is_extended_id, is_error_frame=is_error_frame,
+        )  # fmt: skip
+        observer = self._observing()
+        found = observer.find(wanted.matches, channel, within)
         if found is None:
-            raise AssertionError(f"no {named(id, data)} within {within:g} seconds{self._shown()}")
-        return found
+            was = observer.said_instead(wanted, channel)
+            text = f"no {wanted} within {within:g} seconds{was}{observer.missed(channel)}"
+            raise AssertionError(f"{text}{self._shown()}")
+        return found.frame.message(channel or observer.channel(found))
 
     def expect_no_frame(
         self,
-        id: Optional[int] = None,
+        id: Union[int, str, None] = None,
         data: Optional[bytes] = None,
         *,
+        signal: Optional[str] = None,
+        above: Optional[float] = None,
+        below: Optional[float] = None,
+        equals: Optional[Value] = None,
+        between: Optional[Sequence[float]] = None,
         within: float = 1.0,
         channel: Optional[str] = None,
         is_extended_id: Optional[bool] = None,
         is_error_frame: bool = False,
     ) -> None:
-        """Fails if an observed interface has seen such a frame since the last `expect`, or does within these seconds."""
+        """Fails if such a frame was seen since the last expectation, or is within these seconds.
+
+        It fails, too, where frames were lost since then, so that this can't be known.
+        """
         __tracebackhide__ = True
-        matches = matcher(id, data, is_extended_id, is_error_frame)
-        found = self._observing().find(matches, channel, within)
+        wanted = self._wanted(
+            id, data, signal=signal, above=above, below=below, equals=equals, between=between,
+            is_extended_id=is_extended_id, is_error_frame=is_error_frame,
+        )  # fmt: skip
+        observer = self._observing()
+        found = observer.find(wanted.matches, channel, within)
         if found is not None:
-            line = described_line(str(found.channel), frame_like(found))
-            raise AssertionError(f"{named(id, data)} was not expected: {line}{self._shown()}")
+            raise AssertionError(f"{wanted} was not expected: {observer.line(found, channel)}{self._shown()}")
+        missed = observer.missed(channel)
+        if missed:
+            raise AssertionError(f"whether there was no {wanted} is not known{missed}{self._shown()}")
+
+    def _wanted(self, id: Union[int, str, None], data: Optional[bytes], **more: Any) -> Wanted:
+        return Wanted(id, data, database=self.database, **more)
 
     def expect_state(self, name: str, state: str, *, within: float = 1.0) -> ErrorCounters:
-        """Waits until an interface is in this state; AssertionError if it is not within these seconds."""
+        """Returns once an interface is in this state, or was since the last state of it that was expected, however shortly.
+
+        That is known by the error message frames that its interface received. AssertionError if it does not come into it
+        within these seconds; its text says in which states it was. Returns its error counts: as they are, where it still
+        is in this state, else those when it came into it, of which the receive count at bus off is not known, and 0.
+        """
         __tracebackhide__ = True
         if state not in STATES:
             raise ValueError(f"state is one of {', '.join(STATES)}, not {state!r}")
-        counters = wait_for(lambda: counters_in(self.error_counters(name), state), within)
-        if counters is None:
-            now = in_words(name, self.error_counters(name))
-            raise AssertionError(f"{now}, and was not {state} within {within:g} seconds{self._shown()}")
-        return counters
+        observer = self._observing()
+        found = observer.find_state(name, state, within)
+        now = self.error_counters(name)
+        if found is None:
+            was = observer.states_since(name)
+            since = f": it was {', then '.join(was)}" if was else ""
+            text = f"{in_words(name, now)}, and was not {state} within {within:g} seconds{since}"
+            raise AssertionError(f"{text}{self._shown()}")
+        return now if now.state == state else found.counters
 
 
 class Drive:
     """Destroys the next frames of an interface until it is bus off, and no frame after that."""
 
-    def __init__(self, bus: "CanbusdBus", name: str, inject: Callable[[Faults, str], None]) -> None:
+    def __init__(self, bus: "ObservingSession", name: str, inject: Callable[[Faults, str], None]) -> None:
         self._bus, self._name, self._inject = bus, name, inject
         self._counters, self._stats = bus.error_counters(), bus.stats()
         # When the last rule was injected: how many others there were, and how many frames the interface had done.
@@ -219,8 +240,3 @@ class Drive:
         if stats.done > self._stats.done:
             return "its frames went through, by an earlier rule or a line of the script"
         return "its frames wait, and none was tried" if stats.waiting else "it sent nothing in that time"
-
-
-def counters_in(counters: ErrorCounters, state: str) -> Optional[ErrorCounters]:
-    """The counters where they are of this state."""
-    return counters if counters.state == state else None

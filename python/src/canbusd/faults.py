@@ -314,6 +314,6 @@ def rules_of(faults: Script) -> list[Rule]:
     other = next((line for line in lines if line[:1].isdigit()), None)
     if other is not None:
         raise ValueError(
-            f"'{shown(other)}' is of an attempt by its number, so of the start: only rules can be injected"
+            f"'{shown(other)}' names an attempt by number, which is only possible at the start; inject() takes rules"
         )
     return [parse_rule(line) for line in lines]

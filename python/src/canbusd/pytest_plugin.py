@@ -11,7 +11,7 @@ import itertools
 import os
 import re
 import shutil
-from collections.abc import Iterator
+from collections.abc import Iterator, Sequence
 from pathlib import Path
 from typing import TYPE_CHECKING, Any, Generator, Protocol, Union
 
@@ -20,11 +20,14 @@ import pytest
 from canbusd import _summary
 from canbusd._live import left_by
 from canbusd._program import SET_BY, audited
-from canbusd._process import FOLDERS
+from canbusd._process import FOLDERS, RUNNING
 from canbusd.bench import Bench
+from canbusd.expectations import Expectations
 from canbusd.record import BadRecord, read_record
+from canbusd.virtual import is_virtual, python_words, repeated_by, virtual_words
 
 if TYPE_CHECKING:
+    from canbusd.programs import Program
     from canbusd.server import Server
 
 #: The buses of the fixture `canbusd` where no marker names others.
@@ -34,7 +37,7 @@ PROGRAM = pytest.StashKey[bool]()
 
 
 def pytest_addoption(parser: pytest.Parser) -> None:
-    """Adds `--canbusd-keep` and `canbusd_program`."""
+    """Adds `--canbusd-keep`, `--canbusd-virtual` and its options, and `canbusd_program`."""
     parser.addini("canbusd_program", "path of the program canbusd, from the ini file; $CANBUSD goes before it")
     parser.getgroup("canbusd").addoption(
         "--canbusd-keep",
@@ -42,6 +45,39 @@ def pytest_addoption(parser: pytest.Parser) -> None:
         default="failed",
         help="of which tests the logs, records and pages are kept (default: failed)",
     )
+    add_virtual_options(parser.getgroup("canbusd"))
+
+
+def add_virtual_options(group: Any) -> None:
+    """Adds the options of virtual time."""
+    group.addoption(
+        "--canbusd-virtual",
+        action="store_true",
+        help="start pytest anew in virtual time, by canbusd-run --virtual: waits take no time, and each run is the same",
+    )
+    group.addoption(
+        "--canbusd-seed", type=int, metavar="N", help="with --canbusd-virtual: another order of what is due at once"
+    )
+    group.addoption(
+        "--canbusd-jitter", type=int, metavar="MICROS", help="with --canbusd-virtual: waits are longer by up to this"
+    )
+
+
+@pytest.hookimpl(tryfirst=True)  # type: ignore[misc]
+def pytest_cmdline_main(config: pytest.Config) -> None:
+    """Starts pytest anew in virtual time, where that is asked for."""
+    seed, jitter = config.getoption("--canbusd-seed"), config.getoption("--canbusd-jitter")
+    if not config.getoption("--canbusd-virtual"):
+        if seed is not None or jitter is not None:
+            raise pytest.UsageError("--canbusd-seed and --canbusd-jitter need --canbusd-virtual")
+        return
+    if is_virtual():
+        return
+    words = virtual_words(python_words([str(word) for word in config.invocation_params.args]), seed, jitter)
+    capture = config.pluginmanager.getplugin("capturemanager")
+    if capture is not None:
+        capture.stop_global_capturing()
+    os.execv(words[0], words)
 
 
 def pytest_configure(config: pytest.Config) -> None:
@@ -49,7 +85,7 @@ def pytest_configure(config: pytest.Config) -> None:
     config.addinivalue_line(
         "markers",
         "canbusd(*buses, **options): the buses of the fixtures canbusd and canbusd_bench, and their options, as of "
-        "canbusd.Server and canbusd.Bench",
+        "canbusd.Server and canbusd.Bench; virtual=True: the test is for pytest --canbusd-virtual",
     )
     program = str(config.getini("canbusd_program"))
     if not program:
@@ -82,8 +118,21 @@ def pytest_runtest_protocol(item: pytest.Item) -> Generator[None, Any, None]:
 def pytest_runtest_makereport(item: pytest.Item) -> Generator[None, Any, None]:
     """Keeps whether the test failed, for the end of its fixtures. One that had to fail, by a mark xfail, did not."""
     outcome = yield
-    if outcome.get_result().failed:
+    report = outcome.get_result()
+    if report.failed:
         item.stash[FAILED] = True
+        if is_virtual():
+            report.sections.append(("canbusd: virtual time", f"repeat: {repeated_by(item.nodeid)}"))
+
+
+@pytest.hookimpl(tryfirst=True)  # type: ignore[misc]
+def pytest_runtest_setup(item: pytest.Item) -> None:
+    """What a server that several tests share has received before a test is nothing that this one expects."""
+    for run in list(RUNNING):
+        # One that has crashed is a fault of those that use it.
+        with contextlib.suppress(Exception):
+            if isinstance(run, Expectations) and os.getpid() == run._process:
+                run.expect_from_now()
 
 
 def new_folder(place: Path, name: str) -> Path:
@@ -158,8 +207,7 @@ class Runs:
         faults = [*self._stop(), *self._audit()]
         failed = bool(faults) or self._item.stash.get(FAILED, False)
         if failed or self._keep == "all":
-            sections = [self._section(path, run, names) for path, (run, names) in self._records.items()]
-            self._item.add_report_section("teardown", "canbusd", "\n\n".join(filter(None, sections)))
+            self._report()
         if self._keep == "none" or (self._keep == "failed" and not failed):
             shutil.rmtree(self._folder, ignore_errors=True)
         for folder in self._folder.glob("canbusd-*"):
@@ -172,6 +220,8 @@ class Runs:
         for run in self._runs:
             if self._was_killed(run):
                 # The test knows of it, and that there is only what was written while it ran.
+                for program in programs_of(run):
+                    program.stop()
                 continue
             try:
                 result = run.stop()
@@ -194,26 +244,44 @@ class Runs:
                 if not re.fullmatch(r"ok \d+ entries(, then cut off)?", said):
                     yield f"the record {left}: {said}"
             elif not self._was_killed(run) and record_when(run) != "none":
-                yield f"the record {path}: there is none"
+                yield f"no record at {path}"
 
-    def _section(self, path: Path, run: Union["Server", Bench], names: list[str]) -> str:
-        """Makes the page of a bus; returns what a failed test shows: the end of its log, states, counts and that path."""
+    def _report(self) -> None:
+        """Adds what is known of each bus and program to the test's report, and to its properties in a JUnit file."""
+        facts = [self._facts(path, run, names) for path, (run, names) in self._records.items()]
+        facts += [{"program": program.shown().splitlines()} for run in self._runs for program in programs_of(run)]
+        sections = []
+        for one in facts:
+            self._item.user_properties += [
+                (f"canbusd_{name}", "\n".join(lines)) for name, lines in one.items() if lines
+            ]
+            page = [f"page: {path}" for path in one.pop("page", [])]
+            sections.append("\n".join([*itertools.chain(*one.values()), *page]))
+        self._item.add_report_section("teardown", "canbusd", "\n\n".join(filter(None, sections)))
+
+    def _facts(self, path: Path, run: Union["Server", Bench], names: list[str]) -> dict[str, list[str]]:
+        """Makes the page of a bus; returns its story, the end of its log, states and counts, and the path of the page."""
         log, left = path.with_suffix(".log"), left_by(path, record_when(run))
-        lines = _summary.end_of_log(log) if log.exists() else []
+        facts: dict[str, list[str]] = {"story": [], "log": _summary.end_of_log(log) if log.exists() else []}
         if not left.exists():
-            return "\n".join(lines)
+            return facts
         try:
             record = read_record(left, names, cut=left != path)
-            lines[:0] = _summary.story(record)
+            facts["story"] = _summary.story(record)
             if record.is_cut:
-                lines.append(f"{left} is cut off after {len(record.lines)} entries: `--cut` of the tools reads it")
-            lines += _summary.table(_summary.interfaces(record))
+                cut = f"{left} is cut off after {len(record.lines)} entries: `--cut` of the tools reads it"
+                facts["record"] = [cut]
+            facts["states"] = _summary.table(_summary.interfaces(record))
             if self._keep != "none":
-                page = run._page(record, path.with_suffix(".html"))
-                lines.append(f"page: {page}")
+                facts["page"] = [str(run._page(record, path.with_suffix(".html")))]
         except BadRecord as fault:
-            lines.append(f"{left}: {fault}")
-        return "\n".join(lines)
+            facts["record"] = [f"{left}: {fault}"]
+        return facts
+
+
+def programs_of(run: Union["Server", Bench]) -> Sequence["Program"]:
+    """The programs that were started on the buses of a run."""
+    return [] if isinstance(run, Bench) else run._programs
 
 
 def record_when(run: Union["Server", Bench]) -> str:
@@ -233,7 +301,10 @@ def marked(request: pytest.FixtureRequest) -> tuple[tuple[str, ...], dict[str, A
     marker = request.node.get_closest_marker("canbusd")
     if marker is None:
         return BUSES, {}
-    return tuple(marker.args) or BUSES, dict(marker.kwargs)
+    options = dict(marker.kwargs)
+    if options.pop("virtual", False) and not is_virtual():
+        pytest.fail("this test is for virtual time: python3 -m pytest --canbusd-virtual", pytrace=False)
+    return tuple(marker.args) or BUSES, options
 
 
 @pytest.fixture

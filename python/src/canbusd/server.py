@@ -19,18 +19,21 @@ from typing import TYPE_CHECKING, Any, NamedTuple, Optional, Union
 from canbusd._connection import SessionRefused, parse_address, reason_of
 from canbusd._injection import RuleSession
 from canbusd._live import LiveLog, LiveRecord, left_by
+from canbusd._nodes import SimulatesNodes
+from canbusd._observer import Observer, observed_by_default
 from canbusd._program import audited, find_program
 from canbusd._process import RUNNING, ProgramRun, check_names, option_words, rate_words, rates_of
 from canbusd.expectations import Expectations
 from canbusd.faults import Script, plan_of, rules_of, script_text
 from canbusd.log import read_log
+from canbusd.programs import Program, Words, check_no_shell, words_of
 from canbusd.record import Attempt, Record, read_record
 from canbusd.rules import Rule, check_rules, deciders
+from canbusd.signals import Database, load_database
 
 if TYPE_CHECKING:
     from can.message import Message
 
-    from canbusd._observer import Observer
     from canbusd.bus import CanbusdBus
 
 #: Seconds in which a server has to listen, and to end. Long records take their time.
@@ -78,7 +81,7 @@ def bus_words(
     for given, script in faults.items():
         name = given.split(",")[0]
         if name not in by_bus:
-            raise ValueError(f"faults are of {given!r}, which is no bus of this server")
+            raise ValueError(f"faults= names {given!r}, but the server has no such bus")
         if "@" in by_bus[name][-1]:
             raise ValueError(f"faults of {given!r} are given twice")
         file = folder / f"{name}.faults"
@@ -98,7 +101,7 @@ def record_options(
             raise ValueError("flush and sync are of a server whose record is 'live' or 'none'")
         return [], {"limit": 1_000_000 if limit is None else limit}
     if limit is not None:
-        raise ValueError(f"limit is of a server whose record is written at its end, not {record!r}")
+        raise ValueError(f"limit= needs record='end', not {record!r}")
     words = ["--record", record, *(["--sync"] if sync else [])]
     return words, {} if flush is None else {"flush": flush}
 
@@ -109,7 +112,7 @@ def script_of(bus: str) -> str:
     return Path(file).read_text(encoding="utf-8") if os.path.isfile(file) else ""
 
 
-class Server(Expectations, ProgramRun):
+class Server(Expectations, SimulatesNodes, ProgramRun):
     """`canbusd serve` with these buses, each the names of its interfaces: ``Server("can0,can1", "car0")``.
 
     The options are those of the program. ``faults`` is a script for the one bus there is (:class:`canbusd.Faults`, a
@@ -119,7 +122,9 @@ class Server(Expectations, ProgramRun):
     :meth:`attempts` return what is there; with ``record="none"`` logs are, and there is no record. Then a run may go
     on for weeks, and ``limit`` (1,000,000 entries) is not given. With a ``bitrate`` attempts take the time of their
     bits, in place of ``pace_ms``; with a ``dbitrate`` FD frames with ``bitrate_switch`` go on at that for their data.
-    ``observe`` names interfaces whose frames :meth:`expect` looks at. The server runs when the constructor returns,
+    ``observe`` names the interfaces whose frames :meth:`expect` looks at, by default all, or the first of each bus where
+    there are more than 8; without any, ``observe=()``, the record has nothing of it. ``database``, a file or what
+    load_database returns, has the names of messages and signals that are expected. The server runs when the constructor returns,
     and is ended by :meth:`stop`, by the end of a ``with`` block, and by the end of this process, whatever ends it.
     """
 
@@ -142,7 +147,8 @@ class Server(Expectations, ProgramRun):
         sync: bool = False,
         out: Union[str, "os.PathLike[str]", None] = None,
         listen: str = "127.0.0.1:0",
-        observe: Union[str, Sequence[str]] = (),
+        observe: Union[str, Sequence[str], None] = None,
+        database: Union[Database, str, "os.PathLike[str]", None] = None,
     ) -> None:
         if not 0 < len(buses) <= MOST_BUSES or not all(isinstance(bus, str) for bus in buses):
             known = f"1 to {MOST_BUSES}, each by the names of its interfaces, such as 'can0,can1'"
@@ -152,20 +158,22 @@ class Server(Expectations, ProgramRun):
         numbers.update(auto_restart=auto_restart, pace_ms=pace_ms, write_bytes=write_bytes)
         options += option_words(ack, report, txqueue=txqueue, rxqueue=rxqueue, **numbers)
         options += rate_words(bitrate, dbitrate)
-        observed = tuple(observe.split(",") if isinstance(observe, str) else observe)
+        named = observe.split(",") if isinstance(observe, str) and observe else observe
+        self.database = load_database(database) if isinstance(database, (str, os.PathLike)) else database
         super().__init__(out)
         self._txqueue = txqueue
         self._rates = rates_of(bitrate, dbitrate)
         self._by_bus = bus_words(buses, faults, self._folder)
         self._prepare(record)
-        for name in observed:
+        self._observed = observed_by_default(self._names()) if named is None else list(dict.fromkeys(named))
+        for name in self._observed:
             self._first(name)
         words = ["--until-eof", "--listen", listen, *options, "--out", str(self._out)]
         self._start("serve", *words, "--", *(bus[-1] for bus in self._by_bus.values()))
         #: Where clients connect: HOST:PORT, or a Unix path.
         self.address = self._listening()
-        if observed:
-            self._observing(observed)
+        if self._observed:
+            self._observing()
 
     def _prepare(self, record: str) -> None:
         """What is known of the run before it begins."""
@@ -175,6 +183,7 @@ class Server(Expectations, ProgramRun):
         self._records = {name: LiveRecord(self._out / f"{name}.rec", bus[:-1]) for name, bus in self._by_bus.items()}
         # The rules that were injected here, by the first interface of their bus.
         self._injected: dict[str, list[Rule]] = {}
+        self._programs: list[Program] = []
         self._observer: Optional[Observer] = None
         self._ending = threading.Lock()
         self._result: Optional[Result] = None
@@ -229,42 +238,69 @@ class Server(Expectations, ProgramRun):
         with self._rule_session(interface) as session:
             session.end_rules()
 
-    def run(self, words: Sequence[str], wait: bool = False, **kwargs: Any) -> "subprocess.CompletedProcess[Any]":
-        """Runs a program whose CAN sockets are those of this server, such as ``["cansend", "can0", "123#"]``, to its end.
+    def run(self, words: Words, wait: bool = False, **kwargs: Any) -> "subprocess.CompletedProcess[Any]":
+        """Runs a program whose CAN sockets are those of this server to its end: ``"cansend can0 123#"``, or a list of words.
 
-        With ``wait`` its writes wait where the transmit queue is full. The other arguments are those of subprocess.run.
+        With ``wait`` its writes wait where the transmit queue is full. The other arguments are those of subprocess.run,
+        but for ``shell``: a str is split into words as a shell does, and what only a shell does is a ValueError.
         """
-        return subprocess.run([*self._run_words(), *(["--wait"] if wait else []), "--", *words], **kwargs)
+        check_no_shell(kwargs)
+        return subprocess.run([*self._run_words(wait), *words_of(words)], **kwargs)
+
+    def start(self, words: Words, wait: bool = False, may_end: bool = False, **kwargs: Any) -> Program:
+        """Starts such a program, one that stays, as ``"candump can0"``; the end of the server ends it.
+
+        If it has ended by itself before, :meth:`stop` is a ServerError, and so a failure of the test, unless it
+        ``may_end``. The other arguments are those of subprocess.Popen; its output is :attr:`Program.output`.
+        """
+        check_no_shell(kwargs)
+        found = words_of(words)
+        if self._result is not None:
+            raise ServerError("the server has ended, and no program can be started on its buses")
+        path = self._folder / f"program{len(self._programs)}"
+        program = Program(found, self._run_words(wait), path, may_end, **kwargs)
+        self._programs.append(program)
+        return program
 
     def environment(self) -> dict[str, str]:
         """Returns the environment of this process with what makes a program's CAN sockets those of this server.
 
         For programs that others start: ``subprocess.Popen(["candump", "can0"], env=server.environment())``.
         """
-        words = [*self._run_words(), "--", "env", "-0"]
+        words = [*self._run_words(), "env", "-0"]
         pairs = os.fsdecode(subprocess.run(words, stdout=subprocess.PIPE, check=True).stdout).split("\0")
         return dict(pair.split("=", 1) for pair in pairs if pair)
 
-    def _run_words(self) -> list[str]:
-        return [find_program("canbusd-run"), "--address", self.address]
+    def _run_words(self, wait: bool = False) -> list[str]:
+        return [find_program("canbusd-run"), "--address", self.address, *(["--wait"] if wait else []), "--"]
+
+    def _end_programs(self) -> list[str]:
+        """Ends what :meth:`start` has started; what is wrong with those that had ended before."""
+        for program in self._programs:
+            program.stop()
+        return [fault for program in self._programs for fault in [program.fault()] if fault is not None]
 
     def stop(self) -> Result:
-        """Ends the server; logs and records are written. Called again it returns the same.
+        """Ends the server, after the programs that it started; logs and records are written. Again it returns the same.
 
-        :raises ServerError: where the server ended with a fault, or was killed by others
+        :raises ServerError: where the server ended with a fault, or was killed by others, or where a program that
+            :meth:`start` has started had ended by itself
         """
         self._check_process()
         with self._ending:
             return self._stopped()
 
     def _stopped(self) -> Result:
+        faults = self._end_programs()
         if self._result is None:
             self._end_observer()
             self._close_input()
             status, written = self._ended()
             self._result = Result(status, {name: int(number) for name, number in ENTRIES.findall(written)})
             if status != 0:
-                raise ServerError(self.said or f"the server ended with status {status}")
+                faults.insert(0, self.said or f"the server ended with status {status}")
+            if faults:
+                raise ServerError("\n".join(faults))
         return self._result
 
     def kill(self) -> Result:
@@ -348,13 +384,15 @@ class Server(Expectations, ProgramRun):
         except (OSError, SessionRefused) as fault:
             raise ServerError(f"no session on {first}: {reason_of(fault)}") from None
 
-    def _observing(self, observed: Sequence[str] = ()) -> "Observer":
-        """The sessions of the server's own, of which those on these interfaces receive frames."""
-        from canbusd._observer import Observer
-
+    def _observing(self) -> Observer:
+        """The sessions of the server's own."""
         if self._observer is None:
-            self._observer = Observer(self.bus, self.interfaces, observed)
+            self._observer = Observer(self.address, self._names(), self._observed)
         return self._observer
+
+    def _names(self) -> list[list[str]]:
+        """The names of the interfaces of each bus."""
+        return [bus[:-1] for bus in self._by_bus.values()]
 
     def _shown(self) -> str:
         if self._record_when == "end":
@@ -363,6 +401,10 @@ class Server(Expectations, ProgramRun):
 
         logs = [line for name in self._by_bus for line in end_of_log(self._out / f"{name}.log")]
         return "\n".join([super()._shown(), *logs])
+
+    def expect_from_now(self) -> None:
+        if self._result is None and self._observer is not None:
+            super().expect_from_now()
 
     def _end_observer(self) -> None:
         if self._observer is not None:

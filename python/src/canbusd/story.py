@@ -46,15 +46,43 @@ def changes_of(run: Replay, names: Sequence[str]) -> Iterator[Event]:
     """Changes of state, frames lost by bus off, and restarts."""
     before = [(0, 0)] * len(names)
     climbs = [Climb() for _ in names]
+    # The step in which each interface last went bus off.
+    went: dict[int, Step] = {}
     for number, step in enumerate(run.steps):
         if step.kind == "restart":
-            yield Event(number, "restart", step.iface, f"{names[step.iface]} is back on the bus, with both counts 0")
+            back = f"{names[step.iface]} is back on the bus, with both counts 0"
+            yield Event(number, "restart", step.iface, back + outage_of(went[step.iface], step))
         elif step.counts != before:
             climbs[step.iface].add(step, before[step.iface][0])
             for i, (old, new) in enumerate(zip(before, step.counts)):
                 if severity(max(old)) != severity(max(new)):
+                    went[i] = step
                     yield from change_of(number, step, i, names, climbs[i])
         before = step.counts
+
+
+def outage_of(went: Step, back: Step) -> str:
+    """How long an interface was off: `; it was off for 203.1 ms, attempts 836 to 1,012`."""
+    micros = micros_of(back.moment) - micros_of(went.moment)
+    duration = f" for {duration_words(micros)}" if micros > 0 else ""
+    last = back.attempt - 1
+    attempts = f"attempts {went.attempt:,} to {last:,}" if last > went.attempt else "and no frame was tried"
+    return f"; it was off{duration}, {attempts}"
+
+
+def micros_of(moment: str) -> int:
+    """The microseconds of a moment of a record."""
+    return int(moment.replace(".", ""))
+
+
+def duration_words(micros: int) -> str:
+    """A duration in the unit that fits: `40 µs`, `203.1 ms`, `1.3 s`, `2 min 5.0 s`."""
+    if micros < 1_000:
+        return f"{micros} µs"
+    if micros < 1_000_000:
+        return f"{micros / 1_000:.1f} ms"
+    minutes, rest = divmod(micros / 1_000_000, 60)
+    return f"{minutes:,.0f} min {rest:.1f} s" if minutes else f"{rest:.1f} s"
 
 
 class Climb:

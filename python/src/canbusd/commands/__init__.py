@@ -1,4 +1,4 @@
-"""The commands of `python3 -m canbusd`: each module has `add_arguments`, which adds its arguments, and `run`."""
+"""The commands of `canbusd`: each module has `add_arguments`, which adds its arguments, and `run`."""
 
 import argparse
 from typing import Optional

@@ -19,10 +19,10 @@ An interface is a name, followed by filters as candump has them: ID:MASK, ID~MAS
 error message frames, and j where frames have to pass all of them. With -e each error message frame is explained in
 words.
 
-  python3 -m canbusd dump -e can0
-  python3 -m canbusd dump can0,123:7FF can1,#FFFFFFFF
-  python3 -m canbusd dump -L can0 can1 > run.log
-  python3 -m canbusd dump --dbc car.dbc can0
+  canbusd dump -e can0
+  canbusd dump can0,123:7FF can1,#FFFFFFFF
+  canbusd dump -L can0 can1 > run.log
+  canbusd dump --dbc car.dbc can0
 """
 FILTER = re.compile("([0-9A-Fa-f]{1,8})([:~])([0-9A-Fa-f]{1,8})")
 # How many frames of an interface are printed before the others have their turn.

@@ -15,10 +15,10 @@ rules, whose words come in this order:
 A rule holds from the next attempt on, after those that the bus has, which has at most 64. ID has 3 digits for 11 bits or 8
 for 29; with a mask both are words as of a filter.
 
-  python3 -m canbusd fault can0 "next 32 from ecu global bit"
-  python3 -m canbusd fault can0 next 1 id 123 skip 2 lastbit
-  python3 -m canbusd fault --left can0
-  python3 -m canbusd fault --end can0
+  canbusd fault can0 "next 32 from ecu global bit"
+  canbusd fault can0 next 1 id 123 skip 2 lastbit
+  canbusd fault --left can0
+  canbusd fault --end can0
 """
 
 

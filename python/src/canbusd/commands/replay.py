@@ -26,9 +26,9 @@ rounded down: only an overlap that is there whatever was rounded off counts. The
 start of the first attempt until the last is over, in which the wire was busy: with frames, flags of errors, and the 3
 bits after them. With --json it is the last line, with its times in seconds.
 
-  python3 -m canbusd replay --names can0,can1 run.rec
-  python3 -m canbusd replay --quiet --bitrate 500000 run.rec
-  python3 -m canbusd replay --json run.rec | jq 'select(.outcome == "destroyed")'
+  canbusd replay --names can0,can1 run.rec
+  canbusd replay --quiet --bitrate 500000 run.rec
+  canbusd replay --json run.rec | jq 'select(.outcome == "destroyed")'
 """
 # How many attempts that overlap are reported.
 MOST_OVERLAPS = 10

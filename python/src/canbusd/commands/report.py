@@ -25,9 +25,9 @@ record of `canbusd bench --bitrate`: the page shows the bus load over time and t
 long each frame was on the wire, and how long it waited from the first attempt in which it took part.
 
   canbusd bench --record run.rec can0,can1 < first_frame.bench
-  python3 -m canbusd report --names can0,can1 run.rec > run.html
-  python3 -m canbusd report --bitrate 500000 --names can0,can1 run.rec > run.html
-  python3 -m canbusd report --counters --names can0,can1 run.rec
+  canbusd report --names can0,can1 run.rec > run.html
+  canbusd report --bitrate 500000 --names can0,can1 run.rec > run.html
+  canbusd report --counters --names can0,can1 run.rec
 """
 MOST_EVENTS = 1000
 

@@ -13,8 +13,8 @@ EPILOG = """\
 Both error counts are 0 then, and what was queued at bus off is lost. An interface that is not bus off is reported, with
 status 1; the others are brought back all the same.
 
-  python3 -m canbusd restart can0
-  python3 -m canbusd restart can0 can1
+  canbusd restart can0
+  canbusd restart can0 can1
 """
 
 

@@ -27,8 +27,8 @@ frames:
 
 The command ends once the bus has accepted the frames. What becomes of them is in the log and the record.
 
-  python3 -m canbusd send can0 123#DEADBEEF 00000123#R4
-  python3 -m canbusd send --dbc car.dbc can0 Engine.speed=120.5 Engine.gear=Drive
+  canbusd send can0 123#DEADBEEF 00000123#R4
+  canbusd send --dbc car.dbc can0 Engine.speed=120.5 Engine.gear=Drive
 """
 SIGNAL = re.compile(r"([A-Za-z_]\w*)\.([A-Za-z_]\w*)=(.+)")
 
@@ -92,6 +92,6 @@ def run(options: argparse.Namespace) -> None:
             if fault.error_code != errno.ENETDOWN:
                 raise
             raise ValueError(
-                f"bus off: `python3 -m canbusd restart {options.interface}` brings the interface back, as the server's "
+                f"bus off: `canbusd restart {options.interface}` brings the interface back, as the server's "
                 "--auto-restart does"
             ) from None

@@ -15,8 +15,8 @@ TEC and REC are the transmit and the receive error count: error warning from 96,
 256. `sent` is what was accepted for sending: done, waiting, or lost at bus off. `refused` found the transmit queue
 full. Of a server with a bit rate `bus load` is how much of the last whole second the bus was busy.
 
-  python3 -m canbusd status
-  python3 -m canbusd status --watch can0 can1
+  canbusd status
+  canbusd status --watch can0 can1
 """
 HOME, CLEAR_LINE, CLEAR_BELOW = "\x1b[H", "\x1b[K", "\x1b[J"
 

@@ -32,8 +32,8 @@ identifier with its last data. Destroyed and unacknowledged frames are shown whe
 Of a server with a bit rate it has the bus load, and what each identifier takes of it.
 A session on each interface receives everything: each frame that it gets is an entry of the record.
 
-  python3 -m canbusd watch
-  python3 -m canbusd watch --port 0 -a ./bench.socket can0
+  canbusd watch
+  canbusd watch --port 0 -a ./bench.socket can0
 """
 # How much a page gets that is opened later: ticks, and frames.
 MOST_TICKS, MOST_FRAMES = 2400, 4000

@@ -3,7 +3,7 @@
 
 const STRIP = 20, BAND = 13, CURVES = 48, SPACE = 9, TOP = 264;
 const view = { from: 0, to: 1, step: 0 };
-let axis = new Axis([0], 1), lanes = [], overview = null;
+let axis = new Axis([0], 1), lanes = [];
 const time = { axisWords: [], ticks: () => [], words: () => "", choose: () => {}, moved: () => {} };
 
 // Where things are.

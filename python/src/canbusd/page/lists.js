@@ -135,7 +135,7 @@ function makeTabs(id, shown) {
     }
     shown(tab.getAttribute("aria-controls"));
   };
-  tabs.forEach((tab, k) => {
+  tabs.forEach(tab => {
     tab.onclick = () => choose(tab);
     tab.onkeydown = event => {
       const by = { ArrowRight: 1, ArrowLeft: -1 }[event.key], next = by && tabs.filter(one => !one.hidden);

@@ -8,7 +8,8 @@ const DROPPED = 3;
 const ARRAYS = { B: Uint8Array, H: Uint16Array, I: Uint32Array, d: Float64Array };
 const STEP_WIDTH = { 4: 0.8, 5: 0.5 };
 let run, steps, items, names, tec, rec, queues, attemptOf, contenders, moments, axes, tallies, failures, firstMoment = 0;
-let lists = {}, chips, showTab, tab = "tab-events";
+let chips, showTab, tab = "tab-events";
+const lists = {};
 
 // The data: a header in JSON, then the columns that it names.
 
@@ -86,6 +87,14 @@ const isAttempt = step => steps.kind[step] < RESTART;
 // Idle attempts in a row have no one moment.
 const momentOf = step =>
   steps.kind[step] === IDLE ? "" : `${steps.seconds[step]}.${String(steps.micros[step]).padStart(6, "0")}`;
+// Seconds since the first attempt; with the clock's moments, since 1970, they are a column of their own.
+const firstStep = () => steps.kind.findIndex(kind => kind !== IDLE);
+const sinceStart = step => {
+  if (steps.kind[step] === IDLE) return "";
+  const first = firstStep(), micros = steps.micros[step] - steps.micros[first];
+  return ((steps.seconds[step] - steps.seconds[first]) + micros / 1e6).toFixed(6);
+};
+const hasClock = () => axis.count && steps.seconds[Math.max(0, firstStep())] >= 1e8;
 const textOf = step => run.texts[steps.frame[step]];
 const isFault = step => steps.kind[step] > 0 && steps.kind[step] < RESTART || steps.hit[step] > 0;
 const faultOf = step => run.verdicts[steps.verdict[step]];
@@ -413,6 +422,8 @@ function showChosen() {
 const attemptCell = step => isAttempt(step) ? grouped(attemptOf[step]) : steps.kind[step] === IDLE ? "idle" : "restart";
 function makeLists() {
   const moment = ["moment", `${Math.max(8, axis.count ? momentOf(axis.count - 1).length : 0)}ch`, "n"];
+  const isClock = hasClock(), since = isClock ? [["since the start", "15ch", "n h"]] : [];
+  const sinceCell = step => isClock ? [sinceStart(step)] : [];
   const nameWide = `minmax(0, ${Math.max(7, ...names.map(name => name.length))}ch)`;
   const toStep = (id, columns, cellsOf, stepOf) => {
     const list = new Rolling(id, columns, cellsOf, one => choose(stepOf(one)));
@@ -421,8 +432,9 @@ function makeLists() {
     return list;
   };
   lists["tab-events"] = toStep("events",
-    [["attempt", "7ch", "n"], moment, ["kind", "11ch"], ["what", "minmax(0, 1fr)", "w"]],
-    ([step, kind, , words]) => [attemptCell(step), momentOf(step), kindCell(kind), words], event => event[0]);
+    [["attempt", "7ch", "n"], moment, ...since, ["kind", "11ch"], ["what", "minmax(0, 1fr)", "w"]],
+    ([step, kind, , words]) => [attemptCell(step), momentOf(step), ...sinceCell(step), kindCell(kind), words],
+    event => event[0]);
   lists["tab-attempts"] = toStep("tried",
     [["attempt", "8ch", "n"], moment, ["sender", nameWide, "w"], ["frame no.", "8ch", "n h"],
       ["frame", "minmax(0, 2.2fr)", "f"], ["outcome", "minmax(0, 1.9fr)"], ["fault", "minmax(0, 1.4fr)", "w"],

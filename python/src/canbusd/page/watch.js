@@ -1,4 +1,4 @@
-// The live page: ticks and frames as they come from `python3 -m canbusd watch`, on the time line of the page of a run.
+// The live page: ticks and frames as they come from `canbusd watch`, on the time line of the page of a run.
 
 const { names, source, isDecoded, isTimed } = JSON.parse(at("run").textContent);
 const MOST = 4000, MOST_TICKS = 2400, FOLLOWED = 60;
@@ -6,10 +6,13 @@ const MOST = 4000, MOST_TICKS = 2400, FOLLOWED = 60;
 const EVENTS = ["bus off", "error passive", "error warning", "error active", "restarted", "no acknowledgement",
   "bus error"];
 const QUEUE = 5, SENT_DONE = 4;
-let ticks = [], frames = [], events = [], offs = [], held = [], busiest = 1, total = 0, isLatest = true, isPaused = false;
-let chosenAt = null, chosen = null, byKey = new Map(), byIdentifier = new Map(), lists = {}, chips, showTab, tab;
-// Of each node the first one that is known to be on its bus; which nodes got one frame; how long all frames took the wire.
-let busOf = names.map((_, i) => i), joined = new Set(), busyInAll = 0, nodeLanes = [], loadLanes = new Map();
+let ticks = [], frames = [], events = [], offs = [], busiest = 1, total = 0, isLatest = true, isPaused = false;
+let chosenAt = null, chosen = null, byKey = new Map(), byIdentifier = new Map(), chips, showTab, tab;
+const held = [], lists = {};
+// Of each node the first one that is known to be on its bus; how long all frames took the wire.
+let busOf = names.map((_, i) => i), busyInAll = 0, nodeLanes = [], loadLanes = new Map();
+// Which nodes got one frame.
+const joined = new Set();
 
 // What came.
 
@@ -250,7 +253,7 @@ function showIfaces() {
   if (isTimed) heads.push("bus load");
   at("ifaces").replaceChildren(...rowsOf(heads, ifaces.map(([state, ...counts], i) => [names[i],
     element("td", stateWords(state), { className: state === "active" ? "" : "bad" }),
-    ...counts.slice(0, 5), ...counts.slice(5).map(loss), ...isTimed ? [loadCell(loads[i])] : []])));
+    ...counts.slice(0, 5), ...counts.slice(5).map(loss), ...isTimed ? [busOf[i] === i ? loadCell(loads[i]) : ""] : []])));
 }
 // A load with a small bar.
 function loadCell(permille) {

@@ -1,0 +1,62 @@
+"""What is due when, in microseconds, and phases that keep what is cyclic apart."""
+
+import heapq
+import math
+from collections.abc import Callable, Iterator, Sequence
+from typing import Optional
+
+MICROS = 1_000_000
+#: Microseconds in which about two frames find room at 500 kbit/s, and the time over which phases are compared.
+SLOT, LONGEST = 500, 2 * MICROS
+#: Multiples of it, without their whole part, are spread over 0 to 1, however many there are.
+GOLDEN = (math.sqrt(5) - 1) / 2
+#: How many phases of one message are compared.
+TRIES = 128
+
+
+class Schedule:
+    """Calls by the moments at which they are due; those of one moment by their order, then as they were added."""
+
+    def __init__(self) -> None:
+        self._heap: list[tuple[int, int, int, Callable[[int], None]]] = []
+        self._added = 0
+
+    def add(self, due: int, order: int, call: Callable[[int], None]) -> None:
+        """Adds a call, which is given the moment at which it was due."""
+        heapq.heappush(self._heap, (due, order, self._added, call))
+        self._added += 1
+
+    def first(self) -> Optional[int]:
+        """Returns when the next call is due; None where there is none."""
+        return self._heap[0][0] if self._heap else None
+
+    def take(self, now: int) -> Iterator[tuple[int, Callable[[int], None]]]:
+        """Yields the calls that are due at this moment or before, each with its own; they may add others."""
+        while self._heap and self._heap[0][0] <= now:
+            due, _, _, call = heapq.heappop(self._heap)
+            yield due, call
+
+
+def micros(seconds: float) -> int:
+    """Returns a time in microseconds."""
+    return round(seconds * MICROS)
+
+
+def phases(cycles: Sequence[int]) -> list[int]:
+    """Returns for each of these cycle times when the first of its frames is due, so that few frames are due together.
+
+    The shortest are given theirs first. Of each some moments of its first cycle are tried, spread over it, and the one
+    is taken around which the fewest frames of the others are due.
+    """
+    if not cycles:
+        return []
+    due_in = [0] * max(1, min(math.lcm(*cycles), LONGEST) // SLOT)
+    found = [0] * len(cycles)
+    for place in sorted(range(len(cycles)), key=lambda place: cycles[place]):
+        slots = max(1, cycles[place] // SLOT)
+        tries = [int(number * GOLDEN % 1 * slots) for number in range(1, 1 + min(2 * slots, TRIES))]
+        best = min(tries, key=lambda slot: (max(due_in[slot::slots], default=0), sum(due_in[slot::slots])))
+        for slot in range(best, len(due_in), slots):
+            due_in[slot] += 1
+        found[place] = min(best * SLOT, cycles[place] - 1)
+    return found

@@ -1,0 +1,166 @@
+"""Makes an input of `canbusd bench` from a log: candump2bench run.log > run.bench"""
+
+import argparse
+import re
+import sys
+from collections.abc import Iterable, Sequence
+
+from canbusd._command import run_command
+from canbusd._text import NAME, shown
+from canbusd.frames import BadFrame, Frame, command_of, log_line
+from canbusd.logs import LINE, is_candump, read_entries
+
+EPILOG = """\
+Each line of the log, `(MOMENT) INTERFACE FRAME`, becomes a frame that a session on that interface sends, and an attempt
+at that moment. So the frames go over the bus in the order of the log, whatever their identifiers are. The first line of
+the output says how to run it. An FD frame keeps its bit rate switch and its error state indicator. A line that is no
+data, remote or FD frame is named on standard error and left out; the status is 1 then.
+
+  candump2bench --listen tester run.log > run.bench
+  canbusd bench tester,can0 < run.bench
+"""
+MOST_INTERFACES = 16
+# What `canbusd bench` reads at most.
+MOST_BYTES = 16777216
+# How many lines that were left out are named, each on a line of its own.
+MOST_NAMED = 100
+# What candump writes on a screen has the number of bytes in brackets.
+SCREEN_LINE = re.compile(r".*\S +[0-9A-Fa-f]{3,8} +\[[0-9]{1,2}\].*")
+
+
+class NotTaken(Exception):
+    """Why a line of the log can't be taken."""
+
+
+class BenchInput:
+    """The input that is made: sessions are numbered from 1, as their interfaces turn up."""
+
+    def __init__(self, listeners: Sequence[str]) -> None:
+        self.sessions: dict[str, int] = {}
+        self.lines: list[str] = []
+        self.bytes = 0
+        # The sessions that asked for FD frames.
+        self._with_fd = set[int]()
+        self._names_of_listeners = listeners
+        self._listeners = [self._session(name) for name in listeners]
+
+    def take(self, text: str) -> None:
+        """Adds a line of the log."""
+        line = LINE.fullmatch(text)
+        if not line:
+            hint = ", which `candump -L` and `candump -l` write" if SCREEN_LINE.fullmatch(text) else ""
+            raise NotTaken(f"not `(SECONDS.MICROS) INTERFACE FRAME`{hint}")
+        command = command_of(Frame.parse(line[3]))
+        sender = self._session(line[2])
+        if command.startswith("sendfd"):
+            self._ask_for_fd(sender, *self._listeners)
+        drains = (f"drain {number}" for number in self._listeners)
+        self._add(f"at {line[1]}", f"feed {sender} < {command} >", "attempt", *drains)
+
+    def _session(self, name: str) -> int:
+        """The number of the session on the interface of this name."""
+        if name not in self.sessions:
+            if not NAME.fullmatch(name):
+                raise NotTaken("an interface has 1 to 15 letters, digits, `_`, `-` and `.` for a name")
+            if len(self.sessions) == MOST_INTERFACES:
+                raise NotTaken(f"more than {MOST_INTERFACES} interfaces")
+            number = self.sessions[name] = len(self.sessions) + 1
+            # One that only sends keeps nothing of what it could receive.
+            quiet = "" if name in self._names_of_listeners else "< filter 0 >"
+            self._add(f"session {number}", f"feed {number} < open {name} >< rawmode >{quiet}")
+        return self.sessions[name]
+
+    def _ask_for_fd(self, *numbers: int) -> None:
+        """Sets the option for FD frames of these sessions, where it isn't set yet."""
+        for number in numbers:
+            if number not in self._with_fd:
+                self._with_fd.add(number)
+                self._add(f"feed {number} < fdframes 1 >")
+
+    def _add(self, *lines: str) -> None:
+        self.lines += lines
+        self.bytes += sum(len(line) + 1 for line in lines)
+
+
+def parser() -> argparse.ArgumentParser:
+    """The parser of its words."""
+    made = argparse.ArgumentParser(
+        prog="candump2bench",
+        description="Makes an input of `canbusd bench` from a log of candump, or from an ASC or BLF file.",
+        epilog=EPILOG,
+        formatter_class=argparse.RawDescriptionHelpFormatter,
+    )
+    made.add_argument(
+        "log",
+        metavar="LOG",
+        nargs="?",
+        help="what `candump -l` or `canbusd` wrote, or an ASC, BLF or other file that python-can reads; without it, a log of "
+        "candump from standard input",
+    )
+    made.add_argument(
+        "--names",
+        metavar="NAME,..",
+        default="",
+        help="the interfaces of a file that has numbers of channels, the first one's first (default: can0,can1,..)",
+    )
+    made.add_argument(
+        "--listen",
+        metavar="NAME",
+        action="append",
+        default=[],
+        help="a further interface, whose session shows what it receives after each attempt",
+    )
+    return made
+
+
+def convert() -> int:
+    """Reads the log and writes the input; the status."""
+    words = parser().parse_args()
+    try:
+        bench = BenchInput(words.listen)
+    except NotTaken as fault:
+        parser().error(f"--listen: {fault}")
+    if words.log and not is_candump(words.log):
+        lines = (log_line(*entry).encode() for entry in read_entries(words.log, words.names.split(",")))
+        return write(bench, take_lines(bench, lines, words.log))
+    with open(words.log, "rb") if words.log else sys.stdin.buffer as log:
+        left_out = take_lines(bench, log, words.log or "standard input")
+    return write(bench, left_out)
+
+
+def take_lines(bench: BenchInput, log: Iterable[bytes], place: str) -> int:
+    """Adds the lines of a log, and names those that can't be taken; returns how many these are."""
+    left_out = 0
+    for number, line in enumerate(log, 1):
+        text = line.decode("utf-8", "replace").rstrip("\r\n ")
+        try:
+            if text:
+                bench.take(text)
+        except (NotTaken, BadFrame) as fault:
+            left_out += 1
+            if left_out <= MOST_NAMED:
+                print(f"candump2bench: {place}:{number}: {fault}: {shown(text)}", file=sys.stderr)
+    if left_out > MOST_NAMED:
+        print(f"candump2bench: {place}: {left_out} lines in all were left out", file=sys.stderr)
+    return left_out
+
+
+def write(bench: BenchInput, left_out: int) -> int:
+    """Writes the input; the status."""
+    first = f"# canbusd bench {','.join(bench.sessions)} < THIS FILE"
+    if bench.bytes + len(first) + 1 > MOST_BYTES:
+        print(
+            f"candump2bench: the input would have more than the {MOST_BYTES} bytes that canbusd reads: cut the log",
+            file=sys.stderr,
+        )
+        return 1
+    if "attempt" not in bench.lines:
+        print("candump2bench: no line of the log is a frame that can be sent", file=sys.stderr)
+        return 1
+    sys.stdout.write("\n".join([first, *bench.lines]) + "\n")
+    return 1 if left_out else 0
+
+
+def main() -> None:
+    """The command."""
+    run_command(convert, "candump2bench")

@@ -1,0 +1,339 @@
+"""What a file of a database says of messages and signals, whichever library has read it.
+
+A library reads the file, and decodes frames to raw numbers; what a value is, which signals of a multiplexed message are there,
+the bytes of a message, and whether the file makes sense is worked out here, so it is the same with each of them. canmatrix takes
+100 us to encode a message, more than a rest bus has.
+"""
+
+import struct
+from collections.abc import Callable, Iterator, Mapping, Sequence
+from dataclasses import dataclass, field
+from decimal import Decimal, InvalidOperation
+from functools import cached_property
+from typing import NamedTuple, Optional, Union
+
+from canbusd.frames import FD_LENGTHS
+
+#: What a signal has: a number, or the name of one.
+Value = Union[int, float, str]
+#: The number of a signal on the bus.
+Raw = Union[int, float]
+#: A part of the name of a send type, in lower case, that says that a message goes by an event, not by its cycle time.
+EVENTS = ("event", "spontan", "trigger", "change", "write", "ifactive")
+PERIODS = ("cycl", "period")
+#: The form of a float by how many bits it has, as struct has them.
+FLOATS = {16: "<e", 32: "<f", 64: "<d"}
+
+
+class DatabaseError(ValueError):
+    """Why a file can't be read, or a message or a signal is none of it; as far as they are known, it has their names."""
+
+    def __init__(self, text: str, path: str = "", message: str = "", signal: str = "") -> None:
+        super().__init__(text)
+        self.path, self.message, self.signal = path, message, signal
+
+
+class Signal(NamedTuple):
+    """A signal of a frame."""
+
+    name: str
+    #: A number with factor and offset applied, or its name where the file has one.
+    value: Value
+    unit: str
+
+    def __str__(self) -> str:
+        return f"{self.name}={self.value} {self.unit}".rstrip()
+
+
+@dataclass(frozen=True)
+class SignalFormat:
+    """A signal of a message, as the file has it."""
+
+    name: str
+    unit: str = ""
+    #: The names of the nodes that receive it.
+    receivers: tuple[str, ...] = ()
+    #: The number on the bus times `factor`, plus `offset`, is the value.
+    factor: Decimal = Decimal(1)
+    offset: Decimal = Decimal(0)
+    #: The least and the most value; None where the file has no limits.
+    minimum: Optional[Decimal] = None
+    maximum: Optional[Decimal] = None
+    #: The names of numbers on the bus.
+    choices: Mapping[int, str] = field(default_factory=dict)
+    #: What is on the bus at the start.
+    raw_start: Decimal = Decimal(0)
+    is_signed: bool = False
+    is_float: bool = False
+    #: The bits of the frame that it takes, its lowest first: bit 0 is the lowest of byte 0, bit 8 that of byte 1.
+    bits: tuple[int, ...] = ()
+    #: Whether its number says which other signals there are.
+    is_multiplexer: bool = False
+    #: The multiplexer with which it is there, and for which numbers of that, as pairs of the first and the last.
+    multiplexer: str = ""
+    multiplexer_values: tuple[tuple[int, int], ...] = ()
+
+    @property
+    def start(self) -> Value:
+        """Its value at the start."""
+        return self.value(self.raw)
+
+    @cached_property
+    def raw(self) -> Raw:
+        """Its number on the bus at the start, which is within its limits."""
+        return self.number(min(max(self.raw_start * self.factor + self.offset, self.least), self.most))
+
+    @cached_property
+    def least(self) -> Decimal:
+        """The least value."""
+        return self._limit(self.minimum, Decimal("-Infinity"), min)
+
+    @cached_property
+    def most(self) -> Decimal:
+        """The most value."""
+        return self._limit(self.maximum, Decimal("Infinity"), max)
+
+    def _limit(self, given: Optional[Decimal], none: Decimal, choose: "Callable[..., Decimal]") -> Decimal:
+        if given is not None:
+            return given
+        if self.is_float:
+            return none
+        return choose(raw * self.factor + self.offset for raw in self._raw_limits())
+
+    def _raw_limits(self) -> tuple[int, int]:
+        """The least and the most number that its bits can say."""
+        size = len(self.bits)
+        return (-(1 << size - 1), (1 << size - 1) - 1) if self.is_signed else (0, (1 << size) - 1)
+
+    def value(self, raw: Raw) -> Value:
+        """Returns the value that a number on the bus is, or its name."""
+        if raw in self.choices:
+            return self.choices[int(raw)]
+        if self.is_float and raw - raw:
+            return raw
+        return plain(Decimal(str(raw)) * self.factor + self.offset)
+
+    def raw_of(self, value: Value) -> Raw:
+        """Returns the number on the bus of a value, of its text, or of its name; DatabaseError where it has none."""
+        for number_of_name, name in self.choices.items():
+            if name == value:
+                return number_of_name
+        number = self._read(value)
+        if not self.least <= number <= self.most:
+            raise self._fault(f"is from {plain(self.least)} to {plain(self.most)}, not {value}")
+        raw = self.number(number)
+        if not self.is_float and not self._raw_limits()[0] <= raw <= self._raw_limits()[1]:
+            raise self._fault(f"has {len(self.bits)} bits, too few for {value}")
+        return raw
+
+    def number(self, value: Decimal) -> Raw:
+        """Returns the number on the bus of a value."""
+        raw = (value - self.offset) / self.factor
+        return float(raw) if self.is_float else int(raw.to_integral_value())
+
+    def placed(self, raw: Raw) -> int:
+        """Returns the bits of a frame that have this number, the frame's byte 0 being the lowest."""
+        size = len(self.bits)
+        number = int.from_bytes(struct.pack(FLOATS[size], raw), "little") if self.is_float else int(raw)
+        return sum(1 << bit for place, bit in enumerate(self.bits) if number >> place & 1)
+
+    def _read(self, value: Value) -> Decimal:
+        try:
+            is_hex = isinstance(value, str) and value[:2] in ("0x", "0X")
+            read = Decimal(int(str(value), 16) if is_hex else str(value))
+        except (ValueError, InvalidOperation):
+            read = Decimal("NaN")
+        if not read.is_finite():
+            known = f", or one of {', '.join(self.choices.values())}" if self.choices else ""
+            raise self._fault(f"is a number{known}, not {value!r}")
+        return read
+
+    def _fault(self, text: str) -> DatabaseError:
+        return DatabaseError(f"{self.name} {text}", signal=self.name)
+
+    def __str__(self) -> str:
+        values = ", ".join(f"{raw}={name}" for raw, name in self.choices.items())
+        limits = f"{shown(self.least)} to {shown(self.most)}"
+        there = ",".join(f"{first}" if first == last else f"{first}-{last}" for first, last in self.multiplexer_values)
+        return "; ".join(
+            part
+            for part in [
+                f"{self.name}: {values or limits} {self.unit}".rstrip(),
+                f"starts as {self.start}",
+                f"for {', '.join(self.receivers)}" if self.receivers else "",
+                "multiplexer" if self.is_multiplexer else "",
+                f"with {self.multiplexer}={there}" if self.multiplexer else "",
+            ]
+            if part
+        )
+
+
+@dataclass(frozen=True)
+class MessageFormat:
+    """A message, as the file has it; `str()` of it is a line."""
+
+    name: str
+    identifier: int
+    is_extended: bool
+    #: How many bytes it has.
+    size: int
+    signals: tuple[SignalFormat, ...]
+    #: How the library decodes the numbers of the signals that are there.
+    unpack: Callable[[bytes], Mapping[str, Raw]] = field(repr=False, compare=False)
+    is_fd: bool = False
+    #: The nodes that send it, the main one first.
+    senders: tuple[str, ...] = ()
+    #: Seconds between two of them; 0 where the file has none.
+    cycle_time: float = 0.0
+    #: Seconds from the start to the first; 0 where the file has none.
+    start_delay: float = 0.0
+    #: The name of its send type, as the file has it.
+    send_type: str = ""
+    #: The file.
+    path: str = field(default="", compare=False)
+
+    @property
+    def is_cyclic(self) -> bool:
+        """Whether it is sent by its cycle time: where it has one, unless its send type says that an event sends it."""
+        kind = self.send_type.lower()
+        is_event = any(word in kind for word in EVENTS) and not any(word in kind for word in PERIODS)
+        return self.cycle_time > 0 and not is_event
+
+    def signal(self, name: str) -> SignalFormat:
+        """Returns the signal of this name; DatabaseError where there is none."""
+        for signal in self.signals:
+            if signal.name == name:
+                return signal
+        known = ", ".join(signal.name for signal in self.signals) or "none"
+        raise DatabaseError(f"no signal {self.name}.{name}; there are {known}", self.path, self.name, name)
+
+    def decode(self, data: bytes) -> Iterator[Signal]:
+        """Yields the signals that a frame of this length has; of multiplexed ones only those that are there."""
+        raw = self.unpack(data)
+        for signal in self.present(raw):
+            if signal.name in raw:
+                yield Signal(signal.name, signal.value(raw[signal.name]), signal.unit)
+
+    def encode(self, values: Mapping[str, Value], is_strict: bool = True) -> bytes:
+        """Returns the bytes that have these values; other signals are as they start.
+
+        With `is_strict` each signal that is given has to be there, as its multiplexers are then.
+        """
+        try:
+            raw = {signal.name: signal.raw for signal in self.signals}
+            raw.update((name, self.signal(name).raw_of(value)) for name, value in values.items())
+        except DatabaseError as fault:
+            text = str(fault) if fault.message else f"{self.name}.{fault}"
+            raise DatabaseError(text, self.path, self.name, fault.signal) from None
+        there = [signal.name for signal in self.present(raw)]
+        for name in values:
+            if is_strict and name not in there:
+                text = f"{self.name}.{name} is not there with this multiplexer"
+                raise DatabaseError(text, self.path, self.name, name)
+        self._check_bits(there)
+        try:
+            bits = sum(signal.placed(raw[signal.name]) for signal in self.signals if signal.name in there)
+            return bits.to_bytes(self.size, "little")
+        except OverflowError as fault:
+            # A float that is too large.
+            raise DatabaseError(f"{self.path}: message {self.name}: {fault}", self.path, self.name) from None
+
+    def present(self, raw: Mapping[str, Raw]) -> list[SignalFormat]:
+        """Returns the signals that are there, where the multiplexers have these numbers."""
+        if not self._is_multiplexed:
+            return list(self.signals)
+        by_name = {signal.name: signal for signal in self.signals}
+
+        def is_there(signal: SignalFormat, depth: int = 0) -> bool:
+            above = by_name.get(signal.multiplexer)
+            if above is None:
+                return True
+            number = raw.get(above.name)
+            if number is None or depth > len(by_name):
+                return False
+            return is_there(above, depth + 1) and any(
+                first <= number <= last for first, last in signal.multiplexer_values
+            )
+
+        return [signal for signal in self.signals if is_there(signal)]
+
+    @cached_property
+    def _is_multiplexed(self) -> bool:
+        return any(signal.multiplexer for signal in self.signals)
+
+    @cached_property
+    def _has_common_bits(self) -> bool:
+        bits = [bit for signal in self.signals for bit in signal.bits]
+        return len(bits) > len(set(bits))
+
+    def check(self) -> None:
+        """DatabaseError where the file contradicts itself in this message; its text has the file, message and signal."""
+        seen: set[str] = set()
+        for signal in self.signals:
+            past = [bit for bit in signal.bits if not 0 <= bit < self.size * 8]
+            if signal.name in seen:
+                raise self._fault(signal, "is there twice")
+            if not signal.bits or past:
+                fault = f"has bits past the {self.size} bytes of its message" if past else "has no bits"
+                raise self._fault(signal, fault)
+            if signal.is_float and len(signal.bits) not in FLOATS:
+                raise self._fault(signal, f"is a float of {len(signal.bits)} bits")
+            if not signal.factor:
+                raise self._fault(signal, "has the factor 0, so its value can't be chosen")
+            if signal.multiplexer and signal.multiplexer not in {one.name for one in self.signals}:
+                raise self._fault(signal, f"needs {signal.multiplexer}, which is no signal of its message")
+            seen.add(signal.name)
+
+    def _check_bits(self, there: Sequence[str]) -> None:
+        """DatabaseError where two of these signals have a bit in common: which of them would it be of?"""
+        owners: dict[int, str] = {}
+        for signal in self.signals if self._has_common_bits else ():
+            if signal.name in there:
+                other = next((owners[bit] for bit in signal.bits if bit in owners), None)
+                if other is not None:
+                    raise self._fault(signal, f"has bits that {other} has too, so the message can't be encoded")
+                owners.update(dict.fromkeys(signal.bits, signal.name))
+
+    def _fault(self, signal: SignalFormat, text: str) -> DatabaseError:
+        said = f"{self.path}: message {self.name}: signal {signal.name} {text}"
+        return DatabaseError(said, self.path, self.name, signal.name)
+
+    def __str__(self) -> str:
+        digits = f"{self.identifier:08X}" if self.is_extended else f"{self.identifier:03X}"
+        how = [
+            f"from {', '.join(self.senders)}" if self.senders else "from nobody",
+            f"every {self.cycle_time * 1000:g} ms" if self.cycle_time else "",
+            f"after {self.start_delay * 1000:g} ms" if self.start_delay else "",
+            self.send_type,
+        ]
+        return f"{self.name} {digits} [{self.size}] {', '.join(filter(None, how))}"
+
+
+def bits_of(start: int, size: int, is_little_endian: bool) -> tuple[int, ...]:
+    """Returns the bits of a signal, its lowest first; its bit `start` is the lowest of a little-endian one, else the highest."""
+    if is_little_endian:
+        return tuple(range(start, start + size))
+    highest = start // 8 * 8 + 7 - start % 8
+    return tuple(place // 8 * 8 + 7 - place % 8 for place in reversed(range(highest, highest + size)))
+
+
+def limits(least: object, most: object) -> tuple[Optional[Decimal], Optional[Decimal]]:
+    """Returns the limits of a signal; a file that says [0|0] says none."""
+    first, last = (None if limit is None else Decimal(str(limit)) for limit in (least, most))
+    return (None, None) if first is not None and last is not None and first >= last else (first, last)
+
+
+def named(nodes: Optional[Sequence[object]]) -> tuple[str, ...]:
+    """Returns the names of nodes; a DBC file says Vector__XXX for none."""
+    names = [str(node).strip() for node in nodes or ()]
+    return tuple(name for name in dict.fromkeys(names) if name and name != "Vector__XXX")
+
+
+def plain(value: Union[int, float, Decimal]) -> Union[int, float]:
+    """Returns a number as one of Python, whole where it is."""
+    return int(value) if value == value // 1 else float(value)
+
+
+def shown(value: Decimal) -> str:
+    """A limit as it is shown; a float has none."""
+    return f"{plain(value)}" if value.is_finite() else f"{value}"

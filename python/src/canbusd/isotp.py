@@ -1,0 +1,264 @@
+"""Ends of ISO-TP on interfaces of a server, by can-isotp where it is installed, else by a socket of canbusd-run.
+
+    with server.isotp("ecu", tx=0x7E8, rx=0x7E0) as ecu, server.isotp("tester", tx=0x7E0, rx=0x7E8) as tester:
+        tester.send(b"\\x22\\xf1\\x90")
+        assert ecu.recv(timeout=5) == b"\\x22\\xf1\\x90"
+"""
+
+import errno
+import importlib
+import os
+import select
+import socket
+import subprocess
+import sys
+import threading
+import time
+from abc import ABC, abstractmethod
+from collections.abc import Callable
+from types import TracebackType
+from typing import TYPE_CHECKING, Any, Optional
+
+from canbusd._program import ProgramNotFound, find_program
+
+if TYPE_CHECKING:
+    from canbusd.bus import CanbusdBus
+
+HOW_TO_GET = "`pip install can-isotp`, or canbusd-run beside the program"
+#: Seconds in which a transfer has to be over that goes on: 4,095 bytes at 10 kbit/s take less.
+LONGEST_TRANSFER = 60.0
+#: What canbusd-run runs.
+SOCKET_PROGRAM = os.path.join(os.path.dirname(__file__), "_isotp_socket.py")
+#: Seconds in which the process of a socket has to start, and to end.
+START, END = 20.0, 5.0
+#: The most that one message has.
+MOST_BYTES = 4095
+#: What the errors of a socket are, as net/can/isotp.c has them.
+ERRORS = {
+    errno.ECOMM: "the other end sent no flow control in time, or a frame did not go out",
+    errno.ETIMEDOUT: "the other end sent no consecutive frame in time",
+    errno.EILSEQ: "a consecutive frame has the wrong number",
+    errno.EBADMSG: "a frame has a wrong length, or is a wrong flow control",
+    errno.EMSGSIZE: "the other end has no room for as many bytes",
+    errno.ENETDOWN: "the interface is bus off",
+}
+
+
+class IsoTpError(RuntimeError):
+    """Why a transfer failed; with sockets `errno` is that of the socket, with can-isotp None."""
+
+    def __init__(self, text: str, number: Optional[int] = None) -> None:
+        super().__init__(text)
+        self.errno = number
+
+
+class IsoTp(ABC):
+    """An end of ISO-TP: messages of 1 to 4,095 bytes to one other end, and from it."""
+
+    #: What does it: `can-isotp` or `canbusd-run`.
+    library: str
+
+    @abstractmethod
+    def send(self, data: bytes, timeout: float = LONGEST_TRANSFER) -> None:
+        """Sends a message, and returns once its last frame was sent; IsoTpError where the transfer fails."""
+
+    @abstractmethod
+    def recv(self, timeout: Optional[float] = None) -> Optional[bytes]:
+        """Returns the next message; None where none is complete within these seconds, IsoTpError where one fails."""
+
+    @abstractmethod
+    def close(self) -> None:
+        """Ends it."""
+
+    def __enter__(self) -> "IsoTp":
+        return self
+
+    def __exit__(
+        self, kind: Optional[type[BaseException]], fault: Optional[BaseException], _: Optional[TracebackType]
+    ) -> None:
+        self.close()
+
+
+def open_isotp(
+    opened: "Callable[..., CanbusdBus]", address: str, channel: str, tx: int, rx: int, library: Optional[str] = None
+) -> IsoTp:
+    """Returns an end on an interface; `opened` opens a bus of python-can there. `library` is one of both, else the first
+    that is there."""
+    for name, identifier in (("tx", tx), ("rx", rx)):
+        if not isinstance(identifier, int) or not 0 <= identifier <= 0x1FFFFFFF:
+            raise ValueError(f"{name} is an identifier of 11 or 29 bits, not {identifier!r}")
+    if (tx > 0x7FF) != (rx > 0x7FF):
+        raise ValueError(f"tx and rx are both of 11 bits or both of 29, not {tx:X} and {rx:X}")
+    if library not in (None, "can-isotp", "canbusd-run"):
+        raise ValueError(f"library is 'can-isotp' or 'canbusd-run', not {library!r}")
+    if library != "canbusd-run":
+        try:
+            isotp = importlib.import_module("isotp")
+            return CanIsoTp(isotp, opened(channel, error_frames=False), tx, rx)
+        except ModuleNotFoundError:
+            if library:
+                raise ImportError("isotp needs can-isotp, which is not installed: `pip install can-isotp`") from None
+    try:
+        program = find_program("canbusd-run")
+    except ProgramNotFound:
+        raise ImportError(f"isotp needs can-isotp or canbusd-run, and there is neither: {HOW_TO_GET}") from None
+    return SocketIsoTp(program, address, channel, tx, rx)
+
+
+def check(data: bytes) -> bytes:
+    """Returns the bytes of a message that can be sent."""
+    if not 1 <= len(data) <= MOST_BYTES:
+        raise ValueError(f"data has 1 to {MOST_BYTES} bytes, not {len(data)}")
+    return bytes(data)
+
+
+class CanIsoTp(IsoTp):
+    """An end that is a stack of can-isotp, from version 2 on, in threads of its own."""
+
+    library = "can-isotp"
+
+    def __init__(self, isotp: Any, bus: "CanbusdBus", tx: int, rx: int) -> None:
+        mode = isotp.AddressingMode.Normal_29bits if tx > 0x7FF else isotp.AddressingMode.Normal_11bits
+        self._bus, self._faults = bus, list[Exception]()
+        address = isotp.Address(mode, txid=tx, rxid=rx)
+        self._stack = isotp.CanStack(bus, address=address, error_handler=self._faults.append)
+        self._stack.start()
+
+    def send(self, data: bytes, timeout: float = LONGEST_TRANSFER) -> None:
+        self._raise()
+        self._stack.send(check(data))
+        deadline = time.monotonic() + timeout
+        while self._stack.transmitting():
+            if time.monotonic() > deadline:
+                raise IsoTpError(f"the transfer is not over after {timeout:g} seconds")
+            time.sleep(0.001)
+        self._raise()
+
+    def recv(self, timeout: Optional[float] = None) -> Optional[bytes]:
+        deadline = None if timeout is None else time.monotonic() + timeout
+        while True:
+            left = 0.05 if deadline is None else max(0.0, min(0.05, deadline - time.monotonic()))
+            data = self._stack.recv(block=True, timeout=left)
+            if data is not None:
+                return bytes(data)
+            self._raise()
+            if deadline is not None and time.monotonic() >= deadline:
+                return None
+
+    def close(self) -> None:
+        self._stack.stop()
+        self._bus.shutdown()
+
+    def _raise(self) -> None:
+        if self._faults:
+            raise IsoTpError(f"{self._faults.pop(0)}")
+
+
+class SocketIsoTp(IsoTp):
+    """An end that is a CAN_ISOTP socket, in a process that canbusd-run starts; this one and that one share a pair of sockets.
+
+    A packet that goes there is a message to send. One that comes from there is a letter and more: `r` and a message that
+    was received, `s` and the error of what was sent, 0 where it went out, and `e` and the error of what was not received.
+    """
+
+    library = "canbusd-run"
+
+    def __init__(self, program: str, address: str, channel: str, tx: int, rx: int) -> None:
+        self._own, theirs = socket.socketpair(socket.AF_UNIX, socket.SOCK_SEQPACKET)
+        words = [sys.executable, "-I", "-S", SOCKET_PROGRAM, str(theirs.fileno()), channel, str(tx), str(rx)]
+        with theirs:
+            self._child = subprocess.Popen(
+                [program, "--address", address, "--", *words],
+                pass_fds=[theirs.fileno()],
+                stdin=subprocess.DEVNULL,
+                stdout=subprocess.DEVNULL,
+                stderr=subprocess.PIPE,
+            )
+        self._sending, self._news = threading.Lock(), threading.Condition()
+        # The packets that no call has taken, and whether a thread reads more.
+        self._received: list[bytes] = []
+        self._is_read = False
+        try:
+            if self._next("o", START) is None:
+                raise IsoTpError(f"no socket on {channel} within {START:g} seconds")
+        except BaseException:
+            self.close()
+            raise
+
+    def send(self, data: bytes, timeout: float = LONGEST_TRANSFER) -> None:
+        with self._sending:
+            try:
+                self._own.send(check(data))
+            except OSError as fault:
+                raise IsoTpError(f"this end was closed: {fault.strerror}", fault.errno) from None
+            answer = self._next("s", timeout)
+        if answer is None:
+            raise IsoTpError(f"the transfer is not over after {timeout:g} seconds")
+        raise_error(answer)
+
+    def recv(self, timeout: Optional[float] = None) -> Optional[bytes]:
+        answer = self._next("re", timeout)
+        return None if answer is None else raise_error(answer)
+
+    def close(self) -> None:
+        # The process ends with its side of the pair.
+        self._own.close()
+        try:
+            self._child.wait(END)
+        except subprocess.TimeoutExpired:
+            self._child.kill()
+            self._child.wait()
+        assert self._child.stderr is not None
+        self._child.stderr.close()
+
+    def _next(self, letters: str, timeout: Optional[float]) -> Optional[bytes]:
+        """The next packet with one of these letters; None where none comes in this time.
+
+        Of the threads that wait one reads, and keeps what is for others.
+        """
+        deadline = None if timeout is None else time.monotonic() + timeout
+        with self._news:
+            while True:
+                found = next((packet for packet in self._received if packet[:1].decode() in letters), None)
+                if found is not None:
+                    self._received.remove(found)
+                    return found
+                left = None if deadline is None else deadline - time.monotonic()
+                if left is not None and left <= 0:
+                    return None
+                if self._is_read:
+                    self._news.wait(left)
+                else:
+                    self._read(left)
+
+    def _read(self, left: Optional[float]) -> None:
+        """Reads a packet, if one comes in this time; meanwhile others may look at what there is."""
+        self._is_read = True
+        self._news.release()
+        try:
+            packet = self._own.recv(MOST_BYTES + 1) if select.select([self._own], [], [], left)[0] else None
+        except OSError as fault:
+            raise IsoTpError(f"this end was closed: {fault.strerror}", fault.errno) from None
+        finally:
+            self._news.acquire()
+            self._is_read = False
+            self._news.notify_all()
+        if packet == b"":
+            raise IsoTpError(f"the process with the socket has ended: {self._said()}")
+        if packet is not None:
+            self._received.append(packet)
+
+    def _said(self) -> str:
+        """What the process wrote on standard error, once it has ended."""
+        assert self._child.stderr is not None
+        return self._child.stderr.read().decode(errors="replace").strip().split("\n")[-1] or "without a word"
+
+
+def raise_error(packet: bytes) -> bytes:
+    """Returns the bytes of a packet, and raises the error that one of them is."""
+    if packet[:1] == b"r":
+        return packet[1:]
+    number = int(packet[1:])
+    if number:
+        raise IsoTpError(ERRORS.get(number, os.strerror(number)), number)
+    return b""

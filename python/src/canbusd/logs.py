@@ -1,0 +1,148 @@
+"""Logs of other tools: candump's, and those that python-can reads and writes by a file's ending, as ASC and BLF."""
+
+import contextlib
+import importlib
+import itertools
+import os
+import re
+from collections.abc import Iterable, Iterator, Sequence
+from typing import Any, NamedTuple, Union
+
+from canbusd._text import shown
+from canbusd.frames import BadFrame, Frame, frame_like, log_line
+
+Path = Union[str, "os.PathLike[str]"]
+#: The endings of files that python-can reads, also where `.gz` follows; another file is a log of candump.
+ENDINGS = (".asc", ".blf", ".csv", ".db", ".mf4", ".trc")
+#: Those of files that are written; the others that python-can writes lose frames, flags or channels.
+WRITTEN = (".log", ".asc", ".blf")
+# python-can and later versions of candump put the direction after the frame.
+LINE = re.compile(r"\(([0-9]{1,10}\.[0-9]{6})\) +(\S+) +(\S+)(?: +[RT])?")
+# python-can counts channels from 0, and its ASC and BLF files have one more.
+NUMBER = re.compile("[0-9]+")
+
+
+class Entry(NamedTuple):
+    """A frame of a log, with its moment, and the interface or the channel that it is of."""
+
+    channel: str
+    frame: Frame
+
+
+def read_entries(path: Path, names: Sequence[str] = ()) -> Iterator[Entry]:
+    """Yields the entries of a log, whose ending says what it is.
+
+    A log with numbers of channels has the interfaces can0, can1 and so on, or those of these names. ValueError names the
+    file, and of candump's logs the line.
+    """
+    if is_candump(path):
+        yield from candump_entries(path)
+        return
+    # It has errors of many kinds for what a file should not be.
+    try:
+        for message in python_can_messages(path):
+            yield Entry(name_of(message.channel, names), frame_like(message))
+    except ImportError:
+        raise
+    except OSError:
+        raise
+    except Exception as fault:
+        raise ValueError(f"{os.fspath(path)}: {fault or type(fault).__name__}") from None
+
+
+def is_candump(path: Path) -> bool:
+    """Whether this is a log of candump, by its ending."""
+    return os.path.splitext(os.fspath(path).lower().removesuffix(".gz"))[1] not in ENDINGS
+
+
+def candump_entries(path: Path) -> Iterator[Entry]:
+    """Yields the entries of a log of candump."""
+    with open(path, encoding="utf-8", errors="replace") as file:
+        for number, line in enumerate(file, 1):
+            text = line.rstrip("\r\n ")
+            if text:
+                yield entry_of(text, f"{os.fspath(path)}:{number}")
+
+
+def entry_of(text: str, place: str) -> Entry:
+    """The entry of a line, at this place."""
+    words = LINE.fullmatch(text)
+    if not words:
+        raise ValueError(f"{place}: not `(SECONDS.MICROS) INTERFACE FRAME`: {shown(text)}")
+    try:
+        return Entry(words[2], Frame.parse(words[3], float(words[1])))
+    except BadFrame as fault:
+        raise ValueError(f"{place}: {fault}: {shown(text)}") from None
+
+
+def python_can_messages(path: Path) -> "Iterator[Any]":
+    """Yields the messages of a log, as python-can reads it."""
+    import canbusd._python_can  # noqa: F401  it says what is missing
+
+    can_io: Any = importlib.import_module("can.io")
+
+    # The moments of an ASC file are counted from its date.
+    more: dict[str, Any] = {"relative_timestamp": False} if ".asc" in os.path.basename(path).lower() else {}
+    with can_io.LogReader(os.fspath(path), **more) as reader:
+        yield from reader
+
+
+def name_of(channel: object, names: Sequence[str]) -> str:
+    """The name of an interface, where a log has a number for it, or none."""
+    text = str(channel)
+    if channel is not None and not NUMBER.fullmatch(text):
+        return text
+    number = 0 if channel is None else int(text)
+    return (names[number] if number < len(names) else "") or f"can{number}"
+
+
+def write_entries(path: Path, entries: Iterable[Entry], names: Sequence[str] = ()) -> tuple[int, list[str]]:
+    """Writes a log, whose ending says what it is; how many frames it has, and the interfaces.
+
+    Where it has numbers of channels the first interface is the first channel: of these names, and then as they turn up.
+    What was there before is replaced once all is written; ValueError for another ending.
+    """
+    stem, ending = os.path.splitext(os.fspath(path))
+    if ending.lower() not in WRITTEN:
+        raise ValueError(f"{os.fspath(path)}: a log that is written ends in {', '.join(WRITTEN[:-1])} or {WRITTEN[-1]}")
+    known, draft = list(names), f"{stem}.part{ending}"
+    try:
+        write = write_candump if ending.lower() == ".log" else write_by_python_can
+        count = write(draft, entries, known)
+        os.replace(draft, path)
+        return count, known
+    finally:
+        with contextlib.suppress(FileNotFoundError):
+            os.unlink(draft)
+
+
+def write_candump(path: Path, entries: Iterable[Entry], known: list[str]) -> int:
+    """Writes a log of candump; how many frames it has."""
+    count = 0
+    with open(path, "w", encoding="ascii") as file:
+        for name, frame in entries:
+            file.write(f"{log_line(name, frame)}\n")
+            count += 1
+    return count
+
+
+def write_by_python_can(path: Path, entries: Iterable[Entry], known: list[str]) -> int:
+    """Writes a log with numbers of channels, those of the interfaces in this list, which grows; how many frames it has."""
+    import canbusd._python_can  # noqa: F401  it says what is missing
+
+    can_io: Any = importlib.import_module("can.io")
+
+    first = next(iter(rest := iter(entries)), None)
+    count = 0
+    with can_io.Logger(os.fspath(path)) as logger:
+        if first is not None and hasattr(logger, "start_timestamp"):
+            # Its date has milliseconds, and moments are counted from there.
+            logger.start_timestamp = int(first.frame.timestamp * 1000) / 1000
+        for name, frame in itertools.chain([] if first is None else [first], rest):
+            if name not in known:
+                known.append(name)
+            message = frame.message()
+            message.channel = known.index(name)
+            logger.on_message_received(message)
+            count += 1
+    return count

@@ -1,0 +1,163 @@
+"""Programs with CAN sockets on the buses of a server: their words, and those that stay while a test goes on."""
+
+import os
+import shlex
+import signal
+import subprocess
+import time
+import weakref
+from collections.abc import Sequence
+from pathlib import Path
+from typing import Any, Optional, Union
+
+from canbusd._connection import LONGEST_POLL, POLL
+from canbusd._text import seconds_words
+
+#: What a program is called by: its words, or one text that is split as a shell splits it.
+Words = Union[str, Sequence[Union[str, "os.PathLike[str]"]]]
+#: What only a shell carries out.
+OPERATORS = frozenset("();<>|&")
+#: How many of the last lines of its output a failure shows.
+LAST_LINES = 10
+
+
+def words_of(words: Words) -> list[str]:
+    """Returns the words of a program; a str is split as a shell splits it, and ValueError says what only a shell does."""
+    if isinstance(words, str):
+        found = split(words)
+    elif isinstance(words, Sequence) and all(isinstance(word, (str, os.PathLike)) for word in words):
+        found = [os.fspath(word) for word in words]
+    else:
+        raise ValueError(f"a program is the list of its words, or one str, not {words!r}")
+    if not found:
+        raise ValueError("a program has a name, and no word was given")
+    return found
+
+
+def check_no_shell(arguments: dict[str, Any]) -> None:
+    """Raises ValueError where a shell is asked for: it would be the program, and its CAN sockets the server's."""
+    if arguments.get("shell"):
+        raise ValueError("shell=True: a shell is a program, too: ['sh', '-c', 'cangen can0 | ..']")
+
+
+def split(text: str) -> list[str]:
+    """Returns the words of a text, as a shell splits them."""
+    try:
+        lexer = shlex.shlex(text, posix=True, punctuation_chars=True)
+        lexer.whitespace_split, lexer.commenters = True, ""
+        found = [*lexer]
+    except ValueError as fault:
+        raise ValueError(f"{text!r} can't be split into words: {fault}") from None
+    operator = next((word for word in found if word and OPERATORS.issuperset(word)), None)
+    if operator is not None:
+        raise ValueError(f"{text!r} has {operator!r}, which only a shell carries out: ['sh', '-c', {text!r}]")
+    return found
+
+
+def end_left(child: "subprocess.Popen[bytes]", process: int) -> None:
+    """Ends a program that nobody has stopped, in the process that started it."""
+    if os.getpid() == process and child.poll() is None:
+        child.terminate()
+
+
+class Program:
+    """A program that stays while the test goes on, which :meth:`canbusd.Server.start` starts; the server ends it.
+
+    Its standard output and standard error are in `output`, as far as it has written them: a program that buffers what it
+    writes may do so late.
+    """
+
+    def __init__(
+        self, words: Sequence[str], command: Sequence[str], output: Path, may_end: bool, **kwargs: Any
+    ) -> None:
+        self._words, self._path = list(words), output
+        self._may_end, self._is_stopped = may_end, False
+        # Not in the terminal's foreground: Ctrl-C is the test's.
+        how: dict[str, Any] = {"stdin": subprocess.DEVNULL, "start_new_session": True, **kwargs}
+        with open(output, "wb") as file:
+            self._child: "subprocess.Popen[bytes]" = subprocess.Popen(
+                [*command, *words], stdout=file, stderr=subprocess.STDOUT, **how
+            )
+        weakref.finalize(self, end_left, self._child, os.getpid())
+
+    @property
+    def pid(self) -> int:
+        """Its process."""
+        return self._child.pid
+
+    @property
+    def status(self) -> Optional[int]:
+        """Its status, below 0 where a signal ended it; None while it runs."""
+        return self._child.poll()
+
+    @property
+    def output(self) -> str:
+        """What it has written so far."""
+        return self._path.read_text(encoding="utf-8", errors="replace")
+
+    def expect(self, text: str, *, within: float = 10.0) -> str:
+        """Waits until its output has this text, and returns the output; AssertionError after these seconds, or at its end."""
+        __tracebackhide__ = True
+        deadline, pause = time.monotonic() + within, POLL
+        while True:
+            # Before its output: what it wrote at its end counts.
+            has_ended = self.status is not None
+            output = self.output
+            if text in output:
+                return output
+            if has_ended or time.monotonic() >= deadline:
+                when = "" if has_ended else f" within {seconds_words(within)}"
+                raise AssertionError(f"no {text!r} in the output{when}\n{self.shown()}")
+            time.sleep(pause)
+            pause = min(2 * pause, LONGEST_POLL)
+
+    def wait(self, timeout: float) -> int:
+        """Waits until it ends by itself, as it may then, and returns its status; TimeoutError after these seconds."""
+        __tracebackhide__ = True
+        try:
+            status = self._child.wait(timeout)
+        except subprocess.TimeoutExpired:
+            raise TimeoutError(f"it goes on after {seconds_words(timeout)}\n{self.shown()}") from None
+        self._may_end = True
+        return status
+
+    def stop(self, timeout: float = 5.0) -> int:
+        """Ends it by SIGTERM, after these seconds with all processes of its group by SIGKILL; returns its status.
+
+        One that has ended before stays as it is: the test fails at its end, unless `may_end` or `wait` expected it.
+        """
+        if self.status is None:
+            self._is_stopped = True
+            self._child.terminate()
+            try:
+                self._child.wait(timeout)
+            except subprocess.TimeoutExpired:
+                self._kill()
+        return self._child.wait()
+
+    def _kill(self) -> None:
+        try:
+            os.killpg(self._child.pid, signal.SIGKILL)
+        except ProcessLookupError:
+            pass
+
+    def fault(self) -> Optional[str]:
+        """Returns what is wrong where it has ended by itself and was not to; else None."""
+        if self.status is None or self._may_end or self._is_stopped:
+            return None
+        return f"{self._name()} ended by itself, which `may_end=True` allows\n{self.shown()}"
+
+    def shown(self) -> str:
+        """Returns its words, its status and the end of its output, for a failure."""
+        state = "runs" if self.status is None else f"{'stopped, ' if self._is_stopped else ''}status {self.status}"
+        lines = self.output.splitlines()
+        if not lines:
+            return f"{self._name()}: {state}, and no output"
+        more = "" if len(lines) <= LAST_LINES else f"the last {LAST_LINES} of "
+        count = f"{len(lines)} line{'' if len(lines) == 1 else 's'}"
+        return "\n".join(
+            [f"{self._name()}: {state}, {more}{count} of output:", *(f"  {one}" for one in lines[-LAST_LINES:])]
+        )
+
+    def _name(self) -> str:
+        return shlex.join(self._words)

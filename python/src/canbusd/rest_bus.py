@@ -1,0 +1,378 @@
+"""The rest bus: all nodes of a database but those under test, each message from its sender at its cycle time.
+
+    with server.rest_bus("car.dbc", without=["ECU"], nodes={"Engine": "can0", "Gateway": "can1"}) as rest:
+        rest["Engine"]["EngineSpeed"] = 3000
+        rest.stop("Gateway")
+
+That of a server sends from a thread, that of a bench in `run`.
+"""
+
+import contextlib
+import functools
+import os
+import threading
+from collections.abc import Callable, Iterable, Iterator, Mapping, Sequence
+from types import TracebackType
+from typing import NamedTuple, Optional, TypeVar, Union
+
+from canbusd._rest_nodes import has, is_sendable, phases_of, sender
+from canbusd._schedule import MICROS, Schedule, micros
+from canbusd.formats import DatabaseError, MessageFormat, Value
+from canbusd.frames import Frame
+from canbusd.signals import Database, frame_of
+
+Self = TypeVar("Self", bound="RestBus")
+
+#: What a refused frame of a cyclic message is refused for: it is counted, and the message goes on.
+PASSING = ("no buffers", "bus off")
+# In one moment values come first.
+VALUES, FRAMES = -1, 0
+
+
+class Counts(NamedTuple):
+    """What became of the frames of a message, or of several."""
+
+    #: Those that the bus accepted into a transmit queue.
+    accepted: int = 0
+    #: Those that it did not: the queue was full, or the interface bus off.
+    refused: int = 0
+    #: Those that were left out, since this process came a whole cycle too late.
+    skipped: int = 0
+
+    def plus(self, other: "Counts") -> "Counts":
+        """Returns the sums of both."""
+        return Counts(*(one + its for one, its in zip(self, other)))
+
+
+class Outgoing:
+    """A message about to be sent, as a function given to `on_send` gets it: what it sets is so in this frame only."""
+
+    def __init__(self, message: MessageFormat, values: Mapping[str, Value], count: int) -> None:
+        self._message, self._values = message, dict(values)
+        self._data: Optional[bytes] = None
+        #: The name of the message.
+        self.name = message.name
+        #: How many of it were sent before.
+        self.count = count
+
+    def __getitem__(self, signal: str) -> Value:
+        return self._values.get(signal, self._message.signal(signal).start)
+
+    def __setitem__(self, signal: str, value: Value) -> None:
+        self._message.signal(signal).raw_of(value)
+        self._values[signal] = value
+        self._data = None
+
+    @property
+    def data(self) -> bytes:
+        """The bytes, with the values as they are now; setting it is the last word, until a signal is set."""
+        return self._message.encode(self._values, is_strict=False) if self._data is None else self._data
+
+    @data.setter
+    def data(self, data: bytes) -> None:
+        self._data = bytes(data)
+
+
+class RestMessage:
+    """A message that a rest bus sends."""
+
+    def __init__(self, rest: "RestBus", message: MessageFormat, interface: str, phase: int) -> None:
+        self._rest, self._phase = rest, phase
+        self._cycle = micros(message.cycle_time) if message.is_cyclic else 0
+        self._values: dict[str, Value] = {}
+        self._frame = frame_of(message, message.encode({}))
+        self._function: Optional[Callable[[Outgoing], None]] = None
+        # The number of the run, by which what was due in an earlier one is known; and of the table of each signal.
+        self._run, self._tables = 0, dict[str, int]()
+        self._sent = 0
+        #: What the file says of it.
+        self.format = message
+        #: The interface by which it is sent.
+        self.interface = interface
+        #: Whether it is sent by its cycle time.
+        self.is_running = False
+        #: What became of its frames.
+        self.counts = Counts()
+
+    def __getitem__(self, signal: str) -> Value:
+        return self._values.get(signal, self.format.signal(signal).start)
+
+    def __setitem__(self, signal: str, value: Value) -> None:
+        self.set({signal: value})
+
+    def set(self, values: Mapping[str, Value]) -> None:
+        """Sets signals, from the next frame on; DatabaseError where one can't have its value, and then none has."""
+        with self._rest.changing():
+            wanted = {**self._values, **values}
+            self._frame = frame_of(self.format, self.format.encode(wanted, is_strict=False))
+            self._values = wanted
+
+    def play(self, signal: str, table: Iterable[tuple[float, Value]]) -> None:
+        """Sets a signal by a table: each value at its moment, in seconds from now, until the next; in place of an earlier
+        table of the signal."""
+        rows = sorted(((micros(moment), value) for moment, value in table), key=lambda row: row[0])
+        for _, value in rows:
+            self._check(signal, value)
+        with self._rest.changing() as schedule:
+            run = self._tables[signal] = self._tables.get(signal, 0) + 1
+            now = self._rest.now()
+            for moment, value in rows:
+                schedule.add(now + moment, VALUES, functools.partial(self._turn_to, signal, run, value))
+
+    def on_send(self, function: Optional[Callable[[Outgoing], None]]) -> None:
+        """Has this function called before each frame, to set counters and checksums in it."""
+        with self._rest.changing():
+            self._function = function
+
+    def send(self, values: Optional[Mapping[str, Value]] = None) -> None:
+        """Sends one frame now, with these values, which stay. What the bus refuses it for is raised."""
+        with self._rest.changing():
+            if values:
+                self.set(values)
+            self._rest.send_now(self, self._next())
+
+    def start(self) -> None:
+        """Sends it by its cycle time, from its phase after now on, if it has one, and isn't sent already."""
+        with self._rest.changing() as schedule:
+            if self._cycle and not self.is_running:
+                self.is_running = True
+                due = self._rest.now() + self._phase
+                schedule.add(due, self.format.identifier, functools.partial(self._tick, self._run))
+
+    def stop(self) -> None:
+        """Sends it no more by its cycle time. What a transmit queue has still goes out."""
+        with self._rest.changing():
+            self.is_running = False
+            self._run += 1
+
+    def count(self, answer: str) -> None:
+        """Counts a frame by the answer to it: nothing where it was accepted, else the text of the refusal."""
+        self.counts = self.counts.plus(Counts(refused=1) if answer else Counts(accepted=1))
+
+    def _check(self, signal: str, value: Value) -> None:
+        """DatabaseError where the signal can't have this value."""
+        self.format.encode({**self._values, signal: value}, is_strict=False)
+
+    def _turn_to(self, signal: str, run: int, value: Value, _: int) -> None:
+        if self._tables[signal] == run:
+            self.set({signal: value})
+
+    def _tick(self, run: int, due: int) -> None:
+        """Sends the frame that is due, and has the next one sent a cycle later."""
+        if run != self._run:
+            return
+        missed = max(0, self._rest.now() - due) // self._cycle
+        self.counts = self.counts.plus(Counts(skipped=missed))
+        with self._rest.changing() as schedule:
+            next_due = due + (missed + 1) * self._cycle
+            schedule.add(next_due, self.format.identifier, functools.partial(self._tick, run))
+            self._rest.collect(self, self._next())
+
+    def _next(self) -> Frame:
+        """The frame that is sent next."""
+        frame = self._frame
+        if self._function is not None:
+            outgoing = Outgoing(self.format, self._values, self._sent)
+            self._function(outgoing)
+            frame = frame_of(self.format, outgoing.data)
+        self._sent += 1
+        return frame
+
+
+class RestNode:
+    """A node that a rest bus simulates. A signal that several of its messages have is named as `EngineData.Counter`."""
+
+    def __init__(self, name: str, messages: Sequence[RestMessage]) -> None:
+        self.name, self.messages = name, messages
+
+    def __getitem__(self, signal: str) -> Value:
+        message, name = self._find(signal)
+        return message[name]
+
+    def __setitem__(self, signal: str, value: Value) -> None:
+        message, name = self._find(signal)
+        message[name] = value
+
+    def play(self, signal: str, table: Iterable[tuple[float, Value]]) -> None:
+        """Sets a signal by a table: each value at its moment, in seconds from now, until the next."""
+        message, name = self._find(signal)
+        message.play(name, table)
+
+    def start(self) -> None:
+        """Sends its messages by their cycle times."""
+        for message in self.messages:
+            message.start()
+
+    def stop(self) -> None:
+        """Sends nothing by a cycle time any more."""
+        for message in self.messages:
+            message.stop()
+
+    def _find(self, signal: str) -> tuple[RestMessage, str]:
+        """The message that has this signal, and the signal's name there."""
+        title, _, name = signal.rpartition(".")
+        found = [
+            message for message in self.messages if title in ("", message.format.name) and has(message.format, name)
+        ]
+        if len(found) == 1:
+            return found[0], name
+        names = [f"{message.format.name}.{one.name}" for message in self.messages for one in message.format.signals]
+        if found:
+            which = " or ".join(f"{message.format.name}.{name}" for message in found)
+            raise DatabaseError(f"{self.name} sends {name} in several messages: {which}", signal=name)
+        raise DatabaseError(f"{self.name} sends no {signal}; it sends {', '.join(names) or 'nothing'}", signal=name)
+
+
+class RestBus:
+    """What rest buses share: nodes and messages by their names, values, and what is due when."""
+
+    def __init__(self, database: Database, interfaces: Mapping[str, str]) -> None:
+        self._lock = threading.RLock()
+        self._is_closed = False
+        self._schedule = Schedule()
+        self._collected: list[tuple[RestMessage, Frame]] = []
+        self._by_name: dict[str, RestMessage] = {}
+        senders = [message for message in database.messages if sender(message) in interfaces and is_sendable(message)]
+        for message, phase in zip(senders, phases_of(senders)):
+            self._by_name[message.name] = RestMessage(self, message, interfaces[sender(message)], phase)
+        self._nodes = {name: RestNode(name, self._of(name)) for name in interfaces}
+        self._database = database
+
+    @property
+    def nodes(self) -> list[RestNode]:
+        """The nodes that it simulates."""
+        return list(self._nodes.values())
+
+    @property
+    def messages(self) -> list[RestMessage]:
+        """The messages of these nodes."""
+        return list(self._by_name.values())
+
+    def __getitem__(self, node: str) -> RestNode:
+        if node not in self._nodes:
+            raise DatabaseError(f"no node {node} in the rest bus; there are {', '.join(self._nodes) or 'none'}")
+        return self._nodes[node]
+
+    def message(self, name: str) -> RestMessage:
+        """Returns the message of this name; DatabaseError where no node of the rest bus sends it."""
+        if name not in self._by_name:
+            known = ", ".join(self._by_name) or "none"
+            raise DatabaseError(f"no message {name} in the rest bus; there are {known}", message=name)
+        return self._by_name[name]
+
+    def on_send(self, message: str, function: Optional[Callable[[Outgoing], None]]) -> None:
+        """Has a function called before each frame of a message: `def f(message): message["Counter"] = message.count % 16`.
+
+        It is called by who sends, the thread of the rest bus as a rule, and should return soon.
+        """
+        self.message(message).on_send(function)
+
+    def send(self, message: str, values: Optional[Mapping[str, Value]] = None) -> None:
+        """Sends one frame of a message now, as an event does, with these values, which stay."""
+        self.message(message).send(values)
+
+    def start(self, name: Optional[str] = None) -> None:
+        """Starts a node, or a message where no node has this name; without a name all."""
+        for one in self._named(name):
+            one.start()
+
+    def stop(self, name: Optional[str] = None) -> None:
+        """Stops a node, or a message where no node has this name; without a name all. Values stay, events go on."""
+        for one in self._named(name):
+            one.stop()
+
+    def counts(self, message: Optional[str] = None) -> Counts:
+        """Returns what became of the frames of a message, or of all."""
+        chosen = self.messages if message is None else [self.message(message)]
+        return functools.reduce(Counts.plus, (one.counts for one in chosen), Counts())
+
+    def replay(self, path: Union[str, "os.PathLike[str]"]) -> float:
+        """Sends the frames of a log, of those messages that are in the rest bus, at their moments from the first one's on.
+
+        They go by the interfaces of their senders, and these messages are no more sent by their cycle times. Returns how
+        many seconds it takes; ValueError where the log has none of them.
+        """
+        from canbusd.logs import read_entries
+
+        rows: list[tuple[int, RestMessage, Frame]] = []
+        for _, frame in read_entries(path):
+            known = self._database.message_of(frame)
+            message = self._by_name.get(known.name) if known else None
+            if message is not None:
+                rows.append((micros(frame.timestamp), message, frame))
+        if not rows:
+            raise ValueError(f"{os.fspath(path)}: no frame of it is one of the rest bus")
+        start = min(moment for moment, _, _ in rows)
+        with self.changing() as schedule:
+            now = self.now()
+            for moment, message, frame in rows:
+                message.stop()
+                call = functools.partial(self._repeat, message, frame)
+                schedule.add(now + moment - start, message.format.identifier, call)
+        return max(moment - start for moment, _, _ in rows) / MICROS
+
+    def close(self) -> None:
+        """Ends it: nothing is sent any more."""
+        raise NotImplementedError
+
+    def __enter__(self: Self) -> Self:
+        self.start()
+        return self
+
+    def __exit__(
+        self, kind: Optional[type[BaseException]], fault: Optional[BaseException], _: Optional[TracebackType]
+    ) -> None:
+        try:
+            self.close()
+        except Exception:
+            # What went wrong first is what is raised.
+            if kind is None:
+                raise
+
+    def check(self) -> None:
+        """Raises what it ended with, if that was a fault, such as one of a function given to `on_send`."""
+
+    # What messages ask of it.
+
+    def now(self) -> int:
+        """Returns the moment, in microseconds."""
+        raise NotImplementedError
+
+    @contextlib.contextmanager
+    def changing(self) -> Iterator[Schedule]:
+        """A context in which what is sent may be changed; its value is the schedule. ValueError once the rest bus has ended."""
+        with self._lock:
+            self.check()
+            if self._is_closed:
+                raise ValueError("the rest bus has ended")
+            yield self._schedule
+            self._changed()
+
+    def send_now(self, message: RestMessage, frame: Frame) -> None:
+        """Sends a frame that is not by a cycle; a refusal is raised."""
+        raise NotImplementedError
+
+    def collect(self, message: RestMessage, frame: Frame) -> None:
+        """Takes a frame that is due; those of one moment go out together."""
+        self._collected.append((message, frame))
+
+    def _changed(self) -> None:
+        """Something may be due earlier than before."""
+
+    def _due(self, now: int) -> list[tuple[RestMessage, Frame]]:
+        """The frames that are due, once what is due was called."""
+        for due, call in self._schedule.take(now):
+            call(due)
+        collected, self._collected = self._collected, []
+        return collected
+
+    def _repeat(self, message: RestMessage, frame: Frame, _: int) -> None:
+        self.collect(message, frame)
+
+    def _of(self, node: str) -> list[RestMessage]:
+        return [message for message in self._by_name.values() if sender(message.format) == node]
+
+    def _named(self, name: Optional[str]) -> Sequence[Union[RestNode, RestMessage]]:
+        if name is None:
+            return self.nodes
+        return [self._nodes[name] if name in self._nodes else self.message(name)]

@@ -1,0 +1,36 @@
+"""Virtual time: whether this program runs in it, and how pytest starts itself anew there."""
+
+import os
+import shlex
+import sys
+from collections.abc import Sequence
+from typing import Optional
+
+from canbusd._program import find_program
+
+#: What canbusd-run sets for programs in virtual time: where its memory is, and the options that repeat the run.
+SETTING, OPTIONS = "CANBUSD_RUN_VIRTUAL", "CANBUSD_RUN_OPTIONS"
+
+
+def is_virtual() -> bool:
+    """Returns whether this program runs in virtual time, as of ``canbusd-run --virtual`` or ``--canbusd-virtual``."""
+    return bool(os.environ.get(SETTING))
+
+
+def virtual_words(words: Sequence[str], seed: Optional[int] = None, jitter: Optional[int] = None) -> list[str]:
+    """Returns the words that run a program in virtual time."""
+    options = [] if seed is None else ["--seed", str(seed)]
+    options += [] if jitter is None else ["--jitter", str(jitter)]
+    return [find_program("canbusd-run"), "--virtual", *options, "--", *words]
+
+
+def python_words(words: Sequence[str]) -> list[str]:
+    """Returns the words by which this Python was started; before Python 3.10, those of pytest with its ``words``."""
+    given: Sequence[str] = getattr(sys, "orig_argv", ())
+    return [sys.executable, *given[1:]] if given else [sys.executable, "-m", "pytest", *words]
+
+
+def repeated_by(test: str) -> str:
+    """Returns the command that repeats a test of pytest in this run's virtual time."""
+    options = os.environ.get(OPTIONS, "")
+    return " ".join(["canbusd-run --virtual", *([options] if options else []), "python3 -m pytest", shlex.quote(test)])

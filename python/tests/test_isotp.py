@@ -1,0 +1,186 @@
+"""Ends of ISO-TP: what they put on the bus, by ISO 15765-2, and how transfers fail."""
+
+import importlib.util
+import sys
+import threading
+
+import pytest
+
+import canbusd.isotp
+from canbusd._program import ProgramNotFound, find_program
+from canbusd.faults import Faults
+from canbusd.isotp import IsoTpError
+from canbusd.server import Server
+from conftest import WAIT
+
+
+def is_there(library):
+    """Whether this is installed."""
+    if library == "can-isotp":
+        return importlib.util.find_spec("isotp") is not None
+    try:
+        return bool(find_program("canbusd-run"))
+    except ProgramNotFound:
+        return False
+
+
+@pytest.fixture(params=["can-isotp", "canbusd-run"])
+def library(request):
+    """What does it, if it is there."""
+    if not is_there(request.param):
+        pytest.skip(f"no {request.param}; Debian 12 has no package of can-isotp")
+    return request.param
+
+
+@pytest.fixture
+def car():
+    """A server with an ECU and a tester."""
+    with Server("ecu,tester") as running:
+        yield running
+
+
+@pytest.fixture
+def ends(car, library):
+    """The ends of the ECU and of the tester."""
+    with car.isotp("ecu", tx=0x7E8, rx=0x7E0, library=library) as ecu:
+        with car.isotp("tester", tx=0x7E0, rx=0x7E8, library=library) as tester:
+            yield ecu, tester
+
+
+VIN = b"\x62\xf1\x90WVWZZZ1JZXW000001"
+
+
+def test_what_is_on_the_bus(car, ends):
+    ecu, tester = ends
+    tester.send(b"\x22\xf1\x90")
+    assert ecu.recv(timeout=WAIT) == b"\x22\xf1\x90"
+    ecu.send(VIN)
+    assert tester.recv(timeout=WAIT) == VIN
+    assert ecu.recv(timeout=0) is None
+    log = [(message.channel, f"{message.arbitration_id:X}", bytes(message.data)) for message in car.log()]
+    # A single frame; a first frame of 20 bytes, flow control, and the consecutive frames 1 and 2. Where a frame is filled up
+    # its bytes are not looked at.
+    wanted = [
+        ("tester", "7E0", b"\x03\x22\xf1\x90"),
+        ("ecu", "7E8", b"\x10\x14" + VIN[:6]),
+        ("tester", "7E0", b"\x30"),
+        ("ecu", "7E8", b"\x21" + VIN[6:13]),
+        ("ecu", "7E8", b"\x22" + VIN[13:]),
+    ]
+    assert len(log) == len(wanted)
+    for one, other in zip(log, wanted):
+        assert one[:2] == other[:2] and one[2].startswith(other[2])
+
+
+def test_long_messages_both_ways(ends):
+    ecu, tester = ends
+    sent = bytes(number * 7 % 256 for number in range(4095))
+    tester.send(sent)
+    assert ecu.recv(timeout=WAIT) == sent
+    ecu.send(sent[:1000])
+    assert tester.recv(timeout=WAIT) == sent[:1000]
+
+
+def test_identifiers_of_29_bits(car, library):
+    with car.isotp("ecu", tx=0x18DAF110, rx=0x18DA10F1, library=library) as ecu:
+        with car.isotp("tester", tx=0x18DA10F1, rx=0x18DAF110, library=library) as tester:
+            tester.send(b"\x3e\x00")
+            assert ecu.recv(timeout=WAIT) == b"\x3e\x00"
+    assert [(message.arbitration_id, message.is_extended_id) for message in car.log()] == [(0x18DA10F1, True)]
+
+
+def test_bus_off_in_the_middle_of_a_transfer(car, ends):
+    ecu, tester = ends
+    # The first frame and one consecutive frame go through.
+    car.inject(Faults().next(32, sender="ecu", skip=2).destroyed())
+    with pytest.raises(IsoTpError):
+        ecu.send(bytes(100), timeout=WAIT)
+    with pytest.raises(IsoTpError):
+        tester.recv(timeout=WAIT)
+    car.expect_state("ecu", "off", within=WAIT)
+    with car.bus("ecu") as bus:
+        bus.restart()
+    tester.send(b"\x3e\x00")
+    assert ecu.recv(timeout=WAIT) == b"\x3e\x00"
+
+
+def test_nobody_answers(car, library):
+    with car.isotp("tester", tx=0x7E0, rx=0x7E8, library=library) as tester:
+        # A single frame needs no answer, a first frame does.
+        tester.send(b"\x3e\x00")
+        with pytest.raises(IsoTpError):
+            tester.send(bytes(100), timeout=WAIT)
+        assert tester.recv(timeout=0.01) is None
+
+
+def test_threads_send_and_receive(ends):
+    ecu, tester = ends
+    count, received = 50, {"ecu": [], "tester": []}
+
+    def receive(name, end):
+        while len(received[name]) < count:
+            data = end.recv(timeout=WAIT)
+            assert data is not None
+            received[name].append(data)
+
+    def send(end):
+        for number in range(count):
+            end.send(bytes([number]))
+
+    threads = [
+        threading.Thread(target=receive, args=("ecu", ecu)),
+        threading.Thread(target=receive, args=("tester", tester)),
+    ]
+    threads += [threading.Thread(target=send, args=(ecu,)), threading.Thread(target=send, args=(tester,))]
+    for thread in threads:
+        thread.start()
+    for thread in threads:
+        thread.join()
+    assert received == {name: [bytes([number]) for number in range(count)] for name in received}
+
+
+def test_the_end_of_the_server(library):
+    with Server("ecu,tester") as server, server.isotp("tester", tx=0x7E0, rx=0x7E8, library=library) as tester:
+        server.stop()
+        with pytest.raises((IsoTpError, OSError)):
+            tester.send(b"\x3e\x00", timeout=WAIT)
+            tester.recv(timeout=WAIT)
+            tester.send(b"\x3e\x00", timeout=WAIT)
+
+
+def test_an_end_that_is_closed(car, library):
+    with car.isotp("tester", tx=0x7E0, rx=0x7E8, library=library) as tester:
+        for data in (b"", bytes(4096)):
+            with pytest.raises(ValueError, match=f"^data has 1 to 4095 bytes, not {len(data)}$"):
+                tester.send(data)
+    if library == "canbusd-run":
+        with pytest.raises(IsoTpError, match="^this end was closed: "):
+            tester.send(b"\x3e\x00")
+        tester.close()
+
+
+@pytest.mark.parametrize(
+    "words, said",
+    [
+        ({"channel": "can7"}, "channel is one of ecu, tester, not 'can7'"),
+        ({"tx": 1 << 29}, "tx is an identifier of 11 or 29 bits, not 536870912"),
+        ({"rx": 0x18DA10F1}, "tx and rx are both of 11 bits or both of 29, not 7E0 and 18DA10F1"),
+        ({"library": "isotp"}, "library is 'can-isotp' or 'canbusd-run', not 'isotp'"),
+    ],
+)
+def test_words_that_are_wrong(car, words, said):
+    with pytest.raises(ValueError) as fault:
+        car.isotp(**{"channel": "tester", "tx": 0x7E0, "rx": 0x7E8, **words})
+    assert str(fault.value) == said
+
+
+def test_neither_is_there(car, monkeypatch):
+    def missing(name):
+        raise ProgramNotFound(name)
+
+    monkeypatch.setitem(sys.modules, "isotp", None)
+    monkeypatch.setattr(canbusd.isotp, "find_program", missing)
+    with pytest.raises(ImportError, match="^isotp needs can-isotp or canbusd-run, and there is neither: `pip install"):
+        car.isotp("tester", tx=0x7E0, rx=0x7E8)
+    with pytest.raises(ImportError, match="^isotp needs can-isotp, which is not installed: `pip install can-isotp`$"):
+        car.isotp("tester", tx=0x7E0, rx=0x7E8, library="can-isotp")
