@@ -1,7 +1,8 @@
 # make              proves and builds the program, and builds canbusd-run where there is a gcc
 # make run          builds canbusd-run only (canrun/)
-# make test         the test command: every proof, edit, test, stored run and example, from scratch
-# make quick        every test, stored run and example without proofs, in a few minutes, for work in between
+# make test         the test command: every proof, edit, test and example, and all that is outside of Rattle; `scripts/setup`
+#                   installs what it needs
+# make quick        every test and example of Rattle without proofs, in a few minutes, for work in between
 # make python-test  the tests of the Python package, on the program; needs python-can and pytest
 # make check        the program, its documents and tools from outside, by pytest; slow tests are left out (tests/), and what
 #                   else is skipped is listed with what it lacks. It takes some 5 minutes
@@ -55,7 +56,7 @@ PYTHON ?= $(shell command -v /usr/bin/python3 || command -v python3)
 check:
 	@$(PYTHON) -c 'import can, pytest' || { echo 'make check: $(PYTHON) has no python-can or no pytest;' \
 		'`apt-get install python3-can python3-pytest` for /usr/bin/python3, else PYTHON=.. names another' >&2; exit 1; }
-	$(PYTHON) -m pytest -q -rs -m "not slow" tests
+	$(PYTHON) -m pytest -q -rs -m "not slow and not sanitized" tests
 
 dist:
 	./scripts/program dist
@@ -71,9 +72,11 @@ install:
 	install -d "$(BINDIR)" "$(LIBEXECDIR)" "$(MANDIR)" "$(COMPLETIONS)" "$(ZSH)" "$(FISH)" && \
 	install -m 755 "$$program" "$(LIBEXECDIR)/canbusd"
 	install -m 755 tools/serve "$(LIBEXECDIR)/serve"
+	install -m 644 tools/commands "$(LIBEXECDIR)/commands"
 	./scripts/python-package install "$(DESTDIR)$(PYTHONDIR)"
-	install -m 755 tools/canbusd.sh "$(BINDIR)/canbusd"
-	package=$$(realpath -m --relative-to="$(PREFIX)/libexec/canbusd" "$(PYTHONDIR)") && for tool in $(TOOLS); do \
+	package=$$(realpath -m --relative-to="$(PREFIX)/libexec/canbusd" "$(PYTHONDIR)") && \
+	sed "s|^package=.*|package=\$$place/\"$$package\"|" tools/canbusd.sh >"$(BINDIR)/canbusd" && chmod 755 "$(BINDIR)/canbusd" && \
+	for tool in $(TOOLS); do \
 		sed "s|^PACKAGE = .*|PACKAGE = \"$$package\"|" "tools/$$tool" >"$(LIBEXECDIR)/$$tool" && \
 		chmod 755 "$(LIBEXECDIR)/$$tool" && \
 		ln -sf "../libexec/canbusd/$$tool" "$(BINDIR)/$$tool" && ln -sf canbusd.1 "$(MANDIR)/$$tool.1" || exit; \
@@ -112,8 +115,8 @@ uninstall-extras:
 	rm -f $(TOOL_COMPLETIONS) "$(UNITS)/canbusd.service"
 	rm -rf "$(DOCDIR)"
 
-# canbusd-run, where there is one that fits the sources or a gcc to build it: the command finds library and bridge beside it.
-RUN_FILES = canbusd-run canbusd-bridge libcanbusd-run.so
+# canbusd-run, where there is one that fits the sources or a gcc to build it: the command finds libraries and bridge beside it.
+RUN_FILES = canbusd-run canbusd-bridge libcanbusd-run.so libcanbusd-virtual.so
 
 install: install-run
 install-run:

@@ -52,9 +52,12 @@ class Failed(Exception):
 
 def run_once(command, args, stdin, stdout, folder, time_limit):
     figures = os.path.join(folder, "figures")
-    child = subprocess.Popen([os.path.join(HERE, "measure"), figures, stdin, stdout]
-                             + command + args, cwd=folder, stderr=subprocess.PIPE,
-                             start_new_session=True)
+    child = subprocess.Popen(
+        [os.path.join(HERE, "measure"), figures, stdin, stdout] + command + args,
+        cwd=folder,
+        stderr=subprocess.PIPE,
+        start_new_session=True,
+    )
     try:
         _, stderr = child.communicate(timeout=time_limit)
     except subprocess.TimeoutExpired:
@@ -66,8 +69,7 @@ def run_once(command, args, stdin, stdout, folder, time_limit):
     with open(figures, encoding="ascii") as handle:
         status, user, system, rss = map(int, handle.read().split())
     if status != 0:
-        raise Failed(f"{shlex.join(command + args)}: status {status}: "
-                     f"{stderr.decode('latin-1')[:500]}")
+        raise Failed(f"{shlex.join(command + args)}: status {status}: " f"{stderr.decode('latin-1')[:500]}")
     return Run(status, (user + system) / 1e6, rss * 1024)
 
 
@@ -85,7 +87,7 @@ def masked_reporting(text):
 
 
 def events_of(record):
-    return int(record[record.rstrip(b"\n").rfind(b"\n") + 1:].split()[1])
+    return int(record[record.rstrip(b"\n").rfind(b"\n") + 1 :].split()[1])
 
 
 class Workload:
@@ -108,8 +110,9 @@ class Workload:
         else:
             more = ["--record", f"{who}.rec"] if mode == "record" else []
             args, stdin = ["bench"] + more + self.args, self.path(f"{self.name}.input")
-        return run_once(list(wrap) + self.programs[who], args, stdin, self.path(f"{who}.out"),
-                        self.folder, self.words.time_limit)
+        return run_once(
+            list(wrap) + self.programs[who], args, stdin, self.path(f"{who}.out"), self.folder, self.words.time_limit
+        )
 
     def check(self, mode):
         one, other = (read(self.path(f"{who}.out")) for who in self.programs)
@@ -143,12 +146,13 @@ class Workload:
         for mode in [one for one in MODES if one in self.words.modes]:
             all_runs = {who: [] for who in self.programs}
             for turn in range(runs):
-                for who in (list(self.programs) if turn % 2 == 0 else list(self.programs)[::-1]):
+                for who in list(self.programs) if turn % 2 == 0 else list(self.programs)[::-1]:
                     all_runs[who].append(self.call(mode, who))
                 self.check(mode)
-            answers[mode] = {who: Run(0, min(one.cpu for one in some),
-                                      max(one.rss for one in some))
-                             for who, some in all_runs.items()}
+            answers[mode] = {
+                who: Run(0, min(one.cpu for one in some), max(one.rss for one in some))
+                for who, some in all_runs.items()
+            }
         return answers
 
     def instructions(self, mode, who):
@@ -160,10 +164,14 @@ class Workload:
             more = ["--record", f"{who}.rec"] if mode == "record" else []
             args, stdin = ["bench"] + more + self.args, self.path(f"{self.name}.input")
         with open(stdin, "rb") as handle:
-            done = subprocess.run(["valgrind", "--tool=callgrind", "--callgrind-out-file=/dev/null"]
-                                  + command + args, cwd=self.folder, stdin=handle,
-                                  stdout=subprocess.DEVNULL, stderr=subprocess.PIPE,
-                                  timeout=self.words.time_limit)
+            done = subprocess.run(
+                ["valgrind", "--tool=callgrind", "--callgrind-out-file=/dev/null"] + command + args,
+                cwd=self.folder,
+                stdin=handle,
+                stdout=subprocess.DEVNULL,
+                stderr=subprocess.PIPE,
+                timeout=self.words.time_limit,
+            )
         found = re.search(rb"Collected : (\d+)", done.stderr)
         if done.returncode != 0 or not found:
             return None
@@ -177,9 +185,12 @@ def empty_cost(programs, folder, words):
     """CPU seconds and peak of a bench run with an empty input."""
     answers = {}
     for who, command in programs.items():
-        some = [run_once(command, ["bench", "can0,can1"], "/dev/null",
-                         os.path.join(folder, "out"), folder, words.time_limit)
-                for _ in range(5)]
+        some = [
+            run_once(
+                command, ["bench", "can0,can1"], "/dev/null", os.path.join(folder, "out"), folder, words.time_limit
+            )
+            for _ in range(5)
+        ]
         answers[who] = Run(0, min(one.cpu for one in some), min(one.rss for one in some))
     return answers
 
@@ -201,14 +212,24 @@ def figures_of(name, n, folder, programs, empty, words):
     rows = []
     for mode in words.modes:
         one, other = at_n[mode]["canbusd"], at_n[mode]["other"]
-        rows.append({
-            "workload": name, "n": n, "mode": mode, "events": whole.events,
-            "seconds": one.cpu, "other_seconds": other.cpu,
-            "rate": whole.events / one.cpu, "other_rate": whole.events / other.cpu,
-            "ratio": one.cpu / other.cpu, "rss": one.rss, "other_rss": other.rss,
-            "growth": growth(at_quarter[mode]["canbusd"], one, empty["canbusd"]),
-            "other_growth": growth(at_quarter[mode]["other"], other, empty["other"]),
-            "same": whole.same and quarter.same})
+        rows.append(
+            {
+                "workload": name,
+                "n": n,
+                "mode": mode,
+                "events": whole.events,
+                "seconds": one.cpu,
+                "other_seconds": other.cpu,
+                "rate": whole.events / one.cpu,
+                "other_rate": whole.events / other.cpu,
+                "ratio": one.cpu / other.cpu,
+                "rss": one.rss,
+                "other_rss": other.rss,
+                "growth": growth(at_quarter[mode]["canbusd"], one, empty["canbusd"]),
+                "other_growth": growth(at_quarter[mode]["other"], other, empty["other"]),
+                "same": whole.same and quarter.same,
+            }
+        )
     whole.remove()
     return rows
 
@@ -220,8 +241,7 @@ def instruction_rows(name, n, folder, programs, words):
     for one in sizes:
         one.call("record", "other")
         one.keep_record()
-        counts.append({(mode, who): one.instructions(mode, who)
-                       for mode in words.modes for who in programs})
+        counts.append({(mode, who): one.instructions(mode, who) for mode in words.modes for who in programs})
     rows = []
     for mode in words.modes:
         row = {"workload": name, "n": sizes[0].n, "mode": mode, "events": sizes[0].events}
@@ -230,8 +250,7 @@ def instruction_rows(name, n, folder, programs, words):
             row[who] = large
             row[f"{who}_growth"] = large / small if large and small else None
             # what an event more costs: start and end of the program fall out
-            row[f"{who}_each"] = ((large - small) / (sizes[0].events - sizes[1].events)
-                                  if large and small else None)
+            row[f"{who}_each"] = (large - small) / (sizes[0].events - sizes[1].events) if large and small else None
         rows.append(row)
     for one in sizes:
         one.remove()
@@ -243,8 +262,7 @@ def number(value, form):
 
 
 def main():
-    parser = argparse.ArgumentParser(description=__doc__,
-                                     formatter_class=argparse.RawDescriptionHelpFormatter)
+    parser = argparse.ArgumentParser(description=__doc__, formatter_class=argparse.RawDescriptionHelpFormatter)
     parser.add_argument("--canbusd", required=True, metavar="CMD")
     parser.add_argument("--other", default=os.path.join(HERE, "limit"), metavar="CMD")
     parser.add_argument("--workload", nargs="+", action="extend", choices=list(workloads.WORKLOADS))
@@ -267,14 +285,18 @@ def main():
             empty = empty_cost(programs, folder, words)
         except Failed as fault:
             raise SystemExit(str(fault))
-        print(f"empty run: canbusd {empty['canbusd'].cpu * 1000:.1f} ms "
-              f"{empty['canbusd'].rss / 1e6:.1f} MB, other {empty['other'].cpu * 1000:.1f} ms "
-              f"{empty['other'].rss / 1e6:.1f} MB")
+        print(
+            f"empty run: canbusd {empty['canbusd'].cpu * 1000:.1f} ms "
+            f"{empty['canbusd'].rss / 1e6:.1f} MB, other {empty['other'].cpu * 1000:.1f} ms "
+            f"{empty['other'].rss / 1e6:.1f} MB"
+        )
         chosen = words.workload or list(workloads.WORKLOADS)
         if not words.no_times:
-            print(f"{'workload':<14}{'mode':<8}{'events':>9}{'canbusd s':>11}{'other s':>9}"
-                  f"{'ratio':>8}{'events/s':>12}{'other':>12}{'MB':>8}{'other':>8}"
-                  f"{'growth':>8}{'other':>7}")
+            print(
+                f"{'workload':<14}{'mode':<8}{'events':>9}{'canbusd s':>11}{'other s':>9}"
+                f"{'ratio':>8}{'events/s':>12}{'other':>12}{'MB':>8}{'other':>8}"
+                f"{'growth':>8}{'other':>7}"
+            )
             for name in chosen:
                 n = words.n or max(1, int(workloads.WORKLOADS[name][1] * words.scale))
                 try:
@@ -285,15 +307,20 @@ def main():
                 for row in found:
                     rows.append(row)
                     same &= row["same"]
-                    print(f"{row['workload']:<14}{row['mode']:<8}{row['events']:>9}"
-                          f"{row['seconds']:>11.4f}{row['other_seconds']:>9.4f}"
-                          f"{row['ratio']:>8.2f}{row['rate']:>12,.0f}{row['other_rate']:>12,.0f}"
-                          f"{row['rss'] / 1e6:>8.1f}{row['other_rss'] / 1e6:>8.1f}"
-                          f"{row['growth']:>8.2f}{row['other_growth']:>7.2f}"
-                          f"{'' if row['same'] else '  DIFFERENT OUTPUT'}", flush=True)
+                    print(
+                        f"{row['workload']:<14}{row['mode']:<8}{row['events']:>9}"
+                        f"{row['seconds']:>11.4f}{row['other_seconds']:>9.4f}"
+                        f"{row['ratio']:>8.2f}{row['rate']:>12,.0f}{row['other_rate']:>12,.0f}"
+                        f"{row['rss'] / 1e6:>8.1f}{row['other_rss'] / 1e6:>8.1f}"
+                        f"{row['growth']:>8.2f}{row['other_growth']:>7.2f}"
+                        f"{'' if row['same'] else '  DIFFERENT OUTPUT'}",
+                        flush=True,
+                    )
         if words.instructions:
-            print(f"{'instructions':<14}{'mode':<8}{'events':>9}{'canbusd':>15}{'other':>15}"
-                  f"{'ratio':>8}{'an event':>10}{'other':>8}{'growth':>8}{'other':>7}")
+            print(
+                f"{'instructions':<14}{'mode':<8}{'events':>9}{'canbusd':>15}{'other':>15}"
+                f"{'ratio':>8}{'an event':>10}{'other':>8}{'growth':>8}{'other':>7}"
+            )
             for name in chosen:
                 n = words.n or max(1, int(workloads.WORKLOADS[name][1] * words.scale))
                 try:
@@ -303,14 +330,16 @@ def main():
                     same, found = False, []
                 for row in found:
                     counted.append(row)
-                    ratio = (row["canbusd"] / row["other"]
-                             if row["canbusd"] and row["other"] else None)
-                    print(f"{row['workload']:<14}{row['mode']:<8}{row['events']:>9}"
-                          f"{number(row['canbusd'], '15,')}{number(row['other'], '>15,')}"
-                          f"{number(ratio, '8.2f'):>8}{number(row['canbusd_each'], '10.0f'):>10}"
-                          f"{number(row['other_each'], '8.0f'):>8}"
-                          f"{number(row['canbusd_growth'], '8.2f'):>8}"
-                          f"{number(row['other_growth'], '7.2f'):>7}", flush=True)
+                    ratio = row["canbusd"] / row["other"] if row["canbusd"] and row["other"] else None
+                    print(
+                        f"{row['workload']:<14}{row['mode']:<8}{row['events']:>9}"
+                        f"{number(row['canbusd'], '15,')}{number(row['other'], '>15,')}"
+                        f"{number(ratio, '8.2f'):>8}{number(row['canbusd_each'], '10.0f'):>10}"
+                        f"{number(row['other_each'], '8.0f'):>8}"
+                        f"{number(row['canbusd_growth'], '8.2f'):>8}"
+                        f"{number(row['other_growth'], '7.2f'):>7}",
+                        flush=True,
+                    )
     if words.json:
         with open(words.json, "w", encoding="ascii") as handle:
             json.dump({"times": rows, "instructions": counted}, handle, indent=1)

@@ -28,9 +28,19 @@ typedef uint64_t u64;
 #define UNLIKELY(x) __builtin_expect(!!(x), 0)
 #define BITS(i, set) for (u32 bits_ = (set), i; bits_ && (i = (u32)__builtin_ctz(bits_), 1); bits_ &= bits_ - 1)
 
-enum { MAX_IFACES = 16, MAX_OPEN = 64, MAX_TX = 1024, MAX_RX = 65536, MAX_EVENTS = 16777216,
-       MAX_INSIDE = 1024, MAX_SESSION = 64, MAX_LINE = 4096, MAX_INPUT = 16777216,
-       MAX_FILTERS = 512, MAX_RESTART = 1000000 };
+enum {
+    MAX_IFACES = 16,
+    MAX_OPEN = 64,
+    MAX_TX = 1024,
+    MAX_RX = 65536,
+    MAX_EVENTS = 16777216,
+    MAX_INSIDE = 1024,
+    MAX_SESSION = 64,
+    MAX_LINE = 4096,
+    MAX_INPUT = 16777216,
+    MAX_FILTERS = 512,
+    MAX_RESTART = 1000000
+};
 
 /* ---------------------------------------------------------------- output */
 
@@ -39,14 +49,12 @@ static char out[OUT_SIZE + 64];
 static char *out_at = out;
 static int out_fd = 1;
 
-static void die(const char *text)
-{
+static void die(const char *text) {
     fprintf(stderr, "canbusd: %s\n", text);
     exit(1);
 }
 
-static bool flush_out(void)
-{
+static bool flush_out(void) {
     const char *p = out;
     while (p < out_at) {
         ssize_t n = write(out_fd, p, (size_t)(out_at - p));
@@ -58,7 +66,7 @@ static bool flush_out(void)
     return true;
 }
 
-static char *make_room(char *o)         /* at the start of a line or an item */
+static char *make_room(char *o) /* at the start of a line or an item */
 {
     if (UNLIKELY(o > out + OUT_HIGH)) {
         out_at = o;
@@ -72,10 +80,9 @@ static char *make_room(char *o)         /* at the start of a line or an item */
 #define LIT(o, s) (memcpy((o), (s), sizeof(s) - 1), (o) + sizeof(s) - 1)
 
 static char hex_pair[256][2], dec_pair[100][2];
-static u8 hex_value[256];               /* 255: no digit */
+static u8 hex_value[256]; /* 255: no digit */
 
-static void make_tables(void)
-{
+static void make_tables(void) {
     static const char digits[] = "0123456789ABCDEF";
     memset(hex_value, 255, sizeof hex_value);
     for (int i = 0; i < 256; i++) {
@@ -92,8 +99,7 @@ static void make_tables(void)
         hex_value['A' + i - 10] = hex_value['a' + i - 10] = (u8)i;
 }
 
-static inline char *put_u64(char *o, u64 v)
-{
+static inline char *put_u64(char *o, u64 v) {
     if (LIKELY(v < 10)) {
         *o = (char)('0' + v);
         return o + 1;
@@ -114,10 +120,17 @@ static inline char *put_u64(char *o, u64 v)
     return o + n;
 }
 
-static inline char *put_u32(char *o, u32 v)
-{
-    int n = v < 10 ? 1 : v < 100 ? 2 : v < 1000 ? 3 : v < 10000 ? 4 : v < 100000 ? 5
-          : v < 1000000 ? 6 : v < 10000000 ? 7 : v < 100000000 ? 8 : v < 1000000000 ? 9 : 10;
+static inline char *put_u32(char *o, u32 v) {
+    int n = v < 10           ? 1
+            : v < 100        ? 2
+            : v < 1000       ? 3
+            : v < 10000      ? 4
+            : v < 100000     ? 5
+            : v < 1000000    ? 6
+            : v < 10000000   ? 7
+            : v < 100000000  ? 8
+            : v < 1000000000 ? 9
+                             : 10;
     char *p = o + n;
     while (v >= 100) {
         p -= 2;
@@ -131,31 +144,26 @@ static inline char *put_u32(char *o, u32 v)
     return o + n;
 }
 
-static inline char *put_pair(char *o, u32 byte)
-{
+static inline char *put_pair(char *o, u32 byte) {
     memcpy(o, hex_pair[byte & 255], 2);
     return o + 2;
 }
 
-static inline char *put_hex4(char *o, u32 v)
-{
+static inline char *put_hex4(char *o, u32 v) {
     return put_pair(put_pair(o, v >> 8), v);
 }
 
-static inline char *put_hex8(char *o, u32 v)
-{
+static inline char *put_hex8(char *o, u32 v) {
     return put_hex4(put_hex4(o, v >> 16), v);
 }
 
-static inline char *put_bytes(char *o, const u8 *data, u32 n)
-{
+static inline char *put_bytes(char *o, const u8 *data, u32 n) {
     for (u32 i = 0; i < n; i++)
         o = put_pair(o, data[i]);
     return o;
 }
 
-static inline char *put_moment_value(char *o, u64 m)
-{
+static inline char *put_moment_value(char *o, u64 m) {
     u64 seconds = m / 1000000;
     u32 micros = (u32)(m % 1000000);
     o = seconds < 1000000000 ? put_u32(o, (u32)seconds) : put_u64(o, seconds);
@@ -169,23 +177,34 @@ static inline char *put_moment_value(char *o, u64 m)
 /* ---------------------------------------------------------------- the record */
 
 enum kind { OPEN, CLOSE, FILTERS, OPTION, SEND, RECEIVE, ATTEMPT, RESTART };
-enum refusal { FINE, NO_INTERFACE, BAD_CAPACITY, TOO_MANY_SOCKETS, NO_SOCKET, BUS_OFF,
-               NO_BUFFERS, NOT_BUS_OFF, FD_OFF, RECORD_FULL, REFUSALS };
+enum refusal {
+    FINE,
+    NO_INTERFACE,
+    BAD_CAPACITY,
+    TOO_MANY_SOCKETS,
+    NO_SOCKET,
+    BUS_OFF,
+    NO_BUFFERS,
+    NOT_BUS_OFF,
+    FD_OFF,
+    RECORD_FULL,
+    REFUSALS
+};
 enum { GOOD, GLOBAL_BIT, GLOBAL_FORM, LASTBIT, LOCAL_STUFF, LOCAL_CRC, LOCAL_FORM };
 enum { IDLE, DONE, LAST, DESTROYED, NOACK };
 enum { O_LOOPBACK, O_RECVOWN, O_JOIN, O_ERRMASK, O_FD };
 enum { GOT_NONE, GOT_DATA, GOT_ERROR };
 
 static const char *const refusal_text[REFUSALS] = {
-    "", "no such interface", "bad capacity", "too many sockets", "no socket", "bus off",
-    "no buffers", "not bus off", "fd frames off", "record full" };
-static const char *const refusal_name[FD_OFF + 1] = {
-    "", "no-interface", "bad-capacity", "too-many-sockets", "no-socket", "bus-off",
-    "no-buffers", "not-bus-off", "fd-off" };
-static const char verdict_text[7][16] = {
-    "good", "global-bit", "global-form", "lastbit", "local-stuff:", "local-crc:", "local-form:" };
-static const char *const class_text[5] = { "idle", "done", "lastbit", "destroyed", "noack" };
-static const char *const option_text[5] = { "loopback", "recvown", "join", "errmask", "fd" };
+    "",        "no such interface", "bad capacity", "too many sockets", "no socket",
+    "bus off", "no buffers",        "not bus off",  "fd frames off",    "record full"};
+static const char *const refusal_name[FD_OFF + 1] = {"",          "no-interface", "bad-capacity", "too-many-sockets",
+                                                     "no-socket", "bus-off",      "no-buffers",   "not-bus-off",
+                                                     "fd-off"};
+static const char verdict_text[7][16] = {"good",         "global-bit", "global-form", "lastbit",
+                                         "local-stuff:", "local-crc:", "local-form:"};
+static const char *const class_text[5] = {"idle", "done", "lastbit", "destroyed", "noack"};
+static const char *const option_text[5] = {"loopback", "recvown", "join", "errmask", "fd"};
 
 /* kind      a                  s          x        y            z
  * OPEN      iface              refusal    socket   capacity (64 bits)
@@ -204,9 +223,9 @@ typedef struct {
 } entry;
 
 typedef struct {
-    u32 word;                   /* identifier word; bit 29 marks an FD frame */
-    u32 number_len;             /* number << 8 | length */
-    u8 data[8];                 /* in steps of 8 bytes */
+    u32 word;       /* identifier word; bit 29 marks an FD frame */
+    u32 number_len; /* number << 8 | length */
+    u8 data[8];     /* in steps of 8 bytes */
 } frame;
 
 #define FD_BIT 0x20000000u
@@ -217,18 +236,17 @@ static entry *record;
 static u32 entries, limit;
 static u64 *moments;
 static u32 moment_count;
-static u64 *frames;             /* frames in units of 8 bytes */
+static u64 *frames; /* frames in units of 8 bytes */
 static u32 frame_end = 1;
 static u32 (*filter_list)[2];
 static u32 filter_end;
 static bool seen_fd;
 
-static inline const frame *frame_at(u32 place)
-{
+static inline const frame *frame_at(u32 place) {
     return (const frame *)(frames + place);
 }
 
-static void *reserve(size_t bytes)      /* not touched, so not resident yet */
+static void *reserve(size_t bytes) /* not touched, so not resident yet */
 {
     void *p = malloc(bytes + 64);
     if (!p)
@@ -236,8 +254,7 @@ static void *reserve(size_t bytes)      /* not touched, so not resident yet */
     return p;
 }
 
-static inline u32 moment_place(u64 m)
-{
+static inline u32 moment_place(u64 m) {
     if (moment_count == 0 || moments[moment_count - 1] != m)
         moments[moment_count++] = m;
     return moment_count - 1;
@@ -247,8 +264,7 @@ static inline u32 moment_place(u64 m)
 static u32 text_of = UINT32_MAX, text_len;
 static char moment_text[32];
 
-static inline char *put_moment(char *o, u32 place)
-{
+static inline char *put_moment(char *o, u32 place) {
     if (UNLIKELY(place != text_of)) {
         text_of = place;
         text_len = (u32)(put_moment_value(moment_text, moments[place]) - moment_text);
@@ -257,16 +273,14 @@ static inline char *put_moment(char *o, u32 place)
     return o + text_len;
 }
 
-static inline char *put_id(char *o, u32 word)
-{
+static inline char *put_id(char *o, u32 word) {
     if (word & EXT_BIT)
         return put_hex8(o, word & 0x1FFFFFFF);
     *o = hex_pair[word >> 8 & 15][1];
     return put_pair(o + 1, word);
 }
 
-static inline char *put_frame(char *o, const frame *f)
-{
+static inline char *put_frame(char *o, const frame *f) {
     u32 len = f->number_len & 255;
     o = put_id(o, f->word);
     *o++ = '#';
@@ -285,10 +299,9 @@ static inline char *put_frame(char *o, const frame *f)
 
 /* An error item: code << 28 | interface << 24 | three bytes. */
 enum { E_OFF = 1, E_RESTART, E_STATE, E_FAULT, E_ACK };
-static const char error_class[6][4] = { "", "040", "100", "204", "088", "0A0" };
+static const char error_class[6][4] = {"", "040", "100", "204", "088", "0A0"};
 
-static inline char *put_error_data(char *o, u32 err)
-{
+static inline char *put_error_data(char *o, u32 err) {
     memcpy(o, "0000000000000000", 16);
     u32 code = err >> 28;
     if (code == E_STATE) {
@@ -300,8 +313,7 @@ static inline char *put_error_data(char *o, u32 err)
     return o + 16;
 }
 
-static char *put_entry(char *o, const entry *e)
-{
+static char *put_entry(char *o, const entry *e) {
     u32 refusal = (e->kind & 7) == ATTEMPT ? FINE : e->s;
     switch (e->kind & 7) {
     case OPEN: {
@@ -441,34 +453,31 @@ static char *put_entry(char *o, const entry *e)
 enum { HASH = 1024 };
 
 typedef struct {
-    u32 count, masked, inverted, singles;       /* singles: 29-bit ones */
+    u32 count, masked, inverted, singles; /* singles: 29-bit ones */
     bool all_or, all_and;
     bool join_never, inverted_always;
-    u32 join_mask, join_id;                     /* all not inverted ones, joined */
-    u32 inverted_mask, inverted_id;             /* all inverted ones, joined */
+    u32 join_mask, join_id;         /* all not inverted ones, joined */
+    u32 inverted_mask, inverted_id; /* all inverted ones, joined */
     u64 marks[2048 / 64];
-    u32 hash[HASH];                             /* 0: nothing */
+    u32 hash[HASH]; /* 0: nothing */
     _Alignas(32) u32 masked_id[MAX_FILTERS];
     _Alignas(32) u32 masked_mask[MAX_FILTERS];
     _Alignas(32) u32 inverted_ids[MAX_FILTERS];
     _Alignas(32) u32 inverted_masks[MAX_FILTERS];
 } filter_set;
 
-static inline u32 hash_of(u32 word)
-{
+static inline u32 hash_of(u32 word) {
     return word * 2654435761u >> 22;
 }
 
-static inline void pad(u32 *id, u32 *mask, u32 n)
-{
+static inline void pad(u32 *id, u32 *mask, u32 n) {
     for (; n & 7; n++) {
-        id[n] = 1;              /* matches nothing */
+        id[n] = 1; /* matches nothing */
         mask[n] = 0;
     }
 }
 
-static void compile_filters(filter_set *f, u32 (*list)[2], u32 n)
-{
+static void compile_filters(filter_set *f, u32 (*list)[2], u32 n) {
     memset(f, 0, offsetof(filter_set, hash));
     f->count = n;
     f->all_and = n > 0;
@@ -511,9 +520,8 @@ static void compile_filters(filter_set *f, u32 (*list)[2], u32 n)
 
 typedef u32 row __attribute__((vector_size(32), may_alias));
 
-static inline bool any_matches(const u32 *id, const u32 *mask, u32 n, u32 word)
-{
-    row any = { 0 };
+static inline bool any_matches(const u32 *id, const u32 *mask, u32 n, u32 word) {
+    row any = {0};
     for (u32 i = 0; i < n; i += 8)
         any |= (row)((*(const row *)(mask + i) & word) == *(const row *)(id + i));
     u64 parts[4];
@@ -521,11 +529,10 @@ static inline bool any_matches(const u32 *id, const u32 *mask, u32 n, u32 word)
     return parts[0] | parts[1] | parts[2] | parts[3];
 }
 
-static bool passes(const filter_set *f, bool join, u32 word)
-{
+static bool passes(const filter_set *f, bool join, u32 word) {
     if (join)
-        return f->count && !f->join_never && (word & f->join_mask) == f->join_id
-            && !any_matches(f->inverted_ids, f->inverted_masks, f->inverted, word);
+        return f->count && !f->join_never && (word & f->join_mask) == f->join_id &&
+               !any_matches(f->inverted_ids, f->inverted_masks, f->inverted, word);
     if (word < 0x800) {
         if (f->marks[word >> 6] >> (word & 63) & 1)
             return true;
@@ -541,25 +548,29 @@ static bool passes(const filter_set *f, bool join, u32 word)
 
 /* ---------------------------------------------------------------- the bus */
 
-typedef struct { u32 entry, err; } item;        /* err 0: a data frame */
+typedef struct {
+    u32 entry, err;
+} item; /* err 0: a data frame */
 
 typedef struct {
     item *ring;
     u32 ring_mask, capacity, head, len, dropped, taken;
     u32 number, err_mask;
-    u8 iface, place;                            /* place: in its interface's list */
+    u8 iface, place; /* place: in its interface's list */
     bool loopback, recv_own, join, fd, all, own_list;
     filter_set *filters;
 } socket_t;
 
-typedef struct { u32 frame, key, owner; } waiting;      /* owner: socket | loopback << 31 */
+typedef struct {
+    u32 frame, key, owner;
+} waiting; /* owner: socket | loopback << 31 */
 
 typedef struct {
     waiting *ring;
     u32 head, len;
     u16 tec, rec;
     u8 state, sockets;
-    u32 err_mask;               /* of all its sockets, joined by OR */
+    u32 err_mask; /* of all its sockets, joined by OR */
     u32 sent, done, lost, refused, since_off;
     socket_t *socket[MAX_OPEN];
 } iface_t;
@@ -570,27 +581,25 @@ static struct {
     u32 ifaces, reporting, tx_capacity, auto_restart;
     bool peers;
 } config;
-static u64 heads[MAX_IFACES];                   /* key << 4 | interface */
-static u32 with_head;                           /* the interfaces that have a head */
+static u64 heads[MAX_IFACES]; /* key << 4 | interface */
+static u32 with_head;         /* the interfaces that have a head */
 static iface_t iface[MAX_IFACES];
 static _Alignas(64) socket_t slots[MAX_OPEN];
 static u32 ring_size[MAX_OPEN];
 static filter_set filter_sets[MAX_OPEN];
 static u64 free_slots = UINT64_MAX;
 static u32 sockets_ever, tx_mask, tape_length;
-static u32 live, passive, with_rec;             /* sets of interfaces */
-static u8 *slot_of;                             /* socket number -> slot + 1 (audit) */
+static u32 live, passive, with_rec; /* sets of interfaces */
+static u8 *slot_of;                 /* socket number -> slot + 1 (audit) */
 
-static u32 power_of_two(u32 n)
-{
+static u32 power_of_two(u32 n) {
     u32 p = 1;
     while (p < n)
         p *= 2;
     return p;
 }
 
-static void start_bus(u64 input_bytes)
-{
+static void start_bus(u64 input_bytes) {
     record = reserve((size_t)limit * sizeof(entry));
     moments = reserve(input_bytes + 64);
     frames = reserve(2 * input_bytes + 256);
@@ -602,20 +611,17 @@ static void start_bus(u64 input_bytes)
         iface[i].ring = reserve(n * sizeof(waiting));
 }
 
-static inline entry *new_entry(u32 kind, u32 a, u32 s, u32 x, u32 y, u32 z)
-{
+static inline entry *new_entry(u32 kind, u32 a, u32 s, u32 x, u32 y, u32 z) {
     entry *e = record + entries++;
-    *e = (entry){ (u8)kind, (u8)a, (u16)s, x, y, z };
+    *e = (entry){(u8)kind, (u8)a, (u16)s, x, y, z};
     return e;
 }
 
-static inline bool full(void)
-{
+static inline bool full(void) {
     return UNLIKELY(entries == limit);
 }
 
-static entry *do_open(u32 i, u64 capacity, socket_t **made)
-{
+static entry *do_open(u32 i, u64 capacity, socket_t **made) {
     entry *e = new_entry(OPEN, i, FINE, 0, (u32)capacity, (u32)(capacity >> 32));
     if (i >= config.ifaces)
         return e->s = NO_INTERFACE, e;
@@ -632,9 +638,14 @@ static entry *do_open(u32 i, u64 capacity, socket_t **made)
         ring = reserve(size * sizeof(item));
         ring_size[slot] = size;
     }
-    *s = (socket_t){ .ring = ring, .ring_mask = size - 1, .capacity = (u32)capacity,
-                     .number = sockets_ever, .iface = (u8)i, .place = iface[i].sockets,
-                     .loopback = true, .all = true };
+    *s = (socket_t){.ring = ring,
+                    .ring_mask = size - 1,
+                    .capacity = (u32)capacity,
+                    .number = sockets_ever,
+                    .iface = (u8)i,
+                    .place = iface[i].sockets,
+                    .loopback = true,
+                    .all = true};
     iface[i].socket[iface[i].sockets++] = s;
     if (slot_of)
         slot_of[sockets_ever] = (u8)(slot + 1);
@@ -643,15 +654,13 @@ static entry *do_open(u32 i, u64 capacity, socket_t **made)
     return e;
 }
 
-static void join_masks(iface_t *f)
-{
+static void join_masks(iface_t *f) {
     f->err_mask = 0;
     for (u32 i = 0; i < f->sockets; i++)
         f->err_mask |= f->socket[i]->err_mask;
 }
 
-static entry *do_close(u32 number, socket_t *s)
-{
+static entry *do_close(u32 number, socket_t *s) {
     entry *e = new_entry(CLOSE, 0, FINE, number, 0, 0);
     if (!s)
         return e->s = NO_SOCKET, e;
@@ -667,14 +676,12 @@ static entry *do_close(u32 number, socket_t *s)
     return e;
 }
 
-static inline void settle_all(socket_t *s)
-{
+static inline void settle_all(socket_t *s) {
     s->all = !s->filters || (s->join ? s->filters->all_and : s->filters->all_or);
 }
 
 /* The list is at filter_list + filter_end already. */
-static entry *do_filters(u32 number, socket_t *s, u32 count)
-{
+static entry *do_filters(u32 number, socket_t *s, u32 count) {
     entry *e = new_entry(FILTERS, 0, FINE, number, filter_end, count);
     if (!s)
         e->s = NO_SOCKET;
@@ -687,8 +694,7 @@ static entry *do_filters(u32 number, socket_t *s, u32 count)
     return e;
 }
 
-static entry *do_option(u32 number, socket_t *s, u32 which, u32 value)
-{
+static entry *do_option(u32 number, socket_t *s, u32 which, u32 value) {
     entry *e = new_entry(OPTION, which, FINE, number, value, 0);
     if (which == O_FD)
         seen_fd = true;
@@ -697,7 +703,10 @@ static entry *do_option(u32 number, socket_t *s, u32 which, u32 value)
     switch (which) {
     case O_LOOPBACK: s->loopback = value; break;
     case O_RECVOWN: s->recv_own = value; break;
-    case O_JOIN: s->join = value; settle_all(s); break;
+    case O_JOIN:
+        s->join = value;
+        settle_all(s);
+        break;
     case O_FD: s->fd = value; break;
     case O_ERRMASK:
         s->err_mask = value & 0x1FFFFFFF;
@@ -708,16 +717,14 @@ static entry *do_option(u32 number, socket_t *s, u32 which, u32 value)
 }
 
 /* The lesser key goes before. */
-static inline u32 arbitration_key(u32 word)
-{
+static inline u32 arbitration_key(u32 word) {
     u32 rtr = word >> 30 & 1;
     if (!(word & EXT_BIT))
         return (word & 0x7FF) << 21 | rtr << 20;
     return (word & 0x1FFC0000) << 3 | 3u << 19 | (word & 0x3FFFF) << 1 | rtr;
 }
 
-static inline void set_head(u32 i)
-{
+static inline void set_head(u32 i) {
     iface_t *f = iface + i;
     if (f->len)
         heads[i] = (u64)f->ring[f->head & tx_mask].key << 4 | i;
@@ -726,8 +733,7 @@ static inline void set_head(u32 i)
 }
 
 /* The frame's data is at frames + frame_end already. */
-static inline entry *do_send(u32 number, socket_t *s, u32 word, u32 len)
-{
+static inline entry *do_send(u32 number, socket_t *s, u32 word, u32 len) {
     u32 place = frame_end;
     frame *f = (frame *)(frames + place);
     f->word = word;
@@ -750,8 +756,7 @@ static inline entry *do_send(u32 number, socket_t *s, u32 word, u32 len)
     }
     f->number_len |= at->sent++ << 8;
     u32 key = arbitration_key(word & ~FD_BIT);
-    at->ring[(at->head + at->len) & tx_mask] =
-        (waiting){ place, key, number | (u32)s->loopback << 31 };
+    at->ring[(at->head + at->len) & tx_mask] = (waiting){place, key, number | (u32)s->loopback << 31};
     if (at->len++ == 0) {
         heads[i] = (u64)key << 4 | i;
         with_head |= 1u << i;
@@ -759,8 +764,7 @@ static inline entry *do_send(u32 number, socket_t *s, u32 word, u32 len)
     return e;
 }
 
-static inline entry *do_receive(u32 number, socket_t *s)
-{
+static inline entry *do_receive(u32 number, socket_t *s) {
     entry *e = new_entry(RECEIVE, GOT_NONE, FINE, number, 0, 0);
     if (UNLIKELY(!s))
         return e->s = NO_SOCKET, e;
@@ -775,16 +779,14 @@ static inline entry *do_receive(u32 number, socket_t *s)
     return e;
 }
 
-static inline void queue_item(socket_t *s, item it)
-{
+static inline void queue_item(socket_t *s, item it) {
     if (UNLIKELY(s->len == s->capacity))
         s->dropped++;
     else
         s->ring[(s->head + s->len++) & s->ring_mask] = it;
 }
 
-static inline void post_data(const iface_t *f, item it, u32 word, u32 owner)
-{
+static inline void post_data(const iface_t *f, item it, u32 word, u32 owner) {
     u32 plain = word & ~FD_BIT;
     for (u32 k = 0; k < f->sockets; k++) {
         socket_t *s = f->socket[k];
@@ -797,26 +799,23 @@ static inline void post_data(const iface_t *f, item it, u32 word, u32 owner)
     }
 }
 
-static void post_error(u32 i, u32 ref, u32 code, u32 data)
-{
-    static const u32 mask_of[6] = { 0, 0x040, 0x100, 0x204, 0x088, 0x0A0 };
+static void post_error(u32 i, u32 ref, u32 code, u32 data) {
+    static const u32 mask_of[6] = {0, 0x040, 0x100, 0x204, 0x088, 0x0A0};
     const iface_t *f = iface + i;
     if (!(f->err_mask & mask_of[code]))
         return;
-    item it = { ref, code << 28 | i << 24 | data };
+    item it = {ref, code << 28 | i << 24 | data};
     for (u32 k = 0; k < f->sockets; k++)
         if (f->socket[k]->err_mask & mask_of[code])
             queue_item(f->socket[k], it);
 }
 
-static inline u32 side(u32 count)
-{
+static inline u32 side(u32 count) {
     return count >= 128 ? PASSIVE : count >= 96 ? WARNING : ACTIVE;
 }
 
 /* Takes the new counts in; answers whether the state differs. */
-static inline bool settle_state(u32 i)
-{
+static inline bool settle_state(u32 i) {
     iface_t *f = iface + i;
     u32 state = f->tec >= 256 ? OFF : side(f->tec > f->rec ? f->tec : f->rec), bit = 1u << i;
     with_rec = f->rec ? with_rec | bit : with_rec & ~bit;
@@ -828,9 +827,8 @@ static inline bool settle_state(u32 i)
     return true;
 }
 
-static void post_state(u32 i, u32 ref)
-{
-    static const u8 tx_code[3] = { 0x40, 0x08, 0x20 }, rx_code[3] = { 0x40, 0x04, 0x10 };
+static void post_state(u32 i, u32 ref) {
+    static const u8 tx_code[3] = {0x40, 0x08, 0x20}, rx_code[3] = {0x40, 0x04, 0x10};
     const iface_t *f = iface + i;
     if (f->state == OFF) {
         post_error(i, ref, E_OFF, 0);
@@ -841,32 +839,31 @@ static void post_state(u32 i, u32 ref)
     post_error(i, ref, E_STATE, code << 16 | (u32)f->tec << 8 | f->rec);
 }
 
-static void bring_back(u32 i)
-{
+static void bring_back(u32 i) {
     iface[i].tec = iface[i].rec = 0;
     settle_state(i);
 }
 
-static inline void rx_errors(u32 set)
-{
+static inline void rx_errors(u32 set) {
     BITS(i, set)
-        iface[i].rec += iface[i].rec < 255;
+    iface[i].rec += iface[i].rec < 255;
 }
 
-static inline void rx_goods(u32 set)
-{
+static inline void rx_goods(u32 set) {
     BITS(i, set & with_rec)
-        iface[i].rec = iface[i].rec <= 127 ? iface[i].rec - 1 : 127;
+    iface[i].rec = iface[i].rec <= 127 ? iface[i].rec - 1 : 127;
 }
 
-static void post_faults(u32 i, u32 ref, u32 w, u32 cls, u32 verdict, u32 hit)
-{
-    static const u16 named[7] = { 0, 0, 0, 0, 0x040A, 0x0008, 0x021B };
+static void post_faults(u32 i, u32 ref, u32 w, u32 cls, u32 verdict, u32 hit) {
+    static const u16 named[7] = {0, 0, 0, 0, 0x040A, 0x0008, 0x021B};
     if (i != w && hit >> i & 1)
         post_error(i, ref, E_FAULT, named[verdict]);
     else if (cls == DESTROYED)
-        post_error(i, ref, E_FAULT, i != w ? 0x0400 : verdict == GLOBAL_BIT ? 0x810A
-                                           : verdict == GLOBAL_FORM ? 0x821B : 0x8100);
+        post_error(i, ref, E_FAULT,
+                   i != w                   ? 0x0400
+                   : verdict == GLOBAL_BIT  ? 0x810A
+                   : verdict == GLOBAL_FORM ? 0x821B
+                                            : 0x8100);
     else if (i == w && cls == LAST)
         post_error(i, ref, E_FAULT, 0x821A);
     else if (i == w && cls == NOACK)
@@ -875,17 +872,16 @@ static void post_faults(u32 i, u32 ref, u32 w, u32 cls, u32 verdict, u32 hit)
 
 /* Each socket's own items come in this order: the data frame, then the
  * error message frames of its interface, a fault's before a state's. */
-static entry *do_attempt(u32 moment, u32 verdict, u32 set)
-{
+static entry *do_attempt(u32 moment, u32 verdict, u32 set) {
     u32 due = 0, ref = entries;
     entry *e = new_entry(ATTEMPT | verdict << 3, IDLE, set, 0, moment, 0);
     if (UNLIKELY(config.auto_restart))
         BITS(i, ((1u << config.ifaces) - 1) & ~live)
-            if (++iface[i].since_off == config.auto_restart)
-                due |= 1u << i;
+    if (++iface[i].since_off == config.auto_restart)
+        due |= 1u << i;
     u64 best = UINT64_MAX;
     BITS(i, with_head)
-        best = heads[i] < best ? heads[i] : best;
+    best = heads[i] < best ? heads[i] : best;
     if (UNLIKELY(!with_head)) {
         BITS(i, due) {
             bring_back(i);
@@ -925,14 +921,14 @@ static entry *do_attempt(u32 moment, u32 verdict, u32 set)
         }
     }
     BITS(i, touched)
-        if (UNLIKELY(settle_state(i)))
-            changed |= 1u << i;
+    if (UNLIKELY(settle_state(i)))
+        changed |= 1u << i;
 
     const frame *f = frame_at(head->frame);
-    item it = { ref, 0 };
+    item it = {ref, 0};
     u32 owner = head->owner & 0x7FFFFFFF;
     BITS(i, accepted | (cls == DONE && head->owner >> 31 ? wbit : 0))
-        post_data(iface + i, it, f->word, owner);
+    post_data(iface + i, it, f->word, owner);
     bool off = false;
     e->x = head->frame;
     if (LIKELY(cls == DONE)) {
@@ -967,8 +963,7 @@ static entry *do_attempt(u32 moment, u32 verdict, u32 set)
     return e;
 }
 
-static entry *do_restart(u32 i, u32 moment)
-{
+static entry *do_restart(u32 i, u32 moment) {
     u32 ref = entries;
     entry *e = new_entry(RESTART, i, FINE, 0, moment, 0);
     if (i >= config.ifaces)
@@ -982,34 +977,34 @@ static entry *do_restart(u32 i, u32 moment)
 
 /* ---------------------------------------------------------------- names, files, scripts */
 
-typedef struct { const char *p; u32 n; } word_t;
+typedef struct {
+    const char *p;
+    u32 n;
+} word_t;
 
 static char name[MAX_IFACES][16];
 static u32 name_len[MAX_IFACES];
 
-static bool is_name(const char *p, size_t n)
-{
+static bool is_name(const char *p, size_t n) {
     if (n < 1 || n > 15)
         return false;
     for (size_t i = 0; i < n; i++) {
         char c = p[i];
-        if (!((c >= 'A' && c <= 'Z') || (c >= 'a' && c <= 'z') || (c >= '0' && c <= '9')
-              || c == '_' || c == '-' || c == '.'))
+        if (!((c >= 'A' && c <= 'Z') || (c >= 'a' && c <= 'z') || (c >= '0' && c <= '9') || c == '_' || c == '-' ||
+              c == '.'))
             return false;
     }
     return true;
 }
 
-static int find_name(const char *p, size_t n, u32 count)
-{
+static int find_name(const char *p, size_t n, u32 count) {
     for (u32 i = 0; i < count; i++)
         if (name_len[i] == n && memcmp(name[i], p, n) == 0)
             return (int)i;
     return -1;
 }
 
-static u32 read_names(const char *p, size_t n)
-{
+static u32 read_names(const char *p, size_t n) {
     u32 count = 0;
     const char *end = p + n;
     for (;;) {
@@ -1025,8 +1020,7 @@ static u32 read_names(const char *p, size_t n)
     }
 }
 
-static bool is_utf8(const u8 *p, size_t n)
-{
+static bool is_utf8(const u8 *p, size_t n) {
     const u8 *end = p + n;
     while (p < end) {
         u64 x;
@@ -1038,12 +1032,11 @@ static bool is_utf8(const u8 *p, size_t n)
             p++;
             continue;
         }
-        int more = *p >= 0xC2 && *p <= 0xDF ? 1 : (*p & 0xF0) == 0xE0 ? 2
-                 : *p >= 0xF0 && *p <= 0xF4 ? 3 : 0;
+        int more = *p >= 0xC2 && *p <= 0xDF ? 1 : (*p & 0xF0) == 0xE0 ? 2 : *p >= 0xF0 && *p <= 0xF4 ? 3 : 0;
         if (more == 0 || end - p <= more)
             return false;
-        if ((*p == 0xE0 && p[1] < 0xA0) || (*p == 0xED && p[1] > 0x9F)
-            || (*p == 0xF0 && p[1] < 0x90) || (*p == 0xF4 && p[1] > 0x8F))
+        if ((*p == 0xE0 && p[1] < 0xA0) || (*p == 0xED && p[1] > 0x9F) || (*p == 0xF0 && p[1] < 0x90) ||
+            (*p == 0xF4 && p[1] > 0x8F))
             return false;
         for (int i = 1; i <= more; i++)
             if ((p[i] & 0xC0) != 0x80)
@@ -1056,8 +1049,7 @@ static bool is_utf8(const u8 *p, size_t n)
 /* The whole file, with room after it that may be read. */
 enum { AFTER = 16 * 1024 };
 
-static char *read_file(const char *path, size_t *size)
-{
+static char *read_file(const char *path, size_t *size) {
     int fd = open(path, O_RDONLY);
     if (fd < 0) {
         fprintf(stderr, "canbusd: cannot open %s\n", path);
@@ -1088,19 +1080,21 @@ static char *read_file(const char *path, size_t *size)
     return text;
 }
 
-typedef struct { u32 number; u16 set; u8 verdict; } scripted;
+typedef struct {
+    u32 number;
+    u16 set;
+    u8 verdict;
+} scripted;
 static scripted *script;
 static u32 script_len, script_at;
 
-static void script_fault(u32 line, const char *text)
-{
+static void script_fault(u32 line, const char *text) {
     fprintf(stderr, "canbusd: script line %u: %s\n", line, text);
     exit(1);
 }
 
 /* 0 fine, 1 bad line, 2 unknown interface */
-static int read_script_line(const char *p, const char *end, scripted *s)
-{
+static int read_script_line(const char *p, const char *end, scripted *s) {
     const char *start = p;
     u32 number = 0;
     while (p < end && *p >= '0' && *p <= '9' && p - start < 9)
@@ -1148,14 +1142,12 @@ static int read_script_line(const char *p, const char *end, scripted *s)
     }
 }
 
-static int by_value(const void *a, const void *b)
-{
+static int by_value(const void *a, const void *b) {
     u64 x = *(const u64 *)a, y = *(const u64 *)b;
     return x < y ? -1 : x > y;
 }
 
-static void read_script(const char *path)
-{
+static void read_script(const char *path) {
     size_t size;
     char *text = read_file(path, &size);
     const char *p = text, *end = text + size;
@@ -1190,8 +1182,7 @@ static void read_script(const char *path)
         for (u32 i = 0; i < script_len; i++) {
             u32 at = (u32)order[i];
             sorted[i] = script[at];
-            if (i && sorted[i - 1].number == sorted[i].number
-                && (!repeated || line_of[at] < repeated))
+            if (i && sorted[i - 1].number == sorted[i].number && (!repeated || line_of[at] < repeated))
                 repeated = line_of[at];
         }
         if (repeated)
@@ -1220,10 +1211,9 @@ typedef struct {
 
 static session_t session[MAX_SESSION + 1];
 static u32 rx_capacity = 256;
-static u32 now;                 /* place of the moment that was set */
+static u32 now; /* place of the moment that was set */
 
-static char *put_error(char *o, const char *text)
-{
+static char *put_error(char *o, const char *text) {
     size_t n = strlen(text);
     o = LIT(o, "< error ");
     memcpy(o, text, n);
@@ -1231,14 +1221,12 @@ static char *put_error(char *o, const char *text)
     return LIT(o, " >");
 }
 
-static inline char *put_refusal(char *o, u32 refusal)
-{
+static inline char *put_refusal(char *o, u32 refusal) {
     return refusal ? put_error(o, refusal_text[refusal]) : LIT(o, "< ok >");
 }
 
 /* -1 for BadId; else the identifier word. */
-static bool read_id(const char *p, u32 n, u32 *word)
-{
+static bool read_id(const char *p, u32 n, u32 *word) {
     u32 v = 0;
     if (n > 8)
         return false;
@@ -1257,8 +1245,7 @@ static bool read_id(const char *p, u32 n, u32 *word)
     return n >= 1 && n <= 3 && v <= 0x7FF;
 }
 
-static bool read_hex_word(word_t w, u32 *word)
-{
+static bool read_hex_word(word_t w, u32 *word) {
     u32 v = 0;
     if (w.n > 8)
         return false;
@@ -1272,31 +1259,62 @@ static bool read_hex_word(word_t w, u32 *word)
     return true;
 }
 
-static bool is_fd_length(u32 n)
-{
+static bool is_fd_length(u32 n) {
     return n <= 8 || n == 12 || n == 16 || n == 20 || n == 24 || n == 32 || n == 48 || n == 64;
 }
 
-enum command { C_SEND, C_ECHO, C_STATS, C_STATUS, C_SENDRTR, C_SENDFD, C_FILTER, C_ERRMASK,
-               C_LOOPBACK, C_RECVOWN, C_JOIN, C_FDFRAMES, C_ERRDATA, C_RESTART, C_CLOSE, C_OPEN,
-               C_RAWMODE, C_BCM, C_ISOTP, C_CONTROL, COMMANDS };
+enum command {
+    C_SEND,
+    C_ECHO,
+    C_STATS,
+    C_STATUS,
+    C_SENDRTR,
+    C_SENDFD,
+    C_FILTER,
+    C_ERRMASK,
+    C_LOOPBACK,
+    C_RECVOWN,
+    C_JOIN,
+    C_FDFRAMES,
+    C_ERRDATA,
+    C_RESTART,
+    C_CLOSE,
+    C_OPEN,
+    C_RAWMODE,
+    C_BCM,
+    C_ISOTP,
+    C_CONTROL,
+    COMMANDS
+};
 enum { IN_NO_BUS = 1 << NO_BUS, IN_OPENED = 1 << OPENED, IN_RAW = 1 << RAW };
-static const struct { char text[12]; u8 n, modes; } commands[COMMANDS] = {
-    { "send", 4, IN_RAW }, { "echo", 4, IN_NO_BUS | IN_OPENED | IN_RAW },
-    { "stats", 5, IN_RAW }, { "status", 6, IN_RAW }, { "sendrtr", 7, IN_RAW },
-    { "sendfd", 6, IN_RAW }, { "filter", 6, IN_RAW }, { "errmask", 7, IN_RAW },
-    { "loopback", 8, IN_RAW }, { "recvown", 7, IN_RAW }, { "join", 4, IN_RAW },
-    { "fdframes", 8, IN_RAW }, { "errdata", 7, IN_RAW }, { "restart", 7, IN_RAW },
-    { "close", 5, IN_RAW }, { "open", 4, IN_NO_BUS }, { "rawmode", 7, IN_OPENED | IN_RAW },
-    { "bcmmode", 7, IN_OPENED | IN_RAW }, { "isotpmode", 9, IN_OPENED | IN_RAW },
-    { "controlmode", 11, IN_OPENED | IN_RAW } };
+static const struct {
+    char text[12];
+    u8 n, modes;
+} commands[COMMANDS] = {{"send", 4, IN_RAW},
+                        {"echo", 4, IN_NO_BUS | IN_OPENED | IN_RAW},
+                        {"stats", 5, IN_RAW},
+                        {"status", 6, IN_RAW},
+                        {"sendrtr", 7, IN_RAW},
+                        {"sendfd", 6, IN_RAW},
+                        {"filter", 6, IN_RAW},
+                        {"errmask", 7, IN_RAW},
+                        {"loopback", 8, IN_RAW},
+                        {"recvown", 7, IN_RAW},
+                        {"join", 4, IN_RAW},
+                        {"fdframes", 8, IN_RAW},
+                        {"errdata", 7, IN_RAW},
+                        {"restart", 7, IN_RAW},
+                        {"close", 5, IN_RAW},
+                        {"open", 4, IN_NO_BUS},
+                        {"rawmode", 7, IN_OPENED | IN_RAW},
+                        {"bcmmode", 7, IN_OPENED | IN_RAW},
+                        {"isotpmode", 9, IN_OPENED | IN_RAW},
+                        {"controlmode", 11, IN_OPENED | IN_RAW}};
 
-static char *put_stats(char *o, const session_t *s)
-{
+static char *put_stats(char *o, const session_t *s) {
     const socket_t *k = s->socket;
     const iface_t *f = iface + s->iface;
-    const u32 numbers[8] = { k->taken + k->len, k->dropped, k->taken, f->sent, f->done, f->len,
-                             f->lost, f->refused };
+    const u32 numbers[8] = {k->taken + k->len, k->dropped, k->taken, f->sent, f->done, f->len, f->lost, f->refused};
     o = LIT(o, "< stats ");
     for (int i = 0; i < 8; i++) {
         o = put_u32(o, numbers[i]);
@@ -1307,8 +1325,7 @@ static char *put_stats(char *o, const session_t *s)
 }
 
 /* `send` and `sendfd` after their checks of words */
-static char *send_words(session_t *s, char *o, const word_t *w, u32 n, bool fd)
-{
+static char *send_words(session_t *s, char *o, const word_t *w, u32 n, bool fd) {
     u32 word, len;
     if (n < 3)
         return put_error(o, "bad word count");
@@ -1316,9 +1333,8 @@ static char *send_words(session_t *s, char *o, const word_t *w, u32 n, bool fd)
         return put_error(o, "bad id");
     if (w[2].n == 1 && w[2].p[0] >= '0' && w[2].p[0] <= '8')
         len = (u32)(w[2].p[0] - '0');
-    else if (fd && w[2].n == 2 && w[2].p[0] >= '1' && w[2].p[0] <= '9'
-             && w[2].p[1] >= '0' && w[2].p[1] <= '9'
-             && is_fd_length((u32)((w[2].p[0] - '0') * 10 + w[2].p[1] - '0')))
+    else if (fd && w[2].n == 2 && w[2].p[0] >= '1' && w[2].p[0] <= '9' && w[2].p[1] >= '0' && w[2].p[1] <= '9' &&
+             is_fd_length((u32)((w[2].p[0] - '0') * 10 + w[2].p[1] - '0')))
         len = (u32)((w[2].p[0] - '0') * 10 + w[2].p[1] - '0');
     else
         return put_error(o, "bad length");
@@ -1337,8 +1353,7 @@ static char *send_words(session_t *s, char *o, const word_t *w, u32 n, bool fd)
     return e->s ? put_error(o, refusal_text[e->s]) : o;
 }
 
-static char *filter_words(session_t *s, char *o, const word_t *w, u32 n)
-{
+static char *filter_words(session_t *s, char *o, const word_t *w, u32 n) {
     if (n < 2)
         return put_error(o, "bad word count");
     u32 count = 0;
@@ -1366,8 +1381,7 @@ static char *filter_words(session_t *s, char *o, const word_t *w, u32 n)
 }
 
 /* One whole message; the byte at end can be read. */
-static char *message(session_t *s, const char *p, const char *end, char *o)
-{
+static char *message(session_t *s, const char *p, const char *end, char *o) {
     word_t w[MAX_INSIDE / 2 + 1];
     u32 n = 0, c, word;
     for (;;) {
@@ -1378,7 +1392,7 @@ static char *message(session_t *s, const char *p, const char *end, char *o)
         const char *start = p;
         while (p < end && !(*p == ' ' || *p == '\t' || *p == '\r' || *p == '\n'))
             p++;
-        w[n++] = (word_t){ start, (u32)(p - start) };
+        w[n++] = (word_t){start, (u32)(p - start)};
     }
     if (n == 0)
         return put_error(o, "empty message");
@@ -1391,10 +1405,11 @@ static char *message(session_t *s, const char *p, const char *end, char *o)
         return put_error(o, "wrong state");
     u32 number = s->socket ? s->socket->number : 0;
     switch (c) {
-    case C_BCM: case C_ISOTP: case C_CONTROL:
-        return put_error(o, "mode not supported");
-    case C_SEND: case C_SENDFD:
-        return send_words(s, o, w, n, c == C_SENDFD);
+    case C_BCM:
+    case C_ISOTP:
+    case C_CONTROL: return put_error(o, "mode not supported");
+    case C_SEND:
+    case C_SENDFD: return send_words(s, o, w, n, c == C_SENDFD);
     case C_SENDRTR:
         if (n != 3)
             return put_error(o, "bad word count");
@@ -1406,9 +1421,13 @@ static char *message(session_t *s, const char *p, const char *end, char *o)
             return put_error(o, refusal_text[RECORD_FULL]);
         c = do_send(number, s->socket, word | RTR_BIT, (u32)(w[2].p[0] - '0'))->s;
         return c ? put_error(o, refusal_text[c]) : o;
-    case C_FILTER:
-        return filter_words(s, o, w, n);
-    case C_JOIN: case C_LOOPBACK: case C_RECVOWN: case C_FDFRAMES: case C_ERRDATA: case C_ERRMASK:
+    case C_FILTER: return filter_words(s, o, w, n);
+    case C_JOIN:
+    case C_LOOPBACK:
+    case C_RECVOWN:
+    case C_FDFRAMES:
+    case C_ERRDATA:
+    case C_ERRMASK:
         if (n != 2)
             return put_error(o, "bad word count");
         if (c == C_ERRMASK) {
@@ -1424,8 +1443,11 @@ static char *message(session_t *s, const char *p, const char *end, char *o)
         }
         if (full())
             return put_error(o, refusal_text[RECORD_FULL]);
-        u32 which = c == C_JOIN ? O_JOIN : c == C_LOOPBACK ? O_LOOPBACK : c == C_RECVOWN ? O_RECVOWN
-                  : c == C_FDFRAMES ? O_FD : O_ERRMASK;
+        u32 which = c == C_JOIN       ? O_JOIN
+                    : c == C_LOOPBACK ? O_LOOPBACK
+                    : c == C_RECVOWN  ? O_RECVOWN
+                    : c == C_FDFRAMES ? O_FD
+                                      : O_ERRMASK;
         return put_refusal(o, do_option(number, s->socket, which, word)->s);
     case C_OPEN: {
         if (n != 2)
@@ -1441,12 +1463,10 @@ static char *message(session_t *s, const char *p, const char *end, char *o)
     if (n != 1)
         return put_error(o, "bad word count");
     switch (c) {
-    case C_ECHO:
-        return LIT(o, "< echo >");
-    case C_STATS:
-        return put_stats(o, s);
+    case C_ECHO: return LIT(o, "< echo >");
+    case C_STATS: return put_stats(o, s);
     case C_STATUS: {
-        static const char *const state_text[4] = { "active ", "warning ", "passive ", "off " };
+        static const char *const state_text[4] = {"active ", "warning ", "passive ", "off "};
         const iface_t *f = iface + s->iface;
         size_t len = strlen(state_text[f->state]);
         o = LIT(o, "< status ");
@@ -1482,8 +1502,7 @@ static char *message(session_t *s, const char *p, const char *end, char *o)
 /* A `send` in its plainest spelling, from the byte after `<`: answers the byte
  * after `>`, or NULL for everything else.  A byte that is no digit, no space and
  * no `>` is at the end of what can be read. */
-static inline const char *plain_send(session_t *s, const char *p, char **o)
-{
+static inline const char *plain_send(session_t *s, const char *p, char **o) {
     if (memcmp(p, " send ", 6) != 0)
         return NULL;
     p += 6;
@@ -1525,7 +1544,7 @@ static inline const char *plain_send(session_t *s, const char *p, char **o)
         *o = put_error(*o, refusal_text[RECORD_FULL]);
         return p + 1;
     }
-    frames[frame_end + 1] = data;       /* little-endian */
+    frames[frame_end + 1] = data; /* little-endian */
     u32 refusal = do_send(s->socket->number, s->socket, word, len)->s;
     if (UNLIKELY(refusal))
         *o = put_error(*o, refusal_text[refusal]);
@@ -1533,8 +1552,7 @@ static inline const char *plain_send(session_t *s, const char *p, char **o)
 }
 
 /* The next `<` or `>`, or the end. */
-static inline const char *next_mark(const char *p, const char *end)
-{
+static inline const char *next_mark(const char *p, const char *end) {
     while (end - p >= 8) {
         u64 x;
         memcpy(&x, p, 8);
@@ -1550,8 +1568,7 @@ static inline const char *next_mark(const char *p, const char *end)
 }
 
 /* The byte at end is the line's LF. */
-static char *feed(session_t *s, const char *p, const char *end, char *o)
-{
+static char *feed(session_t *s, const char *p, const char *end, char *o) {
     while (s->mode != ENDED) {
         if (!s->inside) {
             while (p < end && *p != '<')
@@ -1603,8 +1620,7 @@ static char *feed(session_t *s, const char *p, const char *end, char *o)
     return o;
 }
 
-static inline char *put_item(char *o, const entry *e, bool errdata)
-{
+static inline char *put_item(char *o, const entry *e, bool errdata) {
     const entry *from = record + e->y;
     if (LIKELY(e->a == GOT_DATA)) {
         const frame *f = frame_at(from->x);
@@ -1640,8 +1656,7 @@ static inline char *put_item(char *o, const entry *e, bool errdata)
     return o;
 }
 
-static char *drain(session_t *s, char *o)
-{
+static char *drain(session_t *s, char *o) {
     if (s->mode != RAW)
         return o;
     u32 number = s->socket->number;
@@ -1658,10 +1673,12 @@ static char *drain(session_t *s, char *o)
 /* ---------------------------------------------------------------- bench */
 
 /* Names of a set joined by commas; the last text for each winner is kept. */
-static struct { u32 set, len; char text[256 + 16]; } set_text[MAX_IFACES];
+static struct {
+    u32 set, len;
+    char text[256 + 16];
+} set_text[MAX_IFACES];
 
-static char *put_set(char *o, u32 set)
-{
+static char *put_set(char *o, u32 set) {
     if (!set) {
         *o = '-';
         return o + 1;
@@ -1674,8 +1691,7 @@ static char *put_set(char *o, u32 set)
     return o - 1;
 }
 
-static char *attempt_line(char *o)
-{
+static char *attempt_line(char *o) {
     if (full())
         return LIT(o, "record full\n");
     u32 verdict = GOOD, set = 0;
@@ -1690,8 +1706,8 @@ static char *attempt_line(char *o)
     if (cls == IDLE)
         o = LIT(o, "idle");
     else {
-        static const char middle[5][12] = { "", " done ", " lastbit ", " destroyed ", " noack " };
-        static const u8 middle_len[5] = { 0, 6, 9, 11, 7 };
+        static const char middle[5][12] = {"", " done ", " lastbit ", " destroyed ", " noack "};
+        static const u8 middle_len[5] = {0, 6, 9, 11, 7};
         o = LIT(o, "tried ");
         memcpy(o, name[w], 16);
         o += name_len[w];
@@ -1717,8 +1733,7 @@ static char *attempt_line(char *o)
     return o;
 }
 
-static bool read_moment(const char *p, const char *end, u64 *m)
-{
+static bool read_moment(const char *p, const char *end, u64 *m) {
     const char *start = p;
     u64 v = 0;
     while (p < end && *p >= '0' && *p <= '9' && p - start < 11)
@@ -1735,8 +1750,7 @@ static bool read_moment(const char *p, const char *end, u64 *m)
 }
 
 /* A session number at p; the byte after it, or NULL. */
-static inline const char *read_session(const char *p, const char *end, u32 *s)
-{
+static inline const char *read_session(const char *p, const char *end, u32 *s) {
     if (p == end || *p < '1' || *p > '9')
         return NULL;
     u32 v = (u32)(*p++ - '0');
@@ -1746,16 +1760,14 @@ static inline const char *read_session(const char *p, const char *end, u32 *s)
     return v <= MAX_SESSION ? p : NULL;
 }
 
-static inline char *put_number(char *o, u32 s)
-{
+static inline char *put_number(char *o, u32 s) {
     o = put_u32(o, s);
     *o++ = ' ';
     return o;
 }
 
 /* One line; the byte at end can be read and is LF.  False for a bad line. */
-static inline bool line(const char *p, const char *end, char **at)
-{
+static inline bool line(const char *p, const char *end, char **at) {
     size_t n = (size_t)(end - p);
     char *o = *at, *from;
     const char *q;
@@ -1811,8 +1823,7 @@ static inline bool line(const char *p, const char *end, char **at)
             do_close(session[number].socket->number, session[number].socket);
         session[number].mode = ENDED;
         return true;
-    default:
-        return false;
+    default: return false;
     }
     if (o != from) {
         *o++ = '\n';
@@ -1826,8 +1837,7 @@ static char input[MAX_LINE + 1 + CHUNK + 64];
 
 static u32 bad_line;
 
-static const char *bench(void)
-{
+static const char *bench(void) {
     size_t kept = 0, total = 0;
     u32 number = 0;
     char *o = out;
@@ -1882,8 +1892,7 @@ static const char *bench(void)
     return fault;
 }
 
-static void write_record(const char *path)
-{
+static void write_record(const char *path) {
     int fd = open(path, O_WRONLY | O_CREAT | O_TRUNC, 0666);
     if (fd < 0) {
         fprintf(stderr, "canbusd: cannot open %s\n", path);
@@ -1892,8 +1901,8 @@ static void write_record(const char *path)
     out_fd = fd;
     u32 version = seen_fd ? 3 : config.auto_restart ? 2 : 1;
     char *o = out;
-    o += sprintf(o, "canbus record %u\nbus %u %s %04X %u %u", version, config.ifaces,
-                 config.peers ? "peers" : "always", config.reporting, config.tx_capacity, limit);
+    o += sprintf(o, "canbus record %u\nbus %u %s %04X %u %u", version, config.ifaces, config.peers ? "peers" : "always",
+                 config.reporting, config.tx_capacity, limit);
     if (version > 1)
         o += sprintf(o, " %u", config.auto_restart);
     *o++ = '\n';
@@ -1912,15 +1921,15 @@ static void write_record(const char *path)
 /* A line is right if what the replay gives has exactly its text.  Only a line
  * that differs is read by the strict rules below, to know `bad line` from `wrong`. */
 
-static inline socket_t *socket_of(u64 number)
-{
+static inline socket_t *socket_of(u64 number) {
     return number < sockets_ever && slot_of[number] ? slots + slot_of[number] - 1 : NULL;
 }
 
-typedef struct { const char *p, *end; } cursor;
+typedef struct {
+    const char *p, *end;
+} cursor;
 
-static bool take(cursor *c, const char *text)
-{
+static bool take(cursor *c, const char *text) {
     size_t n = strlen(text);
     if ((size_t)(c->end - c->p) < n || memcmp(c->p, text, n) != 0)
         return false;
@@ -1928,8 +1937,7 @@ static bool take(cursor *c, const char *text)
     return true;
 }
 
-static bool take_number(cursor *c, u64 most, u64 *v)
-{
+static bool take_number(cursor *c, u64 most, u64 *v) {
     const char *start = c->p;
     u64 x = 0;
     while (c->p < c->end && *c->p >= '0' && *c->p <= '9') {
@@ -1943,7 +1951,7 @@ static bool take_number(cursor *c, u64 most, u64 *v)
     return c->p > start && !(*start == '0' && c->p - start > 1) && x <= most;
 }
 
-static bool take_hex(cursor *c, u32 digits, u32 *v)     /* upper case alone */
+static bool take_hex(cursor *c, u32 digits, u32 *v) /* upper case alone */
 {
     u32 x = 0;
     if ((size_t)(c->end - c->p) < digits)
@@ -1959,8 +1967,7 @@ static bool take_hex(cursor *c, u32 digits, u32 *v)     /* upper case alone */
     return true;
 }
 
-static bool take_moment(cursor *c, u64 *m)
-{
+static bool take_moment(cursor *c, u64 *m) {
     u64 seconds, micros = 0;
     if (!take_number(c, 9999999999ull, &seconds) || c->end - c->p < 7 || *c->p != '.')
         return false;
@@ -1976,8 +1983,7 @@ static bool take_moment(cursor *c, u64 *m)
 
 /* A data, remote or FD frame in its written spelling; the data goes to the end
  * of the frames. */
-static bool take_frame(cursor *c, u32 *word, u32 *len)
-{
+static bool take_frame(cursor *c, u32 *word, u32 *len) {
     const char *mark = c->p;
     while (mark < c->end && hex_value[(u8)*mark] < 16)
         mark++;
@@ -2015,8 +2021,7 @@ static bool take_frame(cursor *c, u32 *word, u32 *len)
 
 /* The event at c; carried out where `run` is set and its spelling is right so
  * far.  Answers its kind, or -1. */
-static int take_event(cursor *c, bool run, bool *fd, entry **done)
-{
+static int take_event(cursor *c, bool run, bool *fd, entry **done) {
     u64 i, n, m;
     u32 v, len;
     *fd = false;
@@ -2025,8 +2030,7 @@ static int take_event(cursor *c, bool run, bool *fd, entry **done)
         return -1;
     switch (*c->p) {
     case 's':
-        if (!take(c, "send ") || !take_number(c, UINT32_MAX, &n) || !take(c, " ")
-            || !take_frame(c, &v, &len))
+        if (!take(c, "send ") || !take_number(c, UINT32_MAX, &n) || !take(c, " ") || !take_frame(c, &v, &len))
             return -1;
         *fd = v & FD_BIT;
         if (run)
@@ -2040,8 +2044,7 @@ static int take_event(cursor *c, bool run, bool *fd, entry **done)
                 *done = do_receive((u32)n, socket_of(n));
             return RECEIVE;
         }
-        if (!take(c, "restart ") || !take_number(c, MAX_IFACES - 1, &i) || !take(c, " ")
-            || !take_moment(c, &m))
+        if (!take(c, "restart ") || !take_number(c, MAX_IFACES - 1, &i) || !take(c, " ") || !take_moment(c, &m))
             return -1;
         if (run)
             *done = do_restart((u32)i, moment_place(m));
@@ -2060,8 +2063,7 @@ static int take_event(cursor *c, bool run, bool *fd, entry **done)
         return ATTEMPT;
     case 'o':
         if (take(c, "open ")) {
-            if (!take_number(c, MAX_IFACES - 1, &i) || !take(c, " ")
-                || !take_number(c, UINT64_MAX, &n))
+            if (!take_number(c, MAX_IFACES - 1, &i) || !take(c, " ") || !take_number(c, UINT64_MAX, &n))
                 return -1;
             socket_t *made;
             if (run)
@@ -2074,8 +2076,8 @@ static int take_event(cursor *c, bool run, bool *fd, entry **done)
         for (which = O_LOOPBACK; which <= O_FD; which++)
             if (take(c, option_text[which]))
                 break;
-        if (which > O_FD || !take(c, " ") || !take_hex(c, which == O_ERRMASK ? 8 : 1, &v)
-            || (which != O_ERRMASK && v > 1))
+        if (which > O_FD || !take(c, " ") || !take_hex(c, which == O_ERRMASK ? 8 : 1, &v) ||
+            (which != O_ERRMASK && v > 1))
             return -1;
         *fd = which == O_FD;
         if (run)
@@ -2088,13 +2090,12 @@ static int take_event(cursor *c, bool run, bool *fd, entry **done)
             *done = do_close((u32)n, socket_of(n));
         return CLOSE;
     case 'f':
-        if (!take(c, "filters ") || !take_number(c, UINT32_MAX, &i) || !take(c, " ")
-            || !take_number(c, MAX_FILTERS, &n))
+        if (!take(c, "filters ") || !take_number(c, UINT32_MAX, &i) || !take(c, " ") ||
+            !take_number(c, MAX_FILTERS, &n))
             return -1;
         for (m = 0; m < n; m++) {
             u32 *to = filter_list[filter_end + m];
-            if (!take(c, " ") || !take_hex(c, 8, to) || !take(c, " ") || !take_hex(c, 8, to + 1)
-                || to[1] & FD_BIT)
+            if (!take(c, " ") || !take_hex(c, 8, to) || !take(c, " ") || !take_hex(c, 8, to + 1) || to[1] & FD_BIT)
                 return -1;
         }
         if (run)
@@ -2104,8 +2105,7 @@ static int take_event(cursor *c, bool run, bool *fd, entry **done)
     return -1;
 }
 
-static bool take_reply(cursor *c, int kind, bool fd_send, bool *fd)
-{
+static bool take_reply(cursor *c, int kind, bool fd_send, bool *fd) {
     u64 n;
     u32 v, len;
     for (u32 r = NO_INTERFACE; r <= FD_OFF; r++) {
@@ -2115,43 +2115,39 @@ static bool take_reply(cursor *c, int kind, bool fd_send, bool *fd)
     }
 #define REST(x) ((x) && c->p == c->end)
     switch (kind) {
-    case OPEN:
-        return REST(take(c, "socket ") && take_number(c, UINT32_MAX, &n));
+    case OPEN: return REST(take(c, "socket ") && take_number(c, UINT32_MAX, &n));
     case CLOSE:
-        return REST(take(c, "closed ") && take_number(c, UINT64_MAX, &n) && take(c, " ")
-                    && take_number(c, UINT64_MAX, &n));
-    case FILTERS: case OPTION: case RESTART:
-        return REST(take(c, "ok"));
-    case SEND:
-        return REST(take(c, "number ") && take_number(c, UINT64_MAX, &n));
+        return REST(take(c, "closed ") && take_number(c, UINT64_MAX, &n) && take(c, " ") &&
+                    take_number(c, UINT64_MAX, &n));
+    case FILTERS:
+    case OPTION:
+    case RESTART: return REST(take(c, "ok"));
+    case SEND: return REST(take(c, "number ") && take_number(c, UINT64_MAX, &n));
     case RECEIVE:
         if (take(c, "none"))
             return c->p == c->end;
         if (take(c, "data ")) {
-            if (!take_number(c, MAX_IFACES - 1, &n) || !take(c, " ")
-                || !take_number(c, UINT64_MAX, &n) || !take(c, " ") || !take_frame(c, &v, &len))
+            if (!take_number(c, MAX_IFACES - 1, &n) || !take(c, " ") || !take_number(c, UINT64_MAX, &n) ||
+                !take(c, " ") || !take_frame(c, &v, &len))
                 return false;
             *fd |= (v & FD_BIT) != 0;
             return REST(take(c, " ") && take_moment(c, &n));
         }
-        if (!take(c, "error ") || !take_number(c, MAX_IFACES - 1, &n) || !take(c, " ")
-            || !take_hex(c, 8, &v) || (v & 0xE0000000) != 0x20000000)
+        if (!take(c, "error ") || !take_number(c, MAX_IFACES - 1, &n) || !take(c, " ") || !take_hex(c, 8, &v) ||
+            (v & 0xE0000000) != 0x20000000)
             return false;
-        return REST(take(c, "#") && take_hex(c, 8, &v) && take_hex(c, 8, &v) && take(c, " ")
-                    && take_moment(c, &n));
+        return REST(take(c, "#") && take_hex(c, 8, &v) && take_hex(c, 8, &v) && take(c, " ") && take_moment(c, &n));
     }
     if (!take(c, "idle")) {
-        if (!take(c, "tried ") || !take_number(c, MAX_IFACES - 1, &n) || !take(c, " ")
-            || !take_number(c, UINT64_MAX, &n) || !take(c, " ") || !take_frame(c, &v, &len)
-            || !take(c, " "))
+        if (!take(c, "tried ") || !take_number(c, MAX_IFACES - 1, &n) || !take(c, " ") ||
+            !take_number(c, UINT64_MAX, &n) || !take(c, " ") || !take_frame(c, &v, &len) || !take(c, " "))
             return false;
         *fd |= (v & FD_BIT) != 0;
         u32 k;
         for (k = DONE; k <= NOACK; k++)
             if (take(c, class_text[k]))
                 break;
-        if (k > NOACK || !take(c, " ") || !take_hex(c, 4, &v) || !take(c, " ")
-            || !take_hex(c, 4, &v))
+        if (k > NOACK || !take(c, " ") || !take_hex(c, 4, &v) || !take(c, " ") || !take_hex(c, 4, &v))
             return false;
     }
     if (c->p == c->end)
@@ -2160,9 +2156,8 @@ static bool take_reply(cursor *c, int kind, bool fd_send, bool *fd)
 #undef REST
 }
 
-static bool strict_line(const char *p, const char *end, u32 version, bool *fd)
-{
-    cursor c = { p, end };
+static bool strict_line(const char *p, const char *end, u32 version, bool *fd) {
+    cursor c = {p, end};
     entry *none;
     bool fd_event;
     int kind = take_event(&c, false, &fd_event, &none);
@@ -2172,15 +2167,13 @@ static bool strict_line(const char *p, const char *end, u32 version, bool *fd)
     return take_reply(&c, kind, kind == SEND && fd_event, fd) && (!*fd || version == 3);
 }
 
-static void bad_audit_line(u64 number)
-{
+static void bad_audit_line(u64 number) {
     fprintf(stderr, "canbusd: line %llu: bad line\n", (unsigned long long)number);
     exit(1);
 }
 
-static bool read_config(const char *p, const char *end, u32 version)
-{
-    cursor c = { p, end };
+static bool read_config(const char *p, const char *end, u32 version) {
+    cursor c = {p, end};
     u64 ifaces, tx, most, restart = 0;
     u32 reporting;
     if (!take(&c, "bus ") || !take_number(&c, MAX_IFACES, &ifaces) || !ifaces || !take(&c, " "))
@@ -2188,12 +2181,10 @@ static bool read_config(const char *p, const char *end, u32 version)
     config.peers = take(&c, "peers");
     if (!config.peers && !take(&c, "always"))
         return false;
-    if (!take(&c, " ") || !take_hex(&c, 4, &reporting) || !take(&c, " ")
-        || !take_number(&c, MAX_TX, &tx) || !tx || !take(&c, " ")
-        || !take_number(&c, MAX_EVENTS, &most) || !most)
+    if (!take(&c, " ") || !take_hex(&c, 4, &reporting) || !take(&c, " ") || !take_number(&c, MAX_TX, &tx) || !tx ||
+        !take(&c, " ") || !take_number(&c, MAX_EVENTS, &most) || !most)
         return false;
-    if (version > 1 && (!take(&c, " ") || !take_number(&c, MAX_RESTART, &restart)
-                        || (version == 2 && restart == 0)))
+    if (version > 1 && (!take(&c, " ") || !take_number(&c, MAX_RESTART, &restart) || (version == 2 && restart == 0)))
         return false;
     config.ifaces = (u32)ifaces;
     config.reporting = reporting & ((1u << ifaces) - 1);
@@ -2203,8 +2194,7 @@ static bool read_config(const char *p, const char *end, u32 version)
     return c.p == c.end;
 }
 
-static int audit(const char *path)
-{
+static int audit(const char *path) {
     size_t size;
     const char *text = read_file(path, &size), *end = text + size;
     u32 version = 0;
@@ -2227,12 +2217,11 @@ static int audit(const char *path)
     bool any_fd = false, fd;
     for (p = q + 1;; number++, count++) {
         if (LIKELY(wrong == UINT64_MAX && entries < limit)) {
-            cursor c = { p, end };
+            cursor c = {p, end};
             entry *e;
             if (LIKELY(take_event(&c, true, &fd, &e) >= 0)) {
                 size_t n = (size_t)(put_entry(out, e) - out);
-                if (LIKELY((size_t)(end - p) > n && memcmp(p, out, n) == 0 && p[n] == '\n'
-                           && (!fd || version == 3))) {
+                if (LIKELY((size_t)(end - p) > n && memcmp(p, out, n) == 0 && p[n] == '\n' && (!fd || version == 3))) {
                     any_fd |= fd;
                     p += n + 1;
                     continue;
@@ -2271,16 +2260,16 @@ static int audit(const char *path)
 
 /* ---------------------------------------------------------------- the command line */
 
-static void usage(const char *what)
-{
-    fprintf(stderr, "error: %s\nusage: limit bench [--ack always|peers] [--report] [--txqueue N]"
+static void usage(const char *what) {
+    fprintf(stderr,
+            "error: %s\nusage: limit bench [--ack always|peers] [--report] [--txqueue N]"
             " [--rxqueue N] [--limit N]\n             [--record FILE] [--auto-restart N] BUS\n"
-            "       limit audit FILE\n", what);
+            "       limit audit FILE\n",
+            what);
     exit(2);
 }
 
-static u32 number_word(const char *p)
-{
+static u32 number_word(const char *p) {
     u64 v = 0;
     if (!*p)
         usage("a number is wanted");
@@ -2294,11 +2283,10 @@ static u32 number_word(const char *p)
     return (u32)v;
 }
 
-static int run_bench(int n, char **words)
-{
-    static const char *const known[] = { "--ack", "--txqueue", "--rxqueue", "--limit", "--record",
-                                         "--auto-restart", "--report" };
-    const char *value[7] = { 0 }, *bus = NULL;
+static int run_bench(int n, char **words) {
+    static const char *const known[] = {"--ack",    "--txqueue",      "--rxqueue", "--limit",
+                                        "--record", "--auto-restart", "--report"};
+    const char *value[7] = {0}, *bus = NULL;
     bool positional = false;
     for (int i = 0; i < n; i++) {
         const char *w = words[i];
@@ -2345,9 +2333,8 @@ static int run_bench(int n, char **words)
     config.reporting = value[6] ? (1u << config.ifaces) - 1 : 0;
     if (at)
         read_script(at + 1);
-    if (config.tx_capacity < 1 || config.tx_capacity > MAX_TX || rx_capacity < 1
-        || rx_capacity > MAX_RX || limit < 1 || limit > MAX_EVENTS
-        || config.auto_restart > MAX_RESTART)
+    if (config.tx_capacity < 1 || config.tx_capacity > MAX_TX || rx_capacity < 1 || rx_capacity > MAX_RX || limit < 1 ||
+        limit > MAX_EVENTS || config.auto_restart > MAX_RESTART)
         die("bad bus");
     start_bus(MAX_INPUT);
     now = moment_place(0);
@@ -2366,8 +2353,7 @@ static int run_bench(int n, char **words)
     return 0;
 }
 
-int main(int argc, char **argv)
-{
+int main(int argc, char **argv) {
     make_tables();
     if (argc >= 2 && strcmp(argv[1], "bench") == 0)
         return run_bench(argc - 2, argv + 2);

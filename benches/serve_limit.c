@@ -36,14 +36,22 @@ typedef unsigned long long u64;
 #define LIKELY(x) __builtin_expect(!!(x), 1)
 #define UNLIKELY(x) __builtin_expect(!!(x), 0)
 
-enum { MAX_IFACES = 16, MAX_SESSIONS = 64, MAX_TX = 1024, MAX_RX = 65536, MAX_INSIDE = 1024,
-       MAX_FILTERS = 512, BLOCK = 65536, ITEM = 64, LISTENER = MAX_SESSIONS };
+enum {
+    MAX_IFACES = 16,
+    MAX_SESSIONS = 64,
+    MAX_TX = 1024,
+    MAX_RX = 65536,
+    MAX_INSIDE = 1024,
+    MAX_FILTERS = 512,
+    BLOCK = 65536,
+    ITEM = 64,
+    LISTENER = MAX_SESSIONS
+};
 
 #define EXT_BIT 0x80000000u
 #define ERR_BIT 0x20000000u
 
-static void die(const char *text)
-{
+static void die(const char *text) {
     fprintf(stderr, "serve_limit: %s\n", text);
     exit(1);
 }
@@ -54,19 +62,18 @@ enum wrong { RIGHT, OWNED, DROP, SWAP, DOUBLE, DATA, REFUSE, FORGET, COUNT, MUTE
 
 #ifdef WRONG
 enum { CAN_BE_WRONG = 1 };
-static const char *const wrong_text[WRONGS] = { "right", "owned", "drop", "swap", "double", "data",
-                                                "refuse", "forget", "count", "mute" };
+static const char *const wrong_text[WRONGS] = {"right", "owned",  "drop",   "swap",  "double",
+                                               "data",  "refuse", "forget", "count", "mute"};
 static u32 wrong, wrong_turns, wrong_every = 1000;
 
-static bool turn(u32 kind)              /* true each 1000th time */
+static bool turn(u32 kind) /* true each 1000th time */
 {
     return wrong == kind && ++wrong_turns % wrong_every == 0;
 }
 #else
 enum { CAN_BE_WRONG = 0 };
 
-static inline bool turn(u32 kind)
-{
+static inline bool turn(u32 kind) {
     (void)kind;
     return false;
 }
@@ -76,8 +83,8 @@ static inline bool turn(u32 kind)
 
 enum mode { NOT_USED, NO_BUS, OPENED, RAW, ENDED, GONE };
 
-typedef struct {                /* a frame that waits to be sent */
-    u32 key, word, owner;       /* owner: the number of the sending socket */
+typedef struct {          /* a frame that waits to be sent */
+    u32 key, word, owner; /* owner: the number of the sending socket */
     u8 len, loopback, data[8];
 } frame;
 
@@ -93,9 +100,9 @@ typedef struct {
     bool inside, recv_own, loopback, all, blocked;
     u32 number, filters;
     u32 (*filter)[2];
-    char *text;                 /* from..cut: being written; cut..to: not taken yet */
+    char *text; /* from..cut: being written; cut..to: not taken yet */
     size_t from, cut, to, size;
-    u32 waiting;                /* frames in cut..to */
+    u32 waiting; /* frames in cut..to */
     u64 taken, dropped;
     u32 kept_len, held_len, held_word;
     char kept[MAX_INSIDE + 16], held[ITEM];
@@ -104,8 +111,8 @@ typedef struct {
 static char name[MAX_IFACES][16];
 static u32 name_len[MAX_IFACES], ifaces;
 static iface_t iface[MAX_IFACES];
-static u64 heads[MAX_IFACES];   /* key << 4 | interface */
-static u32 with_head;           /* the interfaces that have a head */
+static u64 heads[MAX_IFACES]; /* key << 4 | interface */
+static u32 with_head;         /* the interfaces that have a head */
 static u32 tx_capacity = 10, rx_capacity = 256, tx_mask;
 static session_t session[MAX_SESSIONS];
 static session_t *raw[MAX_SESSIONS];
@@ -115,10 +122,9 @@ static bool echo_only;
 static int epoll_fd, listen_fd;
 static char block[BLOCK + 64];
 static char hex_pair[256][2], dec_pair[100][2];
-static u8 hex_value[256];       /* 255: no digit */
+static u8 hex_value[256]; /* 255: no digit */
 
-static void make_tables(void)
-{
+static void make_tables(void) {
     static const char digits[] = "0123456789ABCDEF";
     memset(hex_value, 255, sizeof hex_value);
     for (int i = 0; i < 256; i++) {
@@ -137,16 +143,14 @@ static void make_tables(void)
 
 /* ---------------------------------------------------------------- output of a session */
 
-static void watch(const session_t *s, int op)
-{
-    struct epoll_event e = { .events = s->blocked ? EPOLLOUT : EPOLLIN };
+static void watch(const session_t *s, int op) {
+    struct epoll_event e = {.events = s->blocked ? EPOLLOUT : EPOLLIN};
     e.data.u32 = (u32)(s - session);
     epoll_ctl(epoll_fd, op, s->fd, &e);
 }
 
 /* A place for n more bytes after what is there. */
-static char *place(session_t *s, size_t n)
-{
+static char *place(session_t *s, size_t n) {
     if (UNLIKELY(s->size - s->to < n)) {
         if (s->from > s->size / 2) {
             memmove(s->text, s->text + s->from, s->to - s->from);
@@ -164,8 +168,7 @@ static char *place(session_t *s, size_t n)
     return s->text + s->to;
 }
 
-static void answer(session_t *s, const char *text)
-{
+static void answer(session_t *s, const char *text) {
     size_t n = strlen(text);
     if (n) {
         memcpy(place(s, n), text, n);
@@ -174,8 +177,7 @@ static void answer(session_t *s, const char *text)
 }
 
 /* Takes and writes what is queued, as far as the socket takes it. */
-static void flush(session_t *s)
-{
+static void flush(session_t *s) {
     while (s->mode != GONE) {
         if (s->from == s->cut) {
             s->taken += s->waiting;
@@ -207,15 +209,13 @@ static void flush(session_t *s)
 /* ---------------------------------------------------------------- the bus */
 
 /* The lesser key goes before. */
-static inline u32 arbitration_key(u32 word)
-{
+static inline u32 arbitration_key(u32 word) {
     if (!(word & EXT_BIT))
         return (word & 0x7FF) << 21;
     return (word & 0x1FFC0000) << 3 | 3u << 19 | (word & 0x3FFFF) << 1;
 }
 
-static bool passes(const session_t *s, u32 word)
-{
+static bool passes(const session_t *s, u32 word) {
     for (u32 i = 0; i < s->filters; i++) {
         u32 id = s->filter[i][0], mask = s->filter[i][1];
         if (((word & mask) == (id & mask)) != !!(id & ERR_BIT))
@@ -224,8 +224,7 @@ static bool passes(const session_t *s, u32 word)
     return false;
 }
 
-static inline char *put_id(char *o, u32 word)
-{
+static inline char *put_id(char *o, u32 word) {
     if (word & EXT_BIT) {
         for (int shift = 24; shift >= 0; shift -= 8, o += 2)
             memcpy(o, hex_pair[(word & 0x1FFFFFFF) >> shift & 255], 2);
@@ -236,8 +235,7 @@ static inline char *put_id(char *o, u32 word)
     return o + 3;
 }
 
-static inline char *put_moment(char *o)
-{
+static inline char *put_moment(char *o) {
     static time_t second = -1;
     static char text[24];
     static u32 len;
@@ -256,8 +254,7 @@ static inline char *put_moment(char *o)
     return o + 6;
 }
 
-static inline void queue_text(session_t *s, const char *text, u32 len)
-{
+static inline void queue_text(session_t *s, const char *text, u32 len) {
     if (UNLIKELY(s->waiting >= rx_capacity)) {
         if (!s->blocked)
             flush(s);
@@ -271,8 +268,7 @@ static inline void queue_text(session_t *s, const char *text, u32 len)
     s->waiting++;
 }
 
-static void wrong_post(session_t *s, char *text, u32 len, u32 word)
-{
+static void wrong_post(session_t *s, char *text, u32 len, u32 word) {
     if (turn(DROP))
         return;
     if (turn(OWNED)) {
@@ -299,8 +295,7 @@ static void wrong_post(session_t *s, char *text, u32 len, u32 word)
 }
 
 /* Attempts until no frame waits. */
-static void run_bus(void)
-{
+static void run_bus(void) {
     while (with_head) {
         u64 best = UINT64_MAX;
         for (u32 set = with_head; set; set &= set - 1) {
@@ -338,8 +333,7 @@ static void run_bus(void)
     }
 }
 
-static inline void send_frame(session_t *s, u32 word, u32 len, u64 data)
-{
+static inline void send_frame(session_t *s, u32 word, u32 len, u64 data) {
     iface_t *f = iface + s->iface;
     if (UNLIKELY(f->len == tx_capacity)) {
         f->refused++;
@@ -359,15 +353,14 @@ static inline void send_frame(session_t *s, u32 word, u32 len, u64 data)
     at->owner = s->number;
     at->len = (u8)len;
     at->loopback = s->loopback;
-    memcpy(at->data, &data, 8);         /* little-endian */
+    memcpy(at->data, &data, 8); /* little-endian */
     if (f->len++ == 0) {
         heads[s->iface] = (u64)at->key << 4 | s->iface;
         with_head |= 1u << s->iface;
     }
 }
 
-static void leave_bus(session_t *s)
-{
+static void leave_bus(session_t *s) {
     for (u32 i = 0; i < raws; i++)
         if (raw[i] == s)
             raw[i--] = raw[--raws];
@@ -375,15 +368,16 @@ static void leave_bus(session_t *s)
 
 /* ---------------------------------------------------------------- messages */
 
-typedef struct { const char *p; u32 n; } word_t;
+typedef struct {
+    const char *p;
+    u32 n;
+} word_t;
 
-static bool is_word(word_t w, const char *text)
-{
+static bool is_word(word_t w, const char *text) {
     return strlen(text) == w.n && memcmp(w.p, text, w.n) == 0;
 }
 
-static bool read_hex(word_t w, u32 most, u32 *value)
-{
+static bool read_hex(word_t w, u32 most, u32 *value) {
     u32 v = 0;
     if (w.n > most)
         return false;
@@ -397,8 +391,7 @@ static bool read_hex(word_t w, u32 most, u32 *value)
     return true;
 }
 
-static bool read_id(word_t w, u32 *word)
-{
+static bool read_id(word_t w, u32 *word) {
     if (!read_hex(w, 8, word))
         return false;
     if (w.n == 8) {
@@ -408,8 +401,7 @@ static bool read_id(word_t w, u32 *word)
     return w.n >= 1 && w.n <= 3 && *word <= 0x7FF;
 }
 
-static const char *send_words(session_t *s, const word_t *w, u32 n)
-{
+static const char *send_words(session_t *s, const word_t *w, u32 n) {
     u32 word, byte;
     u64 data = 0;
     if (n < 3)
@@ -430,8 +422,7 @@ static const char *send_words(session_t *s, const word_t *w, u32 n)
     return "";
 }
 
-static const char *filter_words(session_t *s, const word_t *w, u32 n)
-{
+static const char *filter_words(session_t *s, const word_t *w, u32 n) {
     static u32 list[MAX_FILTERS][2];
     u32 count = 0;
     if (n < 2)
@@ -461,19 +452,17 @@ static const char *filter_words(session_t *s, const word_t *w, u32 n)
     return "< ok >";
 }
 
-static const char *stats_words(session_t *s)
-{
+static const char *stats_words(session_t *s) {
     static char text[256];
     flush(s);
     const iface_t *f = iface + s->iface;
     u64 dropped = s->dropped + (CAN_BE_WRONG && f->done && turn(COUNT));
-    snprintf(text, sizeof text, "< stats %llu %llu %llu %llu %llu %u 0 %llu >",
-             s->taken + s->waiting, dropped, s->taken, f->sent, f->done, f->len, f->refused);
+    snprintf(text, sizeof text, "< stats %llu %llu %llu %llu %llu %u 0 %llu >", s->taken + s->waiting, dropped,
+             s->taken, f->sent, f->done, f->len, f->refused);
     return text;
 }
 
-static const char *close_words(session_t *s)
-{
+static const char *close_words(session_t *s) {
     static char text[64];
     flush(s);
     leave_bus(s);
@@ -487,14 +476,13 @@ static const char *close_words(session_t *s)
 enum { IN_NO_BUS = 1 << NO_BUS, IN_OPENED = 1 << OPENED, IN_RAW = 1 << RAW };
 
 /* One whole message: the text of its answer. */
-static const char *message(session_t *s, const char *p, const char *end)
-{
-    static const struct { char text[10]; u8 modes, words; } commands[] = {
-        { "send", IN_RAW, 0 }, { "filter", IN_RAW, 0 }, { "open", IN_NO_BUS, 2 },
-        { "recvown", IN_RAW, 2 }, { "loopback", IN_RAW, 2 }, { "rawmode", IN_OPENED | IN_RAW, 1 },
-        { "stats", IN_RAW, 1 }, { "close", IN_RAW, 1 },
-        { "echo", IN_NO_BUS | IN_OPENED | IN_RAW, 1 }
-    };
+static const char *message(session_t *s, const char *p, const char *end) {
+    static const struct {
+        char text[10];
+        u8 modes, words;
+    } commands[] = {{"send", IN_RAW, 0},    {"filter", IN_RAW, 0},   {"open", IN_NO_BUS, 2},
+                    {"recvown", IN_RAW, 2}, {"loopback", IN_RAW, 2}, {"rawmode", IN_OPENED | IN_RAW, 1},
+                    {"stats", IN_RAW, 1},   {"close", IN_RAW, 1},    {"echo", IN_NO_BUS | IN_OPENED | IN_RAW, 1}};
     enum { SEND, FILTER, OPEN, RECVOWN, LOOPBACK, RAWMODE, STATS, CLOSE, ECHO, COMMANDS };
     word_t w[MAX_INSIDE / 2 + 1];
     u32 n = 0, c;
@@ -506,7 +494,7 @@ static const char *message(session_t *s, const char *p, const char *end)
         const char *start = p;
         while (p < end && !(*p == ' ' || *p == '\t' || *p == '\r' || *p == '\n'))
             p++;
-        w[n++] = (word_t){ start, (u32)(p - start) };
+        w[n++] = (word_t){start, (u32)(p - start)};
     }
     if (n == 0)
         return "< error empty message >";
@@ -520,10 +508,8 @@ static const char *message(session_t *s, const char *p, const char *end)
     if (commands[c].words && commands[c].words != n)
         return "< error bad word count >";
     switch (c) {
-    case SEND:
-        return send_words(s, w, n);
-    case FILTER:
-        return filter_words(s, w, n);
+    case SEND: return send_words(s, w, n);
+    case FILTER: return filter_words(s, w, n);
     case OPEN:
         for (u32 i = 0; i < ifaces; i++)
             if (name_len[i] == w[1].n && memcmp(name[i], w[1].p, w[1].n) == 0) {
@@ -532,7 +518,8 @@ static const char *message(session_t *s, const char *p, const char *end)
                 return "< ok >";
             }
         return "< error no such interface >";
-    case RECVOWN: case LOOPBACK:
+    case RECVOWN:
+    case LOOPBACK:
         if (!is_word(w[1], "0") && !is_word(w[1], "1"))
             return "< error bad number >";
         if (c == RECVOWN)
@@ -548,10 +535,8 @@ static const char *message(session_t *s, const char *p, const char *end)
             raw[raws++] = s;
         }
         return "< ok >";
-    case STATS:
-        return stats_words(s);
-    case CLOSE:
-        return close_words(s);
+    case STATS: return stats_words(s);
+    case CLOSE: return close_words(s);
     }
     return "< echo >";
 }
@@ -559,8 +544,7 @@ static const char *message(session_t *s, const char *p, const char *end)
 /* A `send` in its plainest spelling, from the byte after `<`: answers the byte
  * after `>`, or NULL for everything else.  A byte that is no digit, no space and
  * no `>` is at the end of what can be read. */
-static inline const char *plain_send(session_t *s, const char *p)
-{
+static inline const char *plain_send(session_t *s, const char *p) {
     if (memcmp(p, " send ", 6) != 0)
         return NULL;
     p += 6;
@@ -603,8 +587,7 @@ static inline const char *plain_send(session_t *s, const char *p)
 }
 
 /* The byte at end is LF, as is the one after what is kept. */
-static void feed(session_t *s, const char *p, const char *end)
-{
+static void feed(session_t *s, const char *p, const char *end) {
     while (s->mode != ENDED && s->mode != GONE) {
         if (!s->inside) {
             while (p < end && *p != '<')
@@ -648,8 +631,7 @@ static void feed(session_t *s, const char *p, const char *end)
 
 /* ---------------------------------------------------------------- sessions */
 
-static void readable(session_t *s)
-{
+static void readable(session_t *s) {
     ssize_t n = read(s->fd, block, BLOCK);
     if (n < 0 && (errno == EAGAIN || errno == EINTR))
         return;
@@ -664,8 +646,7 @@ static void readable(session_t *s)
     }
 }
 
-static void end_session(session_t *s)
-{
+static void end_session(session_t *s) {
     leave_bus(s);
     close(s->fd);
     free(s->filter);
@@ -674,8 +655,7 @@ static void end_session(session_t *s)
     ended++;
 }
 
-static void accept_all(void)
-{
+static void accept_all(void) {
     while (accepted < limit) {
         int fd = accept4(listen_fd, NULL, NULL, SOCK_NONBLOCK | SOCK_CLOEXEC);
         if (fd < 0) {
@@ -685,7 +665,7 @@ static void accept_all(void)
         }
         accepted++;
         int one = 1;
-        setsockopt(fd, IPPROTO_TCP, TCP_NODELAY, &one, sizeof one);     /* a Unix socket says no */
+        setsockopt(fd, IPPROTO_TCP, TCP_NODELAY, &one, sizeof one); /* a Unix socket says no */
         session_t *s = session;
         while (s < session + MAX_SESSIONS && s->mode != NOT_USED)
             s++;
@@ -711,9 +691,8 @@ static void accept_all(void)
     listen_fd = -1;
 }
 
-static void serve(void)
-{
-    struct epoll_event events[MAX_SESSIONS + 1], l = { .events = EPOLLIN };
+static void serve(void) {
+    struct epoll_event events[MAX_SESSIONS + 1], l = {.events = EPOLLIN};
     l.data.u32 = LISTENER;
     if (epoll_ctl(epoll_fd, EPOLL_CTL_ADD, listen_fd, &l) < 0)
         die("epoll fault");
@@ -742,15 +721,15 @@ static void serve(void)
 
 /* ---------------------------------------------------------------- the command line */
 
-static void usage(const char *what)
-{
-    fprintf(stderr, "error: %s\nusage: serve_limit [--port P | --unix PATH] [--sessions N]"
-            " [--txqueue N] [--rxqueue N]\n                   [--echo] [NAME,NAME..]\n", what);
+static void usage(const char *what) {
+    fprintf(stderr,
+            "error: %s\nusage: serve_limit [--port P | --unix PATH] [--sessions N]"
+            " [--txqueue N] [--rxqueue N]\n                   [--echo] [NAME,NAME..]\n",
+            what);
     exit(2);
 }
 
-static u32 number_word(const char *p, u32 least, u32 most)
-{
+static u32 number_word(const char *p, u32 least, u32 most) {
     u64 v = 0;
     if (!p || !*p)
         usage("a number is wanted");
@@ -763,8 +742,7 @@ static u32 number_word(const char *p, u32 least, u32 most)
     return (u32)v;
 }
 
-static void read_names(const char *p)
-{
+static void read_names(const char *p) {
     for (;; p++) {
         size_t n = strcspn(p, ",");
         if (n < 1 || n > 15 || ifaces == MAX_IFACES)
@@ -777,12 +755,11 @@ static void read_names(const char *p)
     }
 }
 
-static void listen_at(const char *path, u32 port)
-{
+static void listen_at(const char *path, u32 port) {
     int one = 1;
     listen_fd = socket(path ? AF_UNIX : AF_INET, SOCK_STREAM | SOCK_NONBLOCK | SOCK_CLOEXEC, 0);
     if (path) {
-        struct sockaddr_un a = { .sun_family = AF_UNIX };
+        struct sockaddr_un a = {.sun_family = AF_UNIX};
         if (strlen(path) >= sizeof a.sun_path)
             usage("PATH is too long");
         strcpy(a.sun_path, path);
@@ -790,20 +767,19 @@ static void listen_at(const char *path, u32 port)
             die("cannot listen");
         printf("listening %s\n", path);
     } else {
-        struct sockaddr_in a = { .sin_family = AF_INET, .sin_port = htons((uint16_t)port) };
+        struct sockaddr_in a = {.sin_family = AF_INET, .sin_port = htons((uint16_t)port)};
         socklen_t n = sizeof a;
         a.sin_addr.s_addr = htonl(INADDR_LOOPBACK);
         setsockopt(listen_fd, SOL_SOCKET, SO_REUSEADDR, &one, sizeof one);
-        if (bind(listen_fd, (struct sockaddr *)&a, sizeof a) < 0 || listen(listen_fd, 128) < 0
-            || getsockname(listen_fd, (struct sockaddr *)&a, &n) < 0)
+        if (bind(listen_fd, (struct sockaddr *)&a, sizeof a) < 0 || listen(listen_fd, 128) < 0 ||
+            getsockname(listen_fd, (struct sockaddr *)&a, &n) < 0)
             die("cannot listen");
         printf("listening 127.0.0.1:%u\n", ntohs(a.sin_port));
     }
     fflush(stdout);
 }
 
-int main(int argc, char **argv)
-{
+int main(int argc, char **argv) {
     const char *path = NULL, *names = NULL;
     u32 port = 0;
     for (int i = 1; i < argc; i++) {

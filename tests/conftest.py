@@ -28,7 +28,9 @@ def pytest_addoption(parser):
     group = parser.getgroup("canbusd")
     group.addoption("--seed", type=int, default=random.SystemRandom().randrange(10**6), help="of all that is random")
     group.addoption("--cases", type=int, default=1000, help="how many random inputs a test tries (1000)")
-    group.addoption("--frames", type=int, default=1_000_000, help="how many frames test_load.py sends (1000000)")
+    group.addoption(
+        "--frames", type=int, default=1_000_000, help="how many frames test_load.py sends with the slow tests (1000000)"
+    )
     group.addoption(
         "--minutes", type=float, default=1, help="how long test_long_runs.py keeps up a steady load (1), 72 MB each"
     )
@@ -37,7 +39,8 @@ def pytest_addoption(parser):
         "--all-bytes", action="store_true", help="change each byte of a record to all others (test_damage.py)"
     )
     group.addoption("--beside", metavar="PROGRAM", help="another program that audits as canbusd does (test_damage.py)")
-    group.addoption("--other", metavar="SOURCE.c", help="another program with a bench (test_random_benches.py)")
+    limit = os.path.join(serving.ROOT, "benches", "limit.c")
+    group.addoption("--other", metavar="SOURCE.c", default=limit, help="another program with a bench (benches/limit.c)")
 
 
 def pytest_sessionstart(session):
@@ -69,6 +72,13 @@ def rng(request):
 def cases(request):
     """How many random inputs are tried."""
     return request.config.getoption("cases")
+
+
+@pytest.fixture
+def fixed_ports():
+    """For a test of what listens at a port that a document or another program names: of these one runs at a time."""
+    with serving.one_at_a_time("ports"):
+        yield
 
 
 @pytest.fixture(scope="session")

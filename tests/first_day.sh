@@ -2,9 +2,10 @@
 # What a newcomer does on the first day, on a fresh minimal Debian 12, as the documents print it: tests/first_day.sh ROUTE,
 # at the top of a clone, as root. test_first_day.py runs it in such a Debian. ROUTE is
 #   path   README's route: a clone, PYTHONPATH, and Debian's packages
+#   here   the same without the installation of packages, which `make check` runs in a clone
 #   venv   that of docs/PYTHON.md: a virtual environment with Debian's packages, without a network
 #   pip    a virtual environment into which pip installs the package and what it needs; status 77 where it finds no packages
-#   check  the tests of the program
+#   check  the tests of the program, by the command of README
 set -eu
 export DEBIAN_FRONTEND=noninteractive
 python=python3
@@ -36,7 +37,7 @@ install() {
     apt-get install -qq -y --no-install-recommends $1 >/dev/null
 }
 
-# The packages of a line of README that names them.
+# The packages of a line of a document that names them.
 packages_of() {
     sed -n "s/.*apt-get install \([^\`]*\).*/\1/p" "$1" | grep -m 1 -- "$2"
 }
@@ -47,7 +48,8 @@ try_package() {
     block docs/GUIDE.md test_a_frame_that_arrives_twice >test_twice.py
     block docs/PYTHON.md 'interface="canbusd"' >client.py
     "$@"
-    printed docs/GUIDE.md "python3 -m pytest --canbusd-keep=failed test_twice.py" "python3 -m pytest examples/python"
+    $python -m pytest -q -p no:cacheprovider test_twice.py
+    printed docs/GUIDE.md "python3 -m pytest examples/python"
     ./canbusd serve can0,can1 >served 2>&1 &
     server=$!
     for _ in 1 2 3 4 5 6 7 8 9 10; do
@@ -58,31 +60,49 @@ try_package() {
         exit 1
     }
     $python client.py | grep "ID: *0*123 .* 01 02 03"
-    printed docs/GUIDE.md "python3 -m canbusd send can0" "python3 -m canbusd status can0 can1"
+    ./canbusd dump can0 >dumped &
+    dump=$!
+    for _ in 1 2 3 4 5 6 7 8 9 10; do
+        printed docs/GUIDE.md "./canbusd send can0" "./canbusd status"
+        grep -q "123 .* 11 22 33 44" dumped && break
+        sleep 0.5
+    done
+    kill $dump
+    grep "123 .* 11 22 33 44" dumped
     $python examples/python/first_session.py
     kill -TERM $server
     wait $server
     $python -m pytest -q -p no:cacheprovider test_bus_off.py
 }
 
-# README's bench, audit and page.
-try_bench() {
-    printed README.md "./canbusd bench --record run.rec" "./canbusd audit run.rec"
-    printed README.md "tools/canbusd-report --names can0,can1 run.rec"
+# README's first command, which needs nothing, with what it prints.
+try_first() {
+    printed README.md "./canbusd bench can0,can1 <" >first
+    sed 1d first | cmp - examples/first_frame.out
+    ./canbusd --help | grep "canbusd <COMMAND>\|canbusd COMMAND"
+}
+
+# The guide's record and page.
+try_page() {
+    printed docs/GUIDE.md "./canbusd bench --record run.rec" "./canbusd report --names can0,can1,can2 run.rec"
+    ./canbusd audit run.rec
     grep -q "</html>" run.html
 }
 
 case $1 in
-path)
-    ./canbusd --version
-    install "$(packages_of README.md python3-pytest)"
+path | here)
+    try_first
+    [ "$1" = here ] || install "$(packages_of README.md python3-pytest)"
     try_package printed README.md "export PYTHONPATH=" "python3 -m pytest"
-    try_bench
+    try_page
     ;;
 venv)
     install "$(packages_of docs/PYTHON.md python3-venv) python3-pytest"
     printed docs/PYTHON.md "make wheel" "/usr/bin/python3 -m venv --system-site-packages venv" "pip install --no-index"
     try_package true
+    canbusd --version
+    canbusd-run --version
+    candump2bench --help >/dev/null
     ;;
 pip)
     install python3-venv
@@ -93,8 +113,8 @@ pip)
     try_package true
     ;;
 check)
-    install "$(packages_of README.md make)"
-    make check
+    try_first
+    scripts/check --yes
     ;;
 *)
     sed -n '2,/^set/s/^# \{0,1\}//p' "$0"

@@ -24,8 +24,7 @@ extern void *__libc_malloc(size_t);
 extern void *__libc_calloc(size_t, size_t);
 extern void *__libc_realloc(void *, size_t);
 
-__attribute__((constructor)) static void begin(void)
-{
+__attribute__((constructor)) static void begin(void) {
     const char *path = getenv("REFUSE");
     int file = path ? open(path, O_RDWR | O_CLOEXEC) : -1;
     if (file < 0)
@@ -36,37 +35,31 @@ __attribute__((constructor)) static void begin(void)
         plan = place;
 }
 
-static bool is_refused(void)
-{
+static bool is_refused(void) {
     if (!plan)
         return false;
     uint64_t time = atomic_fetch_add(&plan->asked, 1) + 1;
     return plan->first <= time && time <= plan->last;
 }
 
-static void *refusal(void)
-{
+static void *refusal(void) {
     errno = ENOMEM;
     return NULL;
 }
 
-void *malloc(size_t size)
-{
+void *malloc(size_t size) {
     return is_refused() ? refusal() : __libc_malloc(size);
 }
 
-void *calloc(size_t count, size_t size)
-{
+void *calloc(size_t count, size_t size) {
     return is_refused() ? refusal() : __libc_calloc(count, size);
 }
 
-void *realloc(void *old, size_t size)
-{
+void *realloc(void *old, size_t size) {
     return is_refused() ? refusal() : __libc_realloc(old, size);
 }
 
-int pthread_create(pthread_t *thread, const pthread_attr_t *attributes, void *(*body)(void *), void *argument)
-{
+int pthread_create(pthread_t *thread, const pthread_attr_t *attributes, void *(*body)(void *), void *argument) {
     int (*create)(pthread_t *, const pthread_attr_t *, void *(*)(void *), void *) = dlsym(RTLD_NEXT, "pthread_create");
     return is_refused() ? EAGAIN : create(thread, attributes, body, argument);
 }

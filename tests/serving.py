@@ -5,6 +5,7 @@ from outside: its processes, its streams, how it ends; and clients show each tex
 """
 
 import contextlib
+import fcntl
 import functools
 import glob
 import os
@@ -78,6 +79,15 @@ def join(threads, patience=WAIT):
     for thread in threads:
         thread.join(max(0, until - time.monotonic()))
         assert not thread.is_alive(), f"a thread goes on after {patience} seconds"
+
+
+@contextlib.contextmanager
+def one_at_a_time(what):
+    """Waits until no other test of this user does so on this machine."""
+    path = os.path.join(tempfile.gettempdir(), f"canbusd-tests-{os.getuid()}-{what}.lock")
+    with open(path, "w", encoding="ascii") as file:
+        fcntl.flock(file, fcntl.LOCK_EX)
+        yield
 
 
 def threads_of(processes):

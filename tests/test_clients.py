@@ -13,7 +13,7 @@ import time
 
 import pytest
 
-from serving import ROOT, WAIT, all_sleep, come_true, join, line_of, plain, program, serving
+from serving import ROOT, WAIT, Plain, all_sleep, come_true, join, line_of, plain, program, serving
 
 can = pytest.importorskip("can", reason="python-can is not installed")
 from can.io import CanutilsLogReader  # noqa: E402
@@ -168,6 +168,7 @@ def test_script_of_faults(tmp_path):
         passes(can0, can1, 0x124, b"\x02")
 
 
+@pytest.mark.quiet
 def test_connects_to_a_busy_bus():
     """the first frame is never in the same read as the ok of rawmode"""
     with serving("--pace", "0", "--txqueue", "1024", "can0,can1") as server:
@@ -188,6 +189,30 @@ def test_connects_to_a_busy_bus():
         finally:
             over.set()
             join([thread])
+
+
+def first_frame(server, sender, *pieces):
+    """How many seconds it takes from the last of these writes, after which it is raw, to a frame that is sent then."""
+    one = Plain(server)
+    texts = [one.text()]
+    for piece in pieces:
+        start = time.monotonic()
+        one.write(piece)
+        texts += [one.text() for _ in range(piece.count("<"))]
+    assert texts == ["< hi >", "< ok >", "< ok >"], texts
+    sender.write("< send 123 0 >")
+    assert one.frame() == ("123", b"")
+    seconds = time.monotonic() - start
+    one.close()
+    return seconds
+
+
+def test_first_frame_of_a_session():
+    """it comes at once to a client that sends more with `rawmode`, and 20 ms after a reply that went out alone"""
+    with serving("--pace", "0", "can0,can1") as server:
+        sender = plain(server, "can0")
+        assert min(first_frame(server, sender, "< open can1 >< rawmode >") for _ in range(20)) < 0.015
+        assert min(first_frame(server, sender, "< open can1 >", "< rawmode >") for _ in range(5)) >= 0.020
 
 
 def test_several_buses():
@@ -306,6 +331,7 @@ def compare_files(server, frames):
     assert long == [[text, *data.hex(" ").upper().split()] for text, data in frames], "log2long reads otherwise"
 
 
+@pytest.mark.quiet
 @pytest.mark.skipif(
     not (shutil.which("log2asc") and shutil.which("log2long")), reason="can-utils' log2asc and log2long are missing"
 )
@@ -336,6 +362,7 @@ def test_player_and_logger():
         assert written == f"bus can0 entries {entries}\n", written
 
 
+@pytest.mark.quiet
 def test_examples(tmp_path):
     """examples/python: the first session, and the tests with the package's fixtures"""
     folder = os.path.join(ROOT, "examples", "python")

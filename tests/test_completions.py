@@ -24,6 +24,9 @@ FILES = ["faults.script", "first.bench", "run.rec", "out.txt", "my faults.script
 TYPED = [
     ("canbusd ben", "ch "),
     ("canbusd help ser", "ve "),
+    ("canbusd dum", "p "),
+    ("canbusd help resta", "rt "),
+    ("canbusd report ru", "n.rec "),
     ("canbusd audit ru", "n.rec "),
     ("canbusd audit lo", "gs/"),
     ("canbusd audit --c", "ut "),
@@ -37,10 +40,6 @@ TYPED = [
     ("canbusd bench --log ou", "t.txt "),
     ("canbusd bench --log=ou", "t.txt "),
     ("canbusd bench --str", "ict "),
-    ("canbusd bench --bitr", "ate "),
-    ("canbusd bench --db", "itrate "),
-    ("canbusd serve --bitr", "ate "),
-    ("canbusd serve --db", "itrate "),
     ("canbusd serve --out=lo", "gs/"),
     ("canbusd serve --out lo", "gs/"),
     ("canbusd serve --until", "-eof "),
@@ -67,7 +66,11 @@ OPTIONS = [
     ("canbusd bench --lo", "g"),
     ("canbusd bench --rec", "ord"),
     ("canbusd bench --li", "mit"),
+    ("canbusd bench --bitr", "ate"),
+    ("canbusd bench --db", "itrate"),
     ("canbusd serve --lis", "ten"),
+    ("canbusd serve --bitr", "ate"),
+    ("canbusd serve --db", "itrate"),
     ("canbusd serve --auto-restart=5 --pa", "ce"),
 ]
 

@@ -21,7 +21,9 @@ import pytest
 from serving import ROOT, WAIT, come_true
 
 # Commands of README that run until they are ended.
-ENDLESS = ("./canbusd serve", "./canbusd-run candump", "python3 -m canbusd dump", "python3 -m canbusd watch")
+ENDLESS = ("./canbusd serve", "./canbusd-run candump", "./canbusd dump", "./canbusd watch")
+# Those that need python-can.
+PACKAGE = ("./canbusd dump", "./canbusd watch")
 
 
 class Clone:
@@ -64,7 +66,7 @@ class Clone:
         headings = re.findall(r"^#+ (.*)$", self.read(name), re.M)
         return {re.sub(r"[^\w\- ]", "", heading.lower()).replace(" ", "-") for heading in headings}
 
-    def shell(self, command):
+    def shell(self, command, timeout=60):
         """The status of a command, and what it writes."""
         done = subprocess.run(
             ["bash", "-c", command],
@@ -74,7 +76,7 @@ class Clone:
             stdout=subprocess.PIPE,
             stderr=subprocess.STDOUT,
             text=True,
-            timeout=60,
+            timeout=timeout,
             check=False,
         )
         return done.returncode, done.stdout
@@ -163,17 +165,16 @@ def test_files_that_are_named(clone):
             assert os.path.exists(os.path.join(clone.folder, path)), f"{name}: {path}"
 
 
-def test_commands_of_readme(clone):
+def test_commands_of_readme(clone, fixed_ports):
     """each of them, in their order; those that run until Ctrl-C together"""
     needs_port(29536)
     needs_port(8029)
-    clone.environment["PYTHONPATH"] = os.path.join(clone.folder, "python", "src")
     server = None
     with contextlib.ExitStack() as endless:
         for line in (line for block in clone.blocks("README.md") for line in block):
-            if not line.startswith(("./canbusd", "tools/", "python3")) or "pytest" in line:
+            if not line.startswith("./canbusd"):
                 continue
-            if line.startswith("python3") and not clone.has_python_can():
+            if line.startswith(PACKAGE) and not clone.has_python_can():
                 continue
             if line.startswith("./canbusd-run") and not shutil.which(line.split()[1], path=clone.environment["PATH"]):
                 continue
@@ -185,6 +186,16 @@ def test_commands_of_readme(clone):
                 status, written = clone.shell(line)
                 assert status == 0, f"{line}: {written}"
     assert server and server.returncode == 0, "the server's end"
+
+
+def test_what_readme_says_that_is_printed(clone):
+    """its first command, which needs nothing, prints the block after it; the second is the script that is there"""
+    first, printed, second = clone.blocks("README.md")[:3]
+    assert clone.shell(f"env -i PATH=/usr/bin:/bin {first[0]}") == (0, "\n".join([*printed, ""]))
+    assert len(first) == 1 and os.access(os.path.join(clone.folder, second[0]), os.X_OK)
+    assert len(clone.read("README.md").splitlines()) <= 100
+    proofs = re.search("^## What is proved\n\n(.*?)\n\n`make install", clone.read("README.md"), re.M | re.S)[1]
+    assert len(proofs.split()) <= 150
 
 
 def test_the_test_of_readme(clone, python_can):
@@ -245,22 +256,22 @@ def test_dialogues_of_the_guide(clone):
     assert tried >= 5, f"only {tried} commands"
 
 
-def test_commands_of_the_package(clone, python_can):
+def test_commands_of_the_package(clone, python_can, fixed_ports):
     """those of the guide: a dump prints what a send sends, and a status has the interfaces"""
     needs_port(29536)
-    path, dump, send, status = next(
+    dump, send, status = next(
         block for block in clone.blocks("docs/GUIDE.md") if any(" dump " in line for line in block)
     )
     with contextlib.ExitStack() as both:
         both.enter_context(clone.running("exec ./canbusd serve can0,can1"))
-        _, dumped = both.enter_context(clone.running(f"{path}; exec {dump}", says=False))
+        _, dumped = both.enter_context(clone.running(f"exec {dump}", says=False))
 
         def is_dumped():
-            assert clone.shell(f"{path}; {send}")[0] == 0, send
+            assert clone.shell(send)[0] == 0, send
             return "123   [4]  11 22 33 44" in dumped()
 
         assert come_true(is_dumped), f"{dump}: {dumped()}"
-        written = clone.shell(f"{path}; {status}")[1]
+        written = clone.shell(status)[1]
         assert all(re.search(rf"^ *{name} +active", written, re.M) for name in ("can0", "can1")), written
 
 

@@ -1,6 +1,7 @@
-"""From the first line of README to a passing test, on a fresh minimal Debian 12: tests/first_day.sh, once by each route.
+"""From the first line of README to a passing test: tests/first_day.sh, in a clone, and once by each route on a fresh minimal
+Debian 12.
 
-BASES names a folder with a debootstrap of bookworm (debootstrap --variant=minbase); without it one is made. A network
+For that BASES names a folder with a debootstrap of bookworm (debootstrap --variant=minbase); without it one is made. A network
 is needed.
 """
 
@@ -11,13 +12,8 @@ import subprocess
 import pytest
 
 from serving import program
-from test_docs import Clone
+from test_docs import Clone, needs_port
 
-pytestmark = [
-    pytest.mark.slow,
-    pytest.mark.root,
-    pytest.mark.skipif(not shutil.which("debootstrap"), reason="not installed: debootstrap"),
-]
 # In file systems and processes of their own, which are gone with the command.
 ENTER = 'mount -t proc proc "$0/proc" && mount --rbind /dev "$0/dev" && exec chroot "$0" "$@"'
 
@@ -32,6 +28,20 @@ def base(tmp_path_factory):
     return folder
 
 
+def test_first_day_in_a_clone(tmp_path, fixed_ports):
+    """README's commands and test, the guide's page, commands for a server, with the packages that are there"""
+    needs_port(29536)
+    clone = Clone(tmp_path / "clone")
+    clone.put_program(program())
+    if not clone.has_python_can():
+        pytest.skip("python-can and pytest are not installed")
+    status, written = clone.shell("tests/first_day.sh here", timeout=300)
+    assert status == 0 and written.endswith("the first day went well\n"), written
+
+
+@pytest.mark.slow
+@pytest.mark.root
+@pytest.mark.skipif(not shutil.which("debootstrap"), reason="not installed: debootstrap")
 @pytest.mark.parametrize("route", ["path", "venv", "pip", "check"])
 def test_first_day(base, route, tmp_path):
     debian = tmp_path / "debian"

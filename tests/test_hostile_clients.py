@@ -13,6 +13,8 @@ import struct
 import threading
 import time
 
+import pytest
+
 from serving import WAIT, Pair, Plain, come_true, join, plain, serving_alone, turns
 
 FAST = ("--pace", "0", "--txqueue", "1024")
@@ -311,6 +313,7 @@ def visit(server, count):
     assert not failed, f"{len(failed)} of {count}: {failed[:1]}"
 
 
+@pytest.mark.quiet
 def test_too_few_descriptors():
     """more clients than the server may have files, for five seconds; then the sessions that are left come in"""
 

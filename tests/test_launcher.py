@@ -46,6 +46,12 @@ class Copy:
         assert done.returncode == 0, done.stderr
 
 
+def append(path, text):
+    """Adds a text to a file."""
+    with open(path, "a", encoding="utf-8") as file:
+        file.write(text)
+
+
 @pytest.fixture
 def copy(tmp_path):
     return Copy(tmp_path)
@@ -98,8 +104,7 @@ def test_sources_after_those_of_dist(copy):
     commit = ["git", "-c", "user.name=n", "-c", "user.email=n@n.example", "commit", "-q", "-m"]
     for words in (["git", "init", "-q"], ["git", "add", "dist", "crates", "crates.txt"], [*commit, "dist"]):
         assert copy.status(*words) == 0, words
-    with open(copy.folder / SOURCE, "a", encoding="utf-8") as source:
-        source.write("// a change\n")
+    append(copy.folder / SOURCE, "// a change\n")
     assert copy.status(*commit, "a change", "crates") == 0
     done = copy.run("./canbusd", "--version")
     shown = re.search("`(git checkout [^`]*)`", done.stderr)
@@ -148,18 +153,50 @@ def test_few_file_descriptors(copy):
 def test_file_past_its_limit(copy):
     """a write fault, and no end by SIGXFSZ"""
     assert copy.status("./canbusd", "--version") == 0
-    line = "ulimit -f 0; printf '' | ./canbusd bench --record run.rec can0"
-    done = copy.run("bash", "-c", line)
+    record = copy.folder.parent / "run.rec"
+    done = copy.run("bash", "-c", f"ulimit -f 0; printf '' | ./canbusd bench --record '{record}' can0")
     assert done.returncode == 1 and done.stderr.startswith("canbusd: write fault\n"), done
-    assert not (copy.folder / "run.rec").exists()
+    assert not record.exists()
 
 
-def test_changed_proof(copy):
-    """a change of a proof makes no other program"""
+# A file of a crate that the program is not made of, of a proof, and the list of crates with one more.
+OTHERS = {
+    "crates/can_reference/src/lib.rt": "// a remark\n",
+    "crates/can_reference/specs/Lib.antt": "-- a remark\n",
+    "crates/can_confine/proofs/Lib.antt": "-- a remark\n",
+    "crates/can_confine/wrong/new.edit": "",
+    "crates.txt": "# A remark.\ncan_new: can_bus canbusd\n",
+}
+# A file of the program, a definition of it, and a line of a crate of it.
+OWN = {
+    "crates/can_frame/src/lib.rt": "// a remark\n",
+    "crates/can_frame/specs/Lib.antt": "-- a remark\n",
+    "crates/can_frame/specs/New.antt": "",
+    "crates.txt": "can_bus: can_new\n",
+}
+
+
+@pytest.mark.parametrize("file", OTHERS)
+def test_what_makes_no_other_program(copy, file):
+    """whether or not it was looked for before"""
     assert copy.status("./canbusd", "--version") == 0
-    with open(copy.folder / "crates" / "can_confine" / "proofs" / "Lib.antt", "a", encoding="utf-8") as proof:
-        proof.write("-- a remark\n")
+    append(copy.folder / file, OTHERS[file])
     assert copy.status("./canbusd", "--version") == 0
+    assert copy.status("scripts/program", "fitting") == 0
+
+
+@pytest.mark.parametrize("file", OWN)
+def test_what_makes_another_program(copy, file):
+    assert copy.status("scripts/program", "fitting") == 0
+    append(copy.folder / file, OWN[file])
+    assert copy.status("scripts/program", "fitting") == 1
+
+
+def test_crates_of_the_program(copy):
+    """what is listed: its own, what it stands on, and what those stand on"""
+    listed = copy.run("scripts/program", "crates").stdout.split()
+    assert listed[-1] == "canbusd" and {"can_frame", "can_bus", "can_server"} < set(listed)
+    assert not {"can_reference", "can_audit", "hex", "clap"} & set(listed)
 
 
 def test_damaged_program(copy):

@@ -1,8 +1,9 @@
 """`canbusd serve` with faults: 64 sessions on 4 buses, and in the end nothing is lost that is not counted.
 
-On each bus of two interfaces 14 sessions send a quarter of the frames (--frames), each receives those of three
-others, and two more break in the middle of what they say, or are reset or half closed, and come back. A script gives
-the attempts every kind of fault, and bursts that take an interface bus off, from which a session restarts it. Then:
+On each bus of two interfaces 14 sessions send a quarter of the frames (100,000; --frames in the slow test), each
+receives those of three others, and two more break in the middle of what they say, or are reset or half closed, and
+come back. A script gives the attempts every kind of fault, and bursts that take an interface bus off, from which a
+session restarts it. Then:
 
 - each session got as many items as `stats` says that it took, twice only after a fault of the last bit: those of one
   session in the order in which it sent them, those of one interface in the order in which the server took them; what
@@ -26,7 +27,6 @@ import pytest
 
 from serving import Plain, join, serving_alone, turns
 
-pytestmark = pytest.mark.slow
 BUSES, SESSIONS, BREAKING = 4, 16, 2
 BURST, MOST_WAITING = 50, 400
 PATIENCE = 120
@@ -323,9 +323,11 @@ class Counted:
                     self.ends.append((taken[int(words[1])], int(replied[2])))
 
 
-def test_load_with_faults(request, tmp_path):
+@pytest.mark.quiet
+@pytest.mark.parametrize("frames", [100_000, pytest.param(None, marks=pytest.mark.slow, id="--frames")])
+def test_load_with_faults(request, tmp_path, frames):
     """64 sessions, 4 buses, faults of every kind, sessions that break and come back"""
-    frames, seed = request.config.getoption("frames"), request.config.getoption("seed")
+    frames, seed = frames or request.config.getoption("frames"), request.config.getoption("seed")
     buses = []
     for bus in range(BUSES):
         script = os.path.join(tmp_path, f"faults{bus}")

@@ -90,7 +90,7 @@ def test_a_folder_that_cannot_be_written(record, tmp_path):
     """missing, a file, a place where no file can be made, a log that is a folder: before it listens"""
     (tmp_path / "file").touch()
     (tmp_path / "can0.log").mkdir()
-    for folder in (tmp_path / "none", tmp_path / "file", "/sys", tmp_path):
+    for folder in (tmp_path / "none", tmp_path / "file", "/proc", tmp_path):
         status, said, errors = run("serve", "--listen", "127.0.0.1:0", "--record", record, "--out", folder, "can0")
         assert (status, said) == (1, ""), f"{folder}: {status} {said} {errors}"
         assert errors.startswith(f"canbusd: cannot open {folder}\n  {folder}/can0."), f"{folder}: {errors}"
@@ -408,6 +408,7 @@ def compare_log(log, entries):
     return len(lines)
 
 
+@pytest.mark.quiet
 @pytest.mark.parametrize("kills", [10, pytest.param(200, marks=pytest.mark.slow)])
 def test_kills_at_random_moments(rng, kills):
     """under a load that the server can carry, so that its files are not late: 15,000 entries a second"""

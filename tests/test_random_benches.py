@@ -1,28 +1,30 @@
 """`canbusd bench` beside an independent program, on random runs.
 
---other SOURCE.c is compiled with cc; what it makes is called as `PROGRAM bench OPTIONS BUS`, as canbusd is. Standard
-output, the status and the line of a fault have to be the same (of a fault of the command line the status only).
+It is benches/limit.c, or --other SOURCE.c, compiled with cc; what that makes is called as `PROGRAM bench OPTIONS BUS`, as
+canbusd is. Standard output, the status and the line of a fault have to be the same (of a fault of the command line the
+status only).
 """
 
 import itertools
 import os
 import shlex
+import shutil
 import subprocess
 
 import pytest
 
 from random_benches import Maker
 
+COMPILER = os.environ.get("CC", "cc")
+pytestmark = pytest.mark.skipif(not shutil.which(COMPILER), reason=f"no C compiler: {COMPILER}")
+
 
 @pytest.fixture
 def other(request, tmp_path):
     """The other program."""
     source = request.config.getoption("other")
-    if not source:
-        pytest.skip("no --other SOURCE.c is given")
     program = tmp_path / "other"
-    compiler = os.environ.get("CC", "cc")
-    subprocess.run([compiler, "-O2", "-march=native", "-o", program, source], check=True)
+    subprocess.run([COMPILER, "-O2", "-march=native", "-o", program, source], check=True)
     return str(program)
 
 

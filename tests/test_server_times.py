@@ -22,6 +22,7 @@ from test_wire_times import MICRO, bench, moment, random_frame, rate_options, se
 from wire_model import Frame
 from wire_times import IDLE, SECOND, Ending, Rates
 
+pytestmark = pytest.mark.quiet
 # By how much a client's clock may differ from the server's, in seconds: both are the system's at the start.
 CLOCKS = 0.001
 EIGHT_BYTES = Frame.read("123#1122334455667788")
@@ -315,8 +316,9 @@ class Filling:
 
 
 @patiently
-@pytest.mark.slow
-@pytest.mark.parametrize("nominal", [125_000, 500_000, 1_000_000])
+@pytest.mark.parametrize(
+    "nominal", [500_000, *(pytest.param(rate, marks=pytest.mark.slow) for rate in (125_000, 1_000_000))]
+)
 def test_mean_rate(nominal: int) -> None:
     """A full bus has its bit rate, within 0.1 % over ten seconds."""
     rates, sizes = Rates(nominal), ["--txqueue", "1024", "--rxqueue", "65536", "--write", "16384"]

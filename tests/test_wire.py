@@ -26,7 +26,7 @@ KNOWN = [
 
 
 def read(*path: str) -> str:
-    with open(os.path.join(ROOT, "crates", *path), encoding="utf-8") as file:
+    with open(os.path.join(ROOT, *path), encoding="utf-8") as file:
         return file.read()
 
 
@@ -65,7 +65,7 @@ def test_stuffed_bits() -> None:
 
 def test_tables() -> None:
     """The random frames of the tests have the numbers of the model."""
-    text = read("can_unit_tests", "src", "tests", "wire.rt")
+    text = read("tests", "rattle", "can_unit_tests", "tests", "wire.rtt")
     classic = re.findall(r'\("([0-9A-FR#]+)", (\d+)\),', text)
     for frame, nominal in classic:
         assert bit_counts(Frame.read(frame)) == (int(nominal), 0), frame
@@ -77,7 +77,7 @@ def test_tables() -> None:
 
 def test_known_frames() -> None:
     """The law has the bits of the model."""
-    law = read("can_wire", "src", "laws.rt").split("known_frames_have_their_bits")[1].split("{}")[0]
+    law = read("crates", "can_wire", "src", "laws.rt").split("known_frames_have_their_bits")[1].split("{}")[0]
     texts = re.findall(r"low_bits (\d+) 0x([0-9A-F]+)", law)
     assert [number_bits(int(number, 16), int(count)) for count, number in texts] == [
         sent(frame).bits for frame in KNOWN

@@ -288,8 +288,9 @@ def test_restart_by_attempts(program: str) -> None:
 
 
 def without_moments(output: bytes) -> bytes:
-    """What a bench wrote, without the moments of attempts and of what was received."""
+    """What a bench wrote, without the moments of attempts and of what was received, and without the load."""
     lines = re.sub(rb"^((?:tried|idle).*) at [0-9.]+$", rb"\1", output, flags=re.MULTILINE)
+    lines = re.sub(rb"< load [0-9]+ [0-9]+ [0-9]+ [0-9]+ >", rb"< load >", lines)
     return re.sub(rb"(< (?:frame|fdframe|fdframex [0-3]|remote|error) [0-9A-F]+) [0-9]+\.[0-9]{6}", rb"\1", lines)
 
 
@@ -316,7 +317,7 @@ def moments_of(text: bytes, record: str, rates: Rates) -> list[str]:
 
 
 def test_random_runs(program: str, request: pytest.FixtureRequest, cases: int, tmp_path: pathlib.Path) -> None:
-    """Bit rates change nothing but moments, and these are the model's: random runs with faults of every kind."""
+    """Bit rates change only moments and the load, and moments are the model's: random runs with faults of every kind."""
     seed = request.config.getoption("seed")
     maker, rng = random_benches.Maker(seed), random.Random(seed)
     compared = 0
@@ -412,10 +413,44 @@ def test_frames_have_their_moment(program: str, tmp_path: pathlib.Path) -> None:
     assert ended(program, "audit", str(record))[:2] == (0, "ok 6 entries\n")
 
 
+def loads(program: str, options: Sequence[str], lines: Iterable[str]) -> list[str]:
+    """What `< load >` says in a session, which each line `load` asks."""
+    opened = ["session 1", "feed 1 < open can0 >< rawmode >< fdframes 1 >"]
+    asked = ["feed 1 < load >" if line == "load" else line for line in lines]
+    words = [program, "bench", *options, "can0"]
+    status, output, errors = ended(*words, text="".join(f"{line}\n" for line in [*opened, *asked]))
+    assert (status, errors) == (0, "")
+    return re.findall("^1 < load (.*) >$", output, re.MULTILINE)
+
+
+def test_the_load_of_a_bench(program: str) -> None:
+    """Each frame has 50 bits, and 3 of intermission follow: 10.6 ms at 5 kbit/s."""
+    sent = "feed 1 < send 000 0 >"
+    lines = ["load", sent, sent, sent, "run 0.500000", "load", "at 1.000000", "load"]
+    # From 1.9947 to 2.0053: 5.3 ms of each second. An attempt that tries no frame does not count.
+    lines += [sent, "at 1.994700", "attempt", "load", "attempt", "at 3.500000", "load", "at 4.000000", "load"]
+    assert loads(program, ["--bitrate", "5000"], lines) == [
+        "0 0 5000 5000",
+        "0 31800 5000 5000",
+        "31 31800 5000 5000",
+        "5 42400 5000 5000",
+        "5 42400 5000 5000",
+        "0 42400 5000 5000",
+    ]
+
+
+def test_the_load_of_an_fd_frame(program: str) -> None:
+    """64 zero bytes: 27 bits and 3 of intermission at 5 kbit/s, and 651 at 50 kbit/s, are 6 ms and 13.02 ms."""
+    frame = Frame(0x123, False, bytes(64), is_fd=True, brs=True)
+    lines = [f"feed 1 {send(frame)}", "attempt", "at 1.000000", "load"]
+    assert loads(program, ["--bitrate", "5000", "--dbitrate", "50000"], lines) == ["19 19020 5000 50000"]
+
+
 def test_without_bit_rates(program: str) -> None:
     """Attempts take no time, and their lines say no moment."""
     lines = [*2 * ["feed 1 < send 123 0 >"], "at 0.000005", "attempt", "attempt", "attempt"]
     assert bench(program, [], ["can0"], lines) == ["tried can0 0 done - -", "tried can0 1 done - -", "idle"]
+    assert loads(program, [], [*lines, "load"]) == ["0 0 0 0"]
 
 
 def test_bits_of_the_package(rng: random.Random, cases: int) -> None:

@@ -1,7 +1,7 @@
 """Frames on the wire, bit by bit, apart from the program and its definitions.
 
 Read from the Bosch CAN Specification 2.0, sections 3 and 6, and ISO 11898-1:2015. `python3 tests/wire_model.py` prints
-the random frames of crates/can_unit_tests/src/tests/wire.rt, with the numbers of their bits.
+the random frames of tests/rattle/can_unit_tests/tests/wire.rtt, with the numbers of their bits.
 """
 
 from __future__ import annotations
