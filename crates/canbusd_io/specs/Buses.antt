@@ -13,7 +13,14 @@ first_ifaces n = record { 0 = 2 ^ n - 1 }
 
 -- the bus that settings describe, of n interfaces; all of them report faults, or none does
 abbrev pub config_of : BusSettings → ℕ → BusConfig
-config_of s n = record { ifaces = n; ack = s.ack; reporting = if s.is_reporting then first_ifaces n else no_ifaces; tx_capacity = s.tx_capacity; limit = s.limit; auto_restart = s.auto_restart }
+config_of s n = record {
+  ifaces = n;
+  ack = s.ack;
+  reporting = if s.is_reporting then first_ifaces n else no_ifaces;
+  tx_capacity = s.tx_capacity;
+  limit = s.limit;
+  auto_restart = s.auto_restart;
+}
 
 -- the faults of a run: those that some text spells where a script is named, else none
 abbrev pub IsPlan : {A : Type 0} → Option A → List (List ℕ) → PlanSeen → Type 0

@@ -13,7 +13,8 @@ use Rattle.canbusd_options.specs.BusWords.{first_name_of}
 use Rattle.canbusd_io.specs.declared.program_error.ProgramError.{ProgramError}
 use Rattle.canbusd_io.specs.declared.program_error.ProgramError.TheVariants as fault
 
--- What is written to files, and what is reported of names, files and scripts that cannot be read or written (own choice).
+-- What is written to files, and what is reported of names, files and scripts that cannot be read or written (own
+-- choice).
 
 -- a writer took a text
 abbrev pub Took : {W : Type 0} → (W → Option (List ℕ)) → W → W → List ℕ → Type 0

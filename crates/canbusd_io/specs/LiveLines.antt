@@ -11,8 +11,10 @@ use Rattle.canbusd_io.specs.declared.live.LiveRecord.{LiveRecord}
 
 -- a record has its first two lines, and then this text
 abbrev pub RecordHas : {F : Type 0} → (F → Option (List ℕ)) → LiveRecord F → List ℕ → Type 0
-RecordHas contents r rest = MayGet (whole_contents contents) r.start.value.out r.file.out (front_lines version.Four r.config rest)
+RecordHas contents r rest =
+    MayGet (whole_contents contents) r.start.value.out r.file.out (front_lines version.Four r.config rest)
 
 -- a log has the lines of the frames that were tried in these entries
 abbrev pub LogHas : {F : Type 0} → (F → Option (List ℕ)) → LiveLog F → List Entry → Type 0
-LogHas contents l entries = MayGet (whole_contents contents) l.start.value.out l.file.out (joined (log_lines l.names (reverse entries)))
+LogHas contents l entries =
+    MayGet (whole_contents contents) l.start.value.out l.file.out (joined (log_lines l.names (reverse entries)))

@@ -43,19 +43,28 @@ abbrev pub AllGivenFirst : List (List Entry) → List (Settled LongJournal) → 
 AllGivenFirst files settled = AllZip (λ given s. given ≡ handed_entries s.history) files settled
 
 -- a record, if it is wanted, gets a text, and is that of the same bus
-abbrev pub RecordGets : {F : Type 0} → (F → Option (List ℕ)) → Option (LiveRecord F) → List ℕ → Option (LiveRecord F) → Type 0
+abbrev pub RecordGets :
+    {F : Type 0} → (F → Option (List ℕ)) → Option (LiveRecord F) → List ℕ → Option (LiveRecord F) → Type 0
 RecordGets contents None text new = new ≡ None
 RecordGets contents (Some old) text None = ⊥
-RecordGets contents (Some old) text (Some new) = (new.start ≡ old.start) × (new.config ≡ old.config) × MayGet (whole_contents contents) old.file.out new.file.out text
+RecordGets contents (Some old) text (Some new) =
+    (new.start ≡ old.start)
+    × (new.config ≡ old.config)
+    × MayGet (whole_contents contents) old.file.out new.file.out text
 
 -- a log, if it is wanted, gets the lines of the frames that were tried in entries, and is that of the same bus
-abbrev pub LogGets : {F : Type 0} → (F → Option (List ℕ)) → Option (LiveLog F) → List Entry → Option (LiveLog F) → Type 0
+abbrev pub LogGets :
+    {F : Type 0} → (F → Option (List ℕ)) → Option (LiveLog F) → List Entry → Option (LiveLog F) → Type 0
 LogGets contents None entries new = new ≡ None
 LogGets contents (Some old) entries None = ⊥
-LogGets contents (Some old) entries (Some new) = (new.start ≡ old.start) × (new.names ≡ old.names) × MayGet (whole_contents contents) old.file.out new.file.out (joined (log_lines old.names (reverse entries)))
+LogGets contents (Some old) entries (Some new) =
+    (new.start ≡ old.start)
+    × (new.names ≡ old.names)
+    × MayGet (whole_contents contents) old.file.out new.file.out (joined (log_lines old.names (reverse entries)))
 
 -- the files of a bus have the lines of these entries, and no others, as far as they are wanted and not over
-pub record HaveLines {F : Type 0} (contents : F → Option (List ℕ)) (entries : List Entry) (files : LiveFiles F) : Type 0 where
+pub record HaveLines {F : Type 0} (contents : F → Option (List ℕ)) (entries : List Entry)
+    (files : LiveFiles F) : Type 0 where
   pub recorded : IfSome files.record (λ r. RecordHas contents r (entry_lines entries []))
   pub logged : IfSome files.log (λ l. LogHas contents l entries)
 
@@ -68,8 +77,10 @@ abbrev pub HasFiles : {N F : Type 0} → (F → Option (List ℕ)) → Served N 
 HasFiles contents (served.Whole hub) files = Unit {0}
 HasFiles contents (served.Long hub scrolls) files = AreBegun contents files × (length files ≡ length hub.now)
 
--- the record of a bus is the text of this history, and its log has the lines of all frames that were tried in it, as far as
--- they are wanted and not over
-pub record AreWhole {F : Type 0} (contents : F → Option (List ℕ)) (history : List Entry) (files : LiveFiles F) : Type 0 where
-  pub recorded : IfSome files.record (λ r. MayGet (whole_contents contents) r.start.value.out r.file.out (text_in version.Four r.config history))
+-- the record of a bus is the text of this history, and its log has the lines of all frames that were tried in it,
+-- as far as they are wanted and not over
+pub record AreWhole {F : Type 0} (contents : F → Option (List ℕ)) (history : List Entry)
+    (files : LiveFiles F) : Type 0 where
+  pub recorded : IfSome files.record (λ r.
+      MayGet (whole_contents contents) r.start.value.out r.file.out (text_in version.Four r.config history))
   pub logged : IfSome files.log (λ l. LogHas contents l history)

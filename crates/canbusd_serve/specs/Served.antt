@@ -1,4 +1,5 @@
-use Rattle.std.specs.Prelude.{◌≡◌, ◌⊎◌, ℕ, List, [], ◌∷◌, ◌++◌, length, map, All, Option, IsSomeAnd, codes, decimal, slice_get, take}
+use Rattle.std.specs.Prelude.{◌≡◌, ◌⊎◌, ℕ, List, [], ◌∷◌, ◌++◌, length, map, All}
+use Rattle.std.specs.Prelude.{Option, IsSomeAnd, codes, decimal, slice_get, take}
 use Rattle.std.specs.List.{AllZip}
 use Rattle.std.specs.Io.KnownBytes.{Appends}
 use Rattle.can_frame.specs.Names.{AreNames, names_in}
@@ -50,10 +51,12 @@ MakeBenches o buses = (benches : List (Bench Perfect Open)) × AreBenches o buse
 
 -- a fault of a bus of a server: of its names, or of its script
 abbrev pub IsOfBus : BusWord → ProgramError → Type 0
-IsOfBus bus why = IsOfNames bus.names.now why ⊎ (AreNames (names_in bus.names.now) × IsOfPlan bus.script (names_in bus.names.now) why)
+IsOfBus bus why =
+    IsOfNames bus.names.now why
+    ⊎ (AreNames (names_in bus.names.now) × IsOfPlan bus.script (names_in bus.names.now) why)
 
--- a fault of serving: the server cannot listen or write, its folder takes no files, a bus got the pass of another, or memory was
--- refused
+-- a fault of serving: the server cannot listen or write, its folder takes no files, a bus got the pass of
+-- another, or memory was refused
 abbrev pub IsOfServing : ProgramError → Type 0
 IsOfServing fault.CannotListen = Unit {0}
 IsOfServing (fault.CannotOpen folder) = Unit {0}
@@ -62,8 +65,8 @@ IsOfServing fault.Write = Unit {0}
 IsOfServing fault.NoMemory = Unit {0}
 IsOfServing why = ⊥
 
--- a fault of a server with these buses: no hub can be made of them whose configurations have these limits, or memory for it was
--- refused; or of serving
+-- a fault of a server with these buses: no hub can be made of them whose configurations have these limits, or
+-- memory for it was refused; or of serving
 abbrev pub IsOfHub : (BusConfig → Type 0) → List (Bench Perfect Open) → ProgramError → Type 0
 IsOfHub limits benches (fault.Buses BadConfig) = MakeHubWithin limits benches → ⊥
 IsOfHub limits benches (fault.Buses NoMemory) = Unit {0}
@@ -77,11 +80,17 @@ limits_of recording.Never = IsOfLongRuns
 
 -- a fault of one of the buses of a server; those before it are what their words describe
 abbrev pub IsOfBuses : ServeOptions → ProgramError → Type 0
-IsOfBuses o why = (i : ℕ) × MakeBenches o (take i o.buses.items) × IsSomeAnd (slice_get o.buses.items i) (λ bus. IsOfBus bus why)
+IsOfBuses o why =
+    (i : ℕ) × MakeBenches o (take i o.buses.items) × IsSomeAnd (slice_get o.buses.items i) (λ bus. IsOfBus bus why)
 
 -- a fault of a server: of one of its buses, of serving, or with the buses that its options describe
 abbrev pub IsOfServer : ServeOptions → ProgramError → Type 0
-IsOfServer o why = IsOfBuses o why ⊎ (IsOfServing why ⊎ ((benches : List (Bench Perfect Open)) × AreAllBenches o benches × IsOfHub (limits_of o.recording) benches why))
+IsOfServer o why =
+    IsOfBuses o why
+    ⊎ (IsOfServing why
+    ⊎ ((benches : List (Bench Perfect Open))
+    × AreAllBenches o benches
+    × IsOfHub (limits_of o.recording) benches why))
 
 -- the history is legal
 abbrev pub IsLegalEnd : Journal → Type 0
@@ -89,7 +98,8 @@ IsLegalEnd j = IsLegal j.config j.history
 
 -- the line of a bus at the end: its first name, and how many entries it had
 abbrev pub end_line : BusWord → Journal → List ℕ
-end_line bus j = codes "bus " ++ first_name_of bus.names.now ++ codes " entries " ++ decimal (length j.history) ++ 10 ∷ []
+end_line bus j =
+    codes "bus " ++ first_name_of bus.names.now ++ codes " entries " ++ decimal (length j.history) ++ 10 ∷ []
 
 -- the lines of all buses
 abbrev pub end_lines : List BusWord → List Journal → List ℕ
@@ -111,11 +121,13 @@ IsHeardAt address heard = LeavesPort address ⊎ (heard ≡ address)
 
 -- it was reported where a server listens that was given this address
 abbrev pub IsListening : {W : Type 0} → (W → Option (List ℕ)) → List ℕ → W → W → Type 0
-IsListening contents address old new = (heard : List ℕ) × IsHeardAt address heard × Appends (contents old) (contents new) (listening_line heard)
+IsListening contents address old new =
+    (heard : List ℕ) × IsHeardAt address heard × Appends (contents old) (contents new) (listening_line heard)
 
 -- each bus has the configuration that its word and the options give
 abbrev pub AreConfigured : ServeOptions → List BusWord → List Journal → Type 0
-AreConfigured o buses ends = AllZip (λ bus j. j.config ≡ config_of o.settings (length (names_in bus.names.now))) buses ends
+AreConfigured o buses ends =
+    AllZip (λ bus j. j.config ≡ config_of o.settings (length (names_in bus.names.now))) buses ends
 
 -- what a record says of its bus
 abbrev pub record_journal : Kept → Journal
@@ -132,15 +144,16 @@ pub record AreEnds (benches : List (Bench Perfect Open)) (ends : List Journal) :
   pub configured : AllZip (λ b j. j.config ≡ b.config) benches ends
 
 -- a server of these buses reported where it listens, and at its end how many entries each of them had
-pub record Serves {W : Type 0} (contents : W → Option (List ℕ)) (o : ServeOptions) (benches : List (Bench Perfect Open)) (old new : W) : Type 0 where
+pub record Serves {W : Type 0} (contents : W → Option (List ℕ)) (o : ServeOptions)
+    (benches : List (Bench Perfect Open)) (old new : W) : Type 0 where
   pub ends : List Journal
   pub are : AreEnds benches ends
   pub heard : List ℕ
   pub address : IsHeardAt o.address.now heard
   pub wrote : Appends (contents old) (contents new) (listening_line heard ++ end_lines o.buses.items ends)
 
--- a server reported where it listens, and at its end how many entries each bus had, which are a legal history of the bus's
--- configuration
+-- a server reported where it listens, and at its end how many entries each bus had, which are a legal history of
+-- the bus's configuration
 pub record IsServed {W : Type 0} (contents : W → Option (List ℕ)) (o : ServeOptions) (old new : W) : Type 0 where
   pub named : All (λ bus. AreNames (names_in bus.names.now)) o.buses.items
   pub ends : List Journal
