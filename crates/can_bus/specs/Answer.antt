@@ -24,7 +24,10 @@ TakesMemory _ _ = ⊥
 -- a call was refused so, and left this: nothing has changed where no entry is noted
 abbrev pub Refuses : Journal → Event → Refusal → Journal → Type 0
 Refuses old event refusal.RecordFull new = (old.config.limit ≤ length old.history) × (new ≡ old)
-Refuses old event refusal.NoMemory new = (length old.history < old.config.limit) × TakesMemory event (legal_reply old.config old.history event) × (new ≡ old)
+Refuses old event refusal.NoMemory new =
+    (length old.history < old.config.limit)
+    × TakesMemory event (legal_reply old.config old.history event)
+    × (new ≡ old)
 Refuses old event why new = Noted old event (reply.Refused why) new
 
 -- what a call answers, and what it leaves: the reply is made of what it came to

@@ -19,7 +19,8 @@ use Rattle.can_bus.specs.AutoRestart.{restarted_next}
 
 -- the live interfaces with a frame to send: they take part in arbitration
 abbrev pub contenders : BusConfig → List Entry → List ℕ
-contenders c past = filter (λ i. is_some (head_of past i) && not (is_off (state_at c past i))) (range_with_len 0 c.ifaces)
+contenders c past =
+    filter (λ i. is_some (head_of past i) && not (is_off (state_at c past i))) (range_with_len 0 c.ifaces)
 
 -- the bits of a frame that waits
 abbrev pub bits_in : Option Pending → List ℕ
@@ -39,7 +40,16 @@ winner c past = find (λ i. not (list_any (λ j. beats past j i) (contenders c p
 abbrev pub tried_with : BusConfig → List Entry → ℕ → Verdict → ℕ → CanFrame → Tried
 tried_with c past m v w frame =
     let t = transmission c past w v in
-    record { moment = m; winner = w; number = gone_count past w; frame = frame; class = class_of t; accepted = set_of (accepted_in (class_of t) t); off = set_of (off_after t); restarted = restarted_next c past }
+    record {
+      moment = m;
+      winner = w;
+      number = gone_count past w;
+      frame = frame;
+      class = class_of t;
+      accepted = set_of (accepted_in (class_of t) t);
+      off = set_of (off_after t);
+      restarted = restarted_next c past;
+    }
 
 -- the reply to an attempt that interface w wins, whose oldest frame is this (own choice)
 abbrev pub tried_head : BusConfig → List Entry → ℕ → Verdict → ℕ → Option Pending → Reply

@@ -1,4 +1,5 @@
-use Rattle.std.specs.Prelude.{ℕ, suc, ◌-◌, ◌==◌, Bool, false, not, List, [], ◌∷◌, filter, Option, Some, None, if◌then◌else◌}
+use Rattle.std.specs.Prelude.{ℕ, suc, ◌-◌, ◌==◌, Bool, false, not, List, []}
+use Rattle.std.specs.Prelude.{◌∷◌, filter, Option, Some, None, if◌then◌else◌}
 use Rattle.std.specs.List.{list_any, range_with_len}
 use Rattle.std.specs.Option.{option_map}
 use Rattle.can_frame.specs.Sets.{is_in}
@@ -17,7 +18,8 @@ use Rattle.can_event.specs.declared.reply.Reply.TheVariants as reply
 -- attempts_off after one more entry (own choice)
 abbrev pub attempts_off_after : Event → Reply → ℕ → Option ℕ → Option ℕ
 attempts_off_after e (reply.Idle restarted) i before = if is_in i restarted then None else option_map suc before
-attempts_off_after e (reply.Tried t) i before = if is_in i t.restarted then None else if is_in i t.off then Some 0 else option_map suc before
+attempts_off_after e (reply.Tried t) i before =
+    if is_in i t.restarted then None else if is_in i t.off then Some 0 else option_map suc before
 attempts_off_after (Restart k m) reply.Done i before = if k == i then None else before
 attempts_off_after _ _ i before = before
 

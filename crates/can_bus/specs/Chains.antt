@@ -10,4 +10,5 @@ use Rattle.can_bus.specs.declared.history.Chain.{Chain, Empty, Answered', Receiv
 abbrev pub entries_of : Chain → List Entry
 entries_of Empty = []
 entries_of (Answered' shape before event reply) = entry_of event.value reply.value ∷ entries_of before
-entries_of (Received' shape before id outcome room) = receive_entry id.value room.value outcome.value ∷ entries_of before
+entries_of (Received' shape before id outcome room) =
+    receive_entry id.value room.value outcome.value ∷ entries_of before

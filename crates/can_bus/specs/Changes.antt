@@ -1,4 +1,6 @@
-use Rattle.std.specs.Prelude.{◌≡◌, ℕ, ◌+◌, ◌-◌, ◌==◌, ◌<◌, ◌≤◌, Bool, true, false, List, [], ◌∷◌, ◌++◌, length, map, drop, remove, slice_get, slice_set, slice_index_or, is_some, Option, Some, None, Result, Ok, Err, if◌then◌else◌}
+use Rattle.std.specs.Prelude.{◌≡◌, ℕ, ◌+◌, ◌-◌, ◌==◌, ◌<◌, ◌≤◌, Bool, true, false, List, [], ◌∷◌}
+use Rattle.std.specs.Prelude.{◌++◌, length, map, drop, remove, slice_get, slice_set, slice_index_or}
+use Rattle.std.specs.Prelude.{is_some, Option, Some, None, Result, Ok, Err, if◌then◌else◌}
 use Rattle.std.specs.List.{list_any, range_with_len}
 use Rattle.can_filter.specs.Filters.{CanFilter}
 use Rattle.can_filter.specs.Passing.{receives_all, default_options}
@@ -102,19 +104,39 @@ IsCapacity n = (1 ≤ n) × (n ≤ max_rx_capacity)
 
 -- a socket as it is opened
 abbrev pub fresh : ℕ → ℕ → ℕ → SocketState
-fresh n i capacity = record { number = n; iface = i; capacity = capacity; filters = receives_all; options = default_options; waiting = []; taken = 0; dropped = 0 }
+fresh n i capacity = record {
+  number = n;
+  iface = i;
+  capacity = capacity;
+  filters = receives_all;
+  options = default_options;
+  waiting = [];
+  taken = 0;
+  dropped = 0;
+}
 
 -- the sockets with one more, under the next number
 abbrev pub with_socket : Parts → ℕ → ℕ → Parts
-with_socket old i capacity = record old { sockets = old.sockets ++ fresh old.opened i capacity ∷ []; opened = old.opened + 1 }
+with_socket old i capacity = record old {
+  sockets = old.sockets ++ fresh old.opened i capacity ∷ [];
+  opened = old.opened + 1;
+}
 
 -- a socket is opened
 abbrev pub Opens : Parts → ℕ → ℕ → Reply → Parts → Type 0
-Opens old i capacity (reply.Opened s) new = (i < old.nodes.count) × IsCapacity capacity × (length old.sockets < 64) × (s ≡ record { 0 = old.opened }) × (new ≡ with_socket old i capacity)
+Opens old i capacity (reply.Opened s) new =
+    (i < old.nodes.count)
+    × IsCapacity capacity
+    × (length old.sockets < 64)
+    × (s ≡ record { 0 = old.opened })
+    × (new ≡ with_socket old i capacity)
 Opens old i capacity (reply.Refused refusal.NoInterface) new = (old.nodes.count ≤ i) × (new ≡ old)
-Opens old i capacity (reply.Refused refusal.BadCapacity) new = (i < old.nodes.count) × ¬ IsCapacity capacity × (new ≡ old)
-Opens old i capacity (reply.Refused refusal.TooManySockets) new = (i < old.nodes.count) × IsCapacity capacity × (64 ≤ length old.sockets) × (new ≡ old)
-Opens old i capacity (reply.Refused refusal.NoMemory) new = (i < old.nodes.count) × IsCapacity capacity × (length old.sockets < 64) × (new ≡ old)
+Opens old i capacity (reply.Refused refusal.BadCapacity) new =
+    (i < old.nodes.count) × ¬ IsCapacity capacity × (new ≡ old)
+Opens old i capacity (reply.Refused refusal.TooManySockets) new =
+    (i < old.nodes.count) × IsCapacity capacity × (64 ≤ length old.sockets) × (new ≡ old)
+Opens old i capacity (reply.Refused refusal.NoMemory) new =
+    (i < old.nodes.count) × IsCapacity capacity × (length old.sockets < 64) × (new ≡ old)
 Opens old i capacity _ new = ⊥
 
 -- ---- sending
@@ -143,7 +165,10 @@ with_refused l = record l { refused = l.refused + 1 }
 
 -- an interface is put in place i, whose head competes from then on
 abbrev pub with_interface : Parts → ℕ → InterfaceState → Parts
-with_interface old i l = record old { interfaces = slice_set old.interfaces i l; keys = slice_set old.keys i (key_in (slice_get l.waiting 0)) }
+with_interface old i l = record old {
+  interfaces = slice_set old.interfaces i l;
+  keys = slice_set old.keys i (key_in (slice_get l.waiting 0));
+}
 
 -- a frame that is sent finds room, and is the n-th of its interface (own choice)
 pub record Takes (old : Parts) (s n : ℕ) (pending : SocketState → Pending) (new : Parts) : Type 0 where
@@ -194,11 +219,24 @@ Sends old s pending (Err _) new = ⊥
 
 -- what an attempt of this class leaves of the winner's interface, which went off or not
 abbrev pub settled : Class → Bool → InterfaceState → InterfaceState
-settled k off l = record l { waiting = if off then [] else if is_done k then drop 1 l.waiting else l.waiting; gone = if off then l.sent else if is_done k then l.gone + 1 else l.gone; done = if is_done k then l.done + 1 else l.done }
+settled k off l = record l {
+  waiting = if off then [] else if is_done k then drop 1 l.waiting else l.waiting;
+  gone = if off then l.sent else if is_done k then l.gone + 1 else l.gone;
+  done = if is_done k then l.done + 1 else l.done;
+}
 
 -- what an attempt answers of the frame that it tried, the n-th of the winner
 abbrev pub tried_in : Transmission → ℕ → ℕ → IfaceSet → Pending → Tried
-tried_in tr m n restarted pending = record { moment = m; winner = tr.winner; number = n; frame = pending.frame; class = (judged tr).class; accepted = (judged tr).accepted; off = (judged tr).off; restarted = restarted }
+tried_in tr m n restarted pending = record {
+  moment = m;
+  winner = tr.winner;
+  number = n;
+  frame = pending.frame;
+  class = (judged tr).class;
+  accepted = (judged tr).accepted;
+  off = (judged tr).off;
+  restarted = restarted;
+}
 
 -- the winner counts the attempts until its restart from now on, if it went off
 abbrev pub counting_down : ℕ → ℕ → Bool → List ℕ → List ℕ
@@ -206,10 +244,17 @@ counting_down n w off left = if off then slice_set left w n else left
 
 -- what an attempt leaves, of which the winner's interface was this
 abbrev pub after_try : Parts → BusConfig → Transmission → InterfaceState → Pending → Tried → Parts
-after_try old c tr interface pending t = record (with_interface old tr.winner (settled t.class (is_in tr.winner t.off) interface)) { nodes = record old.nodes { counters = (judged tr).counters }; left = counting_down c.auto_restart tr.winner (is_in tr.winner t.off) old.left; sockets = map (reached (attempt_posts c.reporting tr t (Some pending))) old.sockets; tried = old.tried + 1 }
+after_try old c tr interface pending t =
+    record (with_interface old tr.winner (settled t.class (is_in tr.winner t.off) interface)) {
+      nodes = record old.nodes { counters = (judged tr).counters };
+      left = counting_down c.auto_restart tr.winner (is_in tr.winner t.off) old.left;
+      sockets = map (reached (attempt_posts c.reporting tr t (Some pending))) old.sockets;
+      tried = old.tried + 1;
+    }
 
 -- the head of the winner is tried, in an attempt that then restarts these interfaces (own choice)
-pub record Carries (old : Parts) (c : BusConfig) (m : ℕ) (v : Verdict) (restarted : IfaceSet) (t : Tried) (new : Parts) : Type 0 where
+pub record Carries (old : Parts) (c : BusConfig) (m : ℕ) (v : Verdict) (restarted : IfaceSet) (t : Tried)
+    (new : Parts) : Type 0 where
   pub place : ℕ
   pub interface : InterfaceState
   pub pending : Pending
@@ -234,11 +279,16 @@ ticked left = map (λ n. n - 1) left
 
 -- the error counts, of which those of these interfaces begin anew
 abbrev pub begun_anew : IfaceSet → Nodes → Nodes
-begun_anew restarted nodes = record nodes { counters = map (λ i. if is_in i restarted then at_start else counts_at nodes i) (range_with_len 0 16) }
+begun_anew restarted nodes = record nodes {
+  counters = map (λ i. if is_in i restarted then at_start else counts_at nodes i) (range_with_len 0 16);
+}
 
 -- these interfaces are restarted by an attempt
 abbrev pub after_auto_restart : Parts → IfaceSet → ℕ → Parts
-after_auto_restart old restarted m = record old { nodes = begun_anew restarted old.nodes; sockets = map (reached (auto_restart_posts restarted m)) old.sockets }
+after_auto_restart old restarted m = record old {
+  nodes = begun_anew restarted old.nodes;
+  sockets = map (reached (auto_restart_posts restarted m)) old.sockets;
+}
 
 -- what an attempt came to, by the frame that was tried, if one was
 abbrev pub came_to : IfaceSet → Option Tried → Attempt
@@ -268,11 +318,16 @@ AreReady parts = (w k : ℕ) → slice_get parts.keys w ≡ Some (Some k) → Is
 
 -- what a restart leaves
 abbrev pub after_restart : Parts → ℕ → ℕ → Parts
-after_restart old i m = record old { nodes = record old.nodes { counters = slice_set old.nodes.counters i at_start }; left = slice_set old.left i 0; sockets = map (reached (restart_posts i m)) old.sockets }
+after_restart old i m = record old {
+  nodes = record old.nodes { counters = slice_set old.nodes.counters i at_start };
+  left = slice_set old.left i 0;
+  sockets = map (reached (restart_posts i m)) old.sockets;
+}
 
 -- an interface is restarted
 abbrev pub Restarts : Parts → ℕ → ℕ → Reply → Parts → Type 0
 Restarts old i m reply.Done new = (i < old.nodes.count) × (is_off_at old.nodes i ≡ true) × (new ≡ after_restart old i m)
 Restarts old i m (reply.Refused refusal.NoInterface) new = (old.nodes.count ≤ i) × (new ≡ old)
-Restarts old i m (reply.Refused refusal.NotBusOff) new = (i < old.nodes.count) × (is_off_at old.nodes i ≡ false) × (new ≡ old)
+Restarts old i m (reply.Refused refusal.NotBusOff) new =
+    (i < old.nodes.count) × (is_off_at old.nodes i ≡ false) × (new ≡ old)
 Restarts old i m _ new = ⊥

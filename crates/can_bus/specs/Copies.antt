@@ -1,4 +1,5 @@
-use Rattle.std.specs.Prelude.{◌≡◌, ℕ, ◌+◌, ◌≤◌, ◌==◌, nat_lt, Bool, true, false, ◌&&◌, ◌||◌, List, [], ◌∷◌, ◌++◌, length, map, filter, slice_get, Option, Some, if◌then◌else◌}
+use Rattle.std.specs.Prelude.{◌≡◌, ℕ, ◌+◌, ◌≤◌, ◌==◌, nat_lt, Bool, true, false, ◌&&◌, ◌||◌, List, []}
+use Rattle.std.specs.Prelude.{◌∷◌, ◌++◌, length, map, filter, slice_get, Option, Some, if◌then◌else◌}
 use Rattle.std.specs.Option.{option_map}
 use Rattle.can_frame.specs.Sets.{is_in}
 use Rattle.can_frame.specs.declared.item.Item.{Item}
@@ -56,11 +57,17 @@ has_room c past s = nat_lt (length (queued_to c past s)) (capacity_of past s + l
 -- an attempt copies its frame to socket s: the socket is open, the frame comes to its interface, passes its
 -- filters and options, and finds room
 abbrev pub is_copied : BusConfig → List Entry → ℕ → Tried → Option Pending → Bool
-is_copied c past s t p = is_open past s && (comes_to (iface_of past s) t p && (wants (filters_of past s) (options_of past s) (item.Data t.frame) (is_own (sender_in p) s) && has_room c past s))
+is_copied c past s t p =
+    is_open past s
+    && (comes_to (iface_of past s) t p
+    && (wants (filters_of past s) (options_of past s) (item.Data t.frame) (is_own (sender_in p) s)
+    && has_room c past s))
 
 -- copying after one more entry (own choice)
 abbrev pub copying_after : BusConfig → List Entry → ℕ → ℕ → Reply → List Tried → List Tried
-copying_after c past i s (reply.Tried t) before = if is_copied c past s t (slice_get (sent_by past t.winner) t.number) && (t.winner == i) then before ++ t ∷ [] else before
+copying_after c past i s (reply.Tried t) before =
+    if is_copied c past s t (slice_get (sent_by past t.winner) t.number) && (t.winner == i) then before ++ t ∷ []
+    else before
 copying_after c past i s _ before = before
 
 -- the attempts won by interface i that copied their frame to socket s, in order

@@ -19,7 +19,8 @@ sending c counts w v = record { count = c.ifaces; counts = counts; winner = w; v
 
 -- steps_of after one more entry (own choice)
 abbrev pub steps_after : BusConfig → Event → Reply → (ℕ → ErrorCounts) → ℕ → List Step → List Step
-steps_after c (Attempt m v) (reply.Tried t) counts i before = if is_in i t.restarted then [] else before ++ steps_at i (sending c counts t.winner v)
+steps_after c (Attempt m v) (reply.Tried t) counts i before =
+    if is_in i t.restarted then [] else before ++ steps_at i (sending c counts t.winner v)
 steps_after c (Attempt m v) (reply.Idle restarted) counts i before = if is_in i restarted then [] else before
 steps_after c (Restart k m) reply.Done counts i before = if k == i then [] else before
 steps_after c _ _ counts i before = before
@@ -27,7 +28,8 @@ steps_after c _ _ counts i before = before
 -- the steps of interface i's error counters since its last restart, by hand or by an attempt
 abbrev pub steps_of : BusConfig → List Entry → ℕ → List Step
 steps_of c [] i = []
-steps_of c (e ∷ past) i = steps_after c e.event e.reply (λ j. all_stepped at_start (steps_of c past j)) i (steps_of c past i)
+steps_of c (e ∷ past) i =
+    steps_after c e.event e.reply (λ j. all_stepped at_start (steps_of c past j)) i (steps_of c past i)
 
 -- the error counts of interface i: what these steps make of 0/0
 abbrev pub counts_of : BusConfig → List Entry → ℕ → ErrorCounts

@@ -14,10 +14,11 @@ use Rattle.can_bus.specs.Repeats.{AtMost32Copies, HadThatFaultAlone}
 use Rattle.can_bus.specs.Fates.{frames_with, numbers_given, closing}
 use Rattle.can_bus.specs.Fates.Fate.{Lost}
 
--- The headline: for every list of bus events, the data frames queued to a socket from each sending interface are, in
--- order sent, exactly those that its interface accepted while the socket was open (or, on the sender's own interface,
--- looped back once done), that passed its filters and options and found room, each once, and again only for each
--- attempt whose sole fault was the last bit of end of frame; every lost frame is counted; nothing is queued after close.
+-- The headline: for every list of bus events, the data frames queued to a socket from each sending interface are,
+-- in order sent, exactly those that its interface accepted while the socket was open (or, on the sender's own
+-- interface, looped back once done), that passed its filters and options and found room, each once, and again
+-- only for each attempt whose sole fault was the last bit of end of frame; every lost frame is counted; nothing
+-- is queued after close.
 
 -- socket s was closed after the entries before, and its close reported these counts
 pub record EndsAtClose (c : BusConfig) (before past : List Entry) (s : SocketId) (counts : Closed) : Type 0 where
@@ -59,6 +60,7 @@ pub record Headline (c : BusConfig) (past : List Entry) : Type 0 where
   -- "every lost frame is counted", by bus off: the count of an interface is how many frames were lost
   pub lost : (i : ℕ) → frames_with Lost past i ≡ lost_count past i
   -- "every lost frame is counted", unread at close, and "nothing is queued after close", whatever comes later
-  pub closed : (later before : List Entry) (s : SocketId) (k : Closed) → past ≡ later ++ closing s k ∷ before → EndsAtClose c before past s k
+  pub closed : (later before : List Entry) (s : SocketId) (k : Closed) → past ≡ later ++ closing s k ∷ before
+      → EndsAtClose c before past s k
   -- "after close": socket numbers are never used again
   pub numbers : numbers_given past ≡ range_with_len 0 (length (places past))

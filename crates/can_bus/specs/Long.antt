@@ -37,8 +37,8 @@ places_left j = j.handed + j.room - length j.history
 abbrev pub HasPlace : LongJournal → Type 0
 HasPlace j = 0 < places_left j
 
--- a block has the entries that were not handed out, in order, and all are handed out from then on; the tail is a block with
--- memory for this many, and nothing else has changed
+-- a block has the entries that were not handed out, in order, and all are handed out from then on; the tail is a
+-- block with memory for this many, and nothing else has changed
 pub record HandsOut (old : LongJournal) (room : ℕ) (block : List Entry) (new : LongJournal) : Type 0 where
   pub entries : block ≡ held_back old
   pub after : new ≡ record old { handed = length old.history; room = room }

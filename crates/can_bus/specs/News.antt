@@ -17,7 +17,9 @@ frame_posts t p i = data_posts i t (Some p)
 -- the fault where faults are reported, and a change of state (own choice)
 abbrev pub fault_posts : IfaceSet → Outcome → ℕ → List Post
 fault_posts reporting o i =
-    (if is_in i reporting then error_posts i o.tried.moment (fault_message_for o.tried.class o.verdict (role_at (transmission_of o) i)) else [])
+    (if is_in i reporting
+    then error_posts i o.tried.moment (fault_message_for o.tried.class o.verdict (role_at (transmission_of o) i))
+    else [])
     ++ error_posts i o.tried.moment (state_message ((transmission_of o).counts i) (counts_after (transmission_of o) i))
 
 -- all that an attempt puts to the sockets of interface i, where the frame waited so (own choice)

@@ -18,15 +18,18 @@ offer_after taken r = record { item = r; taken = taken }
 -- all that was offered to socket s, in order
 abbrev pub offers_to : BusConfig → List Entry → ℕ → List Offer
 offers_to c [] s = []
-offers_to c (e ∷ past) s = offers_to c past s ++ map (offer_after (length (taken_from past s))) (candidates_of c past s e.event e.reply)
+offers_to c (e ∷ past) s =
+    offers_to c past s ++ map (offer_after (length (taken_from past s))) (candidates_of c past s e.event e.reply)
 
 -- the items that find room, where n found room before: each one before which fewer found room than the capacity and
 -- the items taken by then
 abbrev pub with_room : ℕ → ℕ → List Offer → List Received
 with_room capacity n [] = []
-with_room capacity n (o ∷ os) = if nat_lt n (capacity + o.taken) then o.item ∷ with_room capacity (n + 1) os else with_room capacity n os
+with_room capacity n (o ∷ os) =
+    if nat_lt n (capacity + o.taken) then o.item ∷ with_room capacity (n + 1) os else with_room capacity n os
 
 -- the items that find none, where n found room before
 abbrev pub without_room : ℕ → ℕ → List Offer → List Received
 without_room capacity n [] = []
-without_room capacity n (o ∷ os) = if nat_lt n (capacity + o.taken) then without_room capacity (n + 1) os else o.item ∷ without_room capacity n os
+without_room capacity n (o ∷ os) =
+    if nat_lt n (capacity + o.taken) then without_room capacity (n + 1) os else o.item ∷ without_room capacity n os

@@ -1,4 +1,5 @@
-use Rattle.std.specs.Prelude.{ℕ, ◌==◌, Bool, false, ◌&&◌, ◌||◌, List, [], ◌∷◌, ◌++◌, slice_get, Option, Some, None, if◌then◌else◌}
+use Rattle.std.specs.Prelude.{ℕ, ◌==◌, Bool, false, ◌&&◌, ◌||◌, List, [], ◌∷◌}
+use Rattle.std.specs.Prelude.{◌++◌, slice_get, Option, Some, None, if◌then◌else◌}
 use Rattle.std.specs.Option.{option_map}
 use Rattle.can_frame.specs.Frames.{ErrorMessage}
 use Rattle.can_frame.specs.Sets.{is_in}
@@ -53,16 +54,23 @@ goes_to i t looped_back = is_in i t.accepted || ((i == t.winner) && looped_back)
 
 -- a frame that was tried is put to the interfaces that it goes to
 abbrev pub data_posts : ℕ → Tried → Option Pending → List Post
-data_posts i t p = if goes_to i t (is_looped_back t.class p) then record { received = tried_item t; sender = sender_in p } ∷ [] else []
+data_posts i t p =
+    if goes_to i t (is_looped_back t.class p) then record { received = tried_item t; sender = sender_in p } ∷ []
+    else []
 
 -- an error message frame of interface i: it comes from nobody else, and has no number
 abbrev pub error_posts : ℕ → ℕ → Option ErrorMessage → List Post
 error_posts i m None = []
-error_posts i m (Some e) = record { received = record { item = item.Error e; from = i; number = 0; moment = m }; sender = None } ∷ []
+error_posts i m (Some e) =
+    record { received = record { item = item.Error e; from = i; number = 0; moment = m }; sender = None } ∷ []
 
 -- the part that interface i has in an attempt: none where it is bus off
 abbrev pub role_at : Transmission → ℕ → Option Role
-role_at t i = if i == t.winner then Some role.Winner else if is_among i (hit t) then Some role.Named else if is_among i (receivers t) then Some role.Other else None
+role_at t i =
+    if i == t.winner then Some role.Winner
+    else if is_among i (hit t) then Some role.Named
+    else if is_among i (receivers t) then Some role.Other
+    else None
 
 -- the error message frame of a fault, as an interface with this part sees it (own choice)
 abbrev pub fault_message_for : Class → Verdict → Option Role → Option ErrorMessage
@@ -87,7 +95,9 @@ auto_restart_posts restarted m i = if is_in i restarted then error_posts i m (So
 
 -- what an entry puts to the sockets of interface i, in order
 abbrev pub posts_of : BusConfig → List Entry → ℕ → Event → Reply → List Post
-posts_of c past i (Attempt m v) (reply.Tried t) = attempt_posts c.reporting (transmission c past t.winner v) t (slice_get (sent_by past t.winner) t.number) i ++ auto_restart_posts t.restarted m i
+posts_of c past i (Attempt m v) (reply.Tried t) =
+    attempt_posts c.reporting (transmission c past t.winner v) t (slice_get (sent_by past t.winner) t.number) i
+    ++ auto_restart_posts t.restarted m i
 posts_of c past i (Attempt m v) (reply.Idle restarted) = auto_restart_posts restarted m i
 posts_of c past i (Restart k m) reply.Done = restart_posts k m i
 posts_of c past i _ _ = []

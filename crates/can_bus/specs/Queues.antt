@@ -17,12 +17,16 @@ use Rattle.can_bus.specs.Posts.{Post, posts_of, is_own}
 -- the posts that pass these filters and options
 abbrev pub passing : List CanFilter → Options → ℕ → List Post → List Received
 passing filters options s [] = []
-passing filters options s (p ∷ ps) = if wants filters options p.received.item (is_own p.sender s) then p.received ∷ passing filters options s ps else passing filters options s ps
+passing filters options s (p ∷ ps) =
+    if wants filters options p.received.item (is_own p.sender s) then p.received ∷ passing filters options s ps
+    else passing filters options s ps
 
 -- what an entry offers socket s: the posts at its interface that pass its filters and options, as they
 -- are then, while it is open
 abbrev pub candidates_of : BusConfig → List Entry → ℕ → Event → Reply → List Received
-candidates_of c past s e r = if is_open past s then passing (filters_of past s) (options_of past s) s (posts_of c past (iface_of past s) e r) else []
+candidates_of c past s e r =
+    if is_open past s then passing (filters_of past s) (options_of past s) s (posts_of c past (iface_of past s) e r)
+    else []
 
 -- all that was offered to socket s, in order
 abbrev pub candidates_for : BusConfig → List Entry → ℕ → List Received
@@ -42,9 +46,15 @@ taken_from (e ∷ past) s = taken_after e.event e.reply s (taken_from past s)
 -- the candidates that found room, in order: as many as fit beside those that wait
 abbrev pub queued_to : BusConfig → List Entry → ℕ → List Received
 queued_to c [] s = []
-queued_to c (e ∷ past) s = queued_to c past s ++ take (capacity_of past s + length (taken_from past s) - length (queued_to c past s)) (candidates_of c past s e.event e.reply)
+queued_to c (e ∷ past) s =
+    queued_to c past s ++ take
+    (capacity_of past s + length (taken_from past s) - length (queued_to c past s))
+    (candidates_of c past s e.event e.reply)
 
 -- the candidates that found no room
 abbrev pub dropped_at : BusConfig → List Entry → ℕ → List Received
 dropped_at c [] s = []
-dropped_at c (e ∷ past) s = dropped_at c past s ++ drop (capacity_of past s + length (taken_from past s) - length (queued_to c past s)) (candidates_of c past s e.event e.reply)
+dropped_at c (e ∷ past) s =
+    dropped_at c past s ++ drop
+    (capacity_of past s + length (taken_from past s) - length (queued_to c past s))
+    (candidates_of c past s e.event e.reply)

@@ -29,12 +29,17 @@ transmit_count c past i = (counts_of c past i).tec
 
 -- while a frame is at the head of its queue, the transmit error count of its interface never falls
 abbrev pub RisesAtTheHead : BusConfig → Entry → List Entry → Type 0
-RisesAtTheHead c e past = (i : ℕ) (p : Pending) → head_of past i ≡ Some p → gone_count (e ∷ past) i ≡ gone_count past i → transmit_count c past i ≤ transmit_count c (e ∷ past) i
+RisesAtTheHead c e past =
+    (i : ℕ) (p : Pending) → head_of past i ≡ Some p → gone_count (e ∷ past) i ≡ gone_count past i
+    → transmit_count c past i ≤ transmit_count c (e ∷ past) i
 
 -- an attempt that failed only at the last bit adds 8 to the transmit error count of its winner
 abbrev pub LastBitAdds8 : BusConfig → Entry → List Entry → Type 0
-LastBitAdds8 c e past = (t : Tried) → e.reply ≡ reply.Tried t → t.class ≡ class.LastBit → transmit_count c (e ∷ past) t.winner ≡ transmit_count c past t.winner + 8
+LastBitAdds8 c e past =
+    (t : Tried) → e.reply ≡ reply.Tried t → t.class ≡ class.LastBit
+    → transmit_count c (e ∷ past) t.winner ≡ transmit_count c past t.winner + 8
 
 -- an attempt that failed only at the last bit of end of frame had that fault, and no other
 abbrev pub HadThatFaultAlone : Entry → Type 0
-HadThatFaultAlone e = (t : Tried) → e.reply ≡ reply.Tried t → t.class ≡ class.LastBit → e.event ≡ Attempt t.moment verdict.LastBit
+HadThatFaultAlone e =
+    (t : Tried) → e.reply ≡ reply.Tried t → t.class ≡ class.LastBit → e.event ≡ Attempt t.moment verdict.LastBit

@@ -48,7 +48,10 @@ pub record SocketState : Type 0 where
 
 -- items come in: those that fit wait, the others are counted
 abbrev pub filled : SocketState → List Received → SocketState
-filled v rs = record v { waiting = v.waiting ++ take (v.capacity - length v.waiting) rs; dropped = v.dropped + length (drop (v.capacity - length v.waiting) rs) }
+filled v rs = record v {
+  waiting = v.waiting ++ take (v.capacity - length v.waiting) rs;
+  dropped = v.dropped + length (drop (v.capacity - length v.waiting) rs);
+}
 
 -- these posts come to a socket: those that pass its filters and options come in (own choice)
 abbrev pub offered : List Post → SocketState → SocketState
@@ -64,11 +67,27 @@ key_in p = option_map (λ (q : Pending). key_of q.frame) p
 
 -- what a history leaves of an interface
 abbrev pub kept_interface : BusConfig → List Entry → ℕ → InterfaceState
-kept_interface c past i = record { waiting = drop (gone_count past i) (sent_by past i); room = c.tx_capacity; sent = length (sent_by past i); gone = gone_count past i; done = done_count past i; refused = refused_count past i }
+kept_interface c past i = record {
+  waiting = drop (gone_count past i) (sent_by past i);
+  room = c.tx_capacity;
+  sent = length (sent_by past i);
+  gone = gone_count past i;
+  done = done_count past i;
+  refused = refused_count past i;
+}
 
 -- what a history leaves of an open socket
 abbrev pub kept_socket : BusConfig → List Entry → ℕ → SocketState
-kept_socket c past s = record { number = s; iface = iface_of past s; capacity = capacity_of past s; filters = filters_of past s; options = options_of past s; waiting = drop (length (taken_from past s)) (queued_to c past s); taken = length (taken_from past s); dropped = length (dropped_at c past s) }
+kept_socket c past s = record {
+  number = s;
+  iface = iface_of past s;
+  capacity = capacity_of past s;
+  filters = filters_of past s;
+  options = options_of past s;
+  waiting = drop (length (taken_from past s)) (queued_to c past s);
+  taken = length (taken_from past s);
+  dropped = length (dropped_at c past s);
+}
 
 -- what a history leaves of the interfaces, by number (own choice)
 unfoldable pub kept_interfaces : BusConfig → List Entry → List InterfaceState
@@ -102,7 +121,15 @@ pub record Parts : Type 0 where
 
 -- what a history leaves
 abbrev pub kept_parts : BusConfig → List Entry → Parts
-kept_parts c past = record { interfaces = kept_interfaces c past; keys = kept_keys past; nodes = kept_nodes c past; left = kept_left c past; sockets = kept_sockets c past; opened = length (places past); tried = length (tape past) }
+kept_parts c past = record {
+  interfaces = kept_interfaces c past;
+  keys = kept_keys past;
+  nodes = kept_nodes c past;
+  left = kept_left c past;
+  sockets = kept_sockets c past;
+  opened = length (places past);
+  tried = length (tape past);
+}
 
 -- what is kept is what the history leaves, and there is memory for all the entries that may come
 pub record IsKept (j : Kept) (parts : Parts) : Type 0 where

@@ -16,11 +16,26 @@ use Rattle.can_bus.specs.State.{InterfaceState, SocketState}
 
 -- of an open socket: the items that found room, that found none, and that were taken
 abbrev pub socket_stats_of : BusConfig → List Entry → ℕ → Option SocketStats
-socket_stats_of c past s = if is_open past s then Some (record { queued = length (queued_to c past s); dropped = length (dropped_at c past s); taken = length (taken_from past s) }) else None
+socket_stats_of c past s =
+    if is_open past s then Some (record {
+      queued = length (queued_to c past s);
+      dropped = length (dropped_at c past s);
+      taken = length (taken_from past s);
+    })
+    else None
 
 -- of an interface that is there: the frames sent, done, waiting, lost and refused, and the error counts
 abbrev pub iface_stats_of : BusConfig → List Entry → ℕ → Option IfaceStats
-iface_stats_of c past i = if nat_lt i c.ifaces then Some (record { sent = length (sent_by past i); done = done_count past i; waiting = length (sent_by past i) - gone_count past i; lost = lost_count past i; refused = refused_count past i; counters = counts_of c past i }) else None
+iface_stats_of c past i =
+    if nat_lt i c.ifaces then Some (record {
+      sent = length (sent_by past i);
+      done = done_count past i;
+      waiting = length (sent_by past i) - gone_count past i;
+      lost = lost_count past i;
+      refused = refused_count past i;
+      counters = counts_of c past i;
+    })
+    else None
 
 -- the error counts of the places of all 16 interfaces
 unfoldable pub all_counts : BusConfig → List Entry → List ErrorCounts
@@ -28,14 +43,25 @@ all_counts c past = map (counts_of c past) (range_with_len 0 16)
 
 -- the same, from what is kept
 abbrev pub told_interface : ErrorCounts → InterfaceState → IfaceStats
-told_interface counts l = record { sent = l.sent; done = l.done; waiting = length l.waiting; lost = l.gone - l.done; refused = l.refused; counters = counts }
+told_interface counts l = record {
+  sent = l.sent;
+  done = l.done;
+  waiting = length l.waiting;
+  lost = l.gone - l.done;
+  refused = l.refused;
+  counters = counts;
+}
 
 -- these are the counts of an open socket, from what is kept of it (own choice)
 pub record ReportsOf (sockets : List SocketState) (s : ℕ) (stats : SocketStats) : Type 0 where
   pub place : ℕ
   pub socket : SocketState
   pub is_at : IsAt sockets s place socket
-  pub told : stats ≡ record { queued = socket.taken + length socket.waiting; dropped = socket.dropped; taken = socket.taken }
+  pub told : stats ≡ record {
+    queued = socket.taken + length socket.waiting;
+    dropped = socket.dropped;
+    taken = socket.taken;
+  }
 
 -- the counts of a socket, from what is kept: none where it is not open (own choice)
 abbrev pub ReportsSocket : List SocketState → ℕ → Option SocketStats → Type 0

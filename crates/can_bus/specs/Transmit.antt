@@ -14,7 +14,10 @@ use Rattle.can_bus.specs.Sockets.{iface_of, options_of}
 
 -- sent_by after one more entry (own choice)
 abbrev pub sent_after : List Entry → ℕ → Event → Reply → List Pending → List Pending
-sent_after past i (Send s frame) (reply.Sent n) before = if iface_of past s.0 == i then before ++ record { frame = frame; socket = s; loopback = (options_of past s.0).loopback } ∷ [] else before
+sent_after past i (Send s frame) (reply.Sent n) before =
+    if iface_of past s.0 == i
+    then before ++ record { frame = frame; socket = s; loopback = (options_of past s.0).loopback } ∷ []
+    else before
 sent_after past i _ _ before = before
 
 -- the frames accepted for sending on interface i, in order: a frame's number is its place. Each keeps
@@ -25,7 +28,8 @@ sent_by (e ∷ past) i = sent_after past i e.event e.reply (sent_by past i)
 
 -- gone_count after one more entry, where this many frames were sent (own choice)
 abbrev pub gone_after : Reply → ℕ → ℕ → ℕ → ℕ
-gone_after (reply.Tried t) i sent before = if is_in i t.off then sent else if (t.winner == i) && is_done t.class then before + 1 else before
+gone_after (reply.Tried t) i sent before =
+    if is_in i t.off then sent else if (t.winner == i) && is_done t.class then before + 1 else before
 gone_after _ i sent before = before
 
 -- how many frames of interface i have left its transmit queue: one for each attempt that it won and
@@ -54,7 +58,8 @@ lost_count past i = gone_count past i - done_count past i
 
 -- refused_count after one more entry (own choice)
 abbrev pub refused_after : List Entry → ℕ → Event → Reply → ℕ → ℕ
-refused_after past i (Send s frame) (reply.Refused refusal.NoBuffers) before = if iface_of past s.0 == i then before + 1 else before
+refused_after past i (Send s frame) (reply.Refused refusal.NoBuffers) before =
+    if iface_of past s.0 == i then before + 1 else before
 refused_after past i _ _ before = before
 
 -- how many frames found the transmit queue of interface i full

@@ -67,7 +67,12 @@ tried_item t = record { item = item.Data t.frame; from = t.winner; number = t.nu
 
 -- nothing: an empty frame from the first interface, at moment 0 (own choice)
 abbrev pub no_item : Received
-no_item = record { item = item.Data (record { id = record { extended = false; number = 0 }; payload = Data [] }); from = 0; number = 0; moment = 0 }
+no_item = record {
+  item = item.Data (record { id = record { extended = false; number = 0 }; payload = Data [] });
+  from = 0;
+  number = 0;
+  moment = 0;
+}
 
 -- the options with one of them set (linux/can/raw.h)
 abbrev pub with_option : Opt → Options → Options

@@ -6,7 +6,8 @@ use Rattle.can_frame.specs.declared.item.Item.TheVariants as item
 use Rattle.can_event.specs.declared.bus_config.BusConfig.{BusConfig}
 use Rattle.can_event.specs.declared.entry.Entry.{Entry}
 use Rattle.can_event.specs.declared.event.Event.{Event}
-use Rattle.can_event.specs.declared.event.Event.TheVariants.{Open, Close, SetFilters, SetOption, Send, Receive, Attempt, Restart}
+use Rattle.can_event.specs.declared.event.Event.TheVariants.{Open, Close, SetFilters, SetOption}
+use Rattle.can_event.specs.declared.event.Event.TheVariants.{Send, Receive, Attempt, Restart}
 use Rattle.can_event.specs.declared.received.Received.{Received}
 use Rattle.can_event.specs.declared.refusal.Refusal.{Refusal}
 use Rattle.can_event.specs.declared.refusal.Refusal.TheVariants as refusal
@@ -31,8 +32,8 @@ abbrev pub SendsFd : Event → Type 0
 SendsFd (Send s frame) = IsTrue (is_fd frame.payload)
 SendsFd _ = ⊥
 
--- a refusal that leaves an entry and may go with the event: only a send of an FD frame is refused as FD frames are off (own
--- choice)
+-- a refusal that leaves an entry and may go with the event: only a send of an FD frame is refused as FD frames
+-- are off (own choice)
 abbrev pub MayRefuse : Event → Refusal → Type 0
 MayRefuse event refusal.FdOff = SendsFd event
 MayRefuse event why = LeavesEntry why

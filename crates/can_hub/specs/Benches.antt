@@ -11,8 +11,8 @@ use Rattle.can_hub.specs.declared.bench.Bench.{Bench}
 -- What the buses of a hub are made of.
 
 module _ {F G : Type 0} where
-  -- a bus whose configurations have these limits may be made of this: the configuration is within them, blanks and names
-  -- are of as many interfaces as it has, and a socket holds 1 to 65,536 items
+  -- a bus whose configurations have these limits may be made of this: the configuration is within them, blanks
+  -- and names are of as many interfaces as it has, and a socket holds 1 to 65,536 items
   pub record IsWithin (Limits : BusConfig → Type 0) (b : Bench F G) : Type 0 where
     pub config : Limits b.config
     pub words : b.blanks.meter.words ≡ b.config.ifaces
@@ -47,11 +47,19 @@ module _ {F G : Type 0} where
   -- the blanks are named by the numbers of their buses, the first of them n
   abbrev pub NamedFrom : (ℕ → RollId) → (ℕ → TableId) → ℕ → List (Bench F G) → Type 0
   NamedFrom roll meter n [] = Unit {0}
-  NamedFrom roll meter n (b ∷ more) = (b.blanks.roll ≡ roll n) × (b.blanks.meter ≡ meter n) × NamedFrom roll meter (suc n) more
+  NamedFrom roll meter n (b ∷ more) =
+      (b.blanks.roll ≡ roll n) × (b.blanks.meter ≡ meter n) × NamedFrom roll meter (suc n) more
 
   -- the bus that is made under a number
   abbrev pub bus_of : ℕ → Bench F G → BusSeen
-  bus_of n b = record { number = n; config = b.config; names = b.names; timing = b.timing; pace_ms = b.pace_ms; rx_capacity = b.rx_capacity }
+  bus_of n b = record {
+    number = n;
+    config = b.config;
+    names = b.names;
+    timing = b.timing;
+    pace_ms = b.pace_ms;
+    rx_capacity = b.rx_capacity;
+  }
 
   -- the buses that are made, the first of them under the number n
   abbrev pub buses_from : ℕ → List (Bench F G) → List BusSeen

@@ -1,4 +1,5 @@
-use Rattle.std.specs.Prelude.{◌≡◌, ◌<◌, ℕ, suc, List, [], ◌∷◌, length, map, Contains, slice_get, slice_index_or, flat_map, Option, Some, None, option_map}
+use Rattle.std.specs.Prelude.{◌≡◌, ◌<◌, ℕ, suc, List, [], ◌∷◌, length, map, Contains, slice_get}
+use Rattle.std.specs.Prelude.{slice_index_or, flat_map, Option, Some, None, option_map}
 use Rattle.can_event.specs.declared.bus_config.BusConfig.{BusConfig}
 use Rattle.can_frame.specs.Names.{place_of}
 use Rattle.can_station.specs.Held.{StationSeen}
@@ -7,8 +8,8 @@ use Rattle.can_wire.specs.Timings.{BusTiming}
 
 -- The buses of a hub, and their names.
 
--- a bus: its number, its configuration, the names of its interfaces, its bit rates, if it has any, how many milliseconds
--- its driver sleeps after each step where it has none, and how many items a socket of its holds
+-- a bus: its number, its configuration, the names of its interfaces, its bit rates, if it has any, how many
+-- milliseconds its driver sleeps after each step where it has none, and how many items a socket of its holds
 pub record BusSeen : Type 0 where
   pub number : ℕ
   pub config : BusConfig
@@ -79,4 +80,6 @@ NoneNamed n buses name = (k : ℕ) (d : BusSeen) → k < n → place_of (slice_i
 abbrev pub IsFirstNamed : List BusSeen → List ℕ → Option (ℕ × ℕ) → Type 0
 IsFirstNamed buses name None = NoneNamed (length buses) buses name
 IsFirstNamed buses name (Some at) =
-    (at.0 < length buses) × ((d : BusSeen) → place_of (slice_index_or buses at.0 d).names name ≡ Some at.1) × NoneNamed at.0 buses name
+    (at.0 < length buses)
+    × ((d : BusSeen) → place_of (slice_index_or buses at.0 d).names name ≡ Some at.1)
+    × NoneNamed at.0 buses name

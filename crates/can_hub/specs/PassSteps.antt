@@ -1,4 +1,5 @@
-use Rattle.std.specs.Prelude.{◌≡◌, ◌<◌, ◌≤◌, ◌⊎◌, ℕ, Bool, true, false, List, length, Option, Some, None, Result, Ok, Err, slice_get}
+use Rattle.std.specs.Prelude.{◌≡◌, ◌<◌, ◌≤◌, ◌⊎◌, ℕ, Bool, true, false, List, length}
+use Rattle.std.specs.Prelude.{Option, Some, None, Result, Ok, Err, slice_get}
 use mathlib.Core.List.{IsSuffix}
 use Rattle.can_confine.specs.Confinement.{ErrorCounts, at_start}
 use Rattle.can_meter.specs.Publications.{newest, published}
@@ -16,7 +17,9 @@ use Rattle.can_dialog.specs.declared.port.PortRefusal.{PortRefusal}
 use Rattle.can_dialog.specs.declared.port.PortRefusal.TheVariants as port
 use Rattle.can_dialog.specs.Calls.{Call, reply_to_rule}
 use Rattle.can_dialog.specs.Calls.{Reply as CallReply}
-use Rattle.can_dialog.specs.Calls.Call.{Names, Attach, Open, Close, SetFilters, SetOption, Send, Receive, Restart, Attempt, CountsOfSocket, CountsOfIface, CountersOfIface, LoadAt, Inject, CountsRules, EndsRules}
+use Rattle.can_dialog.specs.Calls.Call.{Names, Attach, Open, Close, SetFilters, SetOption, Send}
+use Rattle.can_dialog.specs.Calls.Call.{Receive, Restart, Attempt, CountsOfSocket, CountsOfIface}
+use Rattle.can_dialog.specs.Calls.Call.{CountersOfIface, LoadAt, Inject, CountsRules, EndsRules}
 use Rattle.can_rules.specs.declared.rules.RuleRefusal.{RuleRefusal}
 use Rattle.can_station.specs.Held.{StationSeen}
 use Rattle.can_station.specs.Passes.{PassSeen, Called, HadNoPassLeft, InSome, InjectsIn}
@@ -71,10 +74,13 @@ passed_on (Ok a) = Ok a
 passed_on (Err why) = Err (refused_as why)
 
 -- a call of the station that was entered; where none was, there is no socket
-abbrev pub OnPass : {A : Type 0} → (A → Reply) → Option EnteredSeen → Event → Result A PortRefusal → Option EnteredSeen → Type 0
+abbrev pub OnPass :
+    {A : Type 0} → (A → Reply) → Option EnteredSeen → Event → Result A PortRefusal → Option EnteredSeen → Type 0
 OnPass {A} told None e answer new = (answer ≡ Err (port.Bus refusal.NoSocket)) × (new ≡ None)
 OnPass {A} told (Some old) e answer new =
-    (outcome : Result A StationRefusal) × (pass : PassSeen) × (answer ≡ passed_on outcome) × Called told old.station.number old.pass e outcome pass
+    (outcome : Result A StationRefusal) × (pass : PassSeen)
+    × (answer ≡ passed_on outcome)
+    × Called told old.station.number old.pass e outcome pass
     × (new ≡ Some (record old { pass = pass }))
 
 -- a call of the station on the port of a hub, which stays as it was
@@ -88,14 +94,21 @@ SomeNamed buses name = (bus : ℕ) × (iface : ℕ) × IsFirstNamed buses name (
 -- some bus that has an interface of this name had no pass left
 abbrev pub SomeNamedFull : Type 0 → List BusSeen → List ℕ → Type 0
 SomeNamedFull F buses name =
-    (at : StationSeen) × (iface : ℕ) × IsFirstNamed buses name (Some (at.number, iface)) × IsStationOn buses at × HadNoPassLeft F at
+    (at : StationSeen) × (iface : ℕ)
+    × IsFirstNamed buses name (Some (at.number, iface))
+    × IsStationOn buses at
+    × HadNoPassLeft F at
 
--- the station of the bus that has the name is entered, with a gauge of its meter and a pass of its; else nothing changes:
--- no bus has the name, or it has one and memory was refused to the gauge or no pass was left
+-- the station of the bus that has the name is entered, with a gauge of its meter and a pass of its; else nothing
+-- changes: no bus has the name, or it has one and memory was refused to the gauge or no pass was left
 abbrev pub Attaches : Type 0 → PortSeen → List ℕ → Result ℕ PortRefusal → PortSeen → Type 0
 Attaches F old name (Ok iface) new =
-    (at : StationSeen) × (gauge : Readings) × (pass : PassSeen) × IsFirstNamed old.buses name (Some (at.number, iface)) × IsStationOn old.buses at
-    × (gauge.number ≡ at.number) × (pass.number ≡ at.number) × (new ≡ record { buses = old.buses; entered = Some (entered_with at gauge pass) })
+    (at : StationSeen) × (gauge : Readings) × (pass : PassSeen)
+    × IsFirstNamed old.buses name (Some (at.number, iface))
+    × IsStationOn old.buses at
+    × (gauge.number ≡ at.number)
+    × (pass.number ≡ at.number)
+    × (new ≡ record { buses = old.buses; entered = Some (entered_with at gauge pass) })
 Attaches F old name (Err (port.Bus refusal.NoInterface)) new = IsFirstNamed old.buses name None × (new ≡ old)
 Attaches F old name (Err (port.Bus refusal.NoMemory)) new = SomeNamed old.buses name × (new ≡ old)
 Attaches F old name (Err port.TooManyPasses) new = SomeNamedFull F old.buses name × (new ≡ old)
@@ -106,43 +119,54 @@ Attaches F old name (Err _) new = ⊥
 abbrev pub GaugeReports : Readings → ℕ → ErrorCounts → Readings → Type 0
 GaugeReports old iface answer new =
     ((iface < old.ifaces)
-    × (answer ≡ (newest (published new.lists iface)).counters) × IsSuffix (published old.lists iface) (published new.lists iface)
+    × (answer ≡ (newest (published new.lists iface)).counters)
+    × IsSuffix (published old.lists iface) (published new.lists iface)
     × (new ≡ knowing_of old iface (published new.lists iface)))
     ⊎ ((old.ifaces ≤ iface) × (answer ≡ at_start) × (new ≡ old))
 
 -- the gauge of the station that was entered returns the error counters of an interface; where none was, they are 0/0
 abbrev pub ReportsCounters : Option EnteredSeen → ℕ → ErrorCounts → Option EnteredSeen → Type 0
 ReportsCounters None iface answer new = (answer ≡ at_start) × (new ≡ None)
-ReportsCounters (Some old) iface answer new = (gauge : Readings) × GaugeReports old.gauge iface answer gauge × (new ≡ Some (record old { gauge = gauge }))
+ReportsCounters (Some old) iface answer new =
+    (gauge : Readings) × GaugeReports old.gauge iface answer gauge × (new ≡ Some (record old { gauge = gauge }))
 
 -- a load has the bit rates of the bus that was entered (how busy it was is not said); where none was, all is 0
 abbrev pub ReportsRates : List BusSeen → Option EnteredSeen → BusLoad → Type 0
 ReportsRates buses None answer = answer ≡ no_load
-ReportsRates buses (Some e) answer = rates_of answer.bitrate answer.dbitrate ≡ rates_on (slice_get buses e.station.number)
+ReportsRates buses (Some e) answer =
+    rates_of answer.bitrate answer.dbitrate ≡ rates_on (slice_get buses e.station.number)
 
 -- counts that a socket with this number has in some state of the station that was entered (which is not said); where
 -- none was, it is not open
 abbrev pub CountsSocket : Type 0 → Option EnteredSeen → ℕ → Option SocketStats → Type 0
 CountsSocket F None socket answer = answer ≡ None
-CountsSocket F (Some e) socket answer = InSome F e.station (λ held. answer ≡ socket_stats_of held.journal.config held.journal.history socket)
+CountsSocket F (Some e) socket answer =
+    InSome F e.station (λ held. answer ≡ socket_stats_of held.journal.config held.journal.history socket)
 
 -- counts that this interface has in some state of the station that was entered (which is not said); where none was,
 -- there is no such interface
 abbrev pub CountsIface : Type 0 → Option EnteredSeen → ℕ → Option IfaceStats → Type 0
 CountsIface F None iface answer = answer ≡ None
-CountsIface F (Some e) iface answer = InSome F e.station (λ held. answer ≡ iface_stats_of held.journal.config held.journal.history iface)
+CountsIface F (Some e) iface answer =
+    InSome F e.station (λ held. answer ≡ iface_stats_of held.journal.config held.journal.history iface)
 
 -- a rule comes to this in some state of a station (which is not said) whose interfaces have these names
-abbrev pub InjectsNamed : Type 0 → StationSeen → Option (List (List ℕ)) → List ℕ → Result (Unit {0}) PortRefusal → Type 0
+abbrev pub InjectsNamed :
+    Type 0 → StationSeen → Option (List (List ℕ)) → List ℕ → Result (Unit {0}) PortRefusal → Type 0
 InjectsNamed F station None rule answer = answer ≡ Err (port.Bus refusal.NoSocket)
-InjectsNamed F station (Some names) rule answer = (outcome : Result (Unit {0}) RuleRefusal) × InjectsIn F station names rule outcome × (answer ≡ reply_to_rule outcome)
+InjectsNamed F station (Some names) rule answer =
+    (outcome : Result (Unit {0}) RuleRefusal)
+    × InjectsIn F station names rule outcome
+    × (answer ≡ reply_to_rule outcome)
 
 -- the same of the station that was entered; where none was, there is no socket
 abbrev pub Injects : Type 0 → List BusSeen → Option EnteredSeen → List ℕ → Result (Unit {0}) PortRefusal → Type 0
 Injects F buses None rule answer = answer ≡ Err (port.Bus refusal.NoSocket)
-Injects F buses (Some e) rule answer = InjectsNamed F e.station (names_on (slice_get buses e.station.number)) rule answer
+Injects F buses (Some e) rule answer =
+    InjectsNamed F e.station (names_on (slice_get buses e.station.number)) rule answer
 
--- how many rules are left in some state of the station that was entered (which is not said); where none was, there is none
+-- how many rules are left in some state of the station that was entered (which is not said); where none was,
+-- there is none
 abbrev pub RulesLeft : Type 0 → Option EnteredSeen → ℕ → Type 0
 RulesLeft F None answer = answer ≡ 0
 RulesLeft F (Some e) answer = InSome F e.station (λ held. answer ≡ length held.plan.rules)
@@ -151,9 +175,11 @@ RulesLeft F (Some e) answer = InSome F e.station (λ held. answer ≡ length hel
 abbrev pub PassStep : Type 0 → PortSeen → (call : Call) → CallReply call → PortSeen → Type 0
 PassStep F old Names answer new = (answer ≡ all_names old.buses) × (new ≡ old)
 PassStep F old (Attach name) answer new = Attaches F old name answer new
-PassStep F old (Open iface asked) answer new = OnPort reply.Opened old (event.Open iface (room_in old.buses old.entered)) answer new
+PassStep F old (Open iface asked) answer new =
+    OnPort reply.Opened old (event.Open iface (room_in old.buses old.entered)) answer new
 PassStep F old (Close socket) answer new = OnPort reply.Closed old (event.Close socket) answer new
-PassStep F old (SetFilters socket filters) answer new = OnPort done_reply old (event.SetFilters socket filters) answer new
+PassStep F old (SetFilters socket filters) answer new =
+    OnPort done_reply old (event.SetFilters socket filters) answer new
 PassStep F old (SetOption socket option) answer new = OnPort done_reply old (event.SetOption socket option) answer new
 PassStep F old (Send socket frame) answer new = OnPort reply.Sent old (event.Send socket frame) answer new
 PassStep F old (Receive socket) answer new = OnPort reply.Received old (event.Receive socket) answer new
@@ -161,7 +187,8 @@ PassStep F old (Restart iface moment) answer new = OnPort done_reply old (event.
 PassStep F old (Attempt moment verdict) answer new = OnPort told_attempt old (event.Attempt moment verdict) answer new
 PassStep F old (CountsOfSocket socket) answer new = CountsSocket F old.entered socket.0 answer × (new ≡ old)
 PassStep F old (CountsOfIface iface) answer new = CountsIface F old.entered iface answer × (new ≡ old)
-PassStep F old (CountersOfIface iface) answer new = ReportsCounters old.entered iface answer new.entered × (new.buses ≡ old.buses)
+PassStep F old (CountersOfIface iface) answer new =
+    ReportsCounters old.entered iface answer new.entered × (new.buses ≡ old.buses)
 PassStep F old (LoadAt moment) answer new = ReportsRates old.buses old.entered answer × (new ≡ old)
 PassStep F old (Inject rule) answer new = Injects F old.buses old.entered rule answer × (new ≡ old)
 PassStep F old CountsRules answer new = RulesLeft F old.entered answer × (new ≡ old)

@@ -54,7 +54,8 @@ abbrev pub AllHanded : {L : Type 0} → (L → List Entry) → List ScrollSeen �
 AllHanded handed scrolls settled = AllZip (λ scroll s. scroll.entries ≡ handed s.history) scrolls settled
 
 -- this bus is the first with another station's scroll, or with a pass of another station in its list
-pub record FirstForeignScroll {A : Type 0} (passes : List (Vec PassSeen A)) (scrolls : List ScrollSeen) (bus : ℕ) : Type 0 where
+pub record FirstForeignScroll {A : Type 0} (passes : List (Vec PassSeen A)) (scrolls : List ScrollSeen)
+    (bus : ℕ) : Type 0 where
   pub before : List (Vec PassSeen A)
   pub own : Vec PassSeen A
   pub after : List (Vec PassSeen A)

@@ -15,8 +15,8 @@ is_large number = nat_le (2 ^ 32) number
 abbrev pub is_off_alone : ℕ → IfaceSet → Bool
 is_off_alone winner off = (off.0 == 0) || (off.0 == 2 ^ winner)
 
--- the filters of a socket are wide, and so is what no bus answers: another kind of reply than the event has, an attempt at
--- another moment, in which others than the winner went off, or numbers that no record reaches
+-- the filters of a socket are wide, and so is what no bus answers: another kind of reply than the event has, an
+-- attempt at another moment, in which others than the winner went off, or numbers that no record reaches
 abbrev pub needs_box : Event → Reply → Bool
 needs_box (Open i capacity) (reply.Opened s) = false
 needs_box (Open i capacity) (reply.Refused why) = false

@@ -2,15 +2,19 @@ use Rattle.std.specs.Prelude.{ℕ, ◌%◌, ◌^◌, nat_le, min, Bool, List, []
 use Rattle.can_frame.specs.Frames.{Identifier, Payload, CanFrame}
 use Rattle.can_frame.specs.Frames.Payload.{Data, Remote}
 
--- A frame as its identifier word (linux/can.h), its length and eight bytes. What no frame has is read as the nearest one.
+-- A frame as its identifier word (linux/can.h), its length and eight bytes. What no frame has is read as the
+-- nearest one.
 
 -- the identifier that a word has: bit 31 marks 29 bits
 abbrev pub identifier_in : ℕ → Identifier
-identifier_in word = if nat_le (2 ^ 31) word then record { extended = Bool.true; number = word % 2 ^ 29 } else record { extended = Bool.false; number = word % 2 ^ 11 }
+identifier_in word =
+    if nat_le (2 ^ 31) word then record { extended = Bool.true; number = word % 2 ^ 29 }
+    else record { extended = Bool.false; number = word % 2 ^ 11 }
 
 -- the bytes that count, or in a remote frame, which bit 30 marks, how many are asked for
 abbrev pub payload_in : ℕ → ℕ → List ℕ → Payload
-payload_in word len bytes = if nat_le (2 ^ 30) (word % 2 ^ 31) then Remote (min len 8) else Data (take (min len 8) bytes)
+payload_in word len bytes =
+    if nat_le (2 ^ 30) (word % 2 ^ 31) then Remote (min len 8) else Data (take (min len 8) bytes)
 
 -- the frame
 abbrev pub frame_in : ℕ → ℕ → List ℕ → CanFrame

@@ -1,4 +1,5 @@
-use Rattle.std.specs.Prelude.{ℕ, ◌+◌, ◌/◌, ◌%◌, ◌^◌, ◌==◌, ◌≤◌, Bool, List, [], ◌∷◌, get_or, Some, None, Result, if◌then◌else◌}
+use Rattle.std.specs.Prelude.{ℕ, ◌+◌, ◌/◌, ◌%◌, ◌^◌, ◌==◌, ◌≤◌, Bool, List, []}
+use Rattle.std.specs.Prelude.{◌∷◌, get_or, Some, None, Result, if◌then◌else◌}
 use Rattle.std.specs.List.{All}
 use Rattle.can_frame.specs.Frames.{CanFrame, is_fd}
 use Rattle.can_frame.specs.Sets.{no_ifaces}
@@ -48,7 +49,16 @@ stamp_off stamp = if stamp % 2 == 0 then no_ifaces else record { 0 = 2 ^ stamp_w
 
 -- the frame that was tried; end is the number of its class and, times 4, of the attempt's verdict
 abbrev pub tried_in : ℕ → ℕ → ℕ → IfaceSet → IfaceSet → List ℕ → ℕ → Tried
-tried_in end word number accepted restarted bytes stamp = record { moment = stamp_moment stamp; winner = stamp_winner stamp; number = number; frame = frame_in word (stamp_len stamp) bytes; class = class_in (end % 4); accepted = accepted; off = stamp_off stamp; restarted = restarted }
+tried_in end word number accepted restarted bytes stamp = record {
+  moment = stamp_moment stamp;
+  winner = stamp_winner stamp;
+  number = number;
+  frame = frame_in word (stamp_len stamp) bytes;
+  class = class_in (end % 4);
+  accepted = accepted;
+  off = stamp_off stamp;
+  restarted = restarted;
+}
 
 -- the entry
 abbrev pub entry_in : List CanFrame → PackedEntry → Entry
@@ -60,16 +70,47 @@ entry_in frames (kept.OptionSet s option) = entry_of (SetOption s option) reply.
 entry_in frames (kept.OptionRefused s option why) = entry_of (SetOption s option) (reply.Refused why)
 entry_in frames (kept.Sent len s word number bytes) = entry_of (Send s (frame_in word len bytes)) (reply.Sent number)
 entry_in frames (kept.FdSent s number place) = entry_of (Send s (fd_frame_at frames place)) (reply.Sent number)
-entry_in frames (kept.SendRefused why len s word bytes) = entry_of (Send s (frame_in word len bytes)) (reply.Refused why)
+entry_in frames (kept.SendRefused why len s word bytes) =
+    entry_of (Send s (frame_in word len bytes)) (reply.Refused why)
 entry_in frames (kept.FdSendRefused why s place) = entry_of (Send s (fd_frame_at frames place)) (reply.Refused why)
 entry_in frames (kept.NothingReceived s) = entry_of (Receive s) (reply.Received None)
-entry_in frames (kept.FrameReceived from len s word number bytes m) = entry_of (Receive s) (reply.Received (Some (record { item = item.Data (frame_in word len bytes); from = from; number = number; moment = m })))
-entry_in frames (kept.FdReceived from s number place m) = entry_of (Receive s) (reply.Received (Some (record { item = item.Data (fd_frame_at frames place); from = from; number = number; moment = m })))
-entry_in frames (kept.ErrorReceived from s number error m) = entry_of (Receive s) (reply.Received (Some (record { item = item.Error error; from = from; number = number; moment = m })))
+entry_in frames (kept.FrameReceived from len s word number bytes m) =
+    entry_of (Receive s) (reply.Received (Some (record {
+      item = item.Data (frame_in word len bytes);
+      from = from;
+      number = number;
+      moment = m;
+    })))
+entry_in frames (kept.FdReceived from s number place m) =
+    entry_of (Receive s) (reply.Received (Some (record {
+      item = item.Data (fd_frame_at frames place);
+      from = from;
+      number = number;
+      moment = m;
+    })))
+entry_in frames (kept.ErrorReceived from s number error m) =
+    entry_of (Receive s) (reply.Received (Some (record {
+      item = item.Error error;
+      from = from;
+      number = number;
+      moment = m;
+    })))
 entry_in frames (kept.ReceiveRefused s why) = entry_of (Receive s) (reply.Refused why)
 entry_in frames (kept.Idle restarted v m) = entry_of (Attempt m v) (reply.Idle restarted)
-entry_in frames (kept.Tried end named word number accepted restarted bytes stamp) = entry_of (Attempt (stamp_moment stamp) (verdict_in (end / 4) named)) (reply.Tried (tried_in end word number accepted restarted bytes stamp))
-entry_in frames (kept.FdTried end winner number named accepted off restarted place m) = entry_of (Attempt m (verdict_in (end / 4) named)) (reply.Tried (record { moment = m; winner = winner; number = number; frame = fd_frame_at frames place; class = class_in (end % 4); accepted = accepted; off = off; restarted = restarted }))
+entry_in frames (kept.Tried end named word number accepted restarted bytes stamp) =
+    entry_of (Attempt (stamp_moment stamp) (verdict_in (end / 4) named))
+    (reply.Tried (tried_in end word number accepted restarted bytes stamp))
+entry_in frames (kept.FdTried end winner number named accepted off restarted place m) =
+    entry_of (Attempt m (verdict_in (end / 4) named)) (reply.Tried (record {
+      moment = m;
+      winner = winner;
+      number = number;
+      frame = fd_frame_at frames place;
+      class = class_in (end % 4);
+      accepted = accepted;
+      off = off;
+      restarted = restarted;
+    }))
 entry_in frames (kept.AttemptRefused v m why) = entry_of (Attempt m v) (reply.Refused why)
 entry_in frames (kept.Restarted i m) = entry_of (Restart i m) reply.Done
 entry_in frames (kept.RestartRefused i m why) = entry_of (Restart i m) (reply.Refused why)

@@ -7,7 +7,11 @@ use Rattle.can_record.specs.declared.packed_record.PackedRecord.TheInside.{Insid
 
 -- the entries that are kept, and how many there is memory for: an entry more may take a place in both lists
 abbrev pub packed_entries : Inside → PackedEntries
-packed_entries r = record { entries = map (entry_in r.frames.items) r.entries.items; room = vec_len r.entries + min (vec_capacity r.entries - vec_len r.entries) (vec_capacity r.frames - vec_len r.frames) }
+packed_entries r = record {
+  entries = map (entry_in r.frames.items) r.entries.items;
+  room =
+      vec_len r.entries + min (vec_capacity r.entries - vec_len r.entries) (vec_capacity r.frames - vec_len r.frames);
+}
 
 -- places are within the list of frames
 abbrev pub IsPacked : Inside → Type 0

@@ -19,7 +19,8 @@ class_number class.NoAck = 3
 
 -- the class of a number
 abbrev pub class_in : ℕ → Class
-class_in n = if n == 0 then class.Done else if n == 1 then class.LastBit else if n == 2 then class.Destroyed else class.NoAck
+class_in n =
+    if n == 0 then class.Done else if n == 1 then class.LastBit else if n == 2 then class.Destroyed else class.NoAck
 
 -- the number of a verdict without its interfaces, below 8
 abbrev pub verdict_number : Verdict → ℕ
