@@ -18,4 +18,5 @@ HasNoHead heads = All (λ head. head ≡ None) heads
 -- interfaces (own choice)
 pub record GoesFirst (heads : List (Option CanFrame)) (w : ℕ) (frame : CanFrame) : Type 0 where
   pub head : slice_get heads w ≡ Some (Some frame)
-  pub first : (i : ℕ) (other : CanFrame) → i ≢ w → slice_get heads i ≡ Some (Some other) → Outranks frame other ⊎ ((arbitration_bits frame ≡ arbitration_bits other) × (w < i))
+  pub first : (i : ℕ) (other : CanFrame) → i ≢ w → slice_get heads i ≡ Some (Some other)
+      → Outranks frame other ⊎ ((arbitration_bits frame ≡ arbitration_bits other) × (w < i))

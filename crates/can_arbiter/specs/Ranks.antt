@@ -1,4 +1,5 @@
-use Rattle.std.specs.Prelude.{◌≢◌, ◌==◌, ◌<◌, ◌≡◌, ◌%◌, ◌/◌, ℕ, List, [], ◌∷◌, Option, Some, None, cond, map, length, slice_index_or, ◌≤◌}
+use Rattle.std.specs.Prelude.{◌≢◌, ◌==◌, ◌<◌, ◌≡◌, ◌%◌, ◌/◌, ℕ, List, [], ◌∷◌, Option}
+use Rattle.std.specs.Prelude.{Some, None, cond, map, length, slice_index_or, ◌≤◌}
 use Rattle.std.specs.List.{range_with_len, insert}
 use mathlib.Core.Path.{refl}
 
@@ -21,8 +22,12 @@ length-keys_in ranks = refl
 
 -- these are the others with this rank put among them, after those that are less and before those that are not
 abbrev pub IsPutAmong : List ℕ → ℕ → List ℕ → Type 0
-IsPutAmong others rank ranks = (place : ℕ) × (place ≤ length others) × (ranks ≡ insert others place rank)
-    × ((k d : ℕ) → k < place → slice_index_or others k d < rank) × ((k d : ℕ) → place ≤ k → k < length others → rank ≤ slice_index_or others k d)
+IsPutAmong others rank ranks =
+    (place : ℕ)
+    × (place ≤ length others)
+    × (ranks ≡ insert others place rank)
+    × ((k d : ℕ) → k < place → slice_index_or others k d < rank)
+    × ((k d : ℕ) → place ≤ k → k < length others → rank ≤ slice_index_or others k d)
 
 -- this rank goes before that one, which is another interface's
 abbrev pub GoesBefore : ℕ → ℕ → Type 0

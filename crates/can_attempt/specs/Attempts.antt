@@ -1,4 +1,5 @@
-use Rattle.std.specs.Prelude.{◌≡◌, ◌<◌, ◌≤◌, ℕ, ◌==◌, Bool, true, false, not, ◌&&◌, ◌||◌, List, [], ◌∷◌, length, filter, map, slice_index_or, nat_lt, All, IsTrue, if◌then◌else◌}
+use Rattle.std.specs.Prelude.{◌≡◌, ◌<◌, ◌≤◌, ℕ, ◌==◌, Bool, true, false, not, ◌&&◌, ◌||◌, List, [], ◌∷◌}
+use Rattle.std.specs.Prelude.{length, filter, map, slice_index_or, nat_lt, All, IsTrue, if◌then◌else◌}
 use Rattle.std.specs.List.{list_any, range_with_len}
 use Rattle.can_frame.specs.Sets.{is_in, set_where}
 use Rattle.can_frame.specs.declared.iface.IfaceSet.{IfaceSet}
@@ -92,7 +93,11 @@ is_acknowledged t = is_always t.ack || is_heard t
 
 -- the first case that holds
 abbrev pub class_when : Bool → Bool → Bool → Class
-class_when destroyed acknowledged last_bit = if destroyed then class.Destroyed else if not acknowledged then class.NoAck else if last_bit then class.LastBit else class.Done
+class_when destroyed acknowledged last_bit =
+    if destroyed then class.Destroyed
+    else if not acknowledged then class.NoAck
+    else if last_bit then class.LastBit
+    else class.Done
 
 -- what becomes of the frame
 abbrev pub class_of : Transmission → Class
@@ -126,7 +131,10 @@ receiver_step class.NoAck is_hit = if is_hit then ReceiveError ∷ [] else []
 
 -- what an attempt of this class does to interface i
 abbrev pub steps_in : Class → Transmission → ℕ → List Step
-steps_in c t i = if i == t.winner then winner_step c (state_at t i) else if is_among i (receivers t) then receiver_step c (is_struck t.verdict i) else []
+steps_in c t i =
+    if i == t.winner then winner_step c (state_at t i)
+    else if is_among i (receivers t) then receiver_step c (is_struck t.verdict i)
+    else []
 
 -- the error counts of interface i after an attempt of this class
 abbrev pub counts_in : Class → Transmission → ℕ → ErrorCounts
@@ -173,7 +181,13 @@ attempt_between nodes w v a = record { count = nodes.count; counts = counts_at n
 
 -- all that follows from an attempt
 abbrev pub judged : Transmission → Judgement
-judged t = record { class = class_of t; accepted = set_of (accepted_in (class_of t) t); hit = set_of (hit t); counters = map (counts_after t) (range_with_len 0 16); off = set_of (off_after t) }
+judged t = record {
+  class = class_of t;
+  accepted = set_of (accepted_in (class_of t) t);
+  hit = set_of (hit t);
+  counters = map (counts_after t) (range_with_len 0 16);
+  off = set_of (off_after t);
+}
 
 -- nothing can go wrong between these nodes: no fault, somebody who acknowledges, and all counts 0 (own choice)
 pub record IsFaultFree (nodes : Nodes) (v : Verdict) (a : AckMode) : Type 0 where
@@ -183,4 +197,5 @@ pub record IsFaultFree (nodes : Nodes) (v : Verdict) (a : AckMode) : Type 0 wher
 
 -- this follows from an attempt of w between these nodes, where nothing can go wrong (own choice)
 abbrev pub IsCalmJudgement : Nodes → ℕ → Judgement → Type 0
-IsCalmJudgement nodes w j = (v : Verdict) (a : AckMode) → IsFaultFree nodes v a → j ≡ judged (attempt_between nodes w v a)
+IsCalmJudgement nodes w j =
+    (v : Verdict) (a : AckMode) → IsFaultFree nodes v a → j ≡ judged (attempt_between nodes w v a)

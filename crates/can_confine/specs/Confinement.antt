@@ -35,7 +35,11 @@ at_start = record { tec = 0; rec = 0 }
 
 -- bus off from transmit count 256, error passive from 128, the warning limit at 96 (linux/can/error.h)
 abbrev pub state_of : ErrorCounts → State
-state_of c = if nat_le 256 c.tec then Off else if nat_le 128 c.tec || nat_le 128 c.rec then Passive else if nat_le 96 c.tec || nat_le 96 c.rec then Warning else Active
+state_of c =
+    if nat_le 256 c.tec then Off
+    else if nat_le 128 c.tec || nat_le 128 c.rec then Passive
+    else if nat_le 96 c.tec || nat_le 96 c.rec then Warning
+    else Active
 
 -- bus off: it neither sends nor hears anything
 abbrev pub is_off : State → Bool

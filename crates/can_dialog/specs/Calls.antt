@@ -27,8 +27,8 @@ use Rattle.can_dialog.specs.declared.port.PortRefusal.TheVariants as port
 
 -- The calls of a port, and the replies that it may give (own choice).
 
--- a call of a port, with its arguments: interfaces and moments are numbers, a rule of faults is its text. `Names` asks for
--- the names of all interfaces that may be attached, in order. No session tries frames
+-- a call of a port, with its arguments: interfaces and moments are numbers, a rule of faults is its text. `Names`
+-- asks for the names of all interfaces that may be attached, in order. No session tries frames
 pub data Call : Type 0 where
   Names : Call
   Attach : List ℕ → Call
@@ -108,12 +108,15 @@ Gives step old (event.SetFilters socket filters) reply.Done new = step old (SetF
 Gives step old (event.SetOption socket option) reply.Done new = step old (SetOption socket option) (Ok tt) new
 Gives step old (event.Send socket frame) (reply.Sent number) new = step old (Send socket frame) (Ok number) new
 Gives step old (event.Receive socket) (reply.Received item) new = step old (Receive socket) (Ok item) new
-Gives step old (event.Attempt moment verdict) (reply.Idle restarted) new = step old (Attempt moment verdict) (Ok (attempt.Idle restarted)) new
-Gives step old (event.Attempt moment verdict) (reply.Tried tried) new = step old (Attempt moment verdict) (Ok (attempt.Tried tried)) new
+Gives step old (event.Attempt moment verdict) (reply.Idle restarted) new =
+    step old (Attempt moment verdict) (Ok (attempt.Idle restarted)) new
+Gives step old (event.Attempt moment verdict) (reply.Tried tried) new =
+    step old (Attempt moment verdict) (Ok (attempt.Tried tried)) new
 Gives step old (event.Restart iface moment) reply.Done new = step old (Restart iface moment) (Ok tt) new
 Gives step old e r new = ⊥
 
 -- a call by an event: it has a reply, or it is refused before the bus has the event
-abbrev pub Steps : {P : Type 0} → (P → (call : Call) → Reply call → P → Type 0) → P → Event → Result EventReply PortRefusal → P → Type 0
+abbrev pub Steps : {P : Type 0} → (P → (call : Call) → Reply call → P → Type 0) → P → Event
+    → Result EventReply PortRefusal → P → Type 0
 Steps step old e (Ok r) new = Gives step old e r new
 Steps step old e (Err why) new = Refuses step old e why new

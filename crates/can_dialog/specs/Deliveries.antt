@@ -25,17 +25,22 @@ is_item (ItemFrom errdata same) = true
 is_item _ = false
 
 -- the port goes through a delivery, which gives this, where an item is in this room
-abbrev pub Receives : {P : Type 0} → (P → (call : Call) → Reply call → P → Type 0) → Stage → P → P → Delivery → Received → Type 0
+abbrev pub Receives :
+    {P : Type 0} → (P → (call : Call) → Reply call → P → Type 0) → Stage → P → P → Delivery → Received → Type 0
 Receives {P} step stage p q given room = Plays step (delivery stage) p q (delivery_text given room) (is_item given)
 
 -- this many items are given to a client, one after another
 abbrev pub AreGiven : {P : Type 0} → (P → (call : Call) → Reply call → P → Type 0) → ℕ → Stage → P → List ℕ → P → Type 0
 AreGiven {P} step zero stage p text q = (text ≡ []) × (q ≡ p)
 AreGiven {P} step (suc n) stage p text q =
-    (before : List ℕ) × (mid : P) × (last : List ℕ) × AreGiven step n stage p before mid × Plays step (delivery stage) mid q last true × (text ≡ before ++ last)
+    (before : List ℕ) × (mid : P) × (last : List ℕ)
+    × AreGiven step n stage p before mid
+    × Plays step (delivery stage) mid q last true
+    × (text ≡ before ++ last)
 
 -- as many receives as these give an item; or fewer do, and the one after them gives none
-abbrev pub Gives : {P : Type 0} → (P → (call : Call) → Reply call → P → Type 0) → ℕ → Stage → P → List ℕ → P → Bool → Type 0
+abbrev pub Gives :
+    {P : Type 0} → (P → (call : Call) → Reply call → P → Type 0) → ℕ → Stage → P → List ℕ → P → Bool → Type 0
 Gives {P} step most stage p text q true = AreGiven step most stage p text q
 Gives {P} step most stage p text q false =
     (n : ℕ) × (before : List ℕ) × (mid : P) × (last : List ℕ) × (n < most)

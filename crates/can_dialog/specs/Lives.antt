@@ -30,29 +30,38 @@ first_text Ended = []
 first_text _ = greeting
 
 -- what a turn does and says; `forgot`: memory was refused for its command
-abbrev pub TurnDoes : {P : Type 0} → (P → (call : Call) → Reply call → P → Type 0) → Bool → Dialog → Act Incoming → P → P → List ℕ → Dialog → Type 0
+abbrev pub TurnDoes : {P : Type 0} → (P → (call : Call) → Reply call → P → Type 0) → Bool → Dialog → Act Incoming
+    → P → P → List ℕ → Dialog → Type 0
 TurnDoes {P} step forgot d Greet p q text after = (q ≡ p) × (text ≡ first_text d.stage) × (after ≡ d)
 TurnDoes {P} step forgot d (Hear moment item) p q text after = Plays step (turn forgot moment d item) p q text after
-TurnDoes {P} step forgot d Deliver p q text after = (more : Bool) × Plays step (delivery d.stage) p q text more × (after ≡ d)
+TurnDoes {P} step forgot d Deliver p q text after =
+    (more : Bool) × Plays step (delivery d.stage) p q text more × (after ≡ d)
 TurnDoes {P} step forgot d End p q text after = Plays step (ending d.stage d) p q text after
 
 -- turns one after another, and the text of all of them
-abbrev pub Lives : {P : Type 0} → (P → (call : Call) → Reply call → P → Type 0) → Dialog → List Bool → List (Act Incoming) → P → P → List ℕ → Dialog → Type 0
+abbrev pub Lives : {P : Type 0} → (P → (call : Call) → Reply call → P → Type 0) → Dialog → List Bool
+    → List (Act Incoming) → P → P → List ℕ → Dialog → Type 0
 Lives {P} step d [] [] p q text after = (q ≡ p) × (text ≡ []) × (after ≡ d)
 Lives {P} step d (forgot ∷ forgotten) (act ∷ acts) p q text after =
     (first : List ℕ) × (mid : Dialog) × (port : P) × (others : List ℕ)
-    × TurnDoes step forgot d act p port first mid × Lives step mid forgotten acts port q others after × (text ≡ first ++ others)
+    × TurnDoes step forgot d act p port first mid
+    × Lives step mid forgotten acts port q others after
+    × (text ≡ first ++ others)
 Lives {P} step d _ _ p q text after = ⊥
 
 -- what a call does and says whose text reaches the client, from the text kept before
-abbrev pub CallDoes : {P : Type 0} → (P → (call : Call) → Reply call → P → Type 0) → Dialog → List ℕ → Act (List ℕ) → P → P → List ℕ → Dialog → Type 0
+abbrev pub CallDoes : {P : Type 0} → (P → (call : Call) → Reply call → P → Type 0) → Dialog → List ℕ → Act (List ℕ)
+    → P → P → List ℕ → Dialog → Type 0
 CallDoes {P} step d kept Greet p q text after = (q ≡ p) × (text ≡ first_text d.stage) × (after ≡ d)
-CallDoes {P} step d kept (Hear moment piece) p q text after = TakesTurns step moment d (messages_of (kept ++ piece)) p q text after
-CallDoes {P} step d kept Deliver p q text after = (more : Bool) × Plays step (delivery d.stage) p q text more × (after ≡ d)
+CallDoes {P} step d kept (Hear moment piece) p q text after =
+    TakesTurns step moment d (messages_of (kept ++ piece)) p q text after
+CallDoes {P} step d kept Deliver p q text after =
+    (more : Bool) × Plays step (delivery d.stage) p q text more × (after ≡ d)
 CallDoes {P} step d kept End p q text after = Plays step (ending d.stage d) p q text after
 
 -- a session that is over refuses every call
-abbrev pub UnlessOver : {P : Type 0} → (P → (call : Call) → Reply call → P → Type 0) → Stage → Dialog → List ℕ → Act (List ℕ) → P → P → List ℕ → Dialog → Type 0
+abbrev pub UnlessOver : {P : Type 0} → (P → (call : Call) → Reply call → P → Type 0) → Stage → Dialog → List ℕ
+    → Act (List ℕ) → P → P → List ℕ → Dialog → Type 0
 UnlessOver {P} step Ended d kept act p q text after = (q ≡ p) × (text ≡ []) × (after ≡ d)
 UnlessOver {P} step _ d kept act p q text after = CallDoes step d kept act p q text after
 
@@ -62,16 +71,20 @@ kept_after kept (Hear moment piece) = kept_of (kept ++ piece)
 kept_after kept _ = kept
 
 -- calls one after another, and the text of all of them
-abbrev pub IsCalled : {P : Type 0} → (P → (call : Call) → Reply call → P → Type 0) → Dialog → List ℕ → List (Act (List ℕ)) → P → P → List ℕ → Dialog → Type 0
+abbrev pub IsCalled : {P : Type 0} → (P → (call : Call) → Reply call → P → Type 0) → Dialog → List ℕ
+    → List (Act (List ℕ)) → P → P → List ℕ → Dialog → Type 0
 IsCalled {P} step d kept [] p q text after = (q ≡ p) × (text ≡ []) × (after ≡ d)
 IsCalled {P} step d kept (act ∷ acts) p q text after =
     (first : List ℕ) × (mid : Dialog) × (port : P) × (others : List ℕ)
-    × UnlessOver step d.stage d kept act p port first mid × IsCalled step mid (kept_after kept act) acts port q others after × (text ≡ first ++ others)
+    × UnlessOver step d.stage d kept act p port first mid
+    × IsCalled step mid (kept_after kept act) acts port q others after
+    × (text ≡ first ++ others)
 
 -- the turns that calls come to, from the text kept before: a piece gives a turn for each item
 abbrev pub turns_of : List ℕ → List (Act (List ℕ)) → List (Act Incoming)
 turns_of kept [] = []
 turns_of kept (Greet ∷ acts) = Greet ∷ turns_of kept acts
-turns_of kept (Hear moment piece ∷ acts) = map (Hear moment) (messages_of (kept ++ piece)) ++ turns_of (kept_of (kept ++ piece)) acts
+turns_of kept (Hear moment piece ∷ acts) =
+    map (Hear moment) (messages_of (kept ++ piece)) ++ turns_of (kept_of (kept ++ piece)) acts
 turns_of kept (Deliver ∷ acts) = Deliver ∷ turns_of kept acts
 turns_of kept (End ∷ acts) = End ∷ turns_of kept acts

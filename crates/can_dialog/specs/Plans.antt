@@ -12,4 +12,5 @@ pub data Plan (A : Type 0) : Type 0 where
 -- replies lead to
 abbrev pub Plays : {P A : Type 0} → (P → (call : Call) → Reply call → P → Type 0) → Plan A → P → P → List ℕ → A → Type 0
 Plays {P} {A} step (Tell said after) p q text outcome = (q ≡ p) × (text ≡ said) × (outcome ≡ after)
-Plays {P} {A} step (Ask call next) p q text outcome = (reply : Reply call) × (mid : P) × step p call reply mid × Plays step (next reply) mid q text outcome
+Plays {P} {A} step (Ask call next) p q text outcome =
+    (reply : Reply call) × (mid : P) × step p call reply mid × Plays step (next reply) mid q text outcome

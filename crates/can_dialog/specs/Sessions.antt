@@ -42,36 +42,48 @@ IsNotRaw (Raw raw) = ⊥
 IsNotRaw _ = Unit {0}
 
 -- the port goes through a plan, and this is the reply to the client, if there is one
-abbrev pub Replies : {P : Type 0} → (P → (call : Call) → Reply call → P → Type 0) → Plan Dialog → P → P → Option Answer → Dialog → Type 0
+abbrev pub Replies : {P : Type 0} → (P → (call : Call) → Reply call → P → Type 0) → Plan Dialog → P → P
+    → Option Answer → Dialog → Type 0
 Replies {P} step plan p q answer after = Plays step plan p q (voiced answer) after
 
 -- the turn of one item, and its text; memory may be refused for its command
-abbrev pub TakesTurn : {P : Type 0} → (P → (call : Call) → Reply call → P → Type 0) → ℕ → Dialog → Incoming → P → P → List ℕ → Dialog → Type 0
-TakesTurn {P} step moment d item p q text after = (forgot : Bool) × Plays step (turn forgot moment d item) p q text after
+abbrev pub TakesTurn : {P : Type 0} → (P → (call : Call) → Reply call → P → Type 0) → ℕ → Dialog → Incoming → P → P
+    → List ℕ → Dialog → Type 0
+TakesTurn {P} step moment d item p q text after =
+    (forgot : Bool) × Plays step (turn forgot moment d item) p q text after
 
 -- a command is carried out, with this text; memory may be refused for it
-abbrev pub CarriesOut : {P : Type 0} → (P → (call : Call) → Reply call → P → Type 0) → ℕ → Dialog → Command → P → P → List ℕ → Dialog → Type 0
-CarriesOut {P} step moment d command p q text after = (forgot : Bool) × Plays step (answering moment d (read_as forgot (Ok command))) p q text after
+abbrev pub CarriesOut : {P : Type 0} → (P → (call : Call) → Reply call → P → Type 0) → ℕ → Dialog → Command → P → P
+    → List ℕ → Dialog → Type 0
+CarriesOut {P} step moment d command p q text after =
+    (forgot : Bool) × Plays step (answering moment d (read_as forgot (Ok command))) p q text after
 
 -- a list of names is told, with this text, or memory was refused for that
 abbrev pub ReportsNames : {P : Type 0} → (P → (call : Call) → Reply call → P → Type 0) → P → List ℕ → Type 0
-ReportsNames {P} step p text = ((names : List (List ℕ)) × step p Names names p × (text ≡ interfaces_text names)) ⊎ (text ≡ reply_text (Refused NoMemory))
+ReportsNames {P} step p text =
+    ((names : List (List ℕ)) × step p Names names p × (text ≡ interfaces_text names))
+    ⊎ (text ≡ reply_text (Refused NoMemory))
 
 -- the session ends over the port, and says nothing
 abbrev pub Finishes : {P : Type 0} → (P → (call : Call) → Reply call → P → Type 0) → Dialog → P → P → Dialog → Type 0
 Finishes {P} step d p q after = Plays step (ending d.stage d) p q [] after
 
 -- the turns of items, one after another, with the places where memory was refused for a command
-abbrev pub Turns : {P : Type 0} → (P → (call : Call) → Reply call → P → Type 0) → ℕ → Dialog → List Bool → List Incoming → P → P → List ℕ → Dialog → Type 0
+abbrev pub Turns : {P : Type 0} → (P → (call : Call) → Reply call → P → Type 0) → ℕ → Dialog → List Bool
+    → List Incoming → P → P → List ℕ → Dialog → Type 0
 Turns {P} step moment d [] [] p q text after = (q ≡ p) × (text ≡ []) × (after ≡ d)
 Turns {P} step moment d (forgot ∷ more) (item ∷ items) p q text after =
     (first : List ℕ) × (mid : Dialog) × (port : P) × (others : List ℕ)
-    × Plays step (turn forgot moment d item) p port first mid × Turns step moment mid more items port q others after × (text ≡ first ++ others)
+    × Plays step (turn forgot moment d item) p port first mid
+    × Turns step moment mid more items port q others after
+    × (text ≡ first ++ others)
 Turns {P} step moment d _ _ p q text after = ⊥
 
 -- the turns of items, one after another; memory may be refused for a command
-abbrev pub TakesTurns : {P : Type 0} → (P → (call : Call) → Reply call → P → Type 0) → ℕ → Dialog → List Incoming → P → P → List ℕ → Dialog → Type 0
-TakesTurns {P} step moment d items p q text after = (forgotten : List Bool) × Turns step moment d forgotten items p q text after
+abbrev pub TakesTurns : {P : Type 0} → (P → (call : Call) → Reply call → P → Type 0) → ℕ → Dialog → List Incoming
+    → P → P → List ℕ → Dialog → Type 0
+TakesTurns {P} step moment d items p q text after =
+    (forgotten : List Bool) × Turns step moment d forgotten items p q text after
 
 -- a writer takes a text; an empty text leaves it as it is
 pub record Wrote {W : Type 0} (contents : W → Option (List ℕ)) (old : W) (text : List ℕ) (new : W) : Type 0 where
@@ -79,14 +91,16 @@ pub record Wrote {W : Type 0} (contents : W → Option (List ℕ)) (old : W) (te
   pub alone : text ≡ [] → new ≡ old
 
 -- the items are carried out over the port, and the writer takes what is said
-pub record Says {P W : Type 0} (step : P → (call : Call) → Reply call → P → Type 0) (contents : W → Option (List ℕ)) (moment : ℕ) (before : Dialog) (items : List Incoming) (p q : P) (out new : W) (after : Dialog) : Type 0 where
+pub record Says {P W : Type 0} (step : P → (call : Call) → Reply call → P → Type 0) (contents : W → Option (List ℕ))
+    (moment : ℕ) (before : Dialog) (items : List Incoming) (p q : P) (out new : W) (after : Dialog) : Type 0 where
   pub forgotten : List Bool
   pub text : List ℕ
   pub turns : Turns step moment before forgotten items p q text after
   pub wrote : Wrote contents out text new
 
 -- the items are carried out over the port, what is said does not reach the client, and the session ends
-pub record Cut {P : Type 0} (step : P → (call : Call) → Reply call → P → Type 0) (moment : ℕ) (before : Dialog) (items : List Incoming) (p q : P) (after : Dialog) : Type 0 where
+pub record Cut {P : Type 0} (step : P → (call : Call) → Reply call → P → Type 0) (moment : ℕ) (before : Dialog)
+    (items : List Incoming) (p q : P) (after : Dialog) : Type 0 where
   pub forgotten : List Bool
   pub text : List ℕ
   pub mid : Dialog
@@ -96,23 +110,28 @@ pub record Cut {P : Type 0} (step : P → (call : Call) → Reply call → P →
   pub ends : Finishes step mid port q after
 
 -- a frame is sent over the port, and the writer takes what is said
-abbrev pub Sends : {P W : Type 0} → (P → (call : Call) → Reply call → P → Type 0) → (W → Option (List ℕ)) → Dialog → RawSocket → CanFrame → P → P → W → W → Dialog → Type 0
-Sends {P} {W} step contents before raw frame p q out new after = (text : List ℕ) × Plays step (sending before raw frame) p q text after × Wrote contents out text new
+abbrev pub Sends : {P W : Type 0} → (P → (call : Call) → Reply call → P → Type 0) → (W → Option (List ℕ)) → Dialog
+    → RawSocket → CanFrame → P → P → W → W → Dialog → Type 0
+Sends {P} {W} step contents before raw frame p q out new after =
+    (text : List ℕ) × Plays step (sending before raw frame) p q text after × Wrote contents out text new
 
 -- a frame is sent over the port, what is said does not reach the client, and the session ends
-abbrev pub SendCut : {P : Type 0} → (P → (call : Call) → Reply call → P → Type 0) → Dialog → RawSocket → CanFrame → P → P → Dialog → Type 0
+abbrev pub SendCut : {P : Type 0} → (P → (call : Call) → Reply call → P → Type 0) → Dialog → RawSocket → CanFrame
+    → P → P → Dialog → Type 0
 SendCut {P} step before raw frame p q after =
     (text : List ℕ) × (mid : Dialog) × (port : P) × (text ≢ [])
     × Plays step (sending before raw frame) p port text mid × Finishes step mid port q after
 
 -- one delivery over the port, and the writer takes its text; `more`: it was an item
-pub record Delivers {P W : Type 0} (step : P → (call : Call) → Reply call → P → Type 0) (contents : W → Option (List ℕ)) (stage : Stage) (p q : P) (out new : W) (more : Bool) : Type 0 where
+pub record Delivers {P W : Type 0} (step : P → (call : Call) → Reply call → P → Type 0)
+    (contents : W → Option (List ℕ)) (stage : Stage) (p q : P) (out new : W) (more : Bool) : Type 0 where
   pub text : List ℕ
   pub plays : Plays step (delivery stage) p q text more
   pub wrote : Wrote contents out text new
 
 -- one delivery over the port, whose text does not reach the client, and the session ends
-pub record DeliveryCut {P : Type 0} (step : P → (call : Call) → Reply call → P → Type 0) (before : Dialog) (p q : P) (after : Dialog) : Type 0 where
+pub record DeliveryCut {P : Type 0} (step : P → (call : Call) → Reply call → P → Type 0) (before : Dialog) (p q : P)
+    (after : Dialog) : Type 0 where
   pub text : List ℕ
   pub more : Bool
   pub port : P
@@ -121,11 +140,14 @@ pub record DeliveryCut {P : Type 0} (step : P → (call : Call) → Reply call �
   pub ends : Finishes step before port q after
 
 -- pieces are fed one after another, from the text kept before
-abbrev pub Feeds : {P : Type 0} → (P → (call : Call) → Reply call → P → Type 0) → ℕ → Dialog → List ℕ → List (List ℕ) → P → P → List ℕ → Dialog → Type 0
+abbrev pub Feeds : {P : Type 0} → (P → (call : Call) → Reply call → P → Type 0) → ℕ → Dialog → List ℕ
+    → List (List ℕ) → P → P → List ℕ → Dialog → Type 0
 Feeds {P} step moment d before [] p q text after = (q ≡ p) × (text ≡ []) × (after ≡ d)
 Feeds {P} step moment d before (piece ∷ pieces) p q text after =
     (forgotten : List Bool) × (first : List ℕ) × (mid : Dialog) × (port : P) × (others : List ℕ)
-    × Turns step moment d forgotten (messages_of (before ++ piece)) p port first mid × Feeds step moment mid (kept_of (before ++ piece)) pieces port q others after × (text ≡ first ++ others)
+    × Turns step moment d forgotten (messages_of (before ++ piece)) p port first mid
+    × Feeds step moment mid (kept_of (before ++ piece)) pieces port q others after
+    × (text ≡ first ++ others)
 
 -- how many messages a text begins
 abbrev pub begun : List ℕ → ℕ

@@ -32,7 +32,9 @@ use Rattle.can_dialog.specs.declared.stage.Stage.TheVariants.{NoBus, Opened, Raw
 use Rattle.can_dialog.specs.declared.stage.RawSocket.{RawSocket}
 use Rattle.can_dialog.specs.declared.stage.Dialog.{Dialog}
 use Rattle.can_dialog.specs.Calls.{cause_of_port}
-use Rattle.can_dialog.specs.Calls.Call.{Names, Attach, Open, Close, SetFilters, SetOption, Send, Receive, Restart, CountsOfSocket, CountsOfIface, CountersOfIface, LoadAt, Inject, CountsRules, EndsRules}
+use Rattle.can_dialog.specs.Calls.Call.{Names, Attach, Open, Close, SetFilters, SetOption, Send}
+use Rattle.can_dialog.specs.Calls.Call.{Receive, Restart, CountsOfSocket, CountsOfIface}
+use Rattle.can_dialog.specs.Calls.Call.{CountersOfIface, LoadAt, Inject, CountsRules, EndsRules}
 use Rattle.can_dialog.specs.Plans.{Plan}
 use Rattle.can_dialog.specs.Plans.Plan.{Tell, Ask}
 
@@ -79,7 +81,9 @@ attached d (Err why) = refused why d
 -- after the port was asked for a socket; at first the client gets no data of error message frames, no numbers of sent
 -- frames and no origins
 abbrev pub entered : Dialog → ℕ → Result SocketId PortRefusal → Plan Dialog
-entered d iface (Ok socket) = tells answer.Done (at_stage (Raw (record { iface = iface; socket = socket; errdata = false; acks = false; origins = false })) d)
+entered d iface (Ok socket) =
+    tells answer.Done
+    (at_stage (Raw (record { iface = iface; socket = socket; errdata = false; acks = false; origins = false })) d)
 entered d iface (Err why) = refused why d
 
 -- after a frame was sent: its number is reported where the client asked for that, and a refusal in any case
@@ -209,8 +213,8 @@ abbrev pub read_as : Bool → Result Command ProtoFault → Result Command Proto
 read_as false read = read
 read_as true read = without_memory read
 
--- what was read is done: names are asked for at each stage, all else is by the stage. A fault of a message is reported, and
--- nothing is done
+-- what was read is done: names are asked for at each stage, all else is by the stage. A fault of a message is
+-- reported, and nothing is done
 abbrev pub answering : ℕ → Dialog → Result Command ProtoFault → Plan Dialog
 answering moment d (Ok command.Interfaces) = naming d
 answering moment d (Ok c) = doing moment d d.stage c
@@ -219,7 +223,8 @@ answering moment d (Err e) = tells (answer.Refused (cause_of_fault e)) d
 -- what a client said
 abbrev pub heard : Bool → ℕ → Dialog → Incoming → Plan Dialog
 heard forgot moment d TooLong = tells (answer.Refused cause.MessageTooLong) d
-heard forgot moment d (Message inside) = answering moment d (read_as forgot (reading (mode_of d.stage) (words_of inside)))
+heard forgot moment d (Message inside) =
+    answering moment d (read_as forgot (reading (mode_of d.stage) (words_of inside)))
 
 -- a session that is over does nothing and says nothing
 abbrev pub unless_over : Stage → Plan Dialog → Dialog → Plan Dialog
@@ -246,7 +251,9 @@ origin_of false number = origin.Other number
 
 -- the text of what was received, with its origin where the client asked for that
 abbrev pub received_text : RawSocket → Received → List ℕ
-received_text raw r = if raw.origins then item_text_from raw.errdata (origin_of (r.from == raw.iface) r.number) r.item r.moment else item_text raw.errdata r.item r.moment
+received_text raw r =
+    if raw.origins then item_text_from raw.errdata (origin_of (r.from == raw.iface) r.number) r.item r.moment
+    else item_text raw.errdata r.item r.moment
 
 -- after one receive: an item is written, and there may be more
 abbrev pub delivered : RawSocket → Result (Option Received) PortRefusal → Plan Bool

@@ -1,4 +1,5 @@
-use Rattle.std.specs.Prelude.{ℕ, ◌+◌, ◌==◌, nat_le, Bool, true, false, Option, Some, None, option_map, List, [], ◌∷◌, replicate, bit_or, if◌then◌else◌}
+use Rattle.std.specs.Prelude.{ℕ, ◌+◌, ◌==◌, nat_le, Bool, true, false, Option, Some, None}
+use Rattle.std.specs.Prelude.{option_map, List, [], ◌∷◌, replicate, bit_or, if◌then◌else◌}
 use Rattle.can_frame.specs.Frames.{ErrorMessage}
 use Rattle.can_confine.specs.Confinement.{ErrorCounts, Step, state_of, is_off, severity}
 use Rattle.can_confine.specs.Confinement.Step.{ReceiveError}
@@ -15,8 +16,10 @@ use Rattle.can_errframe.specs.declared.side.Side.{Side}
 use Rattle.can_errframe.specs.declared.side.Side.TheVariants as side
 use Rattle.can_errframe.specs.declared.role.Role.{Role}
 use Rattle.can_errframe.specs.declared.role.Role.TheVariants.{Winner, Named, Other}
-use Rattle.can_errframe.specs.ErrorCodes.{err_crtl, err_prot, err_ack, err_busoff, err_buserror, err_restarted, err_cnt, crtl_rx_warning, crtl_tx_warning, crtl_rx_passive, crtl_tx_passive}
-use Rattle.can_errframe.specs.ErrorCodes.{crtl_active, prot_unspec, prot_bit, prot_form, prot_stuff, prot_tx, loc_unspec, loc_crc_seq, loc_data, loc_ack, loc_eof, loc_ack_del}
+use Rattle.can_errframe.specs.ErrorCodes.{err_crtl, err_prot, err_ack, err_busoff, err_buserror, err_restarted}
+use Rattle.can_errframe.specs.ErrorCodes.{err_cnt, crtl_rx_warning, crtl_tx_warning, crtl_rx_passive, crtl_tx_passive}
+use Rattle.can_errframe.specs.ErrorCodes.{crtl_active, prot_unspec, prot_bit, prot_form, prot_stuff, prot_tx}
+use Rattle.can_errframe.specs.ErrorCodes.{loc_unspec, loc_crc_seq, loc_data, loc_ack, loc_eof, loc_ack_del}
 
 -- Which error message frame reports what. The numbers are those of linux/can/error.h, the choice of frames is
 -- an own one.
@@ -51,11 +54,17 @@ rx_code side.Passive = crtl_rx_passive
 
 -- a side's code is there if the side is as far as the other
 abbrev pub controller_code : Side → Side → ℕ
-controller_code tx rx = bit_or (if nat_le (level rx) (level tx) then tx_code tx else 0) (if nat_le (level tx) (level rx) then rx_code rx else 0)
+controller_code tx rx =
+    bit_or
+    (if nat_le (level rx) (level tx) then tx_code tx else 0)
+    (if nat_le (level tx) (level rx) then rx_code rx else 0)
 
 -- the state and both counts, of an interface that is not bus off
 abbrev pub controller_message : ErrorCounts → ErrorMessage
-controller_message c = record { class = err_crtl + err_cnt; bytes = 0 ∷ controller_code (side_of c.tec) (side_of c.rec) ∷ 0 ∷ 0 ∷ 0 ∷ 0 ∷ c.tec ∷ c.rec ∷ [] }
+controller_message c = record {
+  class = err_crtl + err_cnt;
+  bytes = 0 ∷ controller_code (side_of c.tec) (side_of c.rec) ∷ 0 ∷ 0 ∷ 0 ∷ 0 ∷ c.tec ∷ c.rec ∷ [];
+}
 
 -- bus off
 abbrev pub bus_off_message : ErrorMessage
@@ -63,7 +72,10 @@ bus_off_message = record { class = err_busoff; bytes = no_bytes }
 
 -- the report of a change of counts: nothing if the state stays
 abbrev pub state_message : ErrorCounts → ErrorCounts → Option ErrorMessage
-state_message old new = if severity (state_of old) == severity (state_of new) then None else if is_off (state_of new) then Some bus_off_message else Some (controller_message new)
+state_message old new =
+    if severity (state_of old) == severity (state_of new) then None
+    else if is_off (state_of new) then Some bus_off_message
+    else Some (controller_message new)
 
 -- Restarts.
 
@@ -107,7 +119,10 @@ fault_class _ _ = err_buserror + err_prot
 
 -- the report to an interface of the fault that it saw
 abbrev pub fault_message : Class → Verdict → Role → Option ErrorMessage
-fault_message c v r = option_map (λ codes. record { class = fault_class c r; bytes = 0 ∷ 0 ∷ codes.0 ∷ codes.1 ∷ 0 ∷ 0 ∷ 0 ∷ 0 ∷ [] }) (fault_codes c v r)
+fault_message c v r =
+    option_map
+    (λ codes. record { class = fault_class c r; bytes = 0 ∷ 0 ∷ codes.0 ∷ codes.1 ∷ 0 ∷ 0 ∷ 0 ∷ 0 ∷ [] })
+    (fault_codes c v r)
 
 -- the part of receiver i
 abbrev pub receiver_role : Transmission → ℕ → Role

@@ -20,7 +20,10 @@ kind_word local.Form = codes "form"
 
 -- names of the bus's interfaces, joined by commas, spell the set of these interfaces
 abbrev pub SpellsSet : List (List ℕ) → List ℕ → IfaceSet → Type 0
-SpellsSet names text set = IsTrue (list_all is_name (names_in text)) × IsTrue (list_all (λ piece. is_some (place_of names piece)) (names_in text)) × (set ≡ set_named names (names_in text))
+SpellsSet names text set =
+    IsTrue (list_all is_name (names_in text))
+    × IsTrue (list_all (λ piece. is_some (place_of names piece)) (names_in text))
+    × (set ≡ set_named names (names_in text))
 
 -- how a verdict is spelled: `good`, `lastbit`, `global bit`, `global form`, or `local`, the fault's word
 -- and the interfaces that see it, with one space between them
@@ -29,13 +32,23 @@ SpellsVerdict names text Good = text ≡ codes "good"
 SpellsVerdict names text LastBit = text ≡ codes "lastbit"
 SpellsVerdict names text (Global global.Bit) = text ≡ codes "global bit"
 SpellsVerdict names text (Global global.Form) = text ≡ codes "global form"
-SpellsVerdict names text (Local set kind) = (list : List ℕ) × (text ≡ codes "local " ++ (kind_word kind ++ 32 ∷ list)) × SpellsSet names list set
+SpellsVerdict names text (Local set kind) =
+    (list : List ℕ) × (text ≡ codes "local " ++ (kind_word kind ++ 32 ∷ list)) × SpellsSet names list set
 
 -- how a line gives an attempt its verdict: 1 to 8 decimal digits, a space, and the verdict
 abbrev pub SpellsEntry : List (List ℕ) → List ℕ → ℕ → Verdict → Type 0
-SpellsEntry names text attempt verdict = (digits : List ℕ) × (rest : List ℕ) × (text ≡ digits ++ 32 ∷ rest) × IsTrue (is_number digits) × (attempt ≡ digits_value 10 digits) × SpellsVerdict names rest verdict
+SpellsEntry names text attempt verdict =
+    (digits : List ℕ) × (rest : List ℕ)
+    × (text ≡ digits ++ 32 ∷ rest)
+    × IsTrue (is_number digits)
+    × (attempt ≡ digits_value 10 digits)
+    × SpellsVerdict names rest verdict
 
 -- a line that is a number and a local fault for well-formed names, of which the bus lacks some
 abbrev pub LacksInterface : List (List ℕ) → List ℕ → Type 0
-LacksInterface names text = (digits : List ℕ) × (kind : LocalKind) × (list : List ℕ)
-    × (text ≡ digits ++ 32 ∷ (codes "local " ++ (kind_word kind ++ 32 ∷ list))) × IsTrue (is_number digits) × IsTrue (list_all is_name (names_in list)) × (list_all (λ piece. is_some (place_of names piece)) (names_in list) ≡ false)
+LacksInterface names text =
+    (digits : List ℕ) × (kind : LocalKind) × (list : List ℕ)
+    × (text ≡ digits ++ 32 ∷ (codes "local " ++ (kind_word kind ++ 32 ∷ list)))
+    × IsTrue (is_number digits)
+    × IsTrue (list_all is_name (names_in list))
+    × (list_all (λ piece. is_some (place_of names piece)) (names_in list) ≡ false)

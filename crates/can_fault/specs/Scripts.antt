@@ -1,4 +1,6 @@
-use Rattle.std.specs.Prelude.{◌≡◌, ℕ, ◌+◌, Bool, true, false, IsTrue, ◌&&◌, ◌==◌, nat_le, nat_eq, if◌then◌else◌, List, [], ◌∷◌, map, length, Option, Some, None, is_some, Result, Ok, Err, IsOk, codes, slice_get, take}
+use Rattle.std.specs.Prelude.{◌≡◌, ℕ, ◌+◌, Bool, true, false, IsTrue, ◌&&◌, ◌==◌, nat_le}
+use Rattle.std.specs.Prelude.{nat_eq, if◌then◌else◌, List, [], ◌∷◌, map, length, Option, Some}
+use Rattle.std.specs.Prelude.{None, is_some, Result, Ok, Err, IsOk, codes, slice_get, take}
 use Rattle.std.specs.List.{list_all, list_any, slice_split, before_first, after_first}
 use Rattle.std.specs.Option.{option_eq, ok_or}
 use Rattle.std.specs.Char.{is_ascii_digit}
@@ -44,17 +46,26 @@ number_spelling text = if is_number text then Some (digits_value 10 text) else N
 
 -- the interfaces whose names are among the pieces
 unfoldable pub set_named : List (List ℕ) → List (List ℕ) → IfaceSet
-set_named names pieces = set_where (λ i. list_any (λ piece. option_eq nat_eq (place_of names piece) (Some i)) pieces) (length names)
+set_named names pieces =
+    set_where (λ i. list_any (λ piece. option_eq nat_eq (place_of names piece) (Some i)) pieces) (length names)
 
 -- a set of interfaces: their names joined by commas. A piece that no name can be makes a bad line
 -- before any name is looked up
 abbrev pub set_spelling : List (List ℕ) → List ℕ → Result IfaceSet LineFault
 set_spelling names text =
-    if list_all is_name (names_in text) then (if list_all (λ piece. is_some (place_of names piece)) (names_in text) then Ok (set_named names (names_in text)) else Err line.UnknownInterface) else Err line.BadLine
+    if list_all is_name (names_in text)
+    then (if list_all (λ piece. is_some (place_of names piece)) (names_in text)
+    then Ok (set_named names (names_in text))
+    else Err line.UnknownInterface)
+    else Err line.BadLine
 
 -- a fault that only some interfaces see
 abbrev pub kind_spelling : List ℕ → Option LocalKind
-kind_spelling text = if bytes_eq text (codes "stuff") then Some local.Stuff else if bytes_eq text (codes "crc") then Some local.Crc else if bytes_eq text (codes "form") then Some local.Form else None
+kind_spelling text =
+    if bytes_eq text (codes "stuff") then Some local.Stuff
+    else if bytes_eq text (codes "crc") then Some local.Crc
+    else if bytes_eq text (codes "form") then Some local.Form
+    else None
 
 -- after `local`: the fault, a space, and the interfaces that see it
 unfoldable pub local_spelling : List (List ℕ) → List ℕ → Result Verdict LineFault
@@ -107,14 +118,17 @@ at_line n line.UnknownInterface = script.UnknownInterface n
 abbrev pub line_after : VerdictMap → ℕ → Saying → Result VerdictMap ScriptError
 line_after known n (Err fault) = Err (at_line n fault)
 line_after known n (Ok None) = Ok known
-line_after known n (Ok (Some entry)) = if contains_key known entry.0 then Err (script.RepeatedAttempt n) else Ok (insert known entry.0 entry.1)
+line_after known n (Ok (Some entry)) =
+    if contains_key known entry.0 then Err (script.RepeatedAttempt n) else Ok (insert known entry.0 entry.1)
 
 -- what lines spell, the first of them with number `n`, where the lines before them gave `known`
 abbrev pub spelled_after : VerdictMap → ℕ → List Saying → Result VerdictMap ScriptError
 spelled_after known n [] = Ok known
 spelled_after known n (Err fault ∷ more) = Err (at_line n fault)
 spelled_after known n (Ok None ∷ more) = spelled_after known (n + 1) more
-spelled_after known n (Ok (Some entry) ∷ more) = if contains_key known entry.0 then Err (script.RepeatedAttempt n) else spelled_after (insert known entry.0 entry.1) (n + 1) more
+spelled_after known n (Ok (Some entry) ∷ more) =
+    if contains_key known entry.0 then Err (script.RepeatedAttempt n)
+    else spelled_after (insert known entry.0 entry.1) (n + 1) more
 
 -- the verdicts that a text spells, or its first fault
 abbrev pub script_spelling : List (List ℕ) → List ℕ → Result VerdictMap ScriptError
@@ -145,10 +159,16 @@ Gives lines attempt verdict = (place : ℕ) × (slice_get lines place ≡ Some (
 -- the line at a place, counted from 0, has this fault, which names the line by its number, from 1
 abbrev pub HasFault : List Saying → ℕ → ScriptError → Type 0
 HasFault lines place (script.BadLine n) = (n ≡ place + 1) × (slice_get lines place ≡ Some (Err line.BadLine))
-HasFault lines place (script.UnknownInterface n) = (n ≡ place + 1) × (slice_get lines place ≡ Some (Err line.UnknownInterface))
-HasFault lines place (script.RepeatedAttempt n) = (n ≡ place + 1) × ((attempt : ℕ) × (now : Verdict) × (before : Verdict) × (slice_get lines place ≡ Some (Ok (Some (attempt, now)))) × Gives (take place lines) attempt before)
+HasFault lines place (script.UnknownInterface n) =
+    (n ≡ place + 1) × (slice_get lines place ≡ Some (Err line.UnknownInterface))
+HasFault lines place (script.RepeatedAttempt n) =
+    (n ≡ place + 1)
+    × ((attempt : ℕ) × (now : Verdict) × (before : Verdict)
+    × (slice_get lines place ≡ Some (Ok (Some (attempt, now))))
+    × Gives (take place lines) attempt before)
 HasFault lines place script.NoMemory = ⊥
 
 -- the first faulty line has this fault: the lines before it are a script
 abbrev pub IsFirstFault : List Saying → ScriptError → Type 0
-IsFirstFault lines fault = (place : ℕ) × IsOk (spelled_after no_verdicts 1 (take place lines)) × HasFault lines place fault
+IsFirstFault lines fault =
+    (place : ℕ) × IsOk (spelled_after no_verdicts 1 (take place lines)) × HasFault lines place fault

@@ -44,7 +44,13 @@ set_in _ = 0
 abbrev pub verdict_from : ℕ × ℕ → Verdict
 verdict_from p =
     let set : IfaceSet = record { 0 = p.1 } in
-    if p.0 == 0 then Good else if p.0 == 1 then Global global.Bit else if p.0 == 2 then Global global.Form else if p.0 == 3 then Local set local.Stuff else if p.0 == 4 then Local set local.Crc else if p.0 == 5 then Local set local.Form else LastBit
+    if p.0 == 0 then Good
+    else if p.0 == 1 then Global global.Bit
+    else if p.0 == 2 then Global global.Form
+    else if p.0 == 3 then Local set local.Stuff
+    else if p.0 == 4 then Local set local.Crc
+    else if p.0 == 5 then Local set local.Form
+    else LastBit
 
 pub verdict_back : (v : Verdict) → verdict_from (kind_number v, set_in v) ≡ v
 verdict_back Good = refl

@@ -26,6 +26,8 @@ abbrev pub IsOpenOf : Bool → List CanFilter → Type 0
 IsOpenOf true filters = filters ≡ receives_all
 IsOpenOf false filters = Unit {0}
 
--- what holds of each set: it has at most 512 filters (CAN_RAW_FILTER_MAX of linux/can.h), and what is beside them fits them
+-- what holds of each set: it has at most 512 filters (CAN_RAW_FILTER_MAX of linux/can.h), and what is beside them
+-- fits them
 abbrev pub IsFilterSet : Inside → Type 0
-IsFilterSet s = (length s.filters.items ≤ 512) × IsCompiledOf s.compiled s.filters.items × IsOpenOf s.is_open s.filters.items
+IsFilterSet s =
+    (length s.filters.items ≤ 512) × IsCompiledOf s.compiled s.filters.items × IsOpenOf s.is_open s.filters.items

@@ -27,7 +27,9 @@ matches f received = if is_inverted f then not (agrees f received) else agrees f
 -- the filters are joined by OR (CAN_RAW_FILTER of the kernel's networking/can), or by AND (CAN_RAW_JOIN_FILTERS of the
 -- same); with no filters nothing passes, joined or not (own choice for joined)
 abbrev pub passes : List CanFilter → Bool → ℕ → Bool
-passes filters join received = if join then not (length filters == 0) && list_all (λ f. matches f received) filters else list_any (λ f. matches f received) filters
+passes filters join received =
+    if join then not (length filters == 0) && list_all (λ f. matches f received) filters
+    else list_any (λ f. matches f received) filters
 
 -- the filter that no bit has to agree with
 abbrev pub everything : CanFilter

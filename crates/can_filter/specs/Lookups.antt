@@ -33,11 +33,13 @@ is_matched filters word = list_any (λ f. matches f word) filters
 
 -- the word is found in one of the four parts
 abbrev pub is_found : List Bool → List ℕ → List CanFilter → List CanFilter → ℕ → Bool
-is_found marks ids masked inverted word = is_marked marks word || (is_listed ids word || (is_matched masked word || is_matched inverted word))
+is_found marks ids masked inverted word =
+    is_marked marks word || (is_listed ids word || (is_matched masked word || is_matched inverted word))
 
 -- the look-up says which words the filter matches
 abbrev pub IsLookedUpAs : CanFilter → Lookup → Type 0
 IsLookedUpAs f (Standard id) = (id < 2048) × ((word : ℕ) → matches f word ≡ (bit_and word standard_mask == id))
-IsLookedUpAs f (Extended id) = IsTrue (is_extended id) × ((word : ℕ) → matches f word ≡ (bit_and word extended_mask == id))
+IsLookedUpAs f (Extended id) =
+    IsTrue (is_extended id) × ((word : ℕ) → matches f word ≡ (bit_and word extended_mask == id))
 IsLookedUpAs f Masked = ⊤
 IsLookedUpAs f Inverted = ⊤

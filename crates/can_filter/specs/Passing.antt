@@ -3,7 +3,8 @@ use Rattle.can_frame.specs.Frames.{word_of, is_fd}
 use Rattle.can_frame.specs.declared.item.Item.{Item}
 use Rattle.can_frame.specs.declared.item.Item.TheVariants.{Data, Error}
 use Rattle.can_filter.specs.declared.options.Options.{Options}
-pub use Rattle.can_filter.specs.Filters.{CanFilter, is_inverted, inverse_of, agrees, matches, passes, everything, receives_all}
+pub use Rattle.can_filter.specs.Filters.{CanFilter, is_inverted, inverse_of, agrees}
+pub use Rattle.can_filter.specs.Filters.{matches, passes, everything, receives_all}
 
 -- What a socket receives, as the kernel's networking/can document and linux/can/raw.h have it.
 
@@ -12,10 +13,12 @@ abbrev pub shares_class : ℕ → ℕ → Bool
 shares_class class mask = not (bit_and class mask == 0)
 
 -- A data frame, a remote one too, has to pass the filters, and the socket's own frames also need recv_own
--- (CAN_RAW_RECV_OWN_MSGS), and an FD frame needs fd (CAN_RAW_FD_FRAMES). An error message frame passes by the error mask
--- (CAN_RAW_ERR_FILTER) only, not to the filters (own choice).
+-- (CAN_RAW_RECV_OWN_MSGS), and an FD frame needs fd (CAN_RAW_FD_FRAMES). An error message frame passes by the
+-- error mask (CAN_RAW_ERR_FILTER) only, not to the filters (own choice).
 abbrev pub wants : List CanFilter → Options → Item → Bool → Bool
-wants filters options (Data frame) is_own = (passes filters options.join (word_of frame) && (not is_own || options.recv_own)) && (not (is_fd frame.payload) || options.fd)
+wants filters options (Data frame) is_own =
+    (passes filters options.join (word_of frame) && (not is_own || options.recv_own))
+    && (not (is_fd frame.payload) || options.fd)
 wants filters options (Error message) is_own = shares_class message.class options.err_mask
 
 -- the options of a socket just opened (linux/can/raw.h)

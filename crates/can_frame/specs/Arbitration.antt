@@ -1,4 +1,5 @@
-use Rattle.std.specs.Prelude.{◌≡◌, ◌≢◌, ◌<◌, ℕ, length, slice_index_or, zero, suc, ◌+◌, ◌*◌, ◌/◌, ◌^◌, ◌==◌, Bool, false, ◌&&◌, if◌then◌else◌, List, [], ◌∷◌, ◌++◌}
+use Rattle.std.specs.Prelude.{◌≡◌, ◌≢◌, ◌<◌, ℕ, length, slice_index_or, zero, suc, ◌+◌, ◌*◌, ◌/◌}
+use Rattle.std.specs.Prelude.{◌^◌, ◌==◌, Bool, false, ◌&&◌, if◌then◌else◌, List, [], ◌∷◌, ◌++◌}
 use Rattle.std.specs.Int.{bit_at}
 use Rattle.std.specs.List.{AllPairs}
 use Rattle.can_frame.specs.Frames.{Payload, CanFrame, is_remote}
@@ -26,11 +27,16 @@ extended_bits number rtr = low_bits 11 (number / 2 ^ 18) ++ 1 ∷ 1 ∷ low_bits
 
 -- the bits by which a frame competes, the first sent first
 unfoldable pub arbitration_bits : CanFrame → List ℕ
-arbitration_bits f = if f.id.extended then extended_bits f.id.number (rtr_of f.payload) else standard_bits f.id.number (rtr_of f.payload)
+arbitration_bits f =
+    if f.id.extended then extended_bits f.id.number (rtr_of f.payload)
+    else standard_bits f.id.number (rtr_of f.payload)
 
 -- after bits that both have, the first has 0 where the second has 1
 abbrev pub GoesBefore : List ℕ → List ℕ → Type 0
-GoesBefore xs ys = (shared : List ℕ) × (rest : List ℕ) × (others : List ℕ) × (xs ≡ shared ++ 0 ∷ rest) × (ys ≡ shared ++ 1 ∷ others)
+GoesBefore xs ys =
+    (shared : List ℕ) × (rest : List ℕ) × (others : List ℕ)
+    × (xs ≡ shared ++ 0 ∷ rest)
+    × (ys ≡ shared ++ 1 ∷ others)
 
 -- the same, as a test
 abbrev pub goes_before : List ℕ → List ℕ → Bool
@@ -54,7 +60,10 @@ key_of f = bits_number 32 (arbitration_bits f)
 
 -- the frame at place w outranks all others
 abbrev pub Wins : List CanFrame → ℕ → Type 0
-Wins frames w = (w < length frames) × ((k : ℕ) (d : CanFrame) → k < length frames → k ≢ w → Outranks (slice_index_or frames w d) (slice_index_or frames k d))
+Wins frames w =
+    (w < length frames)
+    × ((k : ℕ) (d : CanFrame) → k < length frames → k ≢ w
+    → Outranks (slice_index_or frames w d) (slice_index_or frames k d))
 
 -- the frames' bits all differ
 abbrev pub DifferInBits : List CanFrame → Type 0

@@ -54,13 +54,20 @@ abbrev inside : Identifier → Kind → ℕ → List ℕ → Inside
 inside id k len bytes = record { id = id; kind = k; len = len; bytes = bytes }
 
 -- bytes taken and padded again
-filled : (k : Kind) (id : Identifier) (len : ℕ) (bytes : List ℕ) → len ≤ 64 → drop len bytes ≡ replicate (64 - len) 0 → length bytes ≡ 64 → inside id k (length (take len bytes)) (take len bytes ++ replicate (64 - length (take len bytes)) 0) ≡ inside id k len bytes
+filled : (k : Kind) (id : Identifier) (len : ℕ) (bytes : List ℕ) → len ≤ 64
+    → drop len bytes ≡ replicate (64 - len) 0 → length bytes ≡ 64
+    → inside id k (length (take len bytes)) (take len bytes ++ replicate (64 - length (take len bytes)) 0)
+    ≡ inside id k len bytes
 filled k id len bytes short rest whole =
     let taken : length (take len bytes) ≡ len = length-take-le len bytes (omega arith) in
-    let again : take len bytes ++ replicate (64 - length (take len bytes)) 0 ≡ bytes = rw (taken, ← rest) (take-append-drop len bytes) in
-    ap (λ (n : ℕ). inside id k n (take len bytes ++ replicate (64 - length (take len bytes)) 0)) taken ∙ ap (inside id k len) again
+    let again : take len bytes ++ replicate (64 - length (take len bytes)) 0 ≡ bytes =
+    rw (taken, ← rest) (take-append-drop len bytes) in
+    ap (λ (n : ℕ). inside id k n (take len bytes ++ replicate (64 - length (take len bytes)) 0)) taken
+    ∙ ap (inside id k len) again
 
-with_bytes : (id : Identifier) (k : Kind) (len : ℕ) (bytes : List ℕ) → len ≤ 64 → drop (used k len) bytes ≡ replicate (64 - used k len) 0 → length bytes ≡ 64 → fields_of (frame_of (inside id k len bytes)) ≡ inside id k len bytes
+with_bytes : (id : Identifier) (k : Kind) (len : ℕ) (bytes : List ℕ) → len ≤ 64
+    → drop (used k len) bytes ≡ replicate (64 - used k len) 0 → length bytes ≡ 64
+    → fields_of (frame_of (inside id k len bytes)) ≡ inside id k len bytes
 with_bytes id kind.Remote len bytes short rest whole = ap (inside id kind.Remote len) (sym rest)
 with_bytes id kind.Data len bytes short rest whole = filled kind.Data id len bytes short rest whole
 with_bytes id (kind.Fd flags) len bytes short rest whole = filled (kind.Fd flags) id len bytes short rest whole

@@ -1,4 +1,5 @@
-use Rattle.std.specs.Prelude.{ℕ, ◌-◌, ◌/◌, ◌^◌, ◌==◌, ◌&&◌, nat_lt, nat_le, Bool, true, false, if◌then◌else◌, List, length, take, drop, slice_index, Option, Some, None}
+use Rattle.std.specs.Prelude.{ℕ, ◌-◌, ◌/◌, ◌^◌, ◌==◌, ◌&&◌, nat_lt, nat_le, Bool, true, false}
+use Rattle.std.specs.Prelude.{if◌then◌else◌, List, length, take, drop, slice_index, Option, Some, None}
 use Rattle.std.specs.Result.{result_ok}
 use Rattle.std.specs.Option.{option_map, option_and_then}
 use Rattle.hex.specs.Hex.{decode_sized}
@@ -21,7 +22,10 @@ has_byte_at mark k text = nat_lt k (length text) && slice_index text k == mark
 
 -- what a remote frame asks for: 0 where nothing is said, else one digit up to 8
 unfoldable pub request_in : List ℕ → Option ℕ
-request_in text = if length text == 0 then Some 0 else if nat_le 48 (slice_index text 0) && nat_le (slice_index text 0) 56 then Some (slice_index text 0 - 48) else None
+request_in text =
+    if length text == 0 then Some 0
+    else if nat_le 48 (slice_index text 0) && nat_le (slice_index text 0) 56 then Some (slice_index text 0 - 48)
+    else None
 
 -- the data: at most 8 bytes
 unfoldable pub data_in : List ℕ → Option (List ℕ)
@@ -33,7 +37,10 @@ fd_data_in text = if is_fd_length (length text / 2) then bytes_in (length text /
 
 -- its flags: a digit from 0 (48) on
 unfoldable pub flags_in : List ℕ → Option FdFlags
-flags_in text = if length text == 0 then None else if nat_le 48 (slice_index text 0) then flags_of (slice_index text 0 - 48) else None
+flags_in text =
+    if length text == 0 then None
+    else if nat_le 48 (slice_index text 0) then flags_of (slice_index text 0 - 48)
+    else None
 
 -- what follows the second mark of an FD frame: flags, and data
 unfoldable pub fd_in : List ℕ → Option Payload
@@ -41,7 +48,10 @@ fd_in text = option_and_then (λ flags. option_map (Fd flags) (fd_data_in (drop 
 
 -- what follows the mark of a frame: `R` (82) and a length, a second `#` (35) and an FD frame's data, or data
 unfoldable pub payload_in : List ℕ → Option Payload
-payload_in text = if has_byte_at 82 0 text then option_map Remote (request_in (drop 1 text)) else if has_byte_at 35 0 text then fd_in (drop 1 text) else option_map Data (data_in text)
+payload_in text =
+    if has_byte_at 82 0 text then option_map Remote (request_in (drop 1 text))
+    else if has_byte_at 35 0 text then fd_in (drop 1 text)
+    else option_map Data (data_in text)
 
 -- a frame with this identifier
 unfoldable pub frame_in : Identifier → List ℕ → Option Item
@@ -49,7 +59,10 @@ frame_in id text = option_map (λ payload. item.Data (record { id = id; payload 
 
 -- an error message frame of this class
 unfoldable pub error_in : ℕ → List ℕ → Option Item
-error_in class text = if nat_lt class (2 ^ 29) then option_map (λ bytes. item.Error (record { class = class; bytes = bytes })) (bytes_in 8 text) else None
+error_in class text =
+    if nat_lt class (2 ^ 29)
+    then option_map (λ bytes. item.Error (record { class = class; bytes = bytes })) (bytes_in 8 text)
+    else None
 
 -- a number of 3 digits is an identifier of 11 bits
 unfoldable pub standard_in : ℕ → List ℕ → Option Item
@@ -57,7 +70,8 @@ standard_in n text = if nat_lt n (2 ^ 11) then frame_in (record { extended = fal
 
 -- a number of 8 digits is an identifier of 29 bits, or a class with bit 29 set
 unfoldable pub long_in : ℕ → List ℕ → Option Item
-long_in n text = if nat_lt n (2 ^ 29) then frame_in (record { extended = true; number = n }) text else error_in (n - 2 ^ 29) text
+long_in n text =
+    if nat_lt n (2 ^ 29) then frame_in (record { extended = true; number = n }) text else error_in (n - 2 ^ 29) text
 
 -- 3 digits, the mark, and the rest
 unfoldable pub short_item_in : List ℕ → Option Item
@@ -69,4 +83,5 @@ long_item_in text = option_and_then (λ n. long_in n (drop 9 text)) (number_in 1
 
 -- the `#` (35) is after 3 digits or after 8
 unfoldable pub item_in : List ℕ → Option Item
-item_in text = if has_byte_at 35 3 text then short_item_in text else if has_byte_at 35 8 text then long_item_in text else None
+item_in text =
+    if has_byte_at 35 3 text then short_item_in text else if has_byte_at 35 8 text then long_item_in text else None

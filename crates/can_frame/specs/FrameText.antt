@@ -1,4 +1,5 @@
-use Rattle.std.specs.Prelude.{IsTrue, ◌≡◌, ◌<◌, ◌≤◌, ◌⊎◌, ℕ, zero, suc, ◌+◌, ◌/◌, ◌%◌, ◌^◌, ◌==◌, nat_lt, Bool, true, not, if◌then◌else◌, List, [], ◌∷◌, ◌++◌, length, map}
+use Rattle.std.specs.Prelude.{IsTrue, ◌≡◌, ◌<◌, ◌≤◌, ◌⊎◌, ℕ, zero, suc, ◌+◌, ◌/◌, ◌%◌, ◌^◌, ◌==◌}
+use Rattle.std.specs.Prelude.{nat_lt, Bool, true, not, if◌then◌else◌, List, [], ◌∷◌, ◌++◌, length, map}
 use Rattle.std.specs.Char.{to_ascii_uppercase}
 use Rattle.std.specs.Fmt.{decimal}
 use Rattle.hex.specs.Hex.{IsBytes}
@@ -27,8 +28,8 @@ pairs (b ∷ bs) = digits 16 2 b ++ pairs bs
 abbrev pub id_text : Identifier → List ℕ
 id_text id = digits 16 (if id.extended then 8 else 3) id.number
 
--- the data; of a remote frame `R` (82), and the length that it asks for where this is not 0; of an FD frame a second `#`
--- (35), a digit of its flags from 0 (48) on, and the data
+-- the data; of a remote frame `R` (82), and the length that it asks for where this is not 0; of an FD frame a
+-- second `#` (35), a digit of its flags from 0 (48) on, and the data
 abbrev pub payload_text : Payload → List ℕ
 payload_text (Data bytes) = pairs bytes
 payload_text (Remote len) = 82 ∷ (if len == 0 then [] else decimal len)

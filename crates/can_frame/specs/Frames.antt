@@ -1,4 +1,5 @@
-use Rattle.std.specs.Prelude.{ℕ, Bool, true, false, not, ◌||◌, ◌&&◌, ◌==◌, nat_le, List, [], length, ◌+◌, ◌^◌, ◌<◌, Option, Some, None, if◌then◌else◌}
+use Rattle.std.specs.Prelude.{ℕ, Bool, true, false, not, ◌||◌, ◌&&◌, ◌==◌, nat_le, List}
+use Rattle.std.specs.Prelude.{[], length, ◌+◌, ◌^◌, ◌<◌, Option, Some, None, if◌then◌else◌}
 use Rattle.can_frame.specs.declared.fd_flags.FdFlags.{FdFlags}
 
 -- Frames as linux/can.h and the Bosch CAN Specification 2.0 know them.
@@ -26,7 +27,12 @@ flags_number flags = (if flags.brs then 1 else 0) + (if flags.esi then 2 else 0)
 
 -- the flags with this number
 abbrev pub flags_of : ℕ → Option FdFlags
-flags_of n = if n == 0 then Some no_flags else if n == 1 then Some (record { brs = true; esi = false }) else if n == 2 then Some (record { brs = false; esi = true }) else if n == 3 then Some (record { brs = true; esi = true }) else None
+flags_of n =
+    if n == 0 then Some no_flags
+    else if n == 1 then Some (record { brs = true; esi = false })
+    else if n == 2 then Some (record { brs = false; esi = true })
+    else if n == 3 then Some (record { brs = true; esi = true })
+    else None
 
 -- what a frame carries: bytes, in a remote frame how many it asks for, or the flags and the bytes of an FD frame
 -- (struct canfd_frame of linux/can.h)

@@ -1,10 +1,15 @@
-use Rattle.std.specs.Prelude.{ℕ, ◌+◌, ◌*◌, ◌-◌, ◌&&◌, nat_lt, nat_le, if◌then◌else◌, List, [], ◌∷◌, length, Option, Some, None}
+use Rattle.std.specs.Prelude.{ℕ, ◌+◌, ◌*◌, ◌-◌, ◌&&◌, nat_lt, nat_le, if◌then◌else◌}
+use Rattle.std.specs.Prelude.{List, [], ◌∷◌, length, Option, Some, None}
 
 -- Numbers in digits of either case (own choice).
 
 -- the value of a hexadecimal digit
 abbrev pub hex_digit : ℕ → Option ℕ
-hex_digit b = if nat_le 48 b && nat_le b 57 then Some (b - 48) else if nat_le 65 b && nat_le b 70 then Some (b - 55) else if nat_le 97 b && nat_le b 102 then Some (b - 87) else None
+hex_digit b =
+    if nat_le 48 b && nat_le b 57 then Some (b - 48)
+    else if nat_le 65 b && nat_le b 70 then Some (b - 55)
+    else if nat_le 97 b && nat_le b 102 then Some (b - 87)
+    else None
 
 -- it is a digit of the base
 abbrev pub in_base : ℕ → Option ℕ → Option ℕ
@@ -28,4 +33,5 @@ number_after base (Some n) (d ∷ ds) = number_after base (one_more base n (digi
 
 -- the number of 1 to `most` digits of a base
 abbrev pub number_in : ℕ → ℕ → List ℕ → Option ℕ
-number_in base most word = if nat_lt 0 (length word) && nat_le (length word) most then number_after base (Some 0) word else None
+number_in base most word =
+    if nat_lt 0 (length word) && nat_le (length word) most then number_after base (Some 0) word else None

@@ -10,8 +10,8 @@ use Rattle.can_meter.specs.declared.rule.View.TheVariants.{Keeps, Watches, Spent
 use Rattle.can_meter.specs.Publications.{newest, published, with_list, with_newest, longer_lists, Ends}
 use Rattle.can_meter.specs.Words.{meant, Fits}
 
--- The rule that a meter's words and seats keep between any two steps, and what each step returns to its caller. No caller's
--- contract speaks of it.
+-- The rule that a meter's words and seats keep between any two steps, and what each step returns to its caller.
+-- No caller's contract speaks of it.
 
 -- each publication fits in a word, and is of a longer record than the one before it
 abbrev pub AreRising : List Status → Type 0
@@ -90,7 +90,8 @@ abbrev pub no_table : TableId
 no_table = record { words = 0; slots = 0; views_name = 0; atom = 0; block = 0; offset = 0; slot_names = [] }
 
 -- a seat at the meter's table, whose key is the number of its words: it knows v, and has no slot
-pub record IsSeated {S : Type 0} (table : TableId) (key : ℕ) (seat : TableId) (me : Me S View) (meter : TableId) (v : View) : Type 0 where
+pub record IsSeated {S : Type 0} (table : TableId) (key : ℕ) (seat : TableId) (me : Me S View) (meter : TableId)
+    (v : View) : Type 0 where
   pub table_is : table ≡ meter
   pub key_is : key ≡ meter.words
   pub seat_is : seat ≡ meter

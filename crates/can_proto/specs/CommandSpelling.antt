@@ -1,4 +1,5 @@
-use Rattle.std.specs.Prelude.{◌≡◌, ◌<◌, ◌≤◌, ℕ, ◌+◌, ◌^◌, Bool, true, false, if◌then◌else◌, List, [], ◌∷◌, ◌++◌, length, map, codes, bit_and}
+use Rattle.std.specs.Prelude.{◌≡◌, ◌<◌, ◌≤◌, ℕ, ◌+◌, ◌^◌, Bool, true, false, if◌then◌else◌}
+use Rattle.std.specs.Prelude.{List, [], ◌∷◌, ◌++◌, length, map, codes, bit_and}
 use Rattle.std.specs.Fmt.{decimal}
 use Rattle.std.specs.List.{All, flat_map, join_with_byte}
 use Rattle.can_frame.specs.Frames.{Identifier, IsIdentifier, Payload, has_no_flags, flags_number}
@@ -9,11 +10,13 @@ use Rattle.can_filter.specs.Filters.{CanFilter}
 use Rattle.can_event.specs.declared.opt.Opt.{Opt}
 use Rattle.can_event.specs.declared.opt.Opt.TheVariants as opt
 use Rattle.can_proto.specs.declared.command.Command.{Command}
-use Rattle.can_proto.specs.declared.command.Command.TheVariants.{Echo, Interfaces, Open, Rawmode, Send, SetFilters, SetOption, ErrData, Ack, Origin, Stats, Status, Load, Restart, Fault, Faults, NoFaults, Close}
+use Rattle.can_proto.specs.declared.command.Command.TheVariants.{Echo, Interfaces, Open, Rawmode, Send, SetFilters}
+use Rattle.can_proto.specs.declared.command.Command.TheVariants.{SetOption, ErrData, Ack, Origin, Stats, Status}
+use Rattle.can_proto.specs.declared.command.Command.TheVariants.{Load, Restart, Fault, Faults, NoFaults, Close}
 use Rattle.can_proto.specs.Words.{front, words_of}
 
--- How a client may write a command (socketcand's raw mode; filter and the options are own choice). Other spellings of it
--- are read too: digits in lower case or fewer of them, and more blanks.
+-- How a client may write a command (socketcand's raw mode; filter and the options are own choice). Other
+-- spellings of it are read too: digits in lower case or fewer of them, and more blanks.
 
 -- `0` (48) or `1` (49)
 abbrev pub flag_text : Bool → List ℕ
@@ -22,7 +25,8 @@ flag_text true = 49 ∷ []
 
 -- what asks for an FD frame to be sent, with its flags where it has some
 abbrev pub fd_verb_words : FdFlags → List (List ℕ)
-fd_verb_words flags = if has_no_flags flags then codes "sendfd" ∷ [] else codes "sendfdx" ∷ ((48 + flags_number flags) ∷ []) ∷ []
+fd_verb_words flags =
+    if has_no_flags flags then codes "sendfd" ∷ [] else codes "sendfdx" ∷ ((48 + flags_number flags) ∷ []) ∷ []
 
 -- a data frame or an FD frame with its length and each byte in two digits, or a remote frame with what it asks for
 abbrev pub frame_words : Identifier → Payload → List (List ℕ)

@@ -1,4 +1,6 @@
-use Rattle.std.specs.Prelude.{◌≡◌, ◌⊎◌, ℕ, ◌-◌, ◌*◌, ◌^◌, Bool, true, false, IsTrue, ◌&&◌, ◌==◌, nat_lt, nat_le, bit_and, if◌then◌else◌, List, [], ◌∷◌, ◌++◌, length, Option, Some, None, Result, Ok, Err}
+use Rattle.std.specs.Prelude.{◌≡◌, ◌⊎◌, ℕ, ◌-◌, ◌*◌, ◌^◌, Bool, true, false, IsTrue, ◌&&◌}
+use Rattle.std.specs.Prelude.{◌==◌, nat_lt, nat_le, bit_and, if◌then◌else◌, List, []}
+use Rattle.std.specs.Prelude.{◌∷◌, ◌++◌, length, Option, Some, None, Result, Ok, Err}
 use Rattle.std.specs.List.{join_with_byte}
 use Rattle.can_frame.specs.Frames.{Identifier, CanFrame, is_fd_length, no_flags, flags_of}
 use Rattle.can_frame.specs.Frames.Payload.{Data, Remote, Fd}
@@ -9,9 +11,14 @@ use Rattle.can_proto.specs.declared.message.Incoming.TheVariants.{Message}
 use Rattle.can_proto.specs.declared.command.Mode.{Mode}
 use Rattle.can_proto.specs.declared.command.Mode.TheVariants.{Raw}
 use Rattle.can_proto.specs.declared.command.Command.{Command}
-use Rattle.can_proto.specs.declared.command.Command.TheVariants.{Echo, Interfaces, Open, Rawmode, Send, SetFilters, SetOption, ErrData, Ack, Origin, Stats, Status, Load, Restart, Fault, Faults, NoFaults, Close}
+use Rattle.can_proto.specs.declared.command.Command.TheVariants.{Echo, Interfaces, Open, Rawmode, Send, SetFilters}
+use Rattle.can_proto.specs.declared.command.Command.TheVariants.{SetOption, ErrData, Ack, Origin, Stats, Status}
+use Rattle.can_proto.specs.declared.command.Command.TheVariants.{Load, Restart, Fault, Faults, NoFaults, Close}
 use Rattle.can_proto.specs.declared.fault.ProtoFault.{ProtoFault}
-use Rattle.can_proto.specs.declared.fault.ProtoFault.TheVariants.{NoMemory, InvalidFilter, TooManyFilters, EmptyMessage, UnknownCommand, WrongState, ModeNotSupported, BadCount, BadId, BadLength, BadByte, BadNumber}
+use Rattle.can_proto.specs.declared.fault.ProtoFault.TheVariants.{NoMemory, InvalidFilter, TooManyFilters}
+use Rattle.can_proto.specs.declared.fault.ProtoFault.TheVariants.{EmptyMessage, UnknownCommand, WrongState}
+use Rattle.can_proto.specs.declared.fault.ProtoFault.TheVariants.{ModeNotSupported, BadCount, BadId}
+use Rattle.can_proto.specs.declared.fault.ProtoFault.TheVariants.{BadLength, BadByte, BadNumber}
 use Rattle.can_proto.specs.declared.verb.Verb.{Verb}
 use Rattle.can_proto.specs.declared.verb.Verb.TheVariants as verb
 use Rattle.can_frame.specs.Numbers.{number_in}
@@ -19,8 +26,8 @@ use Rattle.can_proto.specs.Messages.{messages_of, kept_of}
 use Rattle.can_proto.specs.Words.{words_of}
 use Rattle.can_proto.specs.Verbs.{named, is_allowed_in}
 
--- What the words of a message say, or the first fault that is met, reading from left to right (socketcand's raw mode; the
--- faults and their order are own choice).
+-- What the words of a message say, or the first fault that is met, reading from left to right (socketcand's raw
+-- mode; the faults and their order are own choice).
 
 infixl 10 ◌>>=◌
 abbrev pub ◌>>=◌ : {A B : Type 0} → Result A ProtoFault → (A → Result B ProtoFault) → Result B ProtoFault
@@ -60,7 +67,8 @@ cleared n = if nat_lt n (2 ^ 31) then n else n - 2 ^ 31
 -- 29 bits
 abbrev pub long_id : Option ℕ → Result Identifier ProtoFault
 long_id None = Err BadId
-long_id (Some n) = if nat_lt (cleared n) (2 ^ 29) then Ok (record { extended = true; number = cleared n }) else Err BadId
+long_id (Some n) =
+    if nat_lt (cleared n) (2 ^ 29) then Ok (record { extended = true; number = cleared n }) else Err BadId
 
 -- 11 bits
 abbrev pub short_id : Option ℕ → Result Identifier ProtoFault
@@ -78,7 +86,9 @@ length_of _ = Err BadLength
 
 -- a length of an FD frame, in decimal without leading zeros
 unfoldable pub fd_length_of : List ℕ → Result ℕ ProtoFault
-fd_length_of word = or_fault BadLength (number_in 10 2 word) >>= λ n. if is_fd_length n && length word == (if nat_lt n 10 then 1 else 2) then Ok n else Err BadLength
+fd_length_of word =
+    or_fault BadLength (number_in 10 2 word)
+    >>= λ n. if is_fd_length n && length word == (if nat_lt n 10 then 1 else 2) then Ok n else Err BadLength
 
 -- bytes of one or two hexadecimal digits
 unfoldable pub bytes_of : List (List ℕ) → Result (List ℕ) ProtoFault
@@ -90,14 +100,18 @@ bytes_of (word ∷ words) = do
 
 -- what the words of data may be refused for: their count, and then a word that spells no byte
 abbrev pub IsDataFault : ℕ → List (List ℕ) → ProtoFault → Type 0
-IsDataFault len words e = (((length words == len) ≡ false) × (e ≡ BadCount)) ⊎ (((length words == len) ≡ true) × (bytes_of words ≡ Err BadByte) × (e ≡ BadByte))
+IsDataFault len words e =
+    (((length words == len) ≡ false) × (e ≡ BadCount))
+    ⊎ (((length words == len) ≡ true) × (bytes_of words ≡ Err BadByte) × (e ≡ BadByte))
 
 -- `send ID LEN b ..`
 unfoldable pub send_of : List (List ℕ) → Result Command ProtoFault
 send_of (id_word ∷ len_word ∷ words) = do
   id ← id_of id_word
   len ← length_of len_word
-  if length words == len then bytes_of words >>= (λ bytes. Ok (Send (record { id = id; payload = Data bytes }))) else Err BadCount
+  if length words == len
+      then bytes_of words >>= (λ bytes. Ok (Send (record { id = id; payload = Data bytes })))
+      else Err BadCount
 send_of _ = Err BadCount
 
 -- what asks for a frame to be sent, where there is one
@@ -110,7 +124,9 @@ unfoldable pub send_fd_of : FdFlags → List (List ℕ) → Result Command Proto
 send_fd_of flags (id_word ∷ len_word ∷ words) = do
   id ← id_of id_word
   len ← fd_length_of len_word
-  if length words == len then bytes_of words >>= (λ bytes. Ok (Send (record { id = id; payload = Fd flags bytes }))) else Err BadCount
+  if length words == len
+      then bytes_of words >>= (λ bytes. Ok (Send (record { id = id; payload = Fd flags bytes })))
+      else Err BadCount
 send_fd_of flags _ = Err BadCount
 
 -- the flags of an FD frame: one digit, 0 to 3 (CANFD_BRS and CANFD_ESI of linux/can.h)
@@ -156,7 +172,9 @@ unfoldable pub set_of : List (List ℕ) → Result Command ProtoFault
 set_of [] = Err BadCount
 set_of (count_word ∷ words) = do
   count ← or_fault BadNumber (number_in 10 3 count_word)
-  if nat_lt 512 count then Err TooManyFilters else if length words == count * 2 then filters_of words >>= (λ filters. Ok (SetFilters filters)) else Err BadCount
+  if nat_lt 512 count then Err TooManyFilters
+      else if length words == count * 2 then filters_of words >>= (λ filters. Ok (SetFilters filters))
+      else Err BadCount
 
 -- the word of a command that takes one
 abbrev pub only : List (List ℕ) → Result (List ℕ) ProtoFault
@@ -234,7 +252,11 @@ reading mode (word ∷ words) = command_of mode words (named word)
 
 -- the stream gives one message, which asks in raw mode for this frame to be sent, and nothing of it is kept
 abbrev pub IsLoneSend : List ℕ → CanFrame → Type 0
-IsLoneSend stream frame = (inside : List ℕ) × (messages_of stream ≡ Message inside ∷ []) × (kept_of stream ≡ []) × (reading Raw (words_of inside) ≡ Ok (Send frame))
+IsLoneSend stream frame =
+    (inside : List ℕ)
+    × (messages_of stream ≡ Message inside ∷ [])
+    × (kept_of stream ≡ [])
+    × (reading Raw (words_of inside) ≡ Ok (Send frame))
 
 -- items in front of those that are read
 abbrev pub with_front : {A : Type 0} → List A → Result (List A) ProtoFault → Result (List A) ProtoFault

@@ -1,4 +1,5 @@
-use Rattle.std.specs.Prelude.{◌≡◌, ℕ, Bool, true, false, not, ◌&&◌, ◌||◌, ◌==◌, nat_lt, if◌then◌else◌, List, [], ◌∷◌, ◌++◌, ◌≤◌, length}
+use Rattle.std.specs.Prelude.{◌≡◌, ℕ, Bool, true, false, not, ◌&&◌, ◌||◌, ◌==◌}
+use Rattle.std.specs.Prelude.{nat_lt, if◌then◌else◌, List, [], ◌∷◌, ◌++◌, ◌≤◌, length}
 use Rattle.can_proto.specs.declared.message.Incoming.{Incoming}
 use Rattle.can_proto.specs.declared.message.Incoming.TheVariants.{Message, TooLong}
 
@@ -33,7 +34,10 @@ limit = 1024
 
 -- what a `<` gives, from the bytes that follow it
 abbrev pub given_by : List ℕ → List Incoming
-given_by bytes = if nat_lt limit (length (run_of bytes)) then TooLong ∷ [] else if is_closed bytes then Message (run_of bytes) ∷ [] else []
+given_by bytes =
+    if nat_lt limit (length (run_of bytes)) then TooLong ∷ []
+    else if is_closed bytes then Message (run_of bytes) ∷ []
+    else []
 
 -- what a stream gives: what its `<` give, in order
 abbrev pub messages_of : List ℕ → List Incoming

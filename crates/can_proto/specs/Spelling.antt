@@ -1,7 +1,9 @@
-use Rattle.std.specs.Prelude.{◌≡◌, ◌<◌, ℕ, ◌+◌, ◌^◌, nat_lt, Bool, true, false, if◌then◌else◌, List, [], ◌∷◌, ◌++◌, Option, Some, None, codes}
+use Rattle.std.specs.Prelude.{◌≡◌, ◌<◌, ℕ, ◌+◌, ◌^◌, nat_lt, Bool, true, false}
+use Rattle.std.specs.Prelude.{if◌then◌else◌, List, [], ◌∷◌, ◌++◌, Option, Some, None, codes}
 use Rattle.std.specs.Fmt.{decimal}
 use Rattle.std.specs.List.{All, flat_map}
-use Rattle.can_frame.specs.Frames.{CanFrame, ErrorMessage, is_remote, is_fd, payload_len, payload_bytes, payload_flags, has_no_flags, flags_number}
+use Rattle.can_frame.specs.Frames.{CanFrame, ErrorMessage, is_remote, is_fd, payload_len}
+use Rattle.can_frame.specs.Frames.{payload_bytes, payload_flags, has_no_flags, flags_number}
 use Rattle.can_frame.specs.FrameText.{digits, pairs, id_text}
 use Rattle.can_frame.specs.Moments.{moment_text}
 use Rattle.can_frame.specs.declared.fd_flags.FdFlags.{FdFlags}
@@ -14,7 +16,8 @@ use Rattle.can_event.specs.declared.stats.SocketStats.{SocketStats}
 use Rattle.can_event.specs.declared.stats.IfaceStats.{IfaceStats}
 use Rattle.can_proto.specs.declared.answer.Answer.{Answer}
 use Rattle.can_proto.specs.declared.answer.BusLoad.{BusLoad}
-use Rattle.can_proto.specs.declared.answer.Answer.TheVariants.{Greeting, Done, Echo, Sent, Stats, Status, Load, Faults, Closing, Refused}
+use Rattle.can_proto.specs.declared.answer.Answer.TheVariants.{Greeting, Done, Echo, Sent, Stats}
+use Rattle.can_proto.specs.declared.answer.Answer.TheVariants.{Status, Load, Faults, Closing, Refused}
 use Rattle.can_proto.specs.declared.answer.Origin.{Origin}
 use Rattle.can_proto.specs.declared.answer.Origin.TheVariants.{Same, Other}
 use Rattle.can_proto.specs.Causes.{cause_text}
@@ -36,7 +39,8 @@ class_text class = digits 16 (class_width class) class
 
 -- the identifier of a frame, its moment and its data
 abbrev pub body_text : CanFrame → ℕ → List ℕ
-body_text frame micros = id_text frame.id ++ codes " " ++ moment_text micros ++ codes " " ++ pairs (payload_bytes frame.payload)
+body_text frame micros =
+    id_text frame.id ++ codes " " ++ moment_text micros ++ codes " " ++ pairs (payload_bytes frame.payload)
 
 -- a data frame with its moment, up to the end of the text: without data there are two spaces
 abbrev pub data_front : CanFrame → ℕ → List ℕ
@@ -44,7 +48,8 @@ data_front frame micros = codes "< frame " ++ body_text frame micros
 
 -- what the text of an FD frame begins with: one with flags has another word, and these as a digit (own choice)
 abbrev pub fd_word : FdFlags → List ℕ
-fd_word flags = if has_no_flags flags then codes "< fdframe " else codes "< fdframex " ++ (48 + flags_number flags) ∷ codes " "
+fd_word flags =
+    if has_no_flags flags then codes "< fdframe " else codes "< fdframex " ++ (48 + flags_number flags) ∷ codes " "
 
 -- an FD frame, in the same way
 abbrev pub fd_front : CanFrame → ℕ → List ℕ
@@ -52,16 +57,23 @@ fd_front frame micros = fd_word (payload_flags frame.payload) ++ body_text frame
 
 -- a remote frame with its moment and the length that it asks for
 abbrev pub remote_front : CanFrame → ℕ → List ℕ
-remote_front frame micros = codes "< remote " ++ id_text frame.id ++ codes " " ++ moment_text micros ++ codes " " ++ decimal (payload_len frame.payload)
+remote_front frame micros =
+    codes "< remote " ++ id_text frame.id ++ codes " " ++ moment_text micros ++ codes " "
+    ++ decimal (payload_len frame.payload)
 
 -- a frame of any kind
 abbrev pub frame_front : CanFrame → ℕ → List ℕ
-frame_front frame micros = if is_remote frame.payload then remote_front frame micros else if is_fd frame.payload then fd_front frame micros else data_front frame micros
+frame_front frame micros =
+    if is_remote frame.payload then remote_front frame micros
+    else if is_fd frame.payload then fd_front frame micros
+    else data_front frame micros
 
 -- an error message frame with its moment, and with its data where these are asked for
 abbrev pub error_text : Bool → ErrorMessage → ℕ → List ℕ
 error_text false e micros = codes "< error " ++ class_text e.class ++ codes " " ++ moment_text micros ++ codes " >"
-error_text true e micros = codes "< error " ++ class_text e.class ++ codes " " ++ moment_text micros ++ codes " " ++ pairs e.bytes ++ codes " >"
+error_text true e micros =
+    codes "< error " ++ class_text e.class ++ codes " " ++ moment_text micros ++ codes " " ++ pairs e.bytes
+    ++ codes " >"
 
 -- the text of an item that a client's socket received
 abbrev pub item_text : Bool → Item → ℕ → List ℕ
@@ -95,7 +107,10 @@ without_data (item.Error e) = item.Error (record { class = e.class; bytes = [] }
 
 -- what became of the items offered to the socket, and of the frames of its interface
 abbrev pub stats_text : SocketStats → IfaceStats → List ℕ
-stats_text s i = codes "< stats " ++ decimal s.queued ++ codes " " ++ decimal s.dropped ++ codes " " ++ decimal s.taken ++ codes " " ++ decimal i.sent ++ codes " " ++ decimal i.done ++ codes " " ++ decimal i.waiting ++ codes " " ++ decimal i.lost ++ codes " " ++ decimal i.refused ++ codes " >"
+stats_text s i =
+    codes "< stats " ++ decimal s.queued ++ codes " " ++ decimal s.dropped ++ codes " " ++ decimal s.taken
+    ++ codes " " ++ decimal i.sent ++ codes " " ++ decimal i.done ++ codes " " ++ decimal i.waiting ++ codes " "
+    ++ decimal i.lost ++ codes " " ++ decimal i.refused ++ codes " >"
 
 -- the word of a fault confinement state
 abbrev pub state_word : State → List ℕ
@@ -106,16 +121,20 @@ state_word Off = codes "off"
 
 -- the state that an interface's error counts give, its transmit count and its receive count
 abbrev pub status_text : ErrorCounts → List ℕ
-status_text c = codes "< status " ++ state_word (state_of c) ++ codes " " ++ decimal c.tec ++ codes " " ++ decimal c.rec ++ codes " >"
+status_text c =
+    codes "< status " ++ state_word (state_of c) ++ codes " " ++ decimal c.tec ++ codes " " ++ decimal c.rec
+    ++ codes " >"
 
 -- the load of a bus without bit rates
 abbrev pub no_load : BusLoad
 no_load = record { permille = 0; micros = 0; bitrate = 0; dbitrate = 0 }
 
--- for how many thousandths of the last whole second the bus was busy, for how many microseconds since it started, and its
--- bit rates, the nominal one and the one for data
+-- for how many thousandths of the last whole second the bus was busy, for how many microseconds since it started,
+-- and its bit rates, the nominal one and the one for data
 abbrev pub load_text : BusLoad → List ℕ
-load_text l = codes "< load " ++ decimal l.permille ++ codes " " ++ decimal l.micros ++ codes " " ++ decimal l.bitrate ++ codes " " ++ decimal l.dbitrate ++ codes " >"
+load_text l =
+    codes "< load " ++ decimal l.permille ++ codes " " ++ decimal l.micros ++ codes " " ++ decimal l.bitrate
+    ++ codes " " ++ decimal l.dbitrate ++ codes " >"
 
 -- the reply to a client
 abbrev pub reply_text : Answer → List ℕ

@@ -1,8 +1,12 @@
-use Rattle.std.specs.Prelude.{ℕ, Bool, true, false, ◌&&◌, ◌||◌, ◌==◌, if◌then◌else◌, List, [], ◌∷◌, Option, Some, None, codes}
+use Rattle.std.specs.Prelude.{ℕ, Bool, true, false, ◌&&◌, ◌||◌, ◌==◌, if◌then◌else◌}
+use Rattle.std.specs.Prelude.{List, [], ◌∷◌, Option, Some, None, codes}
 use Rattle.can_proto.specs.declared.command.Mode.{Mode}
 use Rattle.can_proto.specs.declared.command.Mode.TheVariants.{NoBus, Opened, Raw}
 use Rattle.can_proto.specs.declared.verb.Verb.{Verb}
-use Rattle.can_proto.specs.declared.verb.Verb.TheVariants.{Echo, Interfaces, Open, Rawmode, OtherMode, Send, SendRtr, SendFd, SendFlagged, Filter, Join, Loopback, RecvOwn, FdFrames, ErrMask, ErrData, Ack, Origin, Stats, Status, Load, Restart, Fault, Faults, NoFaults, Close}
+use Rattle.can_proto.specs.declared.verb.Verb.TheVariants.{Echo, Interfaces, Open, Rawmode, OtherMode, Send, SendRtr}
+use Rattle.can_proto.specs.declared.verb.Verb.TheVariants.{SendFd, SendFlagged, Filter, Join, Loopback, RecvOwn}
+use Rattle.can_proto.specs.declared.verb.Verb.TheVariants.{FdFrames, ErrMask, ErrData, Ack, Origin, Stats, Status}
+use Rattle.can_proto.specs.declared.verb.Verb.TheVariants.{Load, Restart, Fault, Faults, NoFaults, Close}
 
 -- The commands' first words and the modes that have them (socketcand's raw mode; sendfd, sendfdx, and filter and what
 -- follows it, is own choice).
@@ -15,7 +19,8 @@ is_word _ _ = false
 
 -- one of socketcand's other modes
 abbrev pub is_other_mode : List ℕ → Bool
-is_other_mode word = (is_word word (codes "bcmmode") || is_word word (codes "isotpmode")) || is_word word (codes "controlmode")
+is_other_mode word =
+    (is_word word (codes "bcmmode") || is_word word (codes "isotpmode")) || is_word word (codes "controlmode")
 
 -- what a first word asks for
 abbrev pub named : List ℕ → Option Verb

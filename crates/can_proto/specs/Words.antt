@@ -18,7 +18,10 @@ front (b ∷ bs) = if is_blank b then [] else b ∷ front bs
 -- a word begins where a byte that is no blank follows a blank or nothing
 abbrev pub words_after : Bool → List ℕ → List (List ℕ)
 words_after was_blank [] = []
-words_after was_blank (b ∷ bs) = if is_blank b then words_after true bs else if was_blank then (b ∷ front bs) ∷ words_after false bs else words_after false bs
+words_after was_blank (b ∷ bs) =
+    if is_blank b then words_after true bs
+    else if was_blank then (b ∷ front bs) ∷ words_after false bs
+    else words_after false bs
 
 -- the words of a text, in order
 abbrev pub words_of : List ℕ → List (List ℕ)

@@ -7,7 +7,8 @@ use Rattle.can_record_text.specs.declared.fault.ReadFault.{ReadFault}
 use Rattle.can_record_text.specs.declared.fault.ReadFault.TheVariants as fault
 use Rattle.can_record_text.specs.declared.version.Version.{Version}
 use Rattle.can_record_text.specs.declared.version.Version.TheVariants as version
-use Rattle.can_record_text.specs.Spelling.{spell, first_line, bus_words, end_words, entry_line, entry_lines, front_lines, text_in, all_needs, is_needless, record_spelling}
+use Rattle.can_record_text.specs.Spelling.{spell, first_line, bus_words, end_words, entry_line, entry_lines}
+use Rattle.can_record_text.specs.Spelling.{front_lines, text_in, all_needs, is_needless, record_spelling}
 use Rattle.can_record_text.specs.Values.{HasLine, HasBusLine, HasLines, HasText}
 
 -- What is wrong with a text that is no record's (own choice).
@@ -87,7 +88,9 @@ IsFirstWrong text n = BusIsWrong text n ⊎ LineIsWrong text n ⊎ GoesOn text n
 -- what reading the end of a text returns, after this many entries
 abbrev pub Ends : {A : Type 0} → ℕ → List ℕ → Result A ReadFault → Type 0
 Ends count rest (Ok u) = rest ≡ spell (end_words count) []
-Ends count rest (Err (fault.BadLine n)) = ((n ≡ count + 3) × LacksEnd count rest) ⊎ ((n ≡ count + 4) × ((more : List ℕ) × (rest ≡ spell (end_words count) more) × (more ≢ [])))
+Ends count rest (Err (fault.BadLine n)) =
+    ((n ≡ count + 3) × LacksEnd count rest)
+    ⊎ ((n ≡ count + 4) × ((more : List ℕ) × (rest ≡ spell (end_words count) more) × (more ≢ [])))
 Ends count rest (Err fault.NoMemory) = Unit {0}
 Ends count rest (Err fault.BadVersion) = ⊥
 
@@ -115,4 +118,5 @@ IsRecordOf c entries (Err why) = why ≡ fault.NoMemory
 
 -- of the text of a record: reading gives that record, unless memory is refused
 abbrev pub ReadsBack : List ℕ → Result Kept ReadFault → Type 0
-ReadsBack text result = (c : BusConfig) (entries : List Entry) → IsConfig c → IsTextOf text c entries → IsRecordOf c entries result
+ReadsBack text result =
+    (c : BusConfig) (entries : List Entry) → IsConfig c → IsTextOf text c entries → IsRecordOf c entries result

@@ -1,4 +1,5 @@
-use Rattle.std.specs.Prelude.{ℕ, ◌==◌, ◌||◌, ◌&&◌, not, nat_lt, Bool, true, false, List, [], ◌∷◌, ◌++◌, length, codes, decimal, Some, None, if◌then◌else◌}
+use Rattle.std.specs.Prelude.{ℕ, ◌==◌, ◌||◌, ◌&&◌, not, nat_lt, Bool, true, false, List, []}
+use Rattle.std.specs.Prelude.{◌∷◌, ◌++◌, length, codes, decimal, Some, None, if◌then◌else◌}
 use Rattle.can_frame.specs.Frames.{CanFrame, is_fd, is_flagged}
 use Rattle.can_frame.specs.declared.iface.IfaceSet.{IfaceSet}
 use Rattle.can_frame.specs.declared.item.Item.{Item}
@@ -18,7 +19,8 @@ use Rattle.can_event.specs.declared.bus_config.BusConfig.{BusConfig}
 use Rattle.can_event.specs.declared.opt.Opt.{Opt}
 use Rattle.can_event.specs.declared.opt.Opt.TheVariants as opt
 use Rattle.can_event.specs.declared.event.Event.{Event}
-use Rattle.can_event.specs.declared.event.Event.TheVariants.{Open, Close, SetFilters, SetOption, Send, Receive, Attempt, Restart}
+use Rattle.can_event.specs.declared.event.Event.TheVariants.{Open, Close, SetFilters, SetOption}
+use Rattle.can_event.specs.declared.event.Event.TheVariants.{Send, Receive, Attempt, Restart}
 use Rattle.can_event.specs.declared.refusal.Refusal.{Refusal}
 use Rattle.can_event.specs.declared.refusal.Refusal.TheVariants as refusal
 use Rattle.can_event.specs.declared.received.Received.{Received}
@@ -121,9 +123,11 @@ event_words (Receive s) = codes "receive" ∷ decimal s.0 ∷ []
 event_words (Attempt m verdict) = codes "attempt" ∷ moment_word m ∷ verdict_word verdict ∷ []
 event_words (Restart i m) = codes "restart" ∷ decimal i ∷ moment_word m ∷ []
 
--- an item that was received: where it comes from, its number if it is a frame, the item, and when it was put to the socket
+-- an item that was received: where it comes from, its number if it is a frame, the item, and when it was put to
+-- the socket
 abbrev pub received_words : Item → Received → List (List ℕ)
-received_words (item.Data f) r = codes "data" ∷ decimal r.from ∷ decimal r.number ∷ frame_spelling r.item ∷ moment_word r.moment ∷ []
+received_words (item.Data f) r =
+    codes "data" ∷ decimal r.from ∷ decimal r.number ∷ frame_spelling r.item ∷ moment_word r.moment ∷ []
 received_words (item.Error e) r = codes "error" ∷ decimal r.from ∷ frame_spelling r.item ∷ moment_word r.moment ∷ []
 
 -- the interfaces that an attempt restarted, where there are any
@@ -139,7 +143,9 @@ reply_words (reply.Sent n) = codes "number" ∷ decimal n ∷ []
 reply_words (reply.Received None) = codes "none" ∷ []
 reply_words (reply.Received (Some r)) = received_words r.item r
 reply_words (reply.Idle restarted) = codes "idle" ∷ restarted_words restarted
-reply_words (reply.Tried t) = codes "tried" ∷ decimal t.winner ∷ decimal t.number ∷ frame_spelling (item.Data t.frame) ∷ class_word t.class ∷ set_word t.accepted ∷ set_word t.off ∷ restarted_words t.restarted
+reply_words (reply.Tried t) =
+    codes "tried" ∷ decimal t.winner ∷ decimal t.number ∷ frame_spelling (item.Data t.frame) ∷ class_word t.class
+    ∷ set_word t.accepted ∷ set_word t.off ∷ restarted_words t.restarted
 reply_words (reply.Refused why) = refusal_words why
 
 -- a reply, up to the end of its line
@@ -239,7 +245,12 @@ is_needless version.Five needs = not needs.flags
 -- the version for a bus: 4 for a limit that only a long run has; else 5 where its record has a flag of an FD frame;
 -- else 3 where an FD frame or the option for such does, and else 2 exactly where interfaces are restarted automatically
 abbrev pub version_for : BusConfig → Needs → Version
-version_for c needs = if nat_lt max_limit c.limit then version.Four else if needs.flags then version.Five else if needs.fd then version.Three else if c.auto_restart == 0 then version.One else version.Two
+version_for c needs =
+    if nat_lt max_limit c.limit then version.Four
+    else if needs.flags then version.Five
+    else if needs.fd then version.Three
+    else if c.auto_restart == 0 then version.One
+    else version.Two
 
 -- the version of a record's text
 abbrev pub version_of : BusConfig → List Entry → Version
@@ -261,9 +272,12 @@ auto_restart_words version.Three c = decimal c.auto_restart ∷ []
 auto_restart_words version.Four c = decimal c.auto_restart ∷ []
 auto_restart_words version.Five c = decimal c.auto_restart ∷ []
 
--- the bus: how many interfaces, who acknowledges, the interfaces with reporting on, the room of a transmit queue, the limit
+-- the bus: how many interfaces, who acknowledges, the interfaces with reporting on, the room of a transmit queue,
+-- the limit
 abbrev pub bus_words : Version → BusConfig → List (List ℕ)
-bus_words v c = codes "bus" ∷ decimal c.ifaces ∷ ack_word c.ack ∷ set_word c.reporting ∷ decimal c.tx_capacity ∷ decimal c.limit ∷ auto_restart_words v c
+bus_words v c =
+    codes "bus" ∷ decimal c.ifaces ∷ ack_word c.ack ∷ set_word c.reporting ∷ decimal c.tx_capacity ∷ decimal c.limit
+    ∷ auto_restart_words v c
 
 -- the first two lines of a version, and what follows them
 abbrev pub front_lines : Version → BusConfig → List ℕ → List ℕ

@@ -4,8 +4,8 @@ use Rattle.can_event.specs.declared.entry.Entry.{Entry}
 use Rattle.can_record.specs.Journal.{Kept}
 use Rattle.can_replay.specs.Histories.{IsHistory}
 
--- What a function of the reference returns: a value that can_bus defines on histories, the newest entry first, of a list of
--- entries, the oldest first (own choice).
+-- What a function of the reference returns: a value that can_bus defines on histories, the newest entry first, of
+-- a list of entries, the oldest first (own choice).
 
 -- the call returned this value, unless memory was refused
 abbrev pub Returns : {A E : Type 0} → Result A E → A → Type 0

@@ -20,7 +20,8 @@ reply_after c past e = if nat_le c.limit (length past) then reply.Refused refusa
 
 -- the entries after it: one more, unless there were as many as the limit
 abbrev pub entries_after : BusConfig → List Entry → Event → List Entry
-entries_after c past e = if nat_le c.limit (length past) then past else record { event = e; reply = legal_reply c past e } ∷ past
+entries_after c past e =
+    if nat_le c.limit (length past) then past else record { event = e; reply = legal_reply c past e } ∷ past
 
 -- the replies of these events after these entries, each by the entries before it
 unfoldable pub replies_after : BusConfig → List Entry → List Event → List Reply

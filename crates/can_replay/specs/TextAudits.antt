@@ -105,7 +105,9 @@ TakesOn {A} are old new line = (text : List ℕ) → are text old → IsLine lin
 
 -- a line is at fault, as the next one of a text that was taken so far, whatever follows it
 abbrev pub FailsNext : {A : Type 0} → (List ℕ → A → Type 0) → A → List ℕ → ReadFault → Type 0
-FailsNext {A} are old line why = (text after : List ℕ) → are text old → IsLine line → MayFollow line after → Reads (text ++ (line ++ after)) (Err why)
+FailsNext {A} are old line why =
+    (text after : List ℕ) → are text old → IsLine line → MayFollow line after
+    → Reads (text ++ (line ++ after)) (Err why)
 
 -- a line is at fault that comes after these bytes of a text, whatever follows it
 abbrev pub FailsAfter : List ℕ → List ℕ → ReadFault → Type 0

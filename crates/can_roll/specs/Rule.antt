@@ -19,13 +19,16 @@ IsBrought lists called (calls ∷ more) = row lists (last_of called) ≡ calls
 -- what the seat `by` knows, where the roll's view is that of the seat `seat`: no other seat has a roll's view, and a
 -- slip has the roll's list of its pass, which has entered and is not called in; of a spent view nothing is said
 abbrev pub Knows : ℕ → List (List Entry) → List ℕ → List (List Entry) → ℕ → View → Type 0
-Knows seat lists called brought by (OfRoll lists' called' brought') = (by ≡ seat) × (lists' ≡ lists) × (called' ≡ called) × (brought' ≡ brought)
+Knows seat lists called brought by (OfRoll lists' called' brought') =
+    (by ≡ seat) × (lists' ≡ lists) × (called' ≡ called) × (brought' ≡ brought)
 Knows seat lists called brought by (OfSlip p calls) = (row lists p ≡ calls) × (p < length lists) × NotIn p called
 Knows seat lists called brought by Spent = Unit {0}
 
 -- no two seats have a slip of the same pass
 abbrev pub Apart : List View → Type 0
-Apart views = (i j p : ℕ) (xs ys : List Entry) → get_elem? views i ≡ some (OfSlip p xs) → get_elem? views j ≡ some (OfSlip p ys) → i ≡ j
+Apart views =
+    (i j p : ℕ) (xs ys : List Entry) → get_elem? views i ≡ some (OfSlip p xs)
+    → get_elem? views j ≡ some (OfSlip p ys) → i ≡ j
 
 -- the rule: the word is 0, no pass is called in twice, each pass called in has entered, what was brought is the roll's,
 -- each seat knows what the roll has, and slips are of different passes
@@ -66,7 +69,10 @@ returned Spent = Spent
 
 -- what is returned: the calls brought are the roll's list of the pass, which has entered and was not called in before
 abbrev pub Shows : View → Type 0
-Shows (OfRoll lists called (calls ∷ more)) = (row lists (last_of called) ≡ calls) × (last_of called < length lists) × NotIn (last_of called) (without_last called)
+Shows (OfRoll lists called (calls ∷ more)) =
+    (row lists (last_of called) ≡ calls)
+    × (last_of called < length lists)
+    × NotIn (last_of called) (without_last called)
 Shows (OfRoll lists called []) = Unit {0}
 Shows (OfSlip p calls) = Unit {0}
 Shows Spent = Unit {0}

@@ -1,4 +1,5 @@
-use Rattle.std.specs.Prelude.{◌≡◌, ◌⊎◌, ◌<◌, ◌≤◌, ℕ, ◌+◌, Bool, not, ◌==◌, nat_le, if◌then◌else◌, IsTrue, List, [], ◌∷◌, ◌++◌, length, Option, Some, None, unwrap_or, Result, Ok, Err}
+use Rattle.std.specs.Prelude.{◌≡◌, ◌⊎◌, ◌<◌, ◌≤◌, ℕ, ◌+◌, Bool, not, ◌==◌, nat_le, if◌then◌else◌, IsTrue}
+use Rattle.std.specs.Prelude.{List, [], ◌∷◌, ◌++◌, length, Option, Some, None, unwrap_or, Result, Ok, Err}
 use Rattle.std.specs.FinMap.{get}
 use Rattle.std.specs.List.{list_any}
 use Rattle.std.specs.Str.{IsUtf8}
@@ -74,12 +75,16 @@ given fault plan attempt head = fault
 
 -- the plan after it: a fault of the source counts for no rule
 abbrev pub plan_after : Verdict → PlanSeen → ℕ → Option (ℕ × CanFrame) → PlanSeen
-plan_after Good plan attempt head = record plan { rules = after_planned (get plan.lines attempt) plan.rules (head_in head) }
+plan_after Good plan attempt head = record plan {
+  rules = after_planned (get plan.lines attempt) plan.rules (head_in head);
+}
 plan_after fault plan attempt head = plan
 
 -- whatever an attempt tries, it has this verdict, and no rule is asked
 abbrev pub IsSettled : Verdict → PlanSeen → ℕ → Verdict → Type 0
-IsSettled source plan attempt verdict = (head : Option (ℕ × CanFrame)) → (given source plan attempt head ≡ verdict) × (plan_after source plan attempt head ≡ plan)
+IsSettled source plan attempt verdict =
+    (head : Option (ℕ × CanFrame))
+    → (given source plan attempt head ≡ verdict) × (plan_after source plan attempt head ≡ plan)
 
 -- there are rules, and they decide the verdict of an attempt, by what it tries
 abbrev pub IsUpToRules : Verdict → PlanSeen → ℕ → Type 0
@@ -96,13 +101,19 @@ refusal_of _ = refusal.BadRule
 -- the rule that bytes spell, or why they spell none; a rule is UTF-8
 abbrev pub SpellsRule : List (List ℕ) → List ℕ → Result Rule RuleRefusal → Type 0
 SpellsRule names bytes (Ok rule) = rule_spelling names bytes ≡ Ok rule
-SpellsRule names bytes (Err why) = ((why ≡ refusal.BadRule) × ¬ (IsUtf8 bytes)) ⊎ ((which : WrongWord) × (rule_spelling names bytes ≡ Err which) × (why ≡ refusal_of which))
+SpellsRule names bytes (Err why) =
+    ((why ≡ refusal.BadRule) × ¬ (IsUtf8 bytes))
+    ⊎ ((which : WrongWord) × (rule_spelling names bytes ≡ Err which) × (why ≡ refusal_of which))
 
--- bytes are given to a plan as one rule more: a text that spells no rule is refused first, then a rule where there are 64
+-- bytes are given to a plan as one rule more: a text that spells no rule is refused first, then a rule where
+-- there are 64
 abbrev pub Injected : List (List ℕ) → List ℕ → PlanSeen → Result (Unit {0}) RuleRefusal → PlanSeen → Type 0
-Injected names bytes old (Ok done) new = (rule : Rule) × SpellsRule names bytes (Ok rule) × (length old.rules < 64) × (new ≡ with_rule rule old)
-Injected names bytes old (Err refusal.TooManyRules) new = (rule : Rule) × SpellsRule names bytes (Ok rule) × (64 ≤ length old.rules) × (new ≡ old)
-Injected names bytes old (Err refusal.NoMemory) new = (rule : Rule) × SpellsRule names bytes (Ok rule) × (length old.rules < 64) × (new ≡ old)
+Injected names bytes old (Ok done) new =
+    (rule : Rule) × SpellsRule names bytes (Ok rule) × (length old.rules < 64) × (new ≡ with_rule rule old)
+Injected names bytes old (Err refusal.TooManyRules) new =
+    (rule : Rule) × SpellsRule names bytes (Ok rule) × (64 ≤ length old.rules) × (new ≡ old)
+Injected names bytes old (Err refusal.NoMemory) new =
+    (rule : Rule) × SpellsRule names bytes (Ok rule) × (length old.rules < 64) × (new ≡ old)
 Injected names bytes old (Err why) new = SpellsRule names bytes (Err why) × (new ≡ old)
 
 -- Plans as texts: the lines of a script, and lines that are rules.
@@ -119,12 +130,15 @@ with_lines known (Err why) = Err (plan.Script why)
 
 -- a plan with one rule more, or the fault of the line with this number
 abbrev pub with_rule_line : PlanSeen → ℕ → Result Rule WrongWord → Result PlanSeen PlanError
-with_rule_line known n (Ok rule) = if nat_le 64 (length known.rules) then Err (plan.TooManyRules n) else Ok (with_rule rule known)
+with_rule_line known n (Ok rule) =
+    if nat_le 64 (length known.rules) then Err (plan.TooManyRules n) else Ok (with_rule rule known)
 with_rule_line known n (Err which) = Err (at_word n which)
 
 -- the plan after a line with this number, where the lines before it gave `known`
 abbrev pub line_taken : List (List ℕ) → PlanSeen → ℕ → List ℕ → Result PlanSeen PlanError
-line_taken names known n line = if is_rule line then with_rule_line known n (rule_spelling names line) else with_lines known (line_after known.lines n (line_spelling names line))
+line_taken names known n line =
+    if is_rule line then with_rule_line known n (rule_spelling names line)
+    else with_lines known (line_after known.lines n (line_spelling names line))
 
 -- a plan that is gone on with, or a fault
 abbrev pub gone_on : Result PlanSeen PlanError → (PlanSeen → Result PlanSeen PlanError) → Result PlanSeen PlanError
@@ -134,7 +148,8 @@ gone_on (Err why) f = Err why
 -- the plan after lines, the first of them with this number
 abbrev pub lines_taken : List (List ℕ) → PlanSeen → ℕ → List (List ℕ) → Result PlanSeen PlanError
 lines_taken names known n [] = Ok known
-lines_taken names known n (line ∷ more) = gone_on (line_taken names known n line) (λ next. lines_taken names next (n + 1) more)
+lines_taken names known n (line ∷ more) =
+    gone_on (line_taken names known n line) (λ next. lines_taken names next (n + 1) more)
 
 -- the plan that a text spells, or its first fault
 abbrev pub plan_spelling : List (List ℕ) → List ℕ → Result PlanSeen PlanError

@@ -1,4 +1,5 @@
-use Rattle.std.specs.Prelude.{ℕ, ◌+◌, ◌^◌, Bool, ◌||◌, ◌==◌, nat_lt, if◌then◌else◌, List, Option, Some, None, length, Result, Ok, Err, codes, bit_and}
+use Rattle.std.specs.Prelude.{ℕ, ◌+◌, ◌^◌, Bool, ◌||◌, ◌==◌, nat_lt, if◌then◌else◌, List}
+use Rattle.std.specs.Prelude.{Option, Some, None, length, Result, Ok, Err, codes, bit_and}
 use Rattle.std.specs.List.{before_first, after_first}
 use Rattle.std.specs.Option.{ok_or, option_and_then}
 use Rattle.std.specs.Str.{bytes_eq}
@@ -12,7 +13,8 @@ use Rattle.can_rules.specs.declared.rule.Rule.{Rule}
 use Rattle.can_rules.specs.declared.rule_words.WrongWord.{WrongWord}
 use Rattle.can_rules.specs.declared.rule_words.WrongWord.TheVariants as wrong
 
--- Rules as texts: `next N` or `always`, then `from NAMES`, `id ID` and `skip K`, each or none, and a verdict (own choice).
+-- Rules as texts: `next N` or `always`, then `from NAMES`, `id ID` and `skip K`, each or none, and a verdict (own
+-- choice).
 
 infixl 10 ◌>>=◌
 abbrev pub ◌>>=◌ : {A B : Type 0} → Result A WrongWord → (A → Result B WrongWord) → Result B WrongWord
@@ -63,12 +65,15 @@ of_words id mask = if bit_and mask (2 ^ 29) == 0 then Some (record { id = id; ma
 
 -- an identifier word and a mask, of 1 to 8 hexadecimal digits each
 unfoldable pub masked_spelling : List ℕ → List ℕ → Option CanFilter
-masked_spelling id mask = option_and_then (λ i. option_and_then (λ m. of_words i m) (number_in 16 8 mask)) (number_in 16 8 id)
+masked_spelling id mask =
+    option_and_then (λ i. option_and_then (λ m. of_words i m) (number_in 16 8 mask)) (number_in 16 8 id)
 
 -- an identifier without a mask: 3 hexadecimal digits or 8
 unfoldable pub plain_spelling : List ℕ → Option CanFilter
 plain_spelling text =
-    if length text == 3 then option_and_then of_standard (number_in 16 8 text) else if length text == 8 then option_and_then of_extended (number_in 16 8 text) else None
+    if length text == 3 then option_and_then of_standard (number_in 16 8 text)
+    else if length text == 8 then option_and_then of_extended (number_in 16 8 text)
+    else None
 
 -- the text before its first colon, or all of it
 abbrev pub id_in : List ℕ → List ℕ
@@ -80,7 +85,8 @@ mask_in text = after_first (λ b. b == 58) text
 
 -- an identifier, with or without a colon and a mask after it
 abbrev pub id_spelling : List ℕ → Option CanFilter
-id_spelling text = if length (mask_in text) == 0 then plain_spelling text else masked_spelling (id_in text) (mask_in text)
+id_spelling text =
+    if length (mask_in text) == 0 then plain_spelling text else masked_spelling (id_in text) (mask_in text)
 
 -- the end of a rule: its verdict
 unfoldable pub ended : List (List ℕ) → Rule → List ℕ → Result Rule WrongWord

@@ -1,4 +1,5 @@
-use Rattle.std.specs.Prelude.{◌≡◌, ℕ, zero, suc, ◌+◌, ◌-◌, ◌==◌, Bool, true, false, not, ◌&&◌, if◌then◌else◌, List, [], ◌∷◌, ◌++◌, filter, length, ◌<◌, ◌≤◌, Option, Some, None, Result, Ok, Err}
+use Rattle.std.specs.Prelude.{◌≡◌, ℕ, zero, suc, ◌+◌, ◌-◌, ◌==◌, Bool, true, false, not, ◌&&◌, if◌then◌else◌}
+use Rattle.std.specs.Prelude.{List, [], ◌∷◌, ◌++◌, filter, length, ◌<◌, ◌≤◌, Option, Some, None, Result, Ok, Err}
 use Rattle.can_frame.specs.Sets.{is_in}
 use Rattle.can_frame.specs.declared.iface.IfaceSet.{IfaceSet}
 use Rattle.can_filter.specs.Filters.{matches as fits}
@@ -56,7 +57,10 @@ given_by rule head = if gives rule head then Some rule.verdict else None
 -- counts that; any other counts the verdict that it gives
 abbrev pub asked : Rule → Head → Rule
 asked rule head =
-    if is_due rule head then (if rule.skip == 0 then record rule { left = one_less rule.left } else record rule { skip = rule.skip - 1 }) else rule
+    if is_due rule head
+    then (if rule.skip == 0 then record rule { left = one_less rule.left }
+    else record rule { skip = rule.skip - 1 })
+    else rule
 
 -- the verdict of an attempt: the rules are looked at in their order, up to the first that gives one
 abbrev pub chosen : List Rule → Head → Option Verdict
@@ -91,7 +95,8 @@ gives_at (suc place) (rule ∷ rules) head = not (gives rule head) && gives_at p
 -- how many of these attempts, one after another, it gives the verdict
 abbrev pub times_given : ℕ → List Rule → List Head → ℕ
 times_given place rules [] = 0
-times_given place rules (head ∷ heads) = (if gives_at place rules head then 1 else 0) + times_given place (after_chosen rules head) heads
+times_given place rules (head ∷ heads) =
+    (if gives_at place rules head then 1 else 0) + times_given place (after_chosen rules head) heads
 
 -- two lists that differ by two neighbours, no attempt being of the kind of both
 pub record AreSwapped (one other : List Rule) : Type 0 where

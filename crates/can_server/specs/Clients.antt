@@ -1,4 +1,5 @@
-use Rattle.std.specs.Prelude.{◌≡◌, ℕ, ◌+◌, List, Bool, true, false, nat_le, if◌then◌else◌, map, Option, None, Some, option_map, Result, Ok, Err, set, replicate, slice_get, slice_index_or}
+use Rattle.std.specs.Prelude.{◌≡◌, ℕ, ◌+◌, List, Bool, true, false, nat_le, if◌then◌else◌, map, Option, None}
+use Rattle.std.specs.Prelude.{Some, option_map, Result, Ok, Err, set, replicate, slice_get, slice_index_or}
 use Rattle.std.specs.declared.sync.Arc.{Arc}
 use Rattle.std.specs.declared.alloc.Global.{Global}
 use Rattle.can_server.specs.declared.conn.Conn.{Conn}
@@ -34,8 +35,12 @@ NoneFree places = (place : ℕ) → ¬ IsFree places place
 -- a connection gets a place that was free; else nothing changes: nobody comes in any more, or no place is free
 abbrev pub Admits : ClientsSeen → Shared → ℕ → Result ℕ NotAdmitted → ClientsSeen → Type 0
 Admits old conn now (Ok place) new =
-    (old.is_closed ≡ false) × IsFree old.places place
-    × (new ≡ record { places = set old.places place (Some (record { conn = conn; stay = stay.New now })); is_closed = false })
+    (old.is_closed ≡ false)
+    × IsFree old.places place
+    × (new ≡ record {
+      places = set old.places place (Some (record { conn = conn; stay = stay.New now }));
+      is_closed = false;
+    })
 Admits old conn now (Err refused.Closed) new = (old.is_closed ≡ true) × (new ≡ old)
 Admits old conn now (Err refused.Full) new =
     (old.is_closed ≡ false) × NoneFree old.places × (new ≡ old)
@@ -56,7 +61,10 @@ raw_at places place = set places place (option_map raw (slice_index_or places pl
 
 -- a client after another found no place
 abbrev pub asked_for_room : ℕ → Client → Client
-asked_for_room now client = record { conn = client.conn; stay = if is_idle now client.stay then stay.ShutOut else client.stay }
+asked_for_room now client = record {
+  conn = client.conn;
+  stay = if is_idle now client.stay then stay.ShutOut else client.stay;
+}
 
 -- the places after another found none
 abbrev pub all_asked : ℕ → List (Option Client) → List (Option Client)

@@ -9,31 +9,36 @@ use Rattle.can_dialog.specs.Sessions.{SessionState, IsSessionOver, Finishes, Tak
 -- What goes out to a client of a server, and what its session does for it (own choice).
 
 -- the session ends over the port; one that is over changes nothing
-abbrev pub Ends : {P : Type 0} → (P → (call : Call) → Reply call → P → Type 0) → SessionState → P → SessionState → P → Type 0
+abbrev pub Ends :
+    {P : Type 0} → (P → (call : Call) → Reply call → P → Type 0) → SessionState → P → SessionState → P → Type 0
 Ends step old p new q =
     (IsSessionOver old × (new ≡ old) × (q ≡ p))
     ⊎ (Finishes step old.dialog p q new.dialog × (new.kept ≡ old.kept))
 
 -- the items of a piece are carried out, and the client is written what the session says to them
-abbrev pub Hears : {P W : Type 0} → (P → (call : Call) → Reply call → P → Type 0) → (W → Option (List ℕ)) → ℕ → List Incoming → Dialog → P → W → Dialog → P → W → Type 0
+abbrev pub Hears : {P W : Type 0} → (P → (call : Call) → Reply call → P → Type 0) → (W → Option (List ℕ)) → ℕ
+    → List Incoming → Dialog → P → W → Dialog → P → W → Type 0
 Hears step contents moment items before p out after q out' =
     (text : List ℕ) × TakesTurns step moment before items p q text after × Wrote contents out text out'
 
 -- the client is given items, as many as wait or as a batch has
-abbrev pub GivesAll : {P W : Type 0} → (P → (call : Call) → Reply call → P → Type 0) → (W → Option (List ℕ)) → ℕ → SessionState → P → W → Bool → SessionState → P → W → Type 0
+abbrev pub GivesAll : {P W : Type 0} → (P → (call : Call) → Reply call → P → Type 0) → (W → Option (List ℕ)) → ℕ
+    → SessionState → P → W → Bool → SessionState → P → W → Type 0
 GivesAll step contents most old p out is_all new q out' =
     (text : List ℕ) × Gives step most old.dialog.stage p text q is_all
     × Appends (contents out) (contents out') text × (new ≡ old)
 
 -- the items are received, and the session ends, since they could not be written
-abbrev pub LosesAll : {P : Type 0} → (P → (call : Call) → Reply call → P → Type 0) → ℕ → SessionState → P → SessionState → P → Type 0
+abbrev pub LosesAll :
+    {P : Type 0} → (P → (call : Call) → Reply call → P → Type 0) → ℕ → SessionState → P → SessionState → P → Type 0
 LosesAll {P} step most old p new q =
     (text : List ℕ) × (mid : P) × (is_all : Bool) × Gives step most old.dialog.stage p text mid is_all
     × Ends step old mid new q
 
 -- where this many items wait, up to 256 are received and written, which is how many the client took; or fewer are
 -- there, or they could not be written
-abbrev pub Delivers : {P W : Type 0} → (P → (call : Call) → Reply call → P → Type 0) → (W → Option (List ℕ)) → ℕ → SessionState → P → W → Option ℕ → SessionState → P → W → Type 0
+abbrev pub Delivers : {P W : Type 0} → (P → (call : Call) → Reply call → P → Type 0) → (W → Option (List ℕ)) → ℕ
+    → SessionState → P → W → Option ℕ → SessionState → P → W → Type 0
 Delivers step contents waiting old p out (Some n) new q out' =
     (n ≡ min waiting 256) × GivesAll step contents n old p out true new q out'
 Delivers step contents waiting old p out None new q out' =

@@ -7,11 +7,14 @@ use Rattle.can_server.specs.declared.opening.Opening.TheVariants.{Undecided, Req
 
 -- the methods of a request (RFC 9110, 9.3; PATCH: RFC 5789), each with the space after it (RFC 9112, 3)
 abbrev pub methods : List (List ℕ)
-methods = codes "GET " ∷ codes "POST " ∷ codes "PUT " ∷ codes "HEAD " ∷ codes "OPTIONS " ∷ codes "DELETE " ∷ codes "PATCH " ∷ codes "CONNECT " ∷ codes "TRACE " ∷ []
+methods =
+    codes "GET " ∷ codes "POST " ∷ codes "PUT " ∷ codes "HEAD " ∷ codes "OPTIONS " ∷ codes "DELETE "
+    ∷ codes "PATCH " ∷ codes "CONNECT " ∷ codes "TRACE " ∷ []
 
 -- bytes beside a method: they begin with it, they may come to it, or they differ from it
 abbrev pub beside : List ℕ → List ℕ → Opening
-beside bytes method = if starts_with eqb bytes method then Request else if starts_with eqb method bytes then Undecided else Other
+beside bytes method =
+    if starts_with eqb bytes method then Request else if starts_with eqb method bytes then Undecided else Other
 
 -- the first of two that is decided, or may be
 abbrev pub either_of : Opening → Opening → Opening

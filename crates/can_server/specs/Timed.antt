@@ -1,4 +1,5 @@
-use Rattle.std.specs.Prelude.{◌≡◌, ◌-◌, ◌*◌, ◌<◌, ◌≤◌, ℕ, zero, suc, Bool, true, false, nat_le, if◌then◌else◌, Option, Some, None, Ok, Err}
+use Rattle.std.specs.Prelude.{◌≡◌, ◌-◌, ◌*◌, ◌<◌, ◌≤◌, ℕ, zero, suc, Bool, true, false}
+use Rattle.std.specs.Prelude.{nat_le, if◌then◌else◌, Option, Some, None, Ok, Err}
 use Rattle.can_frame.specs.Frames.{CanFrame}
 use Rattle.can_fault.specs.declared.verdict.Verdict.{Verdict}
 use Rattle.can_event.specs.declared.attempt.Attempt.{Attempt}
@@ -24,10 +25,11 @@ abbrev pub after_attempt : Verdict → Attempt → Schedule → Schedule
 after_attempt v (attempt.Tried t) s = after_tried t.frame t.class v s
 after_attempt v (attempt.Idle restarted) s = after_idle s
 
--- an attempt goes by a schedule: the moment of a frame is that of its end, and the schedule goes on by the length of the
--- attempt, by its class and verdict
+-- an attempt goes by a schedule: the moment of a frame is that of its end, and the schedule goes on by the length
+-- of the attempt, by its class and verdict
 abbrev pub GoesBy : Schedule → Verdict → Attempt → Schedule → Type 0
-GoesBy old v (attempt.Tried t) new = (t.moment ≡ next_moment (Some t.frame) old) × (new ≡ after_tried t.frame t.class v old)
+GoesBy old v (attempt.Tried t) new =
+    (t.moment ≡ next_moment (Some t.frame) old) × (new ≡ after_tried t.frame t.class v old)
 GoesBy old v (attempt.Idle restarted) new = new ≡ after_idle old
 
 -- the schedule of a driver at a moment: where its next attempt would have begun more than 100 ms before, it begins then
@@ -47,7 +49,9 @@ moment_for d = head_moment d.schedule (head_on d.held.journal)
 -- there is something to attempt: it makes an attempt at that moment, and the schedule goes on by it
 abbrev pub Makes : {F : Type 0} → (F → VerdictMap) → Driven F → Driven F → Type 0
 Makes verdicts old new =
-    (a : Attempt) × (has_work old.held.journal ≡ true) × MadeStep verdicts old.held old.pass (moment_for old) (Ok a) new.held new.pass
+    (a : Attempt)
+    × (has_work old.held.journal ≡ true)
+    × MadeStep verdicts old.held old.pass (moment_for old) (Ok a) new.held new.pass
     × GoesBy old.schedule (next_verdict verdicts old.held) a new.schedule
 
 -- an attempt at that moment is refused, and the schedule stays

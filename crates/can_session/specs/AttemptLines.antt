@@ -1,4 +1,5 @@
-use Rattle.std.specs.Prelude.{ℕ, ◌+◌, ◌==◌, Bool, true, false, if◌then◌else◌, List, [], ◌∷◌, ◌++◌, slice_get, slice_range, codes, Option, Some, None, Result, Ok, Err}
+use Rattle.std.specs.Prelude.{ℕ, ◌+◌, ◌==◌, Bool, true, false, if◌then◌else◌, List, [], ◌∷◌, ◌++◌}
+use Rattle.std.specs.Prelude.{slice_get, slice_range, codes, Option, Some, None, Result, Ok, Err}
 use Rattle.std.specs.Fmt.{decimal}
 use Rattle.std.specs.List.{join_with_byte}
 use Rattle.can_frame.specs.Sets.{is_in}
@@ -15,7 +16,8 @@ use Rattle.can_event.specs.declared.attempt.Tried.{Tried}
 -- the names of the interfaces of a set by rising number, where the first of these names is interface i's
 abbrev pub names_from : ℕ → List (List ℕ) → IfaceSet → List (List ℕ)
 names_from i [] set = []
-names_from i (name ∷ names) set = if is_in i set then name ∷ names_from (i + 1) names set else names_from (i + 1) names set
+names_from i (name ∷ names) set =
+    if is_in i set then name ∷ names_from (i + 1) names set else names_from (i + 1) names set
 
 -- names with a comma before each
 abbrev pub after_commas : List (List ℕ) → List ℕ
@@ -51,7 +53,8 @@ whose_text names t = codes "tried " ++ name_text (slice_get names t.winner) ++ c
 
 -- how it ended, who accepted it, and who went bus off
 abbrev pub ending_text : List (List ℕ) → Tried → List ℕ
-ending_text names t = codes " " ++ class_word t.class ++ codes " " ++ set_text names t.accepted ++ codes " " ++ set_text names t.off
+ending_text names t =
+    codes " " ++ class_word t.class ++ codes " " ++ set_text names t.accepted ++ codes " " ++ set_text names t.off
 
 -- who was restarted, if anybody was
 abbrev pub restarted_text : List (List ℕ) → IfaceSet → List ℕ

@@ -1,4 +1,5 @@
-use Rattle.std.specs.Prelude.{◌≡◌, ◌≢◌, ◌⊎◌, ℕ, zero, suc, ◌-◌, ◌<◌, ◌≤◌, Bool, true, false, ◌&&◌, List, [], ◌∷◌, ◌++◌, slice_get, slice_set, length, Option, Some, None, is_some, Result, Ok, Err}
+use Rattle.std.specs.Prelude.{◌≡◌, ◌≢◌, ◌⊎◌, ℕ, zero, suc, ◌-◌, ◌<◌, ◌≤◌, Bool, true, false, ◌&&◌, List, [], ◌∷◌}
+use Rattle.std.specs.Prelude.{◌++◌, slice_get, slice_set, length, Option, Some, None, is_some, Result, Ok, Err}
 use Rattle.std.specs.Option.{option_map}
 use Rattle.std.specs.Fmt.{decimal}
 use Rattle.can_fault.specs.Sources.{VerdictMap, verdict_in}
@@ -58,7 +59,8 @@ spoken s [] = []
 spoken s (b ∷ bs) = decimal s ++ 32 ∷ (b ∷ bs) ++ 10 ∷ []
 
 -- a piece is fed to a session
-pub record Hears (moment : ℕ) (bytes : List ℕ) (old : SessionState) (p : NamedBus) (text : List ℕ) (new : SessionState) (q : NamedBus) : Type 0 where
+pub record Hears (moment : ℕ) (bytes : List ℕ) (old : SessionState) (p : NamedBus) (text : List ℕ)
+    (new : SessionState) (q : NamedBus) : Type 0 where
   pub forgotten : List Bool
   pub turns : Turns BusStep moment old.dialog forgotten (messages_of (old.kept ++ bytes)) p q text new.dialog
   pub keeps : new.kept ≡ kept_of (old.kept ++ bytes)
@@ -73,7 +75,8 @@ abbrev pub IsFed : ℕ → List ℕ → SessionState → NamedBus → List ℕ �
 IsFed moment bytes = λ old. IsFedAt old.dialog.stage moment bytes old
 
 -- items are given to a session until there is none
-pub record IsDrained (old : SessionState) (p : NamedBus) (text : List ℕ) (new : SessionState) (q : NamedBus) : Type 0 where
+pub record IsDrained (old : SessionState) (p : NamedBus) (text : List ℕ) (new : SessionState) (q : NamedBus) : Type
+    0 where
   pub items : ℕ
   pub before : List ℕ
   pub mid : NamedBus
@@ -84,12 +87,14 @@ pub record IsDrained (old : SessionState) (p : NamedBus) (text : List ℕ) (new 
   pub same : new ≡ old
 
 -- a session ends, and says nothing
-pub record IsEnded (old : SessionState) (p : NamedBus) (text : List ℕ) (new : SessionState) (q : NamedBus) : Type 0 where
-  pub ends : Plays BusStep (ending old.dialog.stage old.dialog) p q text new.dialog
-  pub keeps : new.kept ≡ old.kept
+pub record IsEnded (old : SessionState) (p : NamedBus) (text : List ℕ) (new : SessionState) (q : NamedBus) : Type 0
+  where
+    pub ends : Plays BusStep (ending old.dialog.stage old.dialog) p q text new.dialog
+    pub keeps : new.kept ≡ old.kept
 
 -- session s, which was started before, does this; what it says is put out
-pub record Speaks (does : SessionState → NamedBus → List ℕ → SessionState → NamedBus → Type 0) (s : ℕ) (b : BenchState) (text : List ℕ) (after : BenchState) : Type 0 where
+pub record Speaks (does : SessionState → NamedBus → List ℕ → SessionState → NamedBus → Type 0) (s : ℕ)
+    (b : BenchState) (text : List ℕ) (after : BenchState) : Type 0 where
   pub old : SessionState
   pub said : List ℕ
   pub new : SessionState
@@ -101,7 +106,10 @@ pub record Speaks (does : SessionState → NamedBus → List ℕ → SessionStat
 
 -- session s, whose number was not used before, is started; its greeting is put out
 abbrev pub IsStarted : ℕ → BenchState → List ℕ → BenchState → Type 0
-IsStarted s b text after = (session_at b s ≡ Some None) × (text ≡ spoken s greeting) × (after ≡ with_session b s (beginning b.capacity) b.bus)
+IsStarted s b text after =
+    (session_at b s ≡ Some None)
+    × (text ≡ spoken s greeting)
+    × (after ≡ with_session b s (beginning b.capacity) b.bus)
 
 -- the verdict that the source has for the next attempt
 abbrev pub sourced : VerdictMap → NamedBus → Verdict
@@ -127,9 +135,12 @@ passed v outcome b = record b {
 pub record IsTried (verdicts : VerdictMap) (b : BenchState) (text : List ℕ) (after : BenchState) : Type 0 where
   pub outcome : Result Attempt Refusal
   pub journal : Journal
-  pub answers : Answers told_attempt b.bus.journal (event.Attempt (next_moment b) (verdict_on b.bus (sourced verdicts b.bus))) outcome journal
+  pub answers : Answers told_attempt b.bus.journal
+      (event.Attempt (next_moment b) (verdict_on b.bus (sourced verdicts b.bus))) outcome journal
   pub text_is : text ≡ attempt_line b.bus.names (said_moment b.wire (next_moment b)) outcome
-  pub after_is : after ≡ passed (verdict_on b.bus (sourced verdicts b.bus)) outcome (record b { bus = record b.bus { journal = journal; plan = plan_left b.bus (sourced verdicts b.bus) } })
+  pub after_is : after ≡ passed (verdict_on b.bus (sourced verdicts b.bus)) outcome (record b {
+    bus = record b.bus { journal = journal; plan = plan_left b.bus (sourced verdicts b.bus) };
+  })
 
 -- whether an attempt tried a frame
 abbrev pub tries : Result Attempt Refusal → Bool
@@ -148,7 +159,12 @@ is_due moment b = begins_before b.wire b.moment moment && is_some (head_on b.bus
 -- this many attempts, each of which was due and tries a frame; the last one is the last step
 abbrev pub AreTried : VerdictMap → ℕ → ℕ → BenchState → List ℕ → BenchState → Type 0
 AreTried verdicts moment zero b text after = (text ≡ []) × (after ≡ b)
-AreTried verdicts moment (suc n) b text after = (before : List ℕ) × (mid : BenchState) × (last : List ℕ) × AreTried verdicts moment n b before mid × (is_due moment mid ≡ true) × IsTriedIf true verdicts mid last after × (text ≡ before ++ last)
+AreTried verdicts moment (suc n) b text after =
+    (before : List ℕ) × (mid : BenchState) × (last : List ℕ)
+    × AreTried verdicts moment n b before mid
+    × (is_due moment mid ≡ true)
+    × IsTriedIf true verdicts mid last after
+    × (text ≡ before ++ last)
 
 -- the bus's record has no room for an attempt
 abbrev pub IsFull : BenchState → Type 0
@@ -156,10 +172,13 @@ IsFull b = b.bus.journal.config.limit ≤ length b.bus.journal.history
 
 -- no attempt is due any more; or one is, and its refusal is put out, since the record is full
 abbrev pub NoneFollows : VerdictMap → ℕ → BenchState → List ℕ → BenchState → Type 0
-NoneFollows verdicts moment b text after = ((is_due moment b ≡ false) × (text ≡ []) × (after ≡ b)) ⊎ ((is_due moment b ≡ true) × IsFull b × IsTried verdicts b text after)
+NoneFollows verdicts moment b text after =
+    ((is_due moment b ≡ false) × (text ≡ []) × (after ≡ b))
+    ⊎ ((is_due moment b ≡ true) × IsFull b × IsTried verdicts b text after)
 
 -- attempts are made as long as one is due before this moment
-pub record AreMade (verdicts : VerdictMap) (moment : ℕ) (b : BenchState) (text : List ℕ) (after : BenchState) : Type 0 where
+pub record AreMade (verdicts : VerdictMap) (moment : ℕ) (b : BenchState) (text : List ℕ) (after : BenchState) : Type
+    0 where
   pub count : ℕ
   pub before : List ℕ
   pub mid : BenchState
@@ -169,12 +188,13 @@ pub record AreMade (verdicts : VerdictMap) (moment : ℕ) (b : BenchState) (text
   pub said : text ≡ before ++ last
 
 -- the same, and then this moment is set: the bus has bit rates, and the moment that was set is no later
-pub record IsRun (verdicts : VerdictMap) (moment : ℕ) (b : BenchState) (text : List ℕ) (after : BenchState) : Type 0 where
-  pub timed : b.wire ≢ None
-  pub ahead : b.moment ≤ moment
-  pub over : BenchState
-  pub made : AreMade verdicts moment b text over
-  pub after_is : after ≡ record over { moment = moment }
+pub record IsRun (verdicts : VerdictMap) (moment : ℕ) (b : BenchState) (text : List ℕ) (after : BenchState) : Type 0
+  where
+    pub timed : b.wire ≢ None
+    pub ahead : b.moment ≤ moment
+    pub over : BenchState
+    pub made : AreMade verdicts moment b text over
+    pub after_is : after ≡ record over { moment = moment }
 
 -- a bench that cannot run to this moment: its bus has no bit rates, or a later moment is set
 abbrev pub IsWrongRun : ℕ → BenchState → Type 0
@@ -205,7 +225,8 @@ Does verdicts (Runs moment) b text after = IsRun verdicts moment b text after
 Does verdicts (Injects rule) b text after = (text ≡ []) × IsInjected rule b after
 
 -- a line is carried out
-pub record IsCarriedOut (verdicts : VerdictMap) (line : List ℕ) (b : BenchState) (text : List ℕ) (after : BenchState) : Type 0 where
+pub record IsCarriedOut (verdicts : VerdictMap) (line : List ℕ) (b : BenchState) (text : List ℕ)
+    (after : BenchState) : Type 0 where
   pub effect : Effect
   pub reads : order_of line ≡ Some effect
   pub does : Does verdicts effect b text after
@@ -225,4 +246,8 @@ IsRefused (Some _) b = ⊥
 -- lines are carried out, one after another; the last one is the last step
 abbrev pub AreCarriedOut : VerdictMap → List (List ℕ) → BenchState → List ℕ → BenchState → Type 0
 AreCarriedOut verdicts [] b text after = (text ≡ []) × (after ≡ b)
-AreCarriedOut verdicts (line ∷ lines) b text after = (first : List ℕ) × (mid : BenchState) × (others : List ℕ) × IsCarriedOut verdicts line b first mid × AreCarriedOut verdicts lines mid others after × (text ≡ first ++ others)
+AreCarriedOut verdicts (line ∷ lines) b text after =
+    (first : List ℕ) × (mid : BenchState) × (others : List ℕ)
+    × IsCarriedOut verdicts line b first mid
+    × AreCarriedOut verdicts lines mid others after
+    × (text ≡ first ++ others)

@@ -24,7 +24,9 @@ use Rattle.can_dialog.specs.Calls.{Call, reply_to_rule}
 use Rattle.can_dialog.specs.Calls.{Reply as CallReply}
 use Rattle.can_session.specs.Wires.{load_at}
 use Rattle.can_session.specs.declared.wire_times.WireUse.{WireUse}
-use Rattle.can_dialog.specs.Calls.Call.{Names, Attach, Open, Close, SetFilters, SetOption, Send, Receive, Restart, Attempt, CountsOfSocket, CountsOfIface, CountersOfIface, LoadAt, Inject, CountsRules, EndsRules}
+use Rattle.can_dialog.specs.Calls.Call.{Names, Attach, Open, Close, SetFilters, SetOption, Send}
+use Rattle.can_dialog.specs.Calls.Call.{Receive, Restart, Attempt, CountsOfSocket, CountsOfIface}
+use Rattle.can_dialog.specs.Calls.Call.{CountersOfIface, LoadAt, Inject, CountsRules, EndsRules}
 
 -- A bus as a port: each call but the look-ups and those of rules is one event of the bus.
 
@@ -68,11 +70,21 @@ counters_in (Some counts) = counts.counters
 
 -- one event of the bus, with the bus's reply
 abbrev pub IsEvent : {A : Type 0} → (A → Reply) → NamedBus → Event → Result A PortRefusal → NamedBus → Type 0
-IsEvent {A} told old event answer new = (outcome : Result A Refusal) × (answer ≡ passed_on outcome) × Answers told old.journal event outcome new.journal × (new.names ≡ old.names) × (new.plan ≡ old.plan) × (new.used ≡ old.used)
+IsEvent {A} told old event answer new =
+    (outcome : Result A Refusal)
+    × (answer ≡ passed_on outcome)
+    × Answers told old.journal event outcome new.journal
+    × (new.names ≡ old.names)
+    × (new.plan ≡ old.plan)
+    × (new.used ≡ old.used)
 
 -- a rule of faults is taken, or refused as the plan refuses it
 abbrev pub IsInjected : NamedBus → List ℕ → Result (Unit {0}) PortRefusal → NamedBus → Type 0
-IsInjected old rule answer new = (outcome : Result (Unit {0}) RuleRefusal) × (answer ≡ reply_to_rule outcome) × Injected old.names rule old.plan outcome new.plan × (new ≡ record old { plan = new.plan })
+IsInjected old rule answer new =
+    (outcome : Result (Unit {0}) RuleRefusal)
+    × (answer ≡ reply_to_rule outcome)
+    × Injected old.names rule old.plan outcome new.plan
+    × (new ≡ record old { plan = new.plan })
 
 -- a call on a bus with names
 abbrev pub BusStep : NamedBus → (call : Call) → CallReply call → NamedBus → Type 0
@@ -86,9 +98,12 @@ BusStep old (Send socket frame) answer new = IsEvent reply.Sent old (event.Send 
 BusStep old (Receive socket) answer new = IsEvent reply.Received old (event.Receive socket) answer new
 BusStep old (Restart iface moment) answer new = IsEvent done_reply old (event.Restart iface moment) answer new
 BusStep old (Attempt moment verdict) answer new = IsEvent told_attempt old (event.Attempt moment verdict) answer new
-BusStep old (CountsOfSocket socket) answer new = (answer ≡ socket_stats_of old.journal.config old.journal.history socket.0) × (new ≡ old)
-BusStep old (CountsOfIface iface) answer new = (answer ≡ iface_stats_of old.journal.config old.journal.history iface) × (new ≡ old)
-BusStep old (CountersOfIface iface) answer new = (answer ≡ counters_in (iface_stats_of old.journal.config old.journal.history iface)) × (new ≡ old)
+BusStep old (CountsOfSocket socket) answer new =
+    (answer ≡ socket_stats_of old.journal.config old.journal.history socket.0) × (new ≡ old)
+BusStep old (CountsOfIface iface) answer new =
+    (answer ≡ iface_stats_of old.journal.config old.journal.history iface) × (new ≡ old)
+BusStep old (CountersOfIface iface) answer new =
+    (answer ≡ counters_in (iface_stats_of old.journal.config old.journal.history iface)) × (new ≡ old)
 BusStep old (LoadAt moment) answer new = (answer ≡ load_at moment old.used) × (new ≡ old)
 BusStep old (Inject rule) answer new = IsInjected old rule answer new
 BusStep old CountsRules answer new = (answer ≡ length old.plan.rules) × (new ≡ old)

@@ -1,4 +1,5 @@
-use Rattle.std.specs.Prelude.{◌≡◌, ℕ, ◌+◌, ◌<◌, ◌≤◌, Bool, true, false, MatchBool, ◌==◌, ◌⊎◌, if◌then◌else◌, List, [], ◌∷◌, ◌++◌, length, take, drop, count_by, Option, Some, None}
+use Rattle.std.specs.Prelude.{◌≡◌, ℕ, ◌+◌, ◌<◌, ◌≤◌, Bool, true, false, MatchBool, ◌==◌, ◌⊎◌, if◌then◌else◌}
+use Rattle.std.specs.Prelude.{List, [], ◌∷◌, ◌++◌, length, take, drop, count_by, Option, Some, None}
 use Rattle.std.specs.List.{list_any, flat_map, AllByRecursion}
 use Rattle.std.specs.Io.KnownBytes.{Consumes, Keeps, IsAtEnd, prepend_known}
 use Rattle.can_session.specs.declared.lines.InputFault.{InputFault}
@@ -92,7 +93,10 @@ pub record Gives (old new : Input) (bytes : List ℕ) : Type 0 where
 
 -- the input had not ended, and the next line is the current one: it had its LF, or it is the last and not empty
 abbrev pub TakesLine : Input → Input → Type 0
-TakesLine old new = (old.ended ≡ false) × IsLine new.line × (Gives old new (new.line ++ 10 ∷ []) ⊎ (Gives old new new.line × (0 < length new.line) × IsOver new))
+TakesLine old new =
+    (old.ended ≡ false)
+    × IsLine new.line
+    × (Gives old new (new.line ++ 10 ∷ []) ⊎ (Gives old new new.line × (0 < length new.line) × IsOver new))
 
 -- there was no line left
 abbrev pub FindsEnd : Input → Input → Type 0
@@ -116,7 +120,8 @@ pub record Overruns (old new : Input) : Type 0 where
   pub reads : Counts old new
   pub full : new.given + length new.held ≡ 16777216
 
--- a read that was not made or gave nothing of use: no read is left, a byte came too many, or a read that was left failed
+-- a read that was not made or gave nothing of use: no read is left, a byte came too many, or a read that was left
+-- failed
 abbrev pub Fails : InputFault → Input → Input → Type 0
 Fails LineTooLong old new = ⊥
 Fails TooLong old new = (Waits old new × (new.reads ≡ 16777216)) ⊎ Overruns old new
@@ -168,8 +173,8 @@ pub record HasEnded (text : List ℕ) (lines : List (List ℕ)) (now : Input) : 
 abbrev pub Given : List ℕ → List (List ℕ) → Input → Type 0
 Given text lines now = GoesOn text lines now ⊎ HasEnded text lines now
 
--- the reader gave so much of a text, at most 16,777,216 bytes, and has the rest; the lines that have their LF in it were
--- given, and no long line is begun after them
+-- the reader gave so much of a text, at most 16,777,216 bytes, and has the rest; the lines that have their LF in
+-- it were given, and no long line is begun after them
 pub record ReadsOn (text : List ℕ) (lines : List (List ℕ)) (now : Input) : Type 0 where
   pub read : List ℕ
   pub taken : Consumes (Some text) now.coming read
@@ -201,8 +206,8 @@ pub record ComesToLong (text : List ℕ) (lines : List (List ℕ)) : Type 0 wher
   pub long : 4096 < length line
   pub within : length (spelled lines) + 4097 ≤ 16777216
 
--- the lines that were given of a text before a fault: the one after them is too long, no more may be read, or the reader
--- failed before that
+-- the lines that were given of a text before a fault: the one after them is too long, no more may be read, or the
+-- reader failed before that
 abbrev pub StopsAfter : InputFault → List ℕ → List (List ℕ) → Input → Type 0
 StopsAfter LineTooLong text lines now = ComesToLong text lines
 StopsAfter TooLong text lines now = ReadsOut text lines now ⊎ ReadsOver text lines now

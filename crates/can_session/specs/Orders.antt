@@ -1,15 +1,17 @@
-use Rattle.std.specs.Prelude.{ℕ, Bool, true, ◌+◌, ◌&&◌, ◌==◌, nat_le, if◌then◌else◌, List, [], ◌∷◌, take, drop, slice_index, position, codes, Option, Some, None}
+use Rattle.std.specs.Prelude.{ℕ, Bool, true, ◌+◌, ◌&&◌, ◌==◌, nat_le, if◌then◌else◌, List, []}
+use Rattle.std.specs.Prelude.{◌∷◌, take, drop, slice_index, position, codes, Option, Some, None}
 use Rattle.std.specs.Option.{option_map, option_and_then}
 use Rattle.can_frame.specs.Moments.{moment_in}
 use Rattle.can_frame.specs.Numbers.{number_in}
 use Rattle.can_proto.specs.Verbs.{is_word}
 use Rattle.can_session.specs.declared.order.Order.{Order}
-use Rattle.can_session.specs.declared.order.Order.TheVariants.{Nothing, At, Session, Feed, Drain, End, Attempt, Run, Fault}
+use Rattle.can_session.specs.declared.order.Order.TheVariants.{Nothing, At, Session, Feed}
+use Rattle.can_session.specs.declared.order.Order.TheVariants.{Drain, End, Attempt, Run, Fault}
 
 -- What a line of the bench's input asks for (own choice).
 
--- what a line does: it sets a moment, in microseconds, starts, feeds, drains or ends a session, makes an attempt, or those
--- that begin before a moment, or gives a rule of faults
+-- what a line does: it sets a moment, in microseconds, starts, feeds, drains or ends a session, makes an attempt,
+-- or those that begin before a moment, or gives a rule of faults
 pub data Effect : Type 0 where
   Does_nothing : Effect
   Sets : ℕ → Effect

@@ -1,4 +1,5 @@
-use Rattle.std.specs.Prelude.{◌≡◌, ◌⊎◌, ℕ, ◌+◌, ◌<◌, ◌≤◌, Bool, MatchBool, List, [], ◌∷◌, ◌++◌, length, replicate, Option, Some, None, Result, Ok, Err}
+use Rattle.std.specs.Prelude.{◌≡◌, ◌⊎◌, ℕ, ◌+◌, ◌<◌, ◌≤◌, Bool, MatchBool, List, [], ◌∷◌}
+use Rattle.std.specs.Prelude.{◌++◌, length, replicate, Option, Some, None, Result, Ok, Err}
 use Rattle.std.specs.List.{All}
 use Rattle.std.specs.Option.{option_map}
 use Rattle.std.specs.Io.KnownBytes.{Appends, Keeps}
@@ -11,7 +12,8 @@ use Rattle.can_wire.specs.Timings.{BusTiming}
 use Rattle.can_session.specs.declared.lines.InputFault.{InputFault}
 use Rattle.can_session.specs.declared.lines.InputFault.TheVariants as line
 use Rattle.can_session.specs.declared.bench_run.BenchFault.{BenchFault}
-use Rattle.can_session.specs.declared.bench_run.BenchFault.TheVariants.{BadConfig, BadLine, TooLong, Read, Write, NoMemory}
+use Rattle.can_session.specs.declared.bench_run.BenchFault.TheVariants.{BadConfig, BadLine, TooLong}
+use Rattle.can_session.specs.declared.bench_run.BenchFault.TheVariants.{Read, Write, NoMemory}
 use Rattle.can_session.specs.Lines.{Input, IsLine, IsOver, FindsEnd, TakesLine, Stops, StopsAfter, lines_of, spelled}
 use Rattle.can_session.specs.declared.ignored_input.IgnoredInput.{IgnoredInput}
 use Rattle.can_session.specs.IgnoredInput.{none_ignored}
@@ -21,7 +23,8 @@ use Rattle.can_session.specs.Benches.{BenchState, AreCarriedOut, IsCarriedOut, I
 
 -- A run of the bench over an input (own choice).
 
--- what a bench may be made with: a bus within its limits, a name for each interface, and a receive queue within its limits
+-- what a bench may be made with: a bus within its limits, a name for each interface, and a receive queue within
+-- its limits
 pub record IsBench (names : List (List ℕ)) (config : BusConfig) (capacity : ℕ) : Type 0 where
   pub bus : IsConfig config
   pub named : length names ≡ config.ifaces
@@ -30,7 +33,20 @@ pub record IsBench (names : List (List ℕ)) (config : BusConfig) (capacity : �
 
 -- a bench before its first line, with a plan of faults, and bit rates if its bus has some
 abbrev pub at_start_with : PlanSeen → Option BusTiming → List (List ℕ) → BusConfig → ℕ → BenchState
-at_start_with plan timing names config capacity = record { capacity = capacity; bus = record { names = names; journal = record { config = config; history = [] }; plan = plan; used = option_map unused_so_far timing }; sessions = replicate 64 None; moment = 0; wire = option_map unused timing; ignored = none_ignored }
+at_start_with plan timing names config capacity = record {
+  capacity = capacity;
+  bus =
+      record {
+        names = names;
+        journal = record { config = config; history = [] };
+        plan = plan;
+        used = option_map unused_so_far timing;
+      };
+  sessions = replicate 64 None;
+  moment = 0;
+  wire = option_map unused timing;
+  ignored = none_ignored;
+}
 
 -- a bench before its first line, without a plan
 abbrev pub at_start : Option BusTiming → List (List ℕ) → BusConfig → ℕ → BenchState
@@ -48,17 +64,21 @@ abbrev pub AreFirst : Option (List ℕ) → List (List ℕ) → Type 0
 AreFirst None lines = Unit {0}
 AreFirst (Some text) lines = (more : List (List ℕ)) × (lines_of text ≡ lines ++ more)
 
--- these lines, and then this one, are the first lines of the input; the LF of the last, or the end of the input, is within
--- the limit
+-- these lines, and then this one, are the first lines of the input; the LF of the last, or the end of the input,
+-- is within the limit
 abbrev pub IsNext : Option (List ℕ) → List (List ℕ) → List ℕ → Type 0
 IsNext None lines line = Unit {0}
-IsNext (Some text) lines line = (more : List (List ℕ)) × (lines_of text ≡ lines ++ line ∷ more) × ((length (spelled lines) + length line < 16777216) ⊎ (length text ≤ 16777216))
+IsNext (Some text) lines line =
+    (more : List (List ℕ))
+    × (lines_of text ≡ lines ++ line ∷ more)
+    × ((length (spelled lines) + length line < 16777216) ⊎ (length text ≤ 16777216))
 
 -- after these lines of the input comes one of at most 4,096 bytes that the bench refuses
-pub record ComesToRefused (input : Option (List ℕ)) (lines : List (List ℕ)) (now : Input) (b : BenchState) : Type 0 where
-  pub next : IsNext input lines now.line
-  pub line : IsLine now.line
-  pub refused : IsRefused (order_of now.line) b
+pub record ComesToRefused (input : Option (List ℕ)) (lines : List (List ℕ)) (now : Input) (b : BenchState) : Type 0
+  where
+    pub next : IsNext input lines now.line
+    pub line : IsLine now.line
+    pub refused : IsRefused (order_of now.line) b
 
 -- these lines were given of the input before this fault
 abbrev pub ComeBeforeStop : InputFault → Option (List ℕ) → List (List ℕ) → Input → Type 0
@@ -70,7 +90,8 @@ abbrev pub ComeBeforeBad : Option (List ℕ) → List (List ℕ) → Input → B
 ComeBeforeBad input lines now b = ComesToRefused input lines now b ⊎ ComeBeforeStop line.LineTooLong input lines now
 
 -- lines of at most 4,096 bytes are carried out, and the writer takes what they put out
-pub record Ran {W : Type 0} (contents : W → Option (List ℕ)) (verdicts : VerdictMap) (lines : List (List ℕ)) (b : BenchState) (out : W) (after : BenchState) (new : W) : Type 0 where
+pub record Ran {W : Type 0} (contents : W → Option (List ℕ)) (verdicts : VerdictMap) (lines : List (List ℕ))
+    (b : BenchState) (out : W) (after : BenchState) (new : W) : Type 0 where
   pub text : List ℕ
   pub short : All IsLine lines
   pub carried : AreCarriedOut verdicts lines b text after
@@ -78,15 +99,28 @@ pub record Ran {W : Type 0} (contents : W → Option (List ℕ)) (verdicts : Ver
 
 -- how a run over an input ends, and where in its input: at its end, or after the lines that a fault leaves; of
 -- what went out before a fault of the writer nothing is said
-abbrev pub Ends : {A W : Type 0} → (A → BenchState → Type 0) → (W → Option (List ℕ)) → VerdictMap → Option (List ℕ) → BenchState → W → Result A BenchFault → Input → W → Type 0
+abbrev pub Ends : {A W : Type 0} → (A → BenchState → Type 0) → (W → Option (List ℕ)) → VerdictMap → Option (List ℕ)
+    → BenchState → W → Result A BenchFault → Input → W → Type 0
 Ends {A} {W} leaves contents verdicts input b out (Ok a) now new =
-    (lines : List (List ℕ)) × (after : BenchState) × AreAll input lines × IsOver now × (now.fault ≡ None) × Ran contents verdicts lines b out after new × leaves a after
+    (lines : List (List ℕ)) × (after : BenchState)
+    × AreAll input lines
+    × IsOver now
+    × (now.fault ≡ None)
+    × Ran contents verdicts lines b out after new
+    × leaves a after
 Ends {A} {W} leaves contents verdicts input b out (Err (BadLine n)) now new =
-    (lines : List (List ℕ)) × (after : BenchState) × ComeBeforeBad input lines now after × Ran contents verdicts lines b out after new × (n ≡ length lines + 1)
+    (lines : List (List ℕ)) × (after : BenchState)
+    × ComeBeforeBad input lines now after
+    × Ran contents verdicts lines b out after new
+    × (n ≡ length lines + 1)
 Ends {A} {W} leaves contents verdicts input b out (Err TooLong) now new =
-    (lines : List (List ℕ)) × (after : BenchState) × ComeBeforeStop line.TooLong input lines now × Ran contents verdicts lines b out after new
+    (lines : List (List ℕ)) × (after : BenchState)
+    × ComeBeforeStop line.TooLong input lines now
+    × Ran contents verdicts lines b out after new
 Ends {A} {W} leaves contents verdicts input b out (Err Read) now new =
-    (lines : List (List ℕ)) × (after : BenchState) × ComeBeforeStop line.Read input lines now × Ran contents verdicts lines b out after new
+    (lines : List (List ℕ)) × (after : BenchState)
+    × ComeBeforeStop line.Read input lines now
+    × Ran contents verdicts lines b out after new
 Ends {A} {W} leaves contents verdicts input b out (Err NoMemory) now new =
     (lines : List (List ℕ)) × (after : BenchState) × AreFirst input lines × Ran contents verdicts lines b out after new
 Ends {A} {W} leaves contents verdicts input b out (Err Write) now new = Unit {0}
@@ -98,22 +132,30 @@ pub record IsRecordOf (r : Kept) (b : BenchState) : Type 0 where
   pub history : r.history ≡ b.bus.journal.history
 
 -- how a run that leaves a record ends, wherever it leaves its input
-abbrev pub EndsOver : {W : Type 0} → (W → Option (List ℕ)) → VerdictMap → Option (List ℕ) → BenchState → W → Result Kept BenchFault → W → Type 0
-EndsOver contents verdicts input b out result new = (now : Input) × Ends IsRecordOf contents verdicts input b out result now new
+abbrev pub EndsOver : {W : Type 0} → (W → Option (List ℕ)) → VerdictMap → Option (List ℕ) → BenchState → W
+    → Result Kept BenchFault → W → Type 0
+EndsOver contents verdicts input b out result new =
+    (now : Input) × Ends IsRecordOf contents verdicts input b out result now new
 
 -- a run over all lines of an input leaves this noted of what sessions were fed
-abbrev pub Notes : {W : Type 0} → (W → Option (List ℕ)) → VerdictMap → Option (List ℕ) → BenchState → W → IgnoredInput → W → Type 0
-Notes contents verdicts input b out ignored new = (now : Input) × Ends (λ (_ : Unit {0}) after. ignored ≡ after.ignored) contents verdicts input b out (Ok tt) now new
+abbrev pub Notes :
+    {W : Type 0} → (W → Option (List ℕ)) → VerdictMap → Option (List ℕ) → BenchState → W → IgnoredInput → W → Type 0
+Notes contents verdicts input b out ignored new =
+    (now : Input)
+    × Ends (λ (_ : Unit {0}) after. ignored ≡ after.ignored) contents verdicts input b out (Ok tt) now new
 
 -- why a bench is not made
 abbrev pub IsStartFault : BenchFault → Type 0
 IsStartFault fault = (fault ≡ BadConfig) ⊎ (fault ≡ NoMemory)
 
 -- the next line is carried out, and the writer takes what it puts out; or there is no line left, and nothing is done
-abbrev pub StepsOn : {W : Type 0} → (W → Option (List ℕ)) → VerdictMap → Bool → Input → Input → BenchState → BenchState → W → W → Type 0
+abbrev pub StepsOn : {W : Type 0} → (W → Option (List ℕ)) → VerdictMap → Bool → Input → Input → BenchState
+    → BenchState → W → W → Type 0
 StepsOn {W} contents verdicts more old new b after out wrote =
     MatchBool more
-    (TakesLine old new × (text : List ℕ) × IsCarriedOut verdicts new.line b text after × Appends (contents out) (contents wrote) text)
+    (TakesLine old new × (text : List ℕ)
+    × IsCarriedOut verdicts new.line b text after
+    × Appends (contents out) (contents wrote) text)
     (FindsEnd old new × (after ≡ b) × Keeps (contents out) (contents wrote))
 
 -- how a fault at the next line, which has this number, is reported
@@ -124,7 +166,8 @@ fault_of number line.Read = Read
 
 -- why a run ends at the next line, which has this number
 abbrev pub EndsAt : ℕ → BenchFault → Input → Input → BenchState → Type 0
-EndsAt number (BadLine n) old new b = (n ≡ number) × ((TakesLine old new × IsRefused (order_of new.line) b) ⊎ Stops line.LineTooLong old new)
+EndsAt number (BadLine n) old new b =
+    (n ≡ number) × ((TakesLine old new × IsRefused (order_of new.line) b) ⊎ Stops line.LineTooLong old new)
 EndsAt number TooLong old new b = Stops line.TooLong old new
 EndsAt number Read old new b = Stops line.Read old new
 EndsAt number NoMemory old new b = TakesLine old new

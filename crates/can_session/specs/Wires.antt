@@ -60,8 +60,8 @@ unused_so_far t = record { timing = t; load = no_attempt }
 abbrev pub taken : ℕ → ℕ → WireUse → WireUse
 taken begin end u = record u { load = noted begin end u.load }
 
--- what a session reads of that at a moment: in how many thousandths of the last whole second before it the wire was busy,
--- for how many microseconds in all, and the bit rates
+-- what a session reads of that at a moment: in how many thousandths of the last whole second before it the wire
+-- was busy, for how many microseconds in all, and the bit rates
 abbrev pub shown_at : ℕ → WireUse → BusLoad
 shown_at moment u = record {
   permille = permille_at moment (recent_of u.load);
@@ -75,10 +75,11 @@ abbrev pub load_at : ℕ → Option WireUse → BusLoad
 load_at moment None = no_load
 load_at moment (Some u) = shown_at moment u
 
--- after an attempt that begins when this moment is set: one that tries a frame takes the wire from its begin until the wire
--- is free again
+-- after an attempt that begins when this moment is set: one that tries a frame takes the wire from its begin
+-- until the wire is free again
 abbrev pub used_for : ℕ → Verdict → Result Attempt Refusal → Wire → WireUse → WireUse
-used_for moment v (Ok (attempt.Tried x)) w u = taken (begin_of moment w) (wire_after moment v (Ok (attempt.Tried x)) w).free u
+used_for moment v (Ok (attempt.Tried x)) w u =
+    taken (begin_of moment w) (wire_after moment v (Ok (attempt.Tried x)) w).free u
 used_for moment v (Ok (attempt.Idle restarted)) w u = u
 used_for moment v (Err why) w u = u
 

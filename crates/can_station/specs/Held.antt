@@ -21,7 +21,8 @@ pub record StationSeen : Type 0 where
 abbrev pub station_seen : ℕ → BusConfig → StationSeen
 station_seen number config = record { number = number; config = config }
 
--- the station's number, its bus, the calls of each pass, the source of verdicts, the plan of faults, and whether waits end
+-- the station's number, its bus, the calls of each pass, the source of verdicts, the plan of faults, and whether
+-- waits end
 pub record Held (F : Type 0) : Type 0 where
   pub number : ℕ
   pub journal : Journal
@@ -36,7 +37,14 @@ HasNoPlace {B} journal places j = (bus : B) × (journal bus ≡ j) × (places bu
 
 -- a station that nobody has entered, and whose waits do not end
 abbrev pub new_held : {F : Type 0} → ℕ → Journal → F → PlanSeen → Held F
-new_held number journal source plan = record { number = number; journal = journal; lists = []; source = source; plan = plan; stopped = false }
+new_held number journal source plan = record {
+  number = number;
+  journal = journal;
+  lists = [];
+  source = source;
+  plan = plan;
+  stopped = false;
+}
 
 -- the same with this plan of faults
 abbrev pub with_plan : {F : Type 0} → PlanSeen → Held F → Held F

@@ -20,8 +20,8 @@ pub record IsMarked (lists : List (List Entry)) (marks : List ℕ) (past : List 
   pub below : AllBelow (length lists) marks
   pub each : (p : ℕ) → row lists p ≡ marked p marks past
 
--- what lies under the lock agrees: the bus's history is legal, its entries can be marked so that the roll is theirs, and no
--- pass is called in
+-- what lies under the lock agrees: the bus's history is legal, its entries can be marked so that the roll is
+-- theirs, and no pass is called in
 pub record IsBooked (roll : RollSeen) (journal : Journal) : Type 0 where
   pub proper : IsLongConfig journal.config
   pub legal : IsLegal journal.config journal.history

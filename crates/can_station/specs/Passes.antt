@@ -1,4 +1,5 @@
-use Rattle.std.specs.Prelude.{◌≡◌, ℕ, ◌+◌, ◌<◌, ◌≤◌, ◌⊎◌, Bool, true, false, List, [], length, reverse, map, All, Option, Some, None, is_some, Result, Ok, Err, if◌then◌else◌}
+use Rattle.std.specs.Prelude.{◌≡◌, ℕ, ◌+◌, ◌<◌, ◌≤◌, ◌⊎◌, Bool, true, false, List, [], length, reverse}
+use Rattle.std.specs.Prelude.{map, All, Option, Some, None, is_some, Result, Ok, Err, if◌then◌else◌}
 use Rattle.can_event.specs.declared.entry.Entry.{Entry}
 use Rattle.can_event.specs.declared.event.Event.{Event}
 use Rattle.can_event.specs.declared.event.Event.TheVariants as event
@@ -33,8 +34,8 @@ use Rattle.can_station.specs.declared.refusals.StationRefusal.TheVariants as sta
 
 -- What callers see of their passes, and what a station's calls do to them (own).
 
--- a pass: its station's number, its own number, the calls made with it, the newest first, and whether it keeps a list of
--- them, which a program can read
+-- a pass: its station's number, its own number, the calls made with it, the newest first, and whether it keeps a
+-- list of them, which a program can read
 pub record PassSeen : Type 0 where
   pub number : ℕ
   pub pass : ℕ
@@ -81,8 +82,8 @@ abbrev pub AreKept : Option (List Entry) → List Entry → Type 0
 AreKept None calls = Unit {0}
 AreKept (Some listed) calls = listed ≡ calls
 
--- the memory for a call that is no close: a place, one that is left for a close, and what a wide entry takes; a pass without
--- a list needs none
+-- the memory for a call that is no close: a place, one that is left for a close, and what a wide entry takes; a
+-- pass without a list needs none
 abbrev pub IsReady : Option ListedEntries → Type 0
 IsReady None = Unit {0}
 IsReady (Some calls) = (length calls.entries + 1 < calls.room) × (calls.spare ≡ true)
@@ -105,25 +106,31 @@ CanClose e calls = ⊥
 -- what a call of the station with this number returns, and what it leaves of the caller's pass
 abbrev pub Called : {A : Type 0} → (A → Reply) → ℕ → PassSeen → Event → Result A StationRefusal → PassSeen → Type 0
 Called told number old e (Ok a) new = (old.number ≡ number) × (new ≡ pass_after e (told a) old)
-Called told number old e (Err (station.Bus why)) new = ((why ≡ refusal.NoMemory) ⊎ (old.number ≡ number)) × (new ≡ pass_after e (reply.Refused why) old)
+Called told number old e (Err (station.Bus why)) new =
+    ((why ≡ refusal.NoMemory) ⊎ (old.number ≡ number)) × (new ≡ pass_after e (reply.Refused why) old)
 Called told number old e (Err station.WrongStation) new = ¬ (old.number ≡ number) × (new ≡ old)
 
 -- the result of an event in this state of a station
 abbrev pub IsAnsweredIn : {F : Type 0} → Held F → Event → Reply → Type 0
 IsAnsweredIn held e r = IsAnswer held.journal.config held.journal.history e r
 
--- an event is carried out for the pass of a slip: its reply comes from the record, and it is noted there and in the slip
-pub record IsCarriedOut {F : Type 0} (old : Held F) (slip : SlipSeen) (e : Event) (r : Reply) (new : Held F) (slip' : SlipSeen) : Type 0 where
+-- an event is carried out for the pass of a slip: its reply comes from the record, and it is noted there and in
+-- the slip
+pub record IsCarriedOut {F : Type 0} (old : Held F) (slip : SlipSeen) (e : Event) (r : Reply) (new : Held F)
+    (slip' : SlipSeen) : Type 0 where
   pub answer : IsAnsweredIn old e r
   pub after : new ≡ held_after slip.pass e r old
   pub noted : slip' ≡ slip_after e r slip
 
 -- a receive is carried out so: this is what it came to, and an item is in the room
-abbrev pub IsReceived : {F : Type 0} → Held F → SlipSeen → SocketId → Received → Result Bool Refusal → Held F → SlipSeen → Type 0
-IsReceived old slip socket room outcome new slip' = IsCarriedOut old slip (event.Receive socket) (receive_reply room outcome) new slip'
+abbrev pub IsReceived :
+    {F : Type 0} → Held F → SlipSeen → SocketId → Received → Result Bool Refusal → Held F → SlipSeen → Type 0
+IsReceived old slip socket room outcome new slip' =
+    IsCarriedOut old slip (event.Receive socket) (receive_reply room outcome) new slip'
 
 -- nothing changes: what a station keeps, a slip, and the list of its pass
-abbrev pub ChangesNothing : {F : Type 0} → Held F → SlipSeen → Option ListedEntries → Held F → SlipSeen → Option ListedEntries → Type 0
+abbrev pub ChangesNothing :
+    {F : Type 0} → Held F → SlipSeen → Option ListedEntries → Held F → SlipSeen → Option ListedEntries → Type 0
 ChangesNothing old slip calls new slip' calls' = (new ≡ old) × (slip' ≡ slip) × (calls' ≡ calls)
 
 -- what is in a pass's list after a call: it is kept with its reply, unless the record was full or memory was refused
@@ -136,7 +143,8 @@ abbrev pub Keeps : Option ListedEntries → Event → Reply → Option ListedEnt
 Keeps old e r new = calls_listed new ≡ listed_after e r (calls_listed old)
 
 -- a call that is carried out: its reply comes from the record, it is noted there, and in the caller's pass
-pub record IsMade {F : Type 0} (old : Held F) (pass : PassSeen) (e : Event) (r : Reply) (new : Held F) (pass' : PassSeen) : Type 0 where
+pub record IsMade {F : Type 0} (old : Held F) (pass : PassSeen) (e : Event) (r : Reply) (new : Held F)
+    (pass' : PassSeen) : Type 0 where
   pub own : pass.number ≡ old.number
   pub answer : IsAnsweredIn old e r
   pub after : new ≡ held_after pass.pass e r old
@@ -146,12 +154,15 @@ pub record IsMade {F : Type 0} (old : Held F) (pass : PassSeen) (e : Event) (r :
 abbrev pub IsUnchanged : {F : Type 0} → Held F → PassSeen → Held F → PassSeen → Type 0
 IsUnchanged old pass new pass' = (new ≡ old) × (pass' ≡ pass)
 
--- a call in one hold of the lock: it is carried out, or nothing changes, since the pass's list can't grow, or the pass is
--- another station's
-abbrev pub Made : {F : Type 0} {A : Type 0} → (A → Reply) → Held F → PassSeen → Event → Result A StationRefusal → Held F → PassSeen → Type 0
+-- a call in one hold of the lock: it is carried out, or nothing changes, since the pass's list can't grow, or the
+-- pass is another station's
+abbrev pub Made : {F : Type 0} {A : Type 0} → (A → Reply) → Held F → PassSeen → Event → Result A StationRefusal
+    → Held F → PassSeen → Type 0
 Made told old pass e (Ok a) new pass' = IsMade old pass e (told a) new pass'
-Made told old pass e (Err (station.Bus why)) new pass' = IsMade old pass e (reply.Refused why) new pass' ⊎ ((why ≡ refusal.NoMemory) × IsUnchanged old pass new pass')
-Made told old pass e (Err station.WrongStation) new pass' = ¬ (pass.number ≡ old.number) × IsUnchanged old pass new pass'
+Made told old pass e (Err (station.Bus why)) new pass' =
+    IsMade old pass e (reply.Refused why) new pass' ⊎ ((why ≡ refusal.NoMemory) × IsUnchanged old pass new pass')
+Made told old pass e (Err station.WrongStation) new pass' =
+    ¬ (pass.number ≡ old.number) × IsUnchanged old pass new pass'
 
 -- the number of the next attempt
 abbrev pub next_number : {F : Type 0} → Held F → ℕ
@@ -183,18 +194,24 @@ next_attempt verdicts held moment = event.Attempt moment (next_verdict verdicts 
 
 -- such an attempt is carried out for the pass of a slip, once the source and the plan were asked
 abbrev pub IsStepped : {F : Type 0} → (F → VerdictMap) → Held F → SlipSeen → ℕ → Reply → Held F → SlipSeen → Type 0
-IsStepped verdicts old slip moment r new slip' = IsCarriedOut (asked verdicts new.source old) slip (next_attempt verdicts old moment) r new slip'
+IsStepped verdicts old slip moment r new slip' =
+    IsCarriedOut (asked verdicts new.source old) slip (next_attempt verdicts old moment) r new slip'
 
 -- the same for a pass
 abbrev pub IsStepMade : {F : Type 0} → (F → VerdictMap) → Held F → PassSeen → ℕ → Reply → Held F → PassSeen → Type 0
-IsStepMade verdicts old pass moment r new pass' = IsMade (asked verdicts new.source old) pass (next_attempt verdicts old moment) r new pass'
+IsStepMade verdicts old pass moment r new pass' =
+    IsMade (asked verdicts new.source old) pass (next_attempt verdicts old moment) r new pass'
 
--- a step in one hold of the lock: such an attempt is carried out, or nothing changes, since the pass's list can't grow or the
--- bus has no place for an entry, or the pass is another station's
-abbrev pub MadeStep : {F : Type 0} → (F → VerdictMap) → Held F → PassSeen → ℕ → Result Attempt StationRefusal → Held F → PassSeen → Type 0
+-- a step in one hold of the lock: such an attempt is carried out, or nothing changes, since the pass's list can't
+-- grow or the bus has no place for an entry, or the pass is another station's
+abbrev pub MadeStep : {F : Type 0} → (F → VerdictMap) → Held F → PassSeen → ℕ → Result Attempt StationRefusal
+    → Held F → PassSeen → Type 0
 MadeStep verdicts old pass moment (Ok a) new pass' = IsStepMade verdicts old pass moment (told_attempt a) new pass'
-MadeStep verdicts old pass moment (Err (station.Bus why)) new pass' = IsStepMade verdicts old pass moment (reply.Refused why) new pass' ⊎ ((why ≡ refusal.NoMemory) × IsUnchanged old pass new pass')
-MadeStep verdicts old pass moment (Err station.WrongStation) new pass' = ¬ (pass.number ≡ old.number) × IsUnchanged old pass new pass'
+MadeStep verdicts old pass moment (Err (station.Bus why)) new pass' =
+    IsStepMade verdicts old pass moment (reply.Refused why) new pass'
+    ⊎ ((why ≡ refusal.NoMemory) × IsUnchanged old pass new pass')
+MadeStep verdicts old pass moment (Err station.WrongStation) new pass' =
+    ¬ (pass.number ≡ old.number) × IsUnchanged old pass new pass'
 
 -- what an attempt came to, without its verdict
 abbrev pub without_verdict : Result (Verdict × Attempt) StationRefusal → Result Attempt StationRefusal
@@ -202,11 +219,14 @@ without_verdict (Ok r) = Ok r.1
 without_verdict (Err why) = Err why
 
 -- a step in one hold of the lock that returns its verdict too
-abbrev pub MadeJudged : {F : Type 0} → (F → VerdictMap) → Held F → PassSeen → ℕ → Result (Verdict × Attempt) StationRefusal → Held F → PassSeen → Type 0
-MadeJudged verdicts old pass moment outcome new pass' = MadeStep verdicts old pass moment (without_verdict outcome) new pass'
+abbrev pub MadeJudged : {F : Type 0} → (F → VerdictMap) → Held F → PassSeen → ℕ
+    → Result (Verdict × Attempt) StationRefusal → Held F → PassSeen → Type 0
+MadeJudged verdicts old pass moment outcome new pass' =
+    MadeStep verdicts old pass moment (without_verdict outcome) new pass'
 
--- a state that this station can be in: it has its number and its configuration, which is within the limits; the history is
--- legal, and its entries can be marked with passes so that the calls of each are the entries marked with it
+-- a state that this station can be in: it has its number and its configuration, which is within the limits; the
+-- history is legal, and its entries can be marked with passes so that the calls of each are the entries marked
+-- with it
 pub record IsStateOf {F : Type 0} (station : StationSeen) (held : Held F) : Type 0 where
   pub number : held.number ≡ station.number
   pub config : held.journal.config ≡ station.config
@@ -222,11 +242,13 @@ InSome F station P = (held : Held F) × IsStateOf station held × P held
 
 -- the pass that enters next in some state of the station
 abbrev pub IsNewPass : (F : Type 0) → StationSeen → PassSeen → Type 0
-IsNewPass F station p = InSome F station (λ held. (length held.lists < 4096) × (p ≡ new_pass station.number (length held.lists)))
+IsNewPass F station p =
+    InSome F station (λ held. (length held.lists < 4096) × (p ≡ new_pass station.number (length held.lists)))
 
 -- the same, of a pass that keeps no list
 abbrev pub IsNewLightPass : (F : Type 0) → StationSeen → PassSeen → Type 0
-IsNewLightPass F station p = InSome F station (λ held. (length held.lists < 4096) × (p ≡ new_light_pass station.number (length held.lists)))
+IsNewLightPass F station p =
+    InSome F station (λ held. (length held.lists < 4096) × (p ≡ new_light_pass station.number (length held.lists)))
 
 -- in some state of the station no pass is left
 abbrev pub HadNoPassLeft : (F : Type 0) → StationSeen → Type 0
@@ -241,10 +263,15 @@ Answered F told seen e (Err station.WrongStation) = Unit {0}
 
 -- a step that is carried out in some state of the station: an attempt with the source's verdict
 abbrev pub StepsIn : {F : Type 0} → (F → VerdictMap) → StationSeen → PassSeen → ℕ → Reply → PassSeen → Type 0
-StepsIn {F} verdicts seen old moment r new = (old.number ≡ seen.number) × InSome F seen (λ held. IsAnsweredIn held (next_attempt verdicts held moment) r × (new ≡ pass_after (next_attempt verdicts held moment) r old))
+StepsIn {F} verdicts seen old moment r new =
+    (old.number ≡ seen.number)
+    × InSome F seen (λ held.
+    IsAnsweredIn held (next_attempt verdicts held moment) r
+    × (new ≡ pass_after (next_attempt verdicts held moment) r old))
 
 -- a step: it is carried out, or nothing changes, since the pass's list can't grow, or the pass is another station's
-abbrev pub Stepped : {F : Type 0} → (F → VerdictMap) → StationSeen → PassSeen → ℕ → Result Attempt StationRefusal → PassSeen → Type 0
+abbrev pub Stepped :
+    {F : Type 0} → (F → VerdictMap) → StationSeen → PassSeen → ℕ → Result Attempt StationRefusal → PassSeen → Type 0
 Stepped verdicts seen old moment (Ok a) new = StepsIn verdicts seen old moment (told_attempt a) new
 Stepped verdicts seen old moment (Err (station.Bus refusal.NoMemory)) new = new ≡ old
 Stepped verdicts seen old moment (Err (station.Bus why)) new = StepsIn verdicts seen old moment (reply.Refused why) new
@@ -252,7 +279,8 @@ Stepped verdicts seen old moment (Err station.WrongStation) new = ¬ (old.number
 
 -- a rule came to this in some state of the station, whose interfaces have these names
 abbrev pub InjectsIn : (F : Type 0) → StationSeen → List (List ℕ) → List ℕ → Result (Unit {0}) RuleRefusal → Type 0
-InjectsIn F seen names text outcome = InSome F seen (λ held. (after : PlanSeen) × Injected names text held.plan outcome after)
+InjectsIn F seen names text outcome =
+    InSome F seen (λ held. (after : PlanSeen) × Injected names text held.plan outcome after)
 
 -- the reply itself, for a call that returns the bus's reply
 abbrev pub same : Reply → Reply

@@ -1,4 +1,5 @@
-use Rattle.std.specs.Prelude.{◌≡◌, ℕ, suc, ◌==◌, ◌&&◌, ◌<◌, ◌⊎◌, List, [], ◌∷◌, length, All, slice_index_or, Option, Some, None, Result, Ok, Err, if◌then◌else◌}
+use Rattle.std.specs.Prelude.{◌≡◌, ℕ, suc, ◌==◌, ◌&&◌, ◌<◌, ◌⊎◌, List, [], ◌∷◌, length, All}
+use Rattle.std.specs.Prelude.{slice_index_or, Option, Some, None, Result, Ok, Err, if◌then◌else◌}
 use mathlib.Core.List.{IsSuffix}
 use Rattle.can_confine.specs.Confinement.{ErrorCounts, at_start}
 use Rattle.can_event.specs.declared.bus_config.BusConfig.{BusConfig}
@@ -17,13 +18,15 @@ use Rattle.can_station.specs.Passes.{PassSeen, AllOf, SomeOther}
 
 -- an interface's publications, the newest first, after an entry that makes the record this long
 abbrev pub published_after : ErrorCounts → ErrorCounts → ℕ → List Status → List Status
-published_after old new at before = if old.tec == new.tec && old.rec == new.rec then before else record { at = at; counters = new } ∷ before
+published_after old new at before =
+    if old.tec == new.tec && old.rec == new.rec then before else record { at = at; counters = new } ∷ before
 
 -- the publications of interface i: for each entry that changes its error counters, the record's length with that
 -- entry, and the counters then
 abbrev pub publications_of : BusConfig → List Entry → ℕ → List Status
 publications_of c [] i = []
-publications_of c (e ∷ past) i = published_after (counts_of c past i) (counts_of c (e ∷ past) i) (suc (length past)) (publications_of c past i)
+publications_of c (e ∷ past) i =
+    published_after (counts_of c past i) (counts_of c (e ∷ past) i) (suc (length past)) (publications_of c past i)
 
 -- the counters of all interfaces, where this event can change some: it tries a frame or restarts an interface
 abbrev pub counts_before : Journal → Event → Option (List ErrorCounts)
@@ -51,7 +54,8 @@ PublishesOf old i before after at new = published new.lists i ≡ published_afte
 
 -- a keeper publishes each interface's counters so
 abbrev pub Publishes : Readings → List ErrorCounts → List ErrorCounts → ℕ → Readings → Type 0
-Publishes old before after at new = (i : ℕ) → i < old.ifaces → PublishesOf old i (counts_in before i) (counts_in after i) at new
+Publishes old before after at new =
+    (i : ℕ) → i < old.ifaces → PublishesOf old i (counts_in before i) (counts_in after i) at new
 
 -- all gauges are of the station with this number
 abbrev pub GaugesOf : ℕ → List Readings → Type 0
@@ -69,7 +73,8 @@ TakesBack number passes gauges (Err refused) = SomeOther number passes ⊎ SomeO
 -- a scroll, passes and gauges are taken back exactly where all are of the station with this number
 abbrev pub TakesBackScroll : {A E : Type 0} → ℕ → ℕ → List PassSeen → List Readings → Result A E → Type 0
 TakesBackScroll number scroll passes gauges (Ok left) = (scroll ≡ number) × AllOf number passes × GaugesOf number gauges
-TakesBackScroll number scroll passes gauges (Err refused) = ¬ (scroll ≡ number) ⊎ (SomeOther number passes ⊎ SomeOtherGauge number gauges)
+TakesBackScroll number scroll passes gauges (Err refused) =
+    ¬ (scroll ≡ number) ⊎ (SomeOther number passes ⊎ SomeOtherGauge number gauges)
 
 -- what each gauge has seen was published by this keeper
 abbrev pub AllSeen : List Readings → Readings → Type 0
@@ -77,7 +82,11 @@ AllSeen gauges keeper = All (λ g. Ends g.lists keeper.lists) gauges
 
 -- what each gauge has seen of an interface are publications of the history, all but the newest if it missed some
 abbrev pub AreTrue : Journal → List Readings → Type 0
-AreTrue left gauges = All (λ g. (i : ℕ) → i < left.config.ifaces → IsSuffix (published g.lists i) (publications_of left.config left.history i)) gauges
+AreTrue left gauges =
+    All
+    (λ g. (i : ℕ) → i < left.config.ifaces
+    → IsSuffix (published g.lists i) (publications_of left.config left.history i))
+    gauges
 
 -- the same of a record
 abbrev pub AllTrue : Kept → List Readings → Type 0

@@ -1,4 +1,5 @@
-use Rattle.std.specs.Prelude.{◌≡◌, ◌≤◌, ℕ, ◌-◌, ◌/◌, ◌||◌, length, nat_lt, Bool, true, false, Option, Some, None, is_some, if◌then◌else◌}
+use Rattle.std.specs.Prelude.{◌≡◌, ◌≤◌, ℕ, ◌-◌, ◌/◌, ◌||◌, length, nat_lt, Bool, true}
+use Rattle.std.specs.Prelude.{false, Option, Some, None, is_some, if◌then◌else◌}
 use Rattle.can_event.specs.declared.stats.SocketStats.{SocketStats}
 use Rattle.can_record.specs.Journal.{Journal}
 use Rattle.can_event.specs.declared.stats.IfaceStats.{IfaceStats}
@@ -55,4 +56,5 @@ EndsItemWait h s end = (frame_wake h s ≡ Some end.0) × (end.1 ≡ waiting_at 
 
 -- the counts of socket s and of interface i
 abbrev pub AreCounts : Journal → ℕ → ℕ → Option SocketStats × Option IfaceStats → Type 0
-AreCounts j s i counts = (counts.0 ≡ socket_stats_of j.config j.history s) × (counts.1 ≡ iface_stats_of j.config j.history i)
+AreCounts j s i counts =
+    (counts.0 ≡ socket_stats_of j.config j.history s) × (counts.1 ≡ iface_stats_of j.config j.history i)

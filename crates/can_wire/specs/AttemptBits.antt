@@ -52,8 +52,8 @@ delimiter = 8
 abbrev pub intermission : ℕ
 intermission = 3
 
--- how many bits of a frame are sent before its fault is answered by flags: after a CRC error a flag begins after the ACK
--- delimiter (Bosch, section 7.2)
+-- how many bits of a frame are sent before its fault is answered by flags: after a CRC error a flag begins after
+-- the ACK delimiter (Bosch, section 7.2)
 abbrev pub bits_to_fault : CanFrame → Verdict → WireBits
 bits_to_fault f v = if is_early v then bits_to_data_end f else then_nominal (bits_to_check_end f) to_ack_delimiter
 

@@ -1,4 +1,5 @@
-use Rattle.std.specs.Prelude.{ℕ, ◌+◌, ◌-◌, ◌/◌, ◌%◌, bit_xor, nat_le, ◌==◌, ◌&&◌, Bool, List, [], ◌∷◌, ◌++◌, length, replicate, if◌then◌else◌}
+use Rattle.std.specs.Prelude.{ℕ, ◌+◌, ◌-◌, ◌/◌, ◌%◌, bit_xor, nat_le, ◌==◌, ◌&&◌, Bool}
+use Rattle.std.specs.Prelude.{List, [], ◌∷◌, ◌++◌, length, replicate, if◌then◌else◌}
 use Rattle.can_frame.specs.Frames.{CanFrame, payload_len, payload_bytes, payload_flags, is_fd}
 use Rattle.can_frame.specs.Arbitration.{arbitration_bits, low_bits}
 use Rattle.can_wire.specs.Stuffing.{stuffed, stuffed_inside, then_fixed_stuffed}
@@ -47,11 +48,21 @@ fd_head f = 0 ∷ arbitration_bits f ++ 1 ∷ 0 ∷ bit_of (payload_flags f.payl
 
 -- the data length code of an FD frame by its number of bytes (ISO 11898-1; linux/can.h, struct canfd_frame)
 abbrev pub fd_code : ℕ → ℕ
-fd_code n = if nat_le n 8 then n else if n == 12 then 9 else if n == 16 then 10 else if n == 20 then 11 else if n == 24 then 12 else if n == 32 then 13 else if n == 48 then 14 else 15
+fd_code n =
+    if nat_le n 8 then n
+    else if n == 12 then 9
+    else if n == 16 then 10
+    else if n == 20 then 11
+    else if n == 24 then 12
+    else if n == 32 then 13
+    else if n == 48 then 14
+    else 15
 
 -- the rest of it to its last data bit: ESI, the data length code and the data
 abbrev pub fd_rest : CanFrame → List ℕ
-fd_rest f = bit_of (payload_flags f.payload).esi ∷ low_bits 4 (fd_code (payload_len f.payload)) ++ byte_bits (payload_bytes f.payload)
+fd_rest f =
+    bit_of (payload_flags f.payload).esi ∷ low_bits 4 (fd_code (payload_len f.payload))
+    ++ byte_bits (payload_bytes f.payload)
 
 -- the whole to its last data bit, as it is sent
 abbrev pub fd_to_data_end : CanFrame → List ℕ
@@ -71,7 +82,9 @@ fd_generator n = if nat_le n 16 then generator_17 else generator_21
 
 -- its stuff count, and its CRC, which covers the bits as they are sent, and the stuff count
 unfoldable pub fd_check : CanFrame → List ℕ
-fd_check f = stuff_count (fd_stuff_bits f) ++ check_from_one (fd_generator (payload_len f.payload)) (fd_to_data_end f ++ stuff_count (fd_stuff_bits f))
+fd_check f =
+    stuff_count (fd_stuff_bits f)
+    ++ check_from_one (fd_generator (payload_len f.payload)) (fd_to_data_end f ++ stuff_count (fd_stuff_bits f))
 
 -- an FD frame to the end of its CRC, as it is sent
 abbrev pub fd_to_check_end : CanFrame → List ℕ
@@ -95,7 +108,8 @@ wire_of f = to_check_end f ++ end_bits
 
 -- this many bits of a frame, by their rates: if it switches those after the first few go at the data bit rate
 abbrev pub by_rates : Bool → ℕ → ℕ → WireBits
-by_rates switches few n = if switches then record { nominal = few; fast = n - few } else record { nominal = n; fast = 0 }
+by_rates switches few n =
+    if switches then record { nominal = few; fast = n - few } else record { nominal = n; fast = 0 }
 
 -- bits at the nominal bit rate after these
 abbrev pub then_nominal : WireBits → ℕ → WireBits

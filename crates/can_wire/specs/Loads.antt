@@ -1,7 +1,8 @@
-use Rattle.std.specs.Prelude.{◌<◌, ◌≤◌, ℕ, ◌+◌, ◌-◌, ◌*◌, ◌/◌, ◌%◌, ◌^◌, ◌==◌, nat_lt, min, max, if◌then◌else◌, List, [], ◌∷◌}
+use Rattle.std.specs.Prelude.{◌<◌, ◌≤◌, ℕ, ◌+◌, ◌-◌, ◌*◌, ◌/◌, ◌%◌, ◌^◌, ◌==◌}
+use Rattle.std.specs.Prelude.{nat_lt, min, max, if◌then◌else◌, List, [], ◌∷◌}
 
--- How busy a wire is (own choice): it is busy from the start of a frame until the next attempt may begin, so that a full one
--- is busy all the time, and idle while no frame waits.
+-- How busy a wire is (own choice): it is busy from the start of a frame until the next attempt may begin, so that
+-- a full one is busy all the time, and idle while no frame waits.
 
 -- an attempt: from when on it took the wire, and when the next could begin, in nanoseconds
 pub record Taken : Type 0 where
@@ -32,8 +33,8 @@ abbrev pub AreInOrder : List Taken → Type 0
 AreInOrder [] = Unit {0}
 AreInOrder (t ∷ past) = (over_at past ≤ t.begin) × (t.begin ≤ t.end) × (t.end < t.begin + 10 ^ 9) × AreInOrder past
 
--- what is kept: the second in which the last one was over; for how many nanoseconds the wire was busy in it, in the second
--- before it and in the one before that; and in all
+-- what is kept: the second in which the last one was over; for how many nanoseconds the wire was busy in it, in
+-- the second before it and in the one before that; and in all
 pub record Load : Type 0 where
   pub second : ℕ
   pub latest : ℕ
@@ -77,8 +78,8 @@ added second nanos l = more_of nanos (moved_to second l)
 abbrev pub boundary : ℕ → ℕ
 boundary nano = nano / 10 ^ 9 * 10 ^ 9
 
--- after an attempt that takes the wire from one nanosecond to another: what is after the boundary between two seconds is of
--- the second one
+-- after an attempt that takes the wire from one nanosecond to another: what is after the boundary between two
+-- seconds is of the second one
 abbrev pub noted : ℕ → ℕ → Load → Load
 noted begin end l =
     if nat_lt begin (boundary end)
@@ -90,8 +91,8 @@ abbrev pub load_of : List Taken → Load
 load_of [] = no_load
 load_of (t ∷ past) = noted t.begin t.end (load_of past)
 
--- what is shown: the second in which the last one was over, the thousandths of it in which the wire was busy, those of the
--- second before it, and of the one before that
+-- what is shown: the second in which the last one was over, the thousandths of it in which the wire was busy,
+-- those of the second before it, and of the one before that
 pub record Recent : Type 0 where
   pub second : ℕ
   pub latest : ℕ
@@ -100,14 +101,24 @@ pub record Recent : Type 0 where
 
 -- the last three seconds in thousandths
 abbrev pub recent_of : Load → Recent
-recent_of l = record { second = l.second; latest = l.latest / 10 ^ 6; before = l.before / 10 ^ 6; earlier = l.earlier / 10 ^ 6 }
+recent_of l = record {
+  second = l.second;
+  latest = l.latest / 10 ^ 6;
+  before = l.before / 10 ^ 6;
+  earlier = l.earlier / 10 ^ 6;
+}
 
 -- what a word says: a second in 34 bits, and the thousandths in 10 bits each
 abbrev pub recent_in : ℕ → Recent
-recent_in word = record { second = word / 2 ^ 30; latest = word / 2 ^ 20 % 2 ^ 10; before = word / 2 ^ 10 % 2 ^ 10; earlier = word % 2 ^ 10 }
+recent_in word = record {
+  second = word / 2 ^ 30;
+  latest = word / 2 ^ 20 % 2 ^ 10;
+  before = word / 2 ^ 10 % 2 ^ 10;
+  earlier = word % 2 ^ 10;
+}
 
--- the thousandths of the last whole second before the second of a moment: 0 where that is after those that are known, since
--- nothing took the wire since, and where it is before them
+-- the thousandths of the last whole second before the second of a moment: 0 where that is after those that are
+-- known, since nothing took the wire since, and where it is before them
 abbrev pub permille_at : ℕ → Recent → ℕ
 permille_at now r =
     if now / 10 ^ 6 == r.second + 1 then r.latest else

@@ -8,8 +8,8 @@ use Rattle.can_wire.specs.Loads.{Load, no_load, noted}
 
 -- When the attempts are of a bus that is served in time (own choice).
 
--- a schedule: its wire, since when there is something to attempt, the moment of the last attempt, at first 0, and how busy
--- its attempts keep the wire
+-- a schedule: its wire, since when there is something to attempt, the moment of the last attempt, at first 0, and
+-- how busy its attempts keep the wire
 pub record Schedule : Type 0 where
   pub wire : Wire
   pub since : ℕ
@@ -29,18 +29,25 @@ abbrev pub next_lasts : BusTiming → Option CanFrame → ℕ
 next_lasts t None = idle_nanos_of t
 next_lasts t (Some frame) = frame_nanos_of t frame
 
--- the moment of the next attempt: the end of the frame that it tries, or of the attempt where it tries none; but none is
--- before the last
+-- the moment of the next attempt: the end of the frame that it tries, or of the attempt where it tries none; but
+-- none is before the last
 abbrev pub next_moment : Option CanFrame → Schedule → ℕ
 next_moment frame s = max s.last (moment_after s.since (next_lasts s.wire.timing frame) s.wire)
 
 -- after an attempt that tried this frame and takes the wire this many nanoseconds
 abbrev pub attempted : Option CanFrame → ℕ → Schedule → Schedule
-attempted frame nanos s = record { wire = taken_for s.since nanos s.wire; since = s.since; last = next_moment frame s; load = s.load }
+attempted frame nanos s = record {
+  wire = taken_for s.since nanos s.wire;
+  since = s.since;
+  last = next_moment frame s;
+  load = s.load;
+}
 
 -- after one that tried a frame: the wire is busy from its begin until the next may begin
 abbrev pub busied : CanFrame → ℕ → Schedule → Schedule
-busied frame nanos s = record (attempted (Some frame) nanos s) { load = noted (next_begin s) (taken_for s.since nanos s.wire).free s.load }
+busied frame nanos s = record (attempted (Some frame) nanos s) {
+  load = noted (next_begin s) (taken_for s.since nanos s.wire).free s.load;
+}
 
 -- after an attempt to send a frame
 abbrev pub after_tried : CanFrame → Class → Verdict → Schedule → Schedule

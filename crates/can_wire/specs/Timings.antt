@@ -6,7 +6,8 @@ use Rattle.can_wire.specs.FrameBits.{frame_bits_of}
 use Rattle.can_wire.specs.AttemptBits.{attempt_bits_of}
 use Rattle.can_wire.specs.Times.{BitRates, rates_of, nanos_of}
 
--- How long frames and attempts last on a bus (own choice; how many bits they have is that of FrameBits and AttemptBits).
+-- How long frames and attempts last on a bus (own choice; how many bits they have is that of FrameBits and
+-- AttemptBits).
 
 -- how fast the bits of a bus go
 pub record BusTiming : Type 0 where

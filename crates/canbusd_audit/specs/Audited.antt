@@ -1,4 +1,5 @@
-use Rattle.std.specs.Prelude.{◌≡◌, ◌⊎◌, ℕ, Bool, true, false, List, [], ◌∷◌, ◌++◌, length, reverse, codes, decimal, Option, Some, None, Result, Ok, Err}
+use Rattle.std.specs.Prelude.{◌≡◌, ◌⊎◌, ℕ, Bool, true, false, List, [], ◌∷◌, ◌++◌, length}
+use Rattle.std.specs.Prelude.{reverse, codes, decimal, Option, Some, None, Result, Ok, Err}
 use Rattle.std.specs.List.{Contains}
 use Rattle.std.specs.Io.KnownBytes.{Appends, Consumes, IsAtEnd}
 use Rattle.can_event.specs.declared.bus_config.BusConfig.{BusConfig}
@@ -110,7 +111,8 @@ Audits input contents old new = (text : List ℕ) × IsTextIn input text × IsAu
 
 -- the same of a text that may be cut off
 abbrev pub AuditsCut : {W : Type 0} → Option (List ℕ) → (W → Option (List ℕ)) → W → W → Type 0
-AuditsCut input contents old new = (text : List ℕ) × IsTextIn input text × IsAuditedBy true text (contents old) (contents new)
+AuditsCut input contents old new =
+    (text : List ℕ) × IsTextIn input text × IsAuditedBy true text (contents old) (contents new)
 
 -- what a fault says of the text that a reader had
 abbrev pub FaultsInput : Option (List ℕ) → ProgramError → Type 0
@@ -192,7 +194,9 @@ GoesOn old new before after = (first : Option (List ℕ)) → IsUnderway first o
 
 -- after the lines that were taken, what a reader has left is at fault so
 abbrev pub IsAtFault : Option (List ℕ) → TextAudit → ReadFault → Type 0
-IsAtFault now audit why = (first : Option (List ℕ)) → IsUnderway first now audit → (text : List ℕ) × IsTextIn first text × FaultsUncut text why
+IsAtFault now audit why =
+    (first : Option (List ℕ)) → IsUnderway first now audit
+    → (text : List ℕ) × IsTextIn first text × FaultsUncut text why
 
 -- what a reader held was taken by an audit
 abbrev pub BecomesOf : Buffered → Option (List ℕ) → Option (List ℕ) → TextAudit → TextAudit → Type 0

@@ -1,7 +1,7 @@
 use Rattle.std.specs.Prelude.{◌≡◌, ◌≤◌, ℕ, Bool, true, List, ◌∷◌, ◌++◌, codes, Option, Some, None}
 
--- Refusals among what a bench writes (own choice). Each is `< error TEXT >` with a text that begins with a small letter; an
--- error message frame has its class there, in digits and capital letters.
+-- Refusals among what a bench writes (own choice). Each is `< error TEXT >` with a text that begins with a small
+-- letter; an error message frame has its class there, in digits and capital letters.
 
 -- a refusal is in a text
 pub record HasRefusal (text : List ℕ) : Type 0 where

@@ -1,4 +1,5 @@
-use Rattle.std.specs.Prelude.{◌≡◌, ◌↔◌, ℕ, ◌≤◌, map, true, false, List, [], ◌∷◌, ◌++◌, ◌<◌, ◌^◌, ◌==◌, codes, unwrap_or, IsTrue, Option, Some, None, slice_index, if◌then◌else◌}
+use Rattle.std.specs.Prelude.{◌≡◌, ◌↔◌, ℕ, ◌≤◌, map, true, false, List, [], ◌∷◌, ◌++◌, ◌<◌, ◌^◌, ◌==◌}
+use Rattle.std.specs.Prelude.{codes, unwrap_or, IsTrue, Option, Some, None, slice_index, if◌then◌else◌}
 use denote.Ref.{Bor}
 use Rattle.std.specs.Option.{option_map}
 use Rattle.std.specs.Path.{path_bytes, path_components, path_names, root_dir, slash}
@@ -97,7 +98,8 @@ IsBusWord bus word = (bus.names.now ≡ names_part word) × (path_of bus.script 
 -- the parts of each bus are those of its word
 abbrev pub AreBusWords : List BusWord → List (List ℕ) → Type 0
 AreBusWords buses words =
-    (map (λ bus. bus.names.now) buses ≡ map names_part words) × (map (λ bus. path_of bus.script) buses ≡ map script_part words)
+    (map (λ bus. bus.names.now) buses ≡ map names_part words)
+    × (map (λ bus. path_of bus.script) buses ≡ map script_part words)
 
 -- what an option was given, if it was
 abbrev pub text_of : Option (Bor (List ℕ)) → Option (List ℕ)
@@ -183,8 +185,8 @@ usual_sessions recording.AtEnd = codes "4000"
 usual_sessions recording.Live = codes "4294967295"
 usual_sessions recording.Never = codes "4294967295"
 
--- options go with when records are written: --flush and --sync are for files that are written live, a long run has no --limit,
--- and live records need a folder
+-- options go with when records are written: --flush and --sync are for files that are written live, a long run
+-- has no --limit, and live records need a folder
 abbrev pub GoWith : Recording → List Row → Type 0
 GoWith recording.AtEnd rows = (first_of (codes "flush") rows ≡ None) × ¬ (given rows (codes "sync") ≡ codes "true")
 GoWith recording.Live rows = (first_of (codes "limit") rows ≡ None) × ¬ (first_of (codes "out") rows ≡ None)

@@ -1,6 +1,7 @@
 use Rattle.std.specs.Prelude.{◌≡◌, List, [], ◌∷◌, codes, Option, Some, None, true}
 use Rattle.clap.specs.Lexer.{usize_max}
-use Rattle.clap.specs.Words.{App, Row, Rule, Text, fault_of, new_app, new_rule, subcommand_of, with_rule, with_subcommand}
+use Rattle.clap.specs.Words.{App, Row, Rule, Text, fault_of, new_app, new_rule}
+use Rattle.clap.specs.Words.{subcommand_of, with_rule, with_subcommand}
 use Rattle.clap.specs.declared.builder.ArgAction.TheVariants.{SetTrue}
 use Rattle.canbusd_options.specs.declared.command_line.Job.{Job}
 use Rattle.canbusd_options.specs.declared.command_line.Job.TheVariants as job
@@ -32,7 +33,9 @@ words_rule name = record (word_rule name) { range = Some (record { start_inclusi
 -- a command with the options that say what a bus is like
 abbrev pub with_bus_rules : App → App
 with_bus_rules a =
-    with_rule (with_rule (with_rule (with_rule (with_rule (with_rule (with_rule (with_rule a (default_rule (codes "ack") (codes "always"))) (flag_rule (codes "report")))
+    with_rule (with_rule (with_rule (with_rule (with_rule (with_rule (with_rule (with_rule a
+    (default_rule (codes "ack") (codes "always")))
+    (flag_rule (codes "report")))
     (default_rule (codes "txqueue") (codes "10")))
     (default_rule (codes "rxqueue") (codes "256")))
     (option_rule (codes "limit")))
@@ -50,7 +53,9 @@ bench_app =
 
 abbrev pub serve_app : App
 serve_app =
-    with_rule (with_rule (with_rule (with_rule (with_rule (with_rule (with_rule (with_rule (with_rule (with_rule (with_rule (with_bus_rules (new_app (codes "serve")))
+    with_rule (with_rule (with_rule (with_rule (with_rule (with_rule
+    (with_rule (with_rule (with_rule (with_rule (with_rule
+    (with_bus_rules (new_app (codes "serve")))
     (default_rule (codes "listen") (codes "127.0.0.1:29536")))
     (option_rule (codes "sessions")))
     (default_rule (codes "pace") (codes "1")))

@@ -1,4 +1,5 @@
-use Rattle.std.specs.Prelude.{ℕ, zero, suc, ◌^◌, nat_lt, ◌==◌, bit_and, Bool, true, false, List, [], ◌∷◌, ◌++◌, length, take, drop, codes, Option, Some, None, Result, Ok, Err, ◌≡◌, if◌then◌else◌}
+use Rattle.std.specs.Prelude.{ℕ, zero, suc, ◌^◌, nat_lt, ◌==◌, bit_and, Bool, true, false, List, [], ◌∷◌, ◌++◌}
+use Rattle.std.specs.Prelude.{length, take, drop, codes, Option, Some, None, Result, Ok, Err, ◌≡◌, if◌then◌else◌}
 use denote.Ref.{Bor}
 use Rattle.std.specs.Str.{bytes_eq}
 use Rattle.can_frame.specs.Moments.{moment_in}
@@ -23,7 +24,8 @@ use Rattle.can_event.specs.declared.bus_config.BusConfig.{BusConfig}
 use Rattle.can_event.specs.declared.opt.Opt.{Opt}
 use Rattle.can_event.specs.declared.opt.Opt.TheVariants as opt
 use Rattle.can_event.specs.declared.event.Event.{Event}
-use Rattle.can_event.specs.declared.event.Event.TheVariants.{Open, Close, SetFilters, SetOption, Send, Receive, Attempt, Restart}
+use Rattle.can_event.specs.declared.event.Event.TheVariants.{Open, Close, SetFilters, SetOption}
+use Rattle.can_event.specs.declared.event.Event.TheVariants.{Send, Receive, Attempt, Restart}
 use Rattle.can_event.specs.declared.refusal.Refusal.{Refusal}
 use Rattle.can_event.specs.declared.refusal.Refusal.TheVariants as refusal
 use Rattle.can_event.specs.declared.reply.Reply.{Reply}
@@ -190,7 +192,8 @@ past_word t = drop (length (word t)) t
 
 -- the interfaces that an attempt restarted, after the reply's other words
 unfoldable pub restarted_at : List ℕ → Option (IfaceSet × List ℕ)
-restarted_at t = if begins_with (codes " restarted ") (past_word t) then set_from 11 (past_word t) else Some (no_ifaces, after t)
+restarted_at t =
+    if begins_with (codes " restarted ") (past_word t) then set_from 11 (past_word t) else Some (no_ifaces, after t)
 
 -- a frame that was tried at this moment
 unfoldable pub tried_at : ℕ → List ℕ → Option (Reply × List ℕ)
@@ -202,7 +205,19 @@ tried_at moment t = do
   a ← set_at c.1
   o ← set_at a.1
   r ← restarted_at a.1
-  Some (reply.Tried (record { moment = moment; winner = w.0; number = n.0; frame = f.0; class = c.0; accepted = a.0; off = o.0; restarted = r.0 }), r.1)
+  Some (
+    reply.Tried (record {
+      moment = moment;
+      winner = w.0;
+      number = n.0;
+      frame = f.0;
+      class = c.0;
+      accepted = a.0;
+      off = o.0;
+      restarted = r.0;
+    }),
+    r.1,
+  )
 
 -- the reply of this one word
 unfoldable pub fixed_in : List ℕ → Option Reply
@@ -257,10 +272,13 @@ set_filters_at t = do
 -- an event whose line begins with this word and goes on with this text: of those that set a bus up
 unfoldable pub setting_at : List ℕ → List ℕ → Option (Event × List ℕ)
 setting_at w t =
-    if bytes_eq w (codes "open") then (number_at 16 t >>= λ i. number_at (2 ^ 32) i.1 >>= λ c. Some (Open i.0 c.0, c.1))
+    if bytes_eq w (codes "open")
+    then (number_at 16 t >>= λ i. number_at (2 ^ 32) i.1 >>= λ c. Some (Open i.0 c.0, c.1))
     else if bytes_eq w (codes "close") then (socket_at t >>= λ s. Some (Close s.0, s.1))
-    else if bytes_eq w (codes "option") then (socket_at t >>= λ s. option_at s.1 >>= λ o. Some (SetOption s.0 o.0, o.1))
-    else if bytes_eq w (codes "restart") then (number_at 16 t >>= λ i. moment_at i.1 >>= λ m. Some (Restart i.0 m.0, m.1))
+    else if bytes_eq w (codes "option")
+    then (socket_at t >>= λ s. option_at s.1 >>= λ o. Some (SetOption s.0 o.0, o.1))
+    else if bytes_eq w (codes "restart")
+    then (number_at 16 t >>= λ i. moment_at i.1 >>= λ m. Some (Restart i.0 m.0, m.1))
     else None
 
 -- of the other events, but for one that sets filters

@@ -10,8 +10,10 @@ use Rattle.can_reference.specs.Histories.{BeforeEntry, ReturnsList}
 
 -- the call returned what the entry posts at an interface
 abbrev pub ReturnsPosts : {G E : Type 0} → BusConfig → List Entry → ℕ → Entry → Result (Vec Post G) E → Type 0
-ReturnsPosts c entries iface e result = BeforeEntry c entries e (λ past. ReturnsList result (posts_of c past iface e.event e.reply))
+ReturnsPosts c entries iface e result =
+    BeforeEntry c entries e (λ past. ReturnsList result (posts_of c past iface e.event e.reply))
 
 -- the call returned what the entry offers socket s
 abbrev pub ReturnsCandidates : {G E : Type 0} → BusConfig → List Entry → ℕ → Entry → Result (Vec Received G) E → Type 0
-ReturnsCandidates c entries s e result = BeforeEntry c entries e (λ past. ReturnsList result (candidates_of c past s e.event e.reply))
+ReturnsCandidates c entries s e result =
+    BeforeEntry c entries e (λ past. ReturnsList result (candidates_of c past s e.event e.reply))

@@ -16,7 +16,17 @@ use Rattle.can_reference.specs.Histories.{OnHistory, Returns}
 abbrev pub ReturnsReply : {E : Type 0} → BusConfig → List Entry → Event → Result Reply E → Type 0
 ReturnsReply c entries e result = OnHistory c entries (λ past. Returns result (legal_reply c past e))
 
--- the reply of an attempt: the winner, the number of its frame, the frame, what became of it, and the interfaces that were
--- restarted
+-- the reply of an attempt: the winner, the number of its frame, the frame, what became of it, and the interfaces
+-- that were restarted
 abbrev pub tried_reply : ℕ → ℕ → ℕ → Pending → Judgement → IfaceSet → Reply
-tried_reply moment winner number p j restarted = reply.Tried (record { moment = moment; winner = winner; number = number; frame = p.frame; class = j.class; accepted = j.accepted; off = j.off; restarted = restarted })
+tried_reply moment winner number p j restarted =
+    reply.Tried (record {
+      moment = moment;
+      winner = winner;
+      number = number;
+      frame = p.frame;
+      class = j.class;
+      accepted = j.accepted;
+      off = j.off;
+      restarted = restarted;
+    })

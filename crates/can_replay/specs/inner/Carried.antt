@@ -29,4 +29,6 @@ pub record IsWrongNext (c : BusConfig) (past : List Entry) (e : Entry) (legal : 
 
 -- where this is an entry's line, the entry is wrong
 abbrev pub IsOther : BusConfig → List Entry → List ℕ → Option Reply → Type 0
-IsOther c past line legal = (v : Version) (e : Entry) (rest : List ℕ) → HasLine v c e → line ≡ entry_line e rest → IsWrongNext c past e legal
+IsOther c past line legal =
+    (v : Version) (e : Entry) (rest : List ℕ) → HasLine v c e → line ≡ entry_line e rest
+    → IsWrongNext c past e legal

@@ -16,13 +16,18 @@ use Rattle.can_replay.specs.TextAudits.{IsLine}
 
 -- an entry's line was taken; or it is none, and nothing was noted
 abbrev pub Takes : {A : Type 0} → EntryAudit → EntryAudit → List ℕ → Result A Unread → Type 0
-Takes old new line (Ok u) = (text : List ℕ) → IsGoing text old → old.is_ended ≡ false → IsLine line → IsGoing (text ++ line) new
-Takes old new line (Err unread.Bad) = (new ≡ record old { bus = new.bus }) × ((text : List ℕ) → IsGoing text old → old.is_ended ≡ false → LacksEntry old.version old.config line)
+Takes old new line (Ok u) =
+    (text : List ℕ) → IsGoing text old → old.is_ended ≡ false → IsLine line → IsGoing (text ++ line) new
+Takes old new line (Err unread.Bad) =
+    (new ≡ record old { bus = new.bus })
+    × ((text : List ℕ) → IsGoing text old → old.is_ended ≡ false → LacksEntry old.version old.config line)
 Takes old new line (Err unread.NoMemory) = Unit {0}
 
 -- the same of one that is wrong there, where this reply would be legal
 abbrev pub ReportsWrong : {A : Type 0} → EntryAudit → EntryAudit → List ℕ → Option Reply → Result A Unread → Type 0
-ReportsWrong old new line legal (Ok u) = (text : List ℕ) (read : IsRead text old) → old.is_ended ≡ false → old.bus.config ≡ old.config → IsLine line → IsOther old.config (reverse read.entries) line legal → IsGoing (text ++ line) new
+ReportsWrong old new line legal (Ok u) =
+    (text : List ℕ) (read : IsRead text old) → old.is_ended ≡ false → old.bus.config ≡ old.config → IsLine line
+    → IsOther old.config (reverse read.entries) line legal → IsGoing (text ++ line) new
 ReportsWrong old new line legal (Err unread.Bad) = (new ≡ old) × LacksEntry old.version old.config line
 ReportsWrong old new line legal (Err unread.NoMemory) = Unit {0}
 

@@ -25,7 +25,8 @@ abbrev pub noted : Act → ℕ → BenchState → BenchState
 noted act s b = record b { ignored = noted_by act s b.ignored }
 
 -- a session does this, and what it says comes after what was said
-abbrev pub Adds : (SessionState → NamedBus → List ℕ → SessionState → NamedBus → Type 0) → SessionState → NamedBus → List ℕ → SessionState → NamedBus → List ℕ → Type 0
+abbrev pub Adds : (SessionState → NamedBus → List ℕ → SessionState → NamedBus → Type 0) → SessionState → NamedBus
+    → List ℕ → SessionState → NamedBus → List ℕ → Type 0
 Adds does old p said new q after = (text : List ℕ) × does old p text new q × (after ≡ said ++ text)
 
 -- a bench does this, and what it puts out comes after what was put out

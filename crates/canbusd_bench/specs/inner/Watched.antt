@@ -1,11 +1,17 @@
-use Rattle.std.specs.Prelude.{◌==◌, ℕ, suc, ◌+◌, ◌-◌, nat_le, Bool, true, false, ◌&&◌, List, ◌∷◌, length, drop, codes, get_or, Option, Some, None, if◌then◌else◌}
+use Rattle.std.specs.Prelude.{◌==◌, ℕ, suc, ◌+◌, ◌-◌, nat_le, Bool, true, false, ◌&&◌, List, ◌∷◌}
+use Rattle.std.specs.Prelude.{length, drop, codes, get_or, Option, Some, None, if◌then◌else◌}
 use Rattle.std.specs.List.{fold}
 
 -- What a watcher saw of the bytes that go through it.
 
 -- how many bytes of `< error ` come last, after one byte more: 9 from the small letter after them on
 abbrev pub seen_after : ℕ → ℕ → ℕ
-seen_after seen b = if seen == 9 then 9 else if b == 60 then 1 else if seen == 8 && (nat_le 97 b && nat_le b 122) then 9 else if get_or (codes "< error ") seen 60 == b then seen + 1 else 0
+seen_after seen b =
+    if seen == 9 then 9
+    else if b == 60 then 1
+    else if seen == 8 && (nat_le 97 b && nat_le b 122) then 9
+    else if get_or (codes "< error ") seen 60 == b then seen + 1
+    else 0
 
 -- the same for many bytes
 abbrev pub seen_in : ℕ → List ℕ → ℕ
@@ -15,9 +21,10 @@ seen_in seen text = fold seen_after seen text
 abbrev pub saw : ℕ → ℕ → List ℕ → Bool
 saw written seen text = nat_le written (length text) && (seen_in 0 (drop (length text - written) text) == seen)
 
--- what a watcher knows of its writer's bytes: they come after two numbers that stay. The first names the writer; the second
--- is 0 where the watcher is off, and else more than how many bytes there were when it was made
+-- what a watcher knows of its writer's bytes: they come after two numbers that stay. The first names the writer;
+-- the second is 0 where the watcher is off, and else more than how many bytes there were when it was made
 abbrev pub told : ℕ → Bool → ℕ → ℕ → Option (List ℕ) → Option (List ℕ)
 told name is_on written seen None = None
 told name false written seen (Some text) = Some (name ∷ 0 ∷ text)
-told name true written seen (Some text) = if saw written seen text then Some (name ∷ suc (length text - written) ∷ text) else None
+told name true written seen (Some text) =
+    if saw written seen text then Some (name ∷ suc (length text - written) ∷ text) else None
