@@ -33,7 +33,8 @@ pub fn listen<'a, H: Files<File = File> + Net<Listener = TcpListener, Stream = T
     address: &str,
     sessions: u32,
 ) -> Result<Listening, Report<'a>>
-    ensures heard { IfOk result (λ listening. IsHeardAt address.now (string_bytes listening.heard)) }
+    ensures heard { IfOk result (λ listening.
+        IsHeardAt address.now (string_bytes listening.heard)) }
     ensures fault { IfErr result (λ failure. IsOfServing failure.error) }
 {
     let (listener, file) = match bind(rt, alloc, address) {

@@ -73,7 +73,8 @@ pub fn run_serve<'a, H: ServerRuntime, R: Read + Drop + Send + 'static, W: Write
     output: &mut W,
     errors: &mut E,
 ) -> Result<bool, Report<'a>>
-    ensures served { IfOk result (λ whole. IsTrue whole → IsServed W.contents options.now output.old output.new) }
+    ensures served { IfOk result (λ whole. IsTrue whole →
+        IsServed W.contents options.now output.old output.new) }
     ensures fault { IfErr result (λ failure. IsOfServer options.now failure.error) }
 {
     let run = ServerRun {
@@ -313,7 +314,8 @@ impl<'r, 'a, H: ServerRuntime> ServerRun<'r, 'a, H> {
     ) -> Result<Run<N>, Report<'a>>
         requires each { length (buses_in hub) ≡ length self.now.options.now.buses.items }
         requires scrolls { HasNewScrolls hub }
-        ensures passes { IfOk result (λ run. length run.passes.items ≡ length (buses_in hub.entry)) }
+        ensures passes { IfOk result (λ run.
+            length run.passes.items ≡ length (buses_in hub.entry)) }
         ensures given { IfOk result (λ run.
             HasGiven hub.entry run.files.items run.scrolls.items) }
         ensures listening { OnOk result
@@ -351,7 +353,8 @@ impl<'r, 'a, H: ServerRuntime> ServerRun<'r, 'a, H> {
         requires each { length (buses_in hub) ≡ length self.now.options.now.buses.items }
         requires scrolls { HasNewScrolls hub }
         requires heard { IsHeardAt self.now.options.now.address.now heard.now }
-        ensures passes { IfOk result (λ run. length run.passes.items ≡ length (buses_in hub.entry)) }
+        ensures passes { IfOk result (λ run.
+            length run.passes.items ≡ length (buses_in hub.entry)) }
         ensures given { IfOk result (λ run.
             HasGiven hub.entry run.files.items run.scrolls.items) }
         ensures listening { OnOk result
@@ -400,7 +403,8 @@ impl<'r, 'a, H: ServerRuntime> ServerRun<'r, 'a, H> {
     ) -> Result<Run<N>, Report<'a>>
         requires files { HasFiles ⟦<File as Write>⟧.contents hub files.items }
         requires scrolls { HasNewScrolls hub }
-        ensures passes { IfOk result (λ run. length run.passes.items ≡ length (buses_in hub.entry)) }
+        ensures passes { IfOk result (λ run.
+            length run.passes.items ≡ length (buses_in hub.entry)) }
         ensures given { IfOk result (λ run.
             HasGiven hub.entry run.files.items run.scrolls.items) }
         ensures fault { IfErr result (λ failure. IsOfServing failure.error) }
