@@ -21,7 +21,8 @@ pub fn make<T: BoundedQueue<Pending>>(
     count: u8,
     capacity: usize,
 ) -> Result<Vec<Interface<T>>, QueueError>
-    ensures made { IfOk result (λ interfaces. interfaces.items ≡ replicate count (fresh_interface capacity)) }
+    ensures made { IfOk result (λ interfaces.
+        interfaces.items ≡ replicate count (fresh_interface capacity)) }
     ensures bad { (capacity ≢ 0) → (result ≢ Err QueueError.BadCapacity) }
 {
     let mut interfaces = Vec::with_capacity(alloc, count as usize)?;

@@ -27,7 +27,8 @@ impl Model for PackedList {
 
     ghost Value = { ListedEntries };
 
-    ghost view = { λ l. record { entries = l.entries.entries; room = l.entries.room; spare = is_some l.spare } };
+    ghost view = { λ l.
+        record { entries = l.entries.entries; room = l.entries.room; spare = is_some l.spare } };
 }
 
 impl PackedList {

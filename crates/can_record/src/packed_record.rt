@@ -137,7 +137,8 @@ impl PackedRecord {
     #[inline(always)]
     pub fn push_attempt(&mut self, moment: Moment, verdict: Verdict, attempt: &Attempt)
         requires room { length self.old.entries < self.old.room }
-        requires fits { needs_box (asked.Attempt moment verdict) (told_attempt attempt.now) ≡ false }
+        requires fits { needs_box (asked.Attempt moment verdict)
+            (told_attempt attempt.now) ≡ false }
         ensures more { Adds self.old.entries (attempt_entry moment verdict attempt.now)
             self.new.entries }
         ensures room { self.old.room ≤ self.new.room }

@@ -207,7 +207,8 @@ impl Record {
     pub fn push_attempt(&mut self, moment: Moment, verdict: Verdict, attempt: &Attempt)
         requires room { length self.old.history < self.old.room }
         requires spelled { IsSpelled self.old.config (attempt_entry moment verdict attempt.now) }
-        requires fits { needs_box (asked.Attempt moment verdict) (told_attempt attempt.now) ≡ false }
+        requires fits { needs_box (asked.Attempt moment verdict)
+            (told_attempt attempt.now) ≡ false }
         ensures { IsLonger self.old (attempt_entry moment verdict attempt.now) self.new }
     {
         // There is no room in a list that was handed in.

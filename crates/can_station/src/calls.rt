@@ -35,7 +35,8 @@ impl<N: RollName + MeterName, F: FaultSource + Drop, G: Gate + Drop, B: Journale
         iface: Iface,
         capacity: u32,
     ) -> Result<SocketId, StationRefusal>
-        ensures called { Called reply.Opened self.now.number pass.old (event.Open iface capacity) result pass.new }
+        ensures called { Called reply.Opened self.now.number pass.old
+            (event.Open iface capacity) result pass.new }
         ensures answered { Answered F reply.Opened self.now (event.Open iface capacity) result }
     {
         match self.call(rt, alloc, pass, Event::Open(iface, capacity))? {
@@ -54,7 +55,8 @@ impl<N: RollName + MeterName, F: FaultSource + Drop, G: Gate + Drop, B: Journale
         pass: &mut Pass<N>,
         socket: SocketId,
     ) -> Result<Closed, StationRefusal>
-        ensures called { Called reply.Closed self.now.number pass.old (event.Close socket) result pass.new }
+        ensures called { Called reply.Closed self.now.number pass.old
+            (event.Close socket) result pass.new }
         ensures answered { Answered F reply.Closed self.now (event.Close socket) result }
     {
         match self.call(rt, alloc, pass, Event::Close(socket))? {
@@ -73,8 +75,10 @@ impl<N: RollName + MeterName, F: FaultSource + Drop, G: Gate + Drop, B: Journale
         socket: SocketId,
         filters: &FilterSet,
     ) -> Result<(), StationRefusal>
-        ensures called { Called done_reply self.now.number pass.old (event.SetFilters socket filters.now) result pass.new }
-        ensures answered { Answered F done_reply self.now (event.SetFilters socket filters.now) result }
+        ensures called { Called done_reply self.now.number pass.old
+            (event.SetFilters socket filters.now) result pass.new }
+        ensures answered { Answered F done_reply self.now
+            (event.SetFilters socket filters.now) result }
     {
         let Ok(copy) = filters.try_copy(alloc) else {
             return Err(StationRefusal::Bus(Refusal::NoMemory));
@@ -95,7 +99,8 @@ impl<N: RollName + MeterName, F: FaultSource + Drop, G: Gate + Drop, B: Journale
         socket: SocketId,
         option: Opt,
     ) -> Result<(), StationRefusal>
-        ensures called { Called done_reply self.now.number pass.old (event.SetOption socket option) result pass.new }
+        ensures called { Called done_reply self.now.number pass.old
+            (event.SetOption socket option) result pass.new }
         ensures answered { Answered F done_reply self.now (event.SetOption socket option) result }
     {
         match self.call(rt, alloc, pass, Event::SetOption(socket, option))? {
@@ -115,7 +120,8 @@ impl<N: RollName + MeterName, F: FaultSource + Drop, G: Gate + Drop, B: Journale
         socket: SocketId,
         frame: Frame,
     ) -> Result<u64, StationRefusal>
-        ensures called { Called reply.Sent self.now.number pass.old (event.Send socket frame) result pass.new }
+        ensures called { Called reply.Sent self.now.number pass.old
+            (event.Send socket frame) result pass.new }
         ensures answered { Answered F reply.Sent self.now (event.Send socket frame) result }
     {
         match self.call(rt, alloc, pass, Event::Send(socket, frame))? {
@@ -133,7 +139,8 @@ impl<N: RollName + MeterName, F: FaultSource + Drop, G: Gate + Drop, B: Journale
         pass: &mut Pass<N>,
         socket: SocketId,
     ) -> Result<Option<Received>, StationRefusal>
-        ensures called { Called reply.Received self.now.number pass.old (event.Receive socket) result pass.new }
+        ensures called { Called reply.Received self.now.number pass.old
+            (event.Receive socket) result pass.new }
         ensures answered { Answered F reply.Received self.now (event.Receive socket) result }
     {
         match self.call(rt, alloc, pass, Event::Receive(socket))? {
@@ -154,7 +161,8 @@ impl<N: RollName + MeterName, F: FaultSource + Drop, G: Gate + Drop, B: Journale
         moment: Moment,
         verdict: Verdict,
     ) -> Result<Attempt, StationRefusal>
-        ensures called { Called told_attempt self.now.number pass.old (event.Attempt moment verdict) result pass.new }
+        ensures called { Called told_attempt self.now.number pass.old
+            (event.Attempt moment verdict) result pass.new }
         ensures answered { Answered F told_attempt self.now (event.Attempt moment verdict) result }
     {
         let reply = self.call(rt, alloc, pass, Event::Attempt(moment, verdict))?;
@@ -171,7 +179,8 @@ impl<N: RollName + MeterName, F: FaultSource + Drop, G: Gate + Drop, B: Journale
         iface: Iface,
         moment: Moment,
     ) -> Result<(), StationRefusal>
-        ensures called { Called done_reply self.now.number pass.old (event.Restart iface moment) result pass.new }
+        ensures called { Called done_reply self.now.number pass.old
+            (event.Restart iface moment) result pass.new }
         ensures answered { Answered F done_reply self.now (event.Restart iface moment) result }
     {
         match self.call(rt, alloc, pass, Event::Restart(iface, moment))? {

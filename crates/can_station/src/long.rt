@@ -93,7 +93,8 @@ impl<N: RollName + MeterName, F: FaultSource + Drop, G: Gate + Drop, B: Journale
     ) -> Result<(), WrongStation>
         ensures taken { OnOk result (InSome F self.now (λ held.
             HasTail held.journal.history block.new.entries.entries block.new.start)) }
-        ensures scroll { OnOk result (scroll.new ≡ scroll_with block.new.entries.entries scroll.old) }
+        ensures scroll { OnOk result (scroll.new
+            ≡ scroll_with block.new.entries.entries scroll.old) }
         ensures own { OnOk result (scroll.old.number ≡ self.now.number) }
         ensures wrong { OnErr result (scroll.old.number ≢ self.now.number) }
         ensures same { OnErr result ((scroll.new ≡ scroll.old) × (block.new ≡ block.old)) }

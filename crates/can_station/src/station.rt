@@ -362,7 +362,8 @@ impl<N: RollName + MeterName, F: FaultSource + Drop, G: Gate + Drop, B: Journale
         ensures settled { IfOk result (λ s. SettlesIn (B.left s.history) s.passes passes.items) }
         ensures config { IfOk result (λ s. (B.left s.history).config ≡ self.config) }
         ensures gauges { IfOk result (λ s. AreTrue (B.left s.history) gauges.items) }
-        ensures refused { TakesBackScroll self.number scroll.number passes.items gauges.items result }
+        ensures refused { TakesBackScroll self.number
+            scroll.number passes.items gauges.items result }
     {
         self.into_state(rt).settle_scroll(scroll, passes, gauges)
     }

@@ -190,7 +190,8 @@ impl<N: RollName + MeterName, F: FaultSource + Drop, B: Journaled> StationState<
     /// entry until some are taken: then nothing changes.
     pub fn call(&mut self, alloc: Global, slip: &mut Slip<N>, event: &Event) -> Option<Reply>
         requires { slip.old.number ≡ self.old.number }
-        ensures carried { IfSome result (λ r. IsCarriedOut self.old slip.old event.now r self.new slip.new) }
+        ensures carried { IfSome result (λ r.
+            IsCarriedOut self.old slip.old event.now r self.new slip.new) }
         ensures suits { IfSome result (λ r. Suits event.now r) }
         ensures place { IfNone result (HasNoPlace B.journal B.places_in self.old.journal) }
         ensures none { IfNone result ((self.new ≡ self.old) × (slip.new ≡ slip.old)) }
@@ -217,7 +218,8 @@ impl<N: RollName + MeterName, F: FaultSource + Drop, B: Journaled> StationState<
         room: &mut Received,
     ) -> Option<Result<bool, Refusal>>
         requires { slip.old.number ≡ self.old.number }
-        ensures carried { IfSome result (λ r. IsReceived self.old slip.old socket room.new r self.new slip.new) }
+        ensures carried { IfSome result (λ r.
+            IsReceived self.old slip.old socket room.new r self.new slip.new) }
         ensures stays { result ≢ Some (Ok true) → room.new ≡ room.old }
         ensures place { IfNone result (HasNoPlace B.journal B.places_in self.old.journal) }
         ensures none { IfNone result ((self.new ≡ self.old) × (slip.new ≡ slip.old)) }
@@ -242,7 +244,8 @@ impl<N: RollName + MeterName, F: FaultSource + Drop, B: Journaled> StationState<
     ) -> Option<(Verdict, Reply)>
         requires { slip.old.number ≡ self.old.number }
         ensures verdict { IfSome result (λ r. r.0 ≡ next_verdict F.verdicts self.old) }
-        ensures carried { IfSome result (λ r. IsStepped F.verdicts self.old slip.old moment r.1 self.new slip.new) }
+        ensures carried { IfSome result (λ r.
+            IsStepped F.verdicts self.old slip.old moment r.1 self.new slip.new) }
         ensures source { F.verdicts self.new.source ≡ F.verdicts self.old.source }
         ensures suits { IfSome result (λ r. Suits (event.Attempt moment r.0) r.1) }
         ensures place { IfNone result (HasNoPlace B.journal B.places_in self.old.journal) }
@@ -449,7 +452,8 @@ impl<N: RollName + MeterName, F: FaultSource + Drop, B: Journaled> StationState<
         ensures scroll { IfOk result (λ s. scroll.entries ≡ B.handed_by s.history) }
         ensures settled { IfOk result (λ s. SettlesIn (B.left s.history) s.passes passes.items) }
         ensures gauges { IfOk result (λ s. AreTrue (B.left s.history) gauges.items) }
-        ensures refused { TakesBackScroll self.number scroll.number passes.items gauges.items result }
+        ensures refused { TakesBackScroll self.number
+            scroll.number passes.items gauges.items result }
     {
         let StationState {
             bus,
