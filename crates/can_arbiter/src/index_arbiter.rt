@@ -26,7 +26,8 @@ fn rank(iface: Iface, key: u32) -> u64
 
 /// The place of the interface's rank in a row, if it has one there.
 fn place_of(row: &[u64], iface: Iface) -> Option<usize>
-    ensures some { IfSome result (λ place. (place < length row.now) × (slice_index row.now place % 16 ≡ iface)) }
+    ensures some { IfSome result (λ place. (place < length row.now)
+        × (slice_index row.now place % 16 ≡ iface)) }
     ensures none { IsNone result → key_in row.now iface ≡ None }
 {
     let number = u64::from(iface.number());

@@ -104,7 +104,8 @@ impl Counters {
     /// passive.
     pub fn ack_error(self) -> Counters
         requires { self.tec < 256 }
-        ensures { result ≡ (if is_passive (state_of self) then self else stepped self TransmitError) }
+        ensures { result
+            ≡ (if is_passive (state_of self) then self else stepped self TransmitError) }
     {
         if self.state().is_passive() {
             self

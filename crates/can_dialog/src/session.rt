@@ -106,7 +106,8 @@ impl Session {
     /// Refusals: `Ended`, `Write`.
     pub fn greet<W: Write>(&mut self, out: &mut W) -> Result<(), SessionFault>
         requires { IsNotRaw self.old.dialog.stage }
-        ensures said { OnOk result (Wrote W.contents out.old greeting out.new × (self.new ≡ self.old)) }
+        ensures said { OnOk result (Wrote W.contents out.old greeting out.new
+            × (self.new ≡ self.old)) }
         ensures ended { (result ≡ Err SessionFault.Ended) ↔ IsSessionOver self.old }
         ensures nothing { result ≡ Err SessionFault.Ended →
             (self.new ≡ self.old) × (out.new ≡ out.old) }
@@ -250,7 +251,8 @@ impl Session {
     /// Ends the session: a raw socket is closed, and where the port refuses that, the session is over all
     /// the same. Refusal: `Ended`.
     pub fn end<P: Port>(&mut self, port: &mut P) -> Result<(), SessionFault>
-        ensures done { OnOk result (Finishes P.step self.old.dialog port.old port.new self.new.dialog) }
+        ensures done { OnOk result
+            (Finishes P.step self.old.dialog port.old port.new self.new.dialog) }
         ensures keeps { OnOk result (self.new.kept ≡ self.old.kept) }
         ensures ended { (result ≡ Err SessionFault.Ended) ↔ IsSessionOver self.old }
         ensures nothing { result ≡ Err SessionFault.Ended →

@@ -26,7 +26,8 @@ pub fn bus_off_has_its_own_class()
 pub fn counts_are_in_their_bytes()
     ensures { (old new : ErrorCounts) →
         is_off (state_of new) ≡ false →
-        IfSome (state_message old new) (λ e. (slice_index e.bytes 6 ≡ new.tec) × (slice_index e.bytes 7 ≡ new.rec)) }
+        IfSome (state_message old new) (λ e. (slice_index e.bytes 6 ≡ new.tec)
+        × (slice_index e.bytes 7 ≡ new.rec)) }
 {}
 
 /// In an attempt without a fault none is reported.

@@ -37,14 +37,16 @@ pub fn a_set_has_the_interfaces_that_are_named()
 
 /// A script has for an attempt exactly the verdict that one of its lines gives.
 pub fn a_script_is_what_its_lines_say()
-    ensures { (names : List (List ℕ)) (text : List ℕ) (verdicts : VerdictMap) (attempt : ℕ) (verdict : Verdict) →
+    ensures { (names : List (List ℕ)) (text : List ℕ)
+        (verdicts : VerdictMap) (attempt : ℕ) (verdict : Verdict) →
         script_spelling names text ≡ Ok verdicts →
         (get verdicts attempt ≡ Some verdict) ↔ Gives (sayings names text) attempt verdict }
 {}
 
 /// No two lines of a script give a verdict to one attempt.
 pub fn no_attempt_has_two_verdicts()
-    ensures { (names : List (List ℕ)) (text : List ℕ) (verdicts : VerdictMap) (first second attempt : ℕ) (one other : Verdict) →
+    ensures { (names : List (List ℕ)) (text : List ℕ) (verdicts : VerdictMap)
+        (first second attempt : ℕ) (one other : Verdict) →
         script_spelling names text ≡ Ok verdicts →
         slice_get (sayings names text) first ≡ Some (Ok (Some (attempt, one))) →
         slice_get (sayings names text) second ≡ Some (Ok (Some (attempt, other))) → first ≡ second }

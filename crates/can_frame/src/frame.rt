@@ -54,7 +54,8 @@ impl Model for Frame {
 impl Frame {
     /// A data frame of at most 8 bytes.
     pub fn data(id: CanId, bytes: &[u8]) -> Result<Frame, TooLong>
-        ensures { OkIff result (length bytes.now ≤ 8) (record { id = id; payload = Data bytes.now }) }
+        ensures { OkIff result (length bytes.now ≤ 8)
+            (record { id = id; payload = Data bytes.now }) }
     {
         if bytes.len() > 8 {
             return Err(TooLong);

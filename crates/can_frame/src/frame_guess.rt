@@ -107,7 +107,8 @@ fn frame(id: CanId, text: &[u8]) -> Option<Item>
 }
 
 fn remote_frame(id: CanId, text: &[u8]) -> Option<Frame>
-    ensures { result ≡ option_map (λ len. record { id = id; payload = Remote len }) (request_in text.now) }
+    ensures { result
+        ≡ option_map (λ len. record { id = id; payload = Remote len }) (request_in text.now) }
 {
     Frame::remote(id, requested_len(text)?).ok()
 }
@@ -129,7 +130,8 @@ fn requested_len(text: &[u8]) -> Option<u8>
 
 #[tactic(auto, unfolding(crate::specs::FrameGuess::data_in, crate::specs::FrameGuess::bytes_in))]
 fn data_frame(id: CanId, text: &[u8]) -> Option<Frame>
-    ensures { result ≡ option_map (λ bytes. record { id = id; payload = Data bytes }) (data_in text.now) }
+    ensures { result
+        ≡ option_map (λ bytes. record { id = id; payload = Data bytes }) (data_in text.now) }
 {
     let len = text.len() / 2;
     if len > 8 {

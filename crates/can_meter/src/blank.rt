@@ -50,7 +50,8 @@ impl Model for MeterBlank {
 
     ghost view = { λ b. b.table.shared.table_id };
 
-    ghost invariant = { λ b. IsSeated b.table.shared.table_id b.table.shared.key b.seat.table_id b.seat.me b.table.shared.table_id (Keeps [] []) };
+    ghost invariant = { λ b. IsSeated b.table.shared.table_id b.table.shared.key
+        b.seat.table_id b.seat.me b.table.shared.table_id (Keeps [] []) };
 }
 
 impl MeterBlank {

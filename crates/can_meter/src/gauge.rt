@@ -32,7 +32,9 @@ impl<N: MeterName> Model for Gauge<N> {
 
     ghost view = { λ g. readings g.number (N.meter g.number).words (lists_of g.seat.me.0) };
 
-    ghost invariant = { λ g. IsSeated (arc_value g.table).shared.table_id (arc_value g.table).shared.key g.seat.table_id g.seat.me (N.meter g.number) (Watches (lists_of g.seat.me.0) []) };
+    ghost invariant = { λ g. IsSeated
+        (arc_value g.table).shared.table_id (arc_value g.table).shared.key
+        g.seat.table_id g.seat.me (N.meter g.number) (Watches (lists_of g.seat.me.0) []) };
 }
 
 impl<N: MeterName> Gauge<N> {
@@ -64,7 +66,8 @@ impl<N: MeterName> Gauge<N> {
 
     /// Two gauges that have seen as much as this one. Only this one comes back if `another` is refused.
     pub fn split(mut self) -> Result<(Gauge<N>, Gauge<N>), Gauge<N>>
-        ensures { MatchResult result (λ gauges. (gauges.0 ≡ self) × (gauges.1 ≡ self)) (λ gauge. gauge ≡ self) }
+        ensures { MatchResult result
+            (λ gauges. (gauges.0 ≡ self) × (gauges.1 ≡ self)) (λ gauge. gauge ≡ self) }
     {
         match self.another() {
             Ok(other) => Ok((self, other)),

@@ -33,7 +33,9 @@ impl<N: MeterName> Model for Keeper<N> {
 
     ghost view = { λ k. readings k.number (N.meter k.number).words (lists_of k.seat.me.0) };
 
-    ghost invariant = { λ k. IsSeated (arc_value k.table).shared.table_id (arc_value k.table).shared.key k.seat.table_id k.seat.me (N.meter k.number) (Keeps (lists_of k.seat.me.0) []) };
+    ghost invariant = { λ k. IsSeated
+        (arc_value k.table).shared.table_id (arc_value k.table).shared.key
+        k.seat.table_id k.seat.me (N.meter k.number) (Keeps (lists_of k.seat.me.0) []) };
 }
 
 impl<N: MeterName> Keeper<N> {
@@ -56,7 +58,8 @@ impl<N: MeterName> Keeper<N> {
     pub fn publish(&mut self, iface: usize, at: u32, counters: Counters)
         requires iface { iface < self.old.ifaces }
         requires later { (newest (published self.old.lists iface)).at < at }
-        ensures { self.new ≡ after_publishing self.old iface (record { at = at; counters = counters }) }
+        ensures { self.new
+            ≡ after_publishing self.old iface (record { at = at; counters = counters }) }
     {
         let word = word(Status { at, counters });
         self.table

@@ -60,7 +60,8 @@ pub fn names_tell_apart()
         reply_text answer ≡ interfaces_text names → ⊥ }
     ensures no_item { (errdata : Bool) (i : AnItem) (m : ℕ) (names : List (List ℕ)) →
         item_text errdata i m ≡ interfaces_text names → ⊥ }
-    ensures no_item_from { (errdata : Bool) (o : AnOrigin) (i : AnItem) (m : ℕ) (names : List (List ℕ)) →
+    ensures no_item_from { (errdata : Bool) (o : AnOrigin) (i : AnItem)
+        (m : ℕ) (names : List (List ℕ)) →
         item_text_from errdata o i m ≡ interfaces_text names → ⊥ }
 {}
 
@@ -82,6 +83,7 @@ pub fn answers_tell_apart()
         IsAnswer one → IsAnswer other → reply_text one ≡ reply_text other → AreAlike one other }
     ensures no_item { (answer : AnAnswer) (errdata : Bool) (i : AnItem) (m : ℕ) →
         IsAnswer answer → reply_text answer ≡ item_text errdata i m → ⊥ }
-    ensures no_item_from { (answer : AnAnswer) (errdata : Bool) (o : AnOrigin) (i : AnItem) (m : ℕ) →
+    ensures no_item_from { (answer : AnAnswer) (errdata : Bool)
+        (o : AnOrigin) (i : AnItem) (m : ℕ) →
         IsAnswer answer → reply_text answer ≡ item_text_from errdata o i m → ⊥ }
 {}

@@ -120,7 +120,8 @@ fn at_mark(
     requires mark { is_mark (slice_index piece.now i) ≡ true }
     requires within { IsWithin place i }
     requires was { IsKept (text_at held.now piece.now i place) }
-    ensures { IfOk result (ReadsUpTo held.now piece.now i place (i + 1) out.old.items out.new.items) }
+    ensures { IfOk result
+        (ReadsUpTo held.now piece.now i place (i + 1) out.old.items out.new.items) }
 {
     if piece[i] == b'<' {
         return Ok(RunStart::At(i + 1));

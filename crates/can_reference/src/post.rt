@@ -105,7 +105,8 @@ fn attempt_posts(
     iface: Iface,
 ) -> Result<Vec<Post>, AllocError>
     ensures { ReturnsList result
-        (attempt_posts reporting (transmission_of attempted.now) attempted.now.tried pending iface) }
+        (attempt_posts reporting (transmission_of attempted.now)
+        attempted.now.tried pending iface) }
 {
     let moment = attempted.tried().moment;
     let mut posts = Vec::new(alloc);

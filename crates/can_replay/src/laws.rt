@@ -16,7 +16,8 @@ use can_bus::BusConfig;
 /// A bus that is never refused memory answers a list of events as the slow answer does.
 pub fn a_bus_answers_so(config: BusConfig)
     ensures { (past : List Entry) (events : List Event) (replies : List Reply) →
-        AreAnswers config past events replies → HadMemory replies → replies ≡ replies_after config past events }
+        AreAnswers config past events replies → HadMemory replies →
+        replies ≡ replies_after config past events }
 {}
 
 /// A legal history has no wrong entry, and of other entries at most one is the first wrong one: what an audit

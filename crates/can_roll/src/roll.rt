@@ -55,7 +55,8 @@ impl Model for WordBlank {
 
     ghost view = { λ b. b.table.shared.table_id };
 
-    ghost invariant = { λ b. (b.seat.table_id ≡ b.table.shared.table_id) × (b.seat.me ≡ (OfRoll [] [] [], [])) × (b.table.shared.table_id.words ≡ 1) };
+    ghost invariant = { λ b. (b.seat.table_id ≡ b.table.shared.table_id)
+        × (b.seat.me ≡ (OfRoll [] [] [], [])) × (b.table.shared.table_id.words ≡ 1) };
 }
 
 /// The calls of each pass. To a contract it is its number, the list of calls of each pass with the newest in
@@ -75,9 +76,15 @@ impl<N: RollName> Model for Roll<N> {
 
     ghost Value = { RollSeen };
 
-    ghost view = { λ r. record { number = r.number; lists = lists_of r.seat.me.0; called = called_of r.seat.me.0 } };
+    ghost view = { λ r. record {
+      number = r.number;
+      lists = lists_of r.seat.me.0;
+      called = called_of r.seat.me.0;
+    } };
 
-    ghost invariant = { λ r. IsAtTable (N.roll r.number).passes r.table.shared.table_id r.seat.table_id × IsRollSeat r.seat.me r.passes };
+    ghost invariant = { λ r.
+        IsAtTable (N.roll r.number).passes r.table.shared.table_id r.seat.table_id
+        × IsRollSeat r.seat.me r.passes };
 }
 
 /// A roll without passes and its scroll, for [`Roll::new`] or [`roll_with_scroll`](crate::roll_with_scroll). It fails only
@@ -220,7 +227,8 @@ impl<N: RollName> Roll<N> {
     fn note_last<C: Says>(&mut self, event: &Event, reply: &Reply)
         requires said { C.said ≡ entry_of event.now reply.now ∷ [] }
         requires some_in { 0 < length self.old.called }
-        ensures { self.new ≡ with_call (last_of self.old.called) (entry_of event.now reply.now) self.old }
+        ensures { self.new
+            ≡ with_call (last_of self.old.called) (entry_of event.now reply.now) self.old }
     {
         let table = &self.table;
         table.shared.load::<Note<C>>(&mut self.seat, 0);
@@ -230,7 +238,8 @@ impl<N: RollName> Roll<N> {
     fn note_all_last<C: Says>(&mut self, calls: &PackedRecord)
         requires said { C.said ≡ reverse calls.now.entries }
         requires some_in { 0 < length self.old.called }
-        ensures { self.new ≡ with_calls (last_of self.old.called) (reverse calls.now.entries) self.old }
+        ensures { self.new
+            ≡ with_calls (last_of self.old.called) (reverse calls.now.entries) self.old }
     {
         let table = &self.table;
         table.shared.load::<Note<C>>(&mut self.seat, 0);
@@ -239,7 +248,8 @@ impl<N: RollName> Roll<N> {
     // Sends the pass that was called in last out again, and gives the badge of its slip.
     fn send_last(&mut self) -> Badge<View>
         requires { 0 < length self.old.called }
-        ensures roll { self.new ≡ roll_seen self.old.number self.old.lists (without_last self.old.called) }
+        ensures roll { self.new
+            ≡ roll_seen self.old.number self.old.lists (without_last self.old.called) }
         ensures table { result.table_id ≡ (N.roll self.old.number).passes }
         ensures views { result.views ≡ slip_view self.old.lists (last_of self.old.called) ∷ [] }
     {

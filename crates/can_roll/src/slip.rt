@@ -21,9 +21,11 @@ impl<N: RollName> Model for Slip<N> {
 
     ghost Value = { SlipSeen };
 
-    ghost view = { λ s. record { number = s.number; pass = s.pass; calls = calls_of (view_in s.badge.views) } };
+    ghost view = { λ s.
+        record { number = s.number; pass = s.pass; calls = calls_of (view_in s.badge.views) } };
 
-    ghost invariant = { λ s. IsSlipBadge (N.roll s.number).passes s.pass s.badge.table_id s.badge.views };
+    ghost invariant = { λ s.
+        IsSlipBadge (N.roll s.number).passes s.pass s.badge.table_id s.badge.views };
 }
 
 impl<N: RollName> Slip<N> {

@@ -165,7 +165,8 @@ impl<'a, N: RollName + MeterName, F: FaultSource + Drop, G: Gate + Drop, R: Wait
     /// Ends the session.
     pub fn end(&mut self)
         ensures opening { self.new.opening ≡ self.old.opening }
-        ensures ends { Ends (PassStep F) self.old.session self.old.port self.new.session self.new.port }
+        ensures ends { Ends (PassStep F) self.old.session self.old.port
+            self.new.session self.new.port }
     {
         let _ = self.session.end(&mut self.port);
     }

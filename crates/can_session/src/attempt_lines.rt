@@ -15,7 +15,8 @@ pub fn put_attempt(
     when: Option<Moment>,
     outcome: &Result<Attempt, Refusal>,
 ) -> Result<(), AllocError>
-    ensures { OnOk result (said.new.items ≡ said.old.items ++ attempt_line names.now when outcome.now) }
+    ensures { OnOk result (said.new.items ≡ said.old.items
+        ++ attempt_line names.now when outcome.now) }
 {
     match outcome {
         Ok(Attempt::Tried(tried)) => put_tried(said, names, when, tried),
@@ -107,7 +108,8 @@ fn put_restarted(said: &mut Vec<u8>, names: &Names, restarted: IfaceSet) -> Resu
 }
 
 fn put_name(said: &mut Vec<u8>, names: &Names, iface: Iface) -> Result<(), AllocError>
-    ensures { OnOk result (said.new.items ≡ said.old.items ++ name_text (slice_get names.now iface)) }
+    ensures { OnOk result (said.new.items ≡ said.old.items
+        ++ name_text (slice_get names.now iface)) }
 {
     match names.name(iface) {
         Some(name) => said.extend_from_slice(name.as_bytes()),
@@ -167,7 +169,8 @@ fn put_run(
 ) -> Result<(), AllocError>
     requires some { first < end }
     requires within { end ≤ length names.now }
-    ensures { OnOk result (said.new.items ≡ said.old.items ++ run_text is_first names.now first end) }
+    ensures { OnOk result (said.new.items ≡ said.old.items
+        ++ run_text is_first names.now first end) }
 {
     if !is_first {
         said.extend_from_slice(b",")?;

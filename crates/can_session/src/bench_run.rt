@@ -75,7 +75,8 @@ pub fn bench<F: FaultSource + Drop, R: Read + Drop, W: Write>(
     ensures untouched { result ≡ Err BenchFault.BadConfig → out.new ≡ out.old }
     ensures runs { result ≢ Err BenchFault.BadConfig →
         EndsOver W.contents (F.verdicts config.script) (R.remaining input)
-        (at_start config.timing config.names config.config config.rx_capacity) out.old result out.new }
+        (at_start config.timing config.names config.config config.rx_capacity)
+        out.old result out.new }
     ensures good { OnOk result (IsBench config.names config.config config.rx_capacity) }
     ensures config { IfOk result (λ r. r.config ≡ config.config) }
     ensures legal { IfOk result (λ r. IsLegal r.config r.history) }
@@ -143,7 +144,8 @@ pub fn bench_lines<F: FaultSource + Drop, R: Read + Drop, W: Write>(
         (out.new ≡ out.old) × (lines.new ≡ lines.old) }
     ensures runs { result ≢ Err BenchFault.BadConfig →
         Ends IsRecordOf W.contents (F.verdicts config.script) lines.old.coming
-        (at_start config.timing config.names config.config config.rx_capacity) out.old result lines.new out.new }
+        (at_start config.timing config.names config.config config.rx_capacity)
+        out.old result lines.new out.new }
     ensures good { OnOk result (IsBench config.names config.config config.rx_capacity) }
     ensures config { IfOk result (λ r. r.config ≡ config.config) }
     ensures legal { IfOk result (λ r. IsLegal r.config r.history) }

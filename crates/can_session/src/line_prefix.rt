@@ -20,7 +20,8 @@ pub fn begin_output(said: &mut Vec<u8>, session: SessionNumber) -> Result<usize,
 /// Puts LF after the words of a session, or removes all if it said none. `begun` bytes come before its words.
 pub fn end_output(said: &mut Vec<u8>, begun: usize) -> Result<(), AllocError>
     ensures none { length said.old.items ≡ begun → said.new.items ≡ [] }
-    ensures some { OnOk result (begun < length said.old.items → said.new.items ≡ said.old.items ++ 10 ∷ []) }
+    ensures some { OnOk result (begun < length said.old.items →
+        said.new.items ≡ said.old.items ++ 10 ∷ []) }
 {
     if said.len() == begun {
         said.clear();

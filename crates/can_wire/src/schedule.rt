@@ -29,7 +29,8 @@ impl Model for Schedule {
 
     ghost view = { λ s. record { wire = s.wire; since = s.since; last = s.last; load = s.load } };
 
-    ghost inverse = { λ v. record { wire = v.wire; since = v.since; last = v.last; load = v.load } };
+    ghost inverse = { λ v.
+        record { wire = v.wire; since = v.since; last = v.last; load = v.load } };
 }
 
 impl Schedule {

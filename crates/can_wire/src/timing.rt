@@ -34,7 +34,8 @@ impl Timing {
     /// A nominal bit rate, and one for data, to which FD frames with BRS switch. Without the second all bits go at the
     /// nominal bit rate.
     pub fn new(nominal: u32, fast: Option<u32>) -> Result<Timing, BadBitRates>
-        ensures { OkIff result (AreBitRates (timing_of nominal fast).rates) (timing_of nominal fast) }
+        ensures { OkIff result (AreBitRates (timing_of nominal fast).rates)
+            (timing_of nominal fast) }
     {
         Ok(Timing {
             rates: Rates::new(nominal, fast.unwrap_or(nominal))?,

@@ -42,7 +42,8 @@ pub fn run_words<
     errors: &mut E,
 ) -> u8
     ensures status { result ≤ 2 }
-    ensures done { result ≡ 0 → Succeeds (writer_contents W.contents) (map string_bytes words.now) (R.remaining input) output.old output.new }
+    ensures done { result ≡ 0 → Succeeds (writer_contents W.contents)
+        (map string_bytes words.now) (R.remaining input) output.old output.new }
     ensures flushed { result ≡ 0 → writer_buffer output.new ≡ [] }
     ensures words { result ≡ 2 → ¬ (AskJob (map string_bytes words.now)) }
 {
@@ -62,7 +63,8 @@ fn carry_out<H: ServerRuntime, R: Read + Drop + Send + 'static, W: Write + Drop,
     errors: &mut E,
 ) -> u8
     ensures status { result ≤ 1 }
-    ensures done { result ≡ 0 → IsDone (writer_contents W.contents) job.entry (R.remaining input) output.old output.new }
+    ensures done { result ≡ 0 →
+        IsDone (writer_contents W.contents) job.entry (R.remaining input) output.old output.new }
     ensures flushed { result ≡ 0 → writer_buffer output.new ≡ [] }
 {
     let mut ignored = IgnoredInput::none();
@@ -88,7 +90,8 @@ fn do_job<'a, H: ServerRuntime, R: Read + Drop + Send + 'static, W: Write + Drop
     errors: &mut E,
     ignored: &mut IgnoredInput,
 ) -> Result<bool, Report<'a>>
-    ensures { IfOk result (λ whole. IsTrue whole → IsDone (writer_contents W.contents) job.entry (R.remaining input) output.old output.new) }
+    ensures { IfOk result (λ whole. IsTrue whole →
+        IsDone (writer_contents W.contents) job.entry (R.remaining input) output.old output.new) }
 {
     match job {
         Job::Bench(options) => run_bench(rt, alloc, &options, input, output, ignored)?,
@@ -131,7 +134,8 @@ fn finish<W: Write + Drop, E: Write>(
     ensures status { result ≤ 1 }
     ensures done { result ≡ 0 → IsOk outcome.entry }
     ensures flushed { result ≡ 0 → writer_buffer output.new ≡ [] }
-    ensures kept { Keeps (writer_contents W.contents output.old) (writer_contents W.contents output.new) }
+    ensures kept { Keeps (writer_contents W.contents output.old)
+        (writer_contents W.contents output.new) }
 {
     if let Err(error) = output.flush() {
         let late = write_failure(alloc, OUTPUT, &error);

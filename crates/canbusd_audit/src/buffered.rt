@@ -26,7 +26,8 @@ pub fn take_held<R: BufRead>(
     audit: &mut TextAudit,
     lines: &mut u64,
 ) -> io::Result<Buffered>
-    ensures { IfOk result (λ held. BecomesOf held (R.remaining input.old) (R.remaining input.new) audit.old audit.new) }
+    ensures { IfOk result (λ held.
+        BecomesOf held (R.remaining input.old) (R.remaining input.new) audit.old audit.new) }
 {
     let held = match input.fill_buf() {
         Ok(held) => held,

@@ -169,7 +169,8 @@ fn next_line<'a, R: BufRead>(
     input: &mut R,
     line: &mut Vec<u8>,
 ) -> Result<bool, Report<'a>>
-    ensures read { IfOk result (λ is. IsNextLine is (R.remaining input.old) (R.remaining input.new) line.new.items) }
+    ensures read { IfOk result (λ is.
+        IsNextLine is (R.remaining input.old) (R.remaining input.new) line.new.items) }
     ensures fault { IfErr result (λ failure. IsOfReading failure.error) }
 {
     line.clear();

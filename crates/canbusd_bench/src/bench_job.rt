@@ -46,7 +46,8 @@ pub fn run_bench<'a, H: Files, R: Read + Drop, W: Write>(
     output: &mut W,
     ignored: &mut IgnoredInput,
 ) -> Result<(), Report<'a>>
-    ensures done { OnOk result (IsBenched W.contents options.now (R.remaining input) output.old output.new) }
+    ensures done { OnOk result
+        (IsBenched W.contents options.now (R.remaining input) output.old output.new) }
     ensures fault { IfErr result (λ failure.
         FailsAs W.contents options.now (R.remaining input) output.old failure.error output.new) }
 {

@@ -99,7 +99,8 @@ impl<'w, W> Watch<'w, W> {
 }
 
 impl<W: Write> Write for Watch<'_, W> {
-    ghost contents = { λ w. told w.writer.ghost_name w.is_on w.written w.seen (W.contents w.writer.now) };
+    ghost contents = { λ w.
+        told w.writer.ghost_name w.is_on w.written w.seen (W.contents w.writer.now) };
 
     fn write(&mut self, piece: &[u8]) -> io::Result<usize> {
         if self.is_on && self.written.checked_add(piece.len() as u64).is_none() {

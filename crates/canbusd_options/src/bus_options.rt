@@ -81,7 +81,8 @@ pub fn settings_given(
     limit: &str,
 ) -> Result<BusSettings, Error>
     ensures given { IfOk result (λ settings. AreSettings (rows_in matches.now) limit.now settings) }
-    ensures taken { IfErr result (λ e. GiveSettings (rows_in matches.now) limit.now → IsNoMemory e) }
+    ensures taken { IfErr result (λ e. GiveSettings (rows_in matches.now) limit.now →
+        IsNoMemory e) }
     ensures refused { IfErr result RefusesValue }
 {
     Ok(BusSettings {

@@ -93,7 +93,8 @@ impl Recording {
 /// When records are written. A fault of the words where another option does not go with it.
 #[tactic(auto, using(crate::proofs::Rules::text_in_rows))]
 pub fn recording_given(alloc: Global, serve: &ArgMatches<'_>) -> Result<Recording, Error>
-    ensures given { IfOk result (λ r. given (rows_in serve.now) (codes "record") ≡ recording_text r) }
+    ensures given { IfOk result (λ r.
+        given (rows_in serve.now) (codes "record") ≡ recording_text r) }
     ensures together { IfOk result (λ r. GoWith r (rows_in serve.now)) }
     ensures taken { IfErr result (λ e. CanRecord (rows_in serve.now) → IsNoMemory e) }
     ensures refused { IfErr result RefusesValue }
