@@ -61,9 +61,10 @@ verdict_back (Local set local.Crc) = refl
 verdict_back (Local set local.Form) = refl
 verdict_back LastBit = refl
 
--- verdicts and their maps, as the logic stores them
+-- verdicts as the logic stores them
 abbrev pub verdict_code : Coded Verdict
 verdict_code = code_by (ℕ × ℕ) (coded× coded_ℕ coded_ℕ) (λ v. (kind_number v, set_in v)) verdict_from verdict_back
 
+-- the same of maps
 abbrev pub verdict_map_code : Coded VerdictMap
 verdict_map_code = code coded_ℕ verdict_code

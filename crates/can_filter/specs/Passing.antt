@@ -12,9 +12,9 @@ pub use Rattle.can_filter.specs.Filters.{matches, passes, everything, receives_a
 abbrev pub shares_class : ℕ → ℕ → Bool
 shares_class class mask = not (bit_and class mask == 0)
 
--- A data frame, a remote one too, has to pass the filters, and the socket's own frames also need recv_own
--- (CAN_RAW_RECV_OWN_MSGS), and an FD frame needs fd (CAN_RAW_FD_FRAMES). An error message frame passes by the
--- error mask (CAN_RAW_ERR_FILTER) only, not to the filters (own choice).
+-- what a socket takes: a data frame, a remote one too, that passes its filters, if it is the socket's own only
+-- with recv_own (CAN_RAW_RECV_OWN_MSGS), and an FD frame only with fd (CAN_RAW_FD_FRAMES); an error message frame
+-- whose class shares a bit with the error mask (CAN_RAW_ERR_FILTER), whatever filters and join are (own choice)
 abbrev pub wants : List CanFilter → Options → Item → Bool → Bool
 wants filters options (Data frame) is_own =
     (passes filters options.join (word_of frame) && (not is_own || options.recv_own))

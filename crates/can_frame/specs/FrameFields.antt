@@ -8,6 +8,7 @@ use Rattle.can_frame.specs.declared.frame.Kind.TheVariants as kind
 
 -- How a frame is kept: 64 bytes, of which the first few count.
 
+-- the payload of this kind and length, of the first bytes that are kept
 abbrev pub payload_of : Kind → ℕ → List ℕ → Payload
 payload_of kind.Data len bytes = Data (take len bytes)
 payload_of kind.Remote len bytes = Remote len
@@ -36,11 +37,13 @@ pub record IsFrame (f : Inside) : Type 0 where
   pub whole : length f.bytes ≡ 64
   pub rest : drop (used f.kind f.len) f.bytes ≡ replicate (64 - used f.kind f.len) 0
 
+-- the kind of a payload: data, a request, or an FD frame with its flags
 abbrev pub kind_of : Payload → Kind
 kind_of (Data bytes) = kind.Data
 kind_of (Remote len) = kind.Remote
 kind_of (Fd flags bytes) = kind.Fd flags
 
+-- its bytes, with zeros after them up to 64
 abbrev pub padded : Payload → List ℕ
 padded (Data bytes) = bytes ++ replicate (64 - length bytes) 0
 padded (Remote len) = replicate 64 0

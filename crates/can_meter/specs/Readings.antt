@@ -10,6 +10,7 @@ pub record Readings : Type 0 where
   pub ifaces : ℕ
   pub lists : List (List Status)
 
+-- the same, made of its parts
 abbrev pub readings : ℕ → ℕ → List (List Status) → Readings
 readings number ifaces lists = record { number = number; ifaces = ifaces; lists = lists }
 

@@ -15,6 +15,7 @@ pub record Head : Type 0 where
   pub winner : ℕ
   pub word : ℕ
 
+-- an attempt that this interface wins, with a frame of this identifier word
 abbrev pub head_of : ℕ → ℕ → Head
 head_of winner word = record { winner = winner; word = word }
 

@@ -114,12 +114,10 @@ Ends {A} {W} leaves contents verdicts input b out (Err (BadLine n)) now new =
     × Ran contents verdicts lines b out after new
     × (n ≡ length lines + 1)
 Ends {A} {W} leaves contents verdicts input b out (Err TooLong) now new =
-    (lines : List (List ℕ)) × (after : BenchState)
-    × ComeBeforeStop line.TooLong input lines now
+    (lines : List (List ℕ)) × (after : BenchState) × ComeBeforeStop line.TooLong input lines now
     × Ran contents verdicts lines b out after new
 Ends {A} {W} leaves contents verdicts input b out (Err Read) now new =
-    (lines : List (List ℕ)) × (after : BenchState)
-    × ComeBeforeStop line.Read input lines now
+    (lines : List (List ℕ)) × (after : BenchState) × ComeBeforeStop line.Read input lines now
     × Ran contents verdicts lines b out after new
 Ends {A} {W} leaves contents verdicts input b out (Err NoMemory) now new =
     (lines : List (List ℕ)) × (after : BenchState) × AreFirst input lines × Ran contents verdicts lines b out after new

@@ -43,6 +43,7 @@ with_bus_rules a =
     (option_rule (codes "bitrate")))
     (option_rule (codes "dbitrate"))
 
+-- `bench BUS`, with its options
 abbrev pub bench_app : App
 bench_app =
     with_rule (with_rule (with_rule (with_rule (with_bus_rules (new_app (codes "bench")))
@@ -51,6 +52,7 @@ bench_app =
     (flag_rule (codes "strict")))
     (word_rule (codes "BUS"))
 
+-- `serve BUS..`, with its options
 abbrev pub serve_app : App
 serve_app =
     with_rule (with_rule (with_rule (with_rule (with_rule (with_rule
@@ -68,6 +70,7 @@ serve_app =
     (flag_rule (codes "verbose")))
     (words_rule (codes "BUS"))
 
+-- `audit FILE..`, with its option
 abbrev pub audit_app : App
 audit_app = with_rule (with_rule (new_app (codes "audit")) (flag_rule (codes "cut"))) (words_rule (codes "FILE"))
 
