@@ -75,8 +75,8 @@ abbrev pub IsFed : ℕ → List ℕ → SessionState → NamedBus → List ℕ �
 IsFed moment bytes = λ old. IsFedAt old.dialog.stage moment bytes old
 
 -- items are given to a session until there is none
-pub record IsDrained (old : SessionState) (p : NamedBus) (text : List ℕ) (new : SessionState) (q : NamedBus) : Type
-    0 where
+pub record IsDrained (old : SessionState) (p : NamedBus) (text : List ℕ) (new : SessionState)
+    (q : NamedBus) : Type 0 where
   pub items : ℕ
   pub before : List ℕ
   pub mid : NamedBus
@@ -87,10 +87,10 @@ pub record IsDrained (old : SessionState) (p : NamedBus) (text : List ℕ) (new 
   pub same : new ≡ old
 
 -- a session ends, and says nothing
-pub record IsEnded (old : SessionState) (p : NamedBus) (text : List ℕ) (new : SessionState) (q : NamedBus) : Type 0
-  where
-    pub ends : Plays BusStep (ending old.dialog.stage old.dialog) p q text new.dialog
-    pub keeps : new.kept ≡ old.kept
+pub record IsEnded (old : SessionState) (p : NamedBus) (text : List ℕ) (new : SessionState)
+    (q : NamedBus) : Type 0 where
+  pub ends : Plays BusStep (ending old.dialog.stage old.dialog) p q text new.dialog
+  pub keeps : new.kept ≡ old.kept
 
 -- session s, which was started before, does this; what it says is put out
 pub record Speaks (does : SessionState → NamedBus → List ℕ → SessionState → NamedBus → Type 0) (s : ℕ)
@@ -177,8 +177,8 @@ NoneFollows verdicts moment b text after =
     ⊎ ((is_due moment b ≡ true) × IsFull b × IsTried verdicts b text after)
 
 -- attempts are made as long as one is due before this moment
-pub record AreMade (verdicts : VerdictMap) (moment : ℕ) (b : BenchState) (text : List ℕ) (after : BenchState) : Type
-    0 where
+pub record AreMade (verdicts : VerdictMap) (moment : ℕ) (b : BenchState) (text : List ℕ)
+    (after : BenchState) : Type 0 where
   pub count : ℕ
   pub before : List ℕ
   pub mid : BenchState
@@ -188,13 +188,13 @@ pub record AreMade (verdicts : VerdictMap) (moment : ℕ) (b : BenchState) (text
   pub said : text ≡ before ++ last
 
 -- the same, and then this moment is set: the bus has bit rates, and the moment that was set is no later
-pub record IsRun (verdicts : VerdictMap) (moment : ℕ) (b : BenchState) (text : List ℕ) (after : BenchState) : Type 0
-  where
-    pub timed : b.wire ≢ None
-    pub ahead : b.moment ≤ moment
-    pub over : BenchState
-    pub made : AreMade verdicts moment b text over
-    pub after_is : after ≡ record over { moment = moment }
+pub record IsRun (verdicts : VerdictMap) (moment : ℕ) (b : BenchState) (text : List ℕ)
+    (after : BenchState) : Type 0 where
+  pub timed : b.wire ≢ None
+  pub ahead : b.moment ≤ moment
+  pub over : BenchState
+  pub made : AreMade verdicts moment b text over
+  pub after_is : after ≡ record over { moment = moment }
 
 -- a bench that cannot run to this moment: its bus has no bit rates, or a later moment is set
 abbrev pub IsWrongRun : ℕ → BenchState → Type 0

@@ -74,11 +74,11 @@ IsNext (Some text) lines line =
     × ((length (spelled lines) + length line < 16777216) ⊎ (length text ≤ 16777216))
 
 -- after these lines of the input comes one of at most 4,096 bytes that the bench refuses
-pub record ComesToRefused (input : Option (List ℕ)) (lines : List (List ℕ)) (now : Input) (b : BenchState) : Type 0
-  where
-    pub next : IsNext input lines now.line
-    pub line : IsLine now.line
-    pub refused : IsRefused (order_of now.line) b
+pub record ComesToRefused (input : Option (List ℕ)) (lines : List (List ℕ)) (now : Input)
+    (b : BenchState) : Type 0 where
+  pub next : IsNext input lines now.line
+  pub line : IsLine now.line
+  pub refused : IsRefused (order_of now.line) b
 
 -- these lines were given of the input before this fault
 abbrev pub ComeBeforeStop : InputFault → Option (List ℕ) → List (List ℕ) → Input → Type 0
