@@ -75,26 +75,14 @@ entry_in frames (kept.SendRefused why len s word bytes) =
 entry_in frames (kept.FdSendRefused why s place) = entry_of (Send s (fd_frame_at frames place)) (reply.Refused why)
 entry_in frames (kept.NothingReceived s) = entry_of (Receive s) (reply.Received None)
 entry_in frames (kept.FrameReceived from len s word number bytes m) =
-    entry_of (Receive s) (reply.Received (Some (record {
-      item = item.Data (frame_in word len bytes);
-      from = from;
-      number = number;
-      moment = m;
-    })))
+    entry_of (Receive s) (reply.Received
+    (Some (record { item = item.Data (frame_in word len bytes); from = from; number = number; moment = m })))
 entry_in frames (kept.FdReceived from s number place m) =
-    entry_of (Receive s) (reply.Received (Some (record {
-      item = item.Data (fd_frame_at frames place);
-      from = from;
-      number = number;
-      moment = m;
-    })))
+    entry_of (Receive s) (reply.Received
+    (Some (record { item = item.Data (fd_frame_at frames place); from = from; number = number; moment = m })))
 entry_in frames (kept.ErrorReceived from s number error m) =
-    entry_of (Receive s) (reply.Received (Some (record {
-      item = item.Error error;
-      from = from;
-      number = number;
-      moment = m;
-    })))
+    entry_of (Receive s) (reply.Received
+    (Some (record { item = item.Error error; from = from; number = number; moment = m })))
 entry_in frames (kept.ReceiveRefused s why) = entry_of (Receive s) (reply.Refused why)
 entry_in frames (kept.Idle restarted v m) = entry_of (Attempt m v) (reply.Idle restarted)
 entry_in frames (kept.Tried end named word number accepted restarted bytes stamp) =
