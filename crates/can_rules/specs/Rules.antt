@@ -59,8 +59,7 @@ given_by rule head = if gives rule head then Some rule.verdict else None
 abbrev pub asked : Rule → Head → Rule
 asked rule head =
     if is_due rule head
-    then (if rule.skip == 0 then record rule { left = one_less rule.left }
-    else record rule { skip = rule.skip - 1 })
+    then (if rule.skip == 0 then record rule { left = one_less rule.left } else record rule { skip = rule.skip - 1 })
     else rule
 
 -- the verdict of an attempt: the rules are looked at in their order, up to the first that gives one
