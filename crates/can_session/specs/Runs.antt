@@ -35,13 +35,12 @@ pub record IsBench (names : List (List ℕ)) (config : BusConfig) (capacity : �
 abbrev pub at_start_with : PlanSeen → Option BusTiming → List (List ℕ) → BusConfig → ℕ → BenchState
 at_start_with plan timing names config capacity = record {
   capacity = capacity;
-  bus =
-      record {
-        names = names;
-        journal = record { config = config; history = [] };
-        plan = plan;
-        used = option_map unused_so_far timing;
-      };
+  bus = record {
+    names = names;
+    journal = record { config = config; history = [] };
+    plan = plan;
+    used = option_map unused_so_far timing;
+  };
   sessions = replicate 64 None;
   moment = 0;
   wire = option_map unused timing;
