@@ -1,18 +1,21 @@
 use Rattle.std.specs.Prelude.{◌≡◌, ℕ, ◌-◌, ◌==◌, ◌<◌, nat_le, Bool, not, ◌&&◌}
-use Rattle.std.specs.Prelude.{List, [], ◌∷◌, length, slice_get, if◌then◌else◌}
+use Rattle.std.specs.Prelude.{List, [], ◌∷◌, length, slice_get, Option, if◌then◌else◌}
 use Rattle.can_frame.specs.Frames.{CanFrame, is_fd}
 use Rattle.can_filter.specs.declared.options.Options.{Options}
 use Rattle.can_event.specs.Events.{max_rx_capacity}
 use Rattle.can_event.specs.declared.bus_config.BusConfig.{BusConfig}
 use Rattle.can_event.specs.declared.entry.Entry.{Entry}
+use Rattle.can_event.specs.declared.received.Received.{Received}
+use Rattle.can_event.specs.declared.socket_id.SocketId.{SocketId}
 use Rattle.can_event.specs.declared.event.Event.{Event}
 use Rattle.can_event.specs.declared.event.Event.TheVariants.{Open, Close, SetFilters, SetOption}
 use Rattle.can_event.specs.declared.event.Event.TheVariants.{Send, Receive, Attempt, Restart}
+use Rattle.can_event.specs.declared.reply.Closed.{Closed}
 use Rattle.can_event.specs.declared.reply.Reply.{Reply}
 use Rattle.can_event.specs.declared.reply.Reply.TheVariants as reply
 use Rattle.can_event.specs.declared.refusal.Refusal.TheVariants as refusal
 use Rattle.can_bus.specs.Sockets.{places, open_sockets, is_open, iface_of, options_of}
-use Rattle.can_bus.specs.Transmit.{sent_by, gone_count}
+use Rattle.can_bus.specs.Transmit.{sent_by, waiting_count}
 use Rattle.can_confine.specs.Confinement.{is_off}
 use Rattle.can_bus.specs.Counters.{state_at}
 use Rattle.can_bus.specs.Attempts.{winner, attempt_reply}
@@ -20,40 +23,68 @@ use Rattle.can_bus.specs.Queues.{taken_from, queued_to, dropped_at}
 
 -- The one reply that an event has, by the entries before it.
 
--- a call on a socket that is not open is refused
-abbrev pub if_open : List Entry → ℕ → Reply → Reply
-if_open past s r = if is_open past s then r else reply.Refused refusal.NoSocket
+-- the bus has no interface of this number
+abbrev pub lacks_iface : BusConfig → ℕ → Bool
+lacks_iface c i = nat_le c.ifaces i
+
+-- a socket may be opened with this capacity (own choice)
+abbrev pub is_capacity : ℕ → Bool
+is_capacity n = nat_le 1 n && nat_le n max_rx_capacity
+
+-- no further socket may be opened: 64 are open (own choice)
+abbrev pub has_all_sockets : List Entry → Bool
+has_all_sockets past = nat_le 64 (length (open_sockets past))
+
+-- the next socket to be opened: its number is how many were opened before
+abbrev pub next_socket : List Entry → SocketId
+next_socket past = record { 0 = length (places past) }
+
+-- what a socket has when it is closed: how many items wait, and how many found no room
+abbrev pub counts_at_close : BusConfig → List Entry → ℕ → Closed
+counts_at_close c past s = record {
+  unread = length (queued_to c past s) - length (taken_from past s);
+  dropped = length (dropped_at c past s);
+}
+
+-- the oldest item that waits on socket s
+abbrev pub next_item : BusConfig → List Entry → ℕ → Option Received
+next_item c past s = slice_get (queued_to c past s) (length (taken_from past s))
 
 -- the frame is an FD frame, and the option for such is off (CAN_RAW_FD_FRAMES of linux/can/raw.h)
 abbrev pub lacks_fd : CanFrame → Options → Bool
 lacks_fd frame options = is_fd frame.payload && not options.fd
 
--- the reply of an event after these entries
+-- the transmit queue of interface i has no room (ENOBUFS of write(2) on a CAN socket)
+abbrev pub has_full_queue : BusConfig → List Entry → ℕ → Bool
+has_full_queue c past i = waiting_count past i == c.tx_capacity
+
+-- a call on a socket that is not open is refused
+abbrev pub if_open : List Entry → ℕ → Reply → Reply
+if_open past s r = if is_open past s then r else reply.Refused refusal.NoSocket
+
+-- the reply of a send on a socket that is open: the first case that holds
+abbrev pub send_reply : BusConfig → List Entry → ℕ → CanFrame → Reply
+send_reply c past s frame =
+    if lacks_fd frame (options_of past s) then reply.Refused refusal.FdOff
+    else if is_off (state_at c past (iface_of past s)) then reply.Refused refusal.BusOff
+    else if has_full_queue c past (iface_of past s) then reply.Refused refusal.NoBuffers
+    else reply.Sent (length (sent_by past (iface_of past s)))
+
+-- the reply of an event after these entries: the first case that holds
 abbrev pub legal_reply : BusConfig → List Entry → Event → Reply
 legal_reply c past (Open i capacity) =
-    if nat_le c.ifaces i then reply.Refused refusal.NoInterface
-    else if not (nat_le 1 capacity && nat_le capacity max_rx_capacity) then reply.Refused refusal.BadCapacity
-    else if nat_le 64 (length (open_sockets past)) then reply.Refused refusal.TooManySockets
-    else reply.Opened (record { 0 = length (places past) })
-legal_reply c past (Close s) =
-    if_open past s.0 (reply.Closed (record {
-      unread = length (queued_to c past s.0) - length (taken_from past s.0);
-      dropped = length (dropped_at c past s.0);
-    }))
+    if lacks_iface c i then reply.Refused refusal.NoInterface
+    else if not (is_capacity capacity) then reply.Refused refusal.BadCapacity
+    else if has_all_sockets past then reply.Refused refusal.TooManySockets
+    else reply.Opened (next_socket past)
+legal_reply c past (Close s) = if_open past s.0 (reply.Closed (counts_at_close c past s.0))
 legal_reply c past (SetFilters s filters) = if_open past s.0 reply.Done
 legal_reply c past (SetOption s option) = if_open past s.0 reply.Done
-legal_reply c past (Send s frame) =
-    let i = iface_of past s.0 in
-    if_open past s.0
-    (if lacks_fd frame (options_of past s.0) then reply.Refused refusal.FdOff
-    else if is_off (state_at c past i) then reply.Refused refusal.BusOff
-    else if length (sent_by past i) - gone_count past i == c.tx_capacity then reply.Refused refusal.NoBuffers
-    else reply.Sent (length (sent_by past i)))
-legal_reply c past (Receive s) =
-    if_open past s.0 (reply.Received (slice_get (queued_to c past s.0) (length (taken_from past s.0))))
+legal_reply c past (Send s frame) = if_open past s.0 (send_reply c past s.0 frame)
+legal_reply c past (Receive s) = if_open past s.0 (reply.Received (next_item c past s.0))
 legal_reply c past (Attempt m v) = attempt_reply c past m v (winner c past)
 legal_reply c past (Restart i m) =
-    if nat_le c.ifaces i then reply.Refused refusal.NoInterface
+    if lacks_iface c i then reply.Refused refusal.NoInterface
     else if is_off (state_at c past i) then reply.Done
     else reply.Refused refusal.NotBusOff
 

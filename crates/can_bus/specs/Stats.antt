@@ -6,7 +6,7 @@ use Rattle.can_event.specs.declared.entry.Entry.{Entry}
 use Rattle.can_event.specs.declared.stats.SocketStats.{SocketStats}
 use Rattle.can_event.specs.declared.stats.IfaceStats.{IfaceStats}
 use Rattle.can_bus.specs.Sockets.{is_open}
-use Rattle.can_bus.specs.Transmit.{sent_by, gone_count, done_count, lost_count, refused_count}
+use Rattle.can_bus.specs.Transmit.{sent_by, waiting_count, done_count, lost_count, refused_count}
 use Rattle.can_bus.specs.Counters.{counts_of}
 use Rattle.can_bus.specs.Queues.{queued_to, dropped_at, taken_from}
 use Rattle.can_bus.specs.Changes.{IsAt, IsNowhere}
@@ -30,7 +30,7 @@ iface_stats_of c past i =
     if nat_lt i c.ifaces then Some (record {
       sent = length (sent_by past i);
       done = done_count past i;
-      waiting = length (sent_by past i) - gone_count past i;
+      waiting = waiting_count past i;
       lost = lost_count past i;
       refused = refused_count past i;
       counters = counts_of c past i;

@@ -38,6 +38,10 @@ abbrev pub gone_count : List Entry → ℕ → ℕ
 gone_count [] i = 0
 gone_count (e ∷ past) i = gone_after e.reply i (length (sent_by past i)) (gone_count past i)
 
+-- how many frames wait in the transmit queue of interface i
+abbrev pub waiting_count : List Entry → ℕ → ℕ
+waiting_count past i = length (sent_by past i) - gone_count past i
+
 -- the oldest frame in the transmit queue of interface i
 abbrev pub head_of : List Entry → ℕ → Option Pending
 head_of past i = slice_get (sent_by past i) (gone_count past i)
