@@ -1,9 +1,9 @@
-use Rattle.std.specs.Prelude.{◌≡◌, ℕ, false, IsTrue, List, ◌∷◌, ◌++◌, is_some, codes}
+use Rattle.std.specs.Prelude.{◌≡◌, ℕ, false, IsTrue, List, ◌∷◌, ◌++◌, codes}
 use Rattle.std.specs.List.{list_all}
 use Rattle.std.specs.Str.Parse.{digits_value}
-use Rattle.can_frame.specs.Names.{names_in, is_name, place_of}
+use Rattle.can_frame.specs.Names.{names_in, is_name}
 use Rattle.can_frame.specs.declared.iface.IfaceSet.{IfaceSet}
-use Rattle.can_fault.specs.Scripts.{is_number, set_named}
+use Rattle.can_fault.specs.Scripts.{are_known, is_number, set_named}
 use Rattle.can_fault.specs.declared.verdict.GlobalKind.TheVariants as global
 use Rattle.can_fault.specs.declared.verdict.LocalKind.{LocalKind}
 use Rattle.can_fault.specs.declared.verdict.LocalKind.TheVariants as local
@@ -22,7 +22,7 @@ kind_word local.Form = codes "form"
 abbrev pub SpellsSet : List (List ℕ) → List ℕ → IfaceSet → Type 0
 SpellsSet names text set =
     IsTrue (list_all is_name (names_in text))
-    × IsTrue (list_all (λ piece. is_some (place_of names piece)) (names_in text))
+    × IsTrue (are_known names (names_in text))
     × (set ≡ set_named names (names_in text))
 
 -- how a verdict is spelled: `good`, `lastbit`, `global bit`, `global form`, or `local`, the fault's word
@@ -51,4 +51,4 @@ LacksInterface names text =
     × (text ≡ digits ++ 32 ∷ (codes "local " ++ (kind_word kind ++ 32 ∷ list)))
     × IsTrue (is_number digits)
     × IsTrue (list_all is_name (names_in list))
-    × (list_all (λ piece. is_some (place_of names piece)) (names_in list) ≡ false)
+    × (are_known names (names_in list) ≡ false)

@@ -49,14 +49,16 @@ unfoldable pub set_named : List (List ℕ) → List (List ℕ) → IfaceSet
 set_named names pieces =
     set_where (λ i. list_any (λ piece. option_eq nat_eq (place_of names piece) (Some i)) pieces) (length names)
 
+-- each piece is the name of an interface
+abbrev pub are_known : List (List ℕ) → List (List ℕ) → Bool
+are_known names pieces = list_all (λ piece. is_some (place_of names piece)) pieces
+
 -- a set of interfaces: their names joined by commas. A piece that no name can be makes a bad line
 -- before any name is looked up
 abbrev pub set_spelling : List (List ℕ) → List ℕ → Result IfaceSet LineFault
 set_spelling names text =
     if list_all is_name (names_in text)
-    then (if list_all (λ piece. is_some (place_of names piece)) (names_in text)
-    then Ok (set_named names (names_in text))
-    else Err line.UnknownInterface)
+    then (if are_known names (names_in text) then Ok (set_named names (names_in text)) else Err line.UnknownInterface)
     else Err line.BadLine
 
 -- a fault that only some interfaces see
