@@ -201,11 +201,8 @@ impl<T: BoundedQueue<Pending>, R: BoundedQueue<Received>, A: Arbiter> Bus<T, R, 
     pub fn open(&mut self, alloc: Global, iface: Iface, capacity: u32) -> Result<SocketId, Refusal>
         ensures { Answers reply.Opened self.old (event.Open iface capacity) result self.new }
     {
-        match self.answer(alloc, &Event::Open(iface, capacity)) {
-            Reply::Opened(id) => Ok(id),
-            Reply::Refused(why) => Err(why),
-            _ => unreachable!(),
-        }
+        self.answer(alloc, &Event::Open(iface, capacity))
+            .into_opened()
     }
 
     /// Closes a socket, and counts what nobody took and what found no room.
@@ -214,11 +211,7 @@ impl<T: BoundedQueue<Pending>, R: BoundedQueue<Received>, A: Arbiter> Bus<T, R, 
     pub fn close(&mut self, id: SocketId) -> Result<Closed, Refusal>
         ensures { Answers reply.Closed self.old (event.Close id) result self.new }
     {
-        match self.answer(self.alloc, &Event::Close(id)) {
-            Reply::Closed(counts) => Ok(counts),
-            Reply::Refused(why) => Err(why),
-            _ => unreachable!(),
-        }
+        self.answer(self.alloc, &Event::Close(id)).into_closed()
     }
 
     /// Sets the filters of a socket, to a copy of these.
@@ -236,22 +229,15 @@ impl<T: BoundedQueue<Pending>, R: BoundedQueue<Received>, A: Arbiter> Bus<T, R, 
         if self.record.is_full() {
             return Err(Refusal::RecordFull);
         }
-        match self.answer_filters(alloc, id, filters) {
-            Reply::Done => Ok(()),
-            Reply::Refused(why) => Err(why),
-            _ => unreachable!(),
-        }
+        self.answer_filters(alloc, id, filters).into_done()
     }
 
     /// Sets an option of a socket. Refusals: `RecordFull`, `NoSocket`.
     pub fn set_option(&mut self, id: SocketId, option: Opt) -> Result<(), Refusal>
         ensures { Answers done_reply self.old (event.SetOption id option) result self.new }
     {
-        match self.answer(self.alloc, &Event::SetOption(id, option)) {
-            Reply::Done => Ok(()),
-            Reply::Refused(why) => Err(why),
-            _ => unreachable!(),
-        }
+        self.answer(self.alloc, &Event::SetOption(id, option))
+            .into_done()
     }
 
     /// Puts a frame into the transmit queue of the socket's interface, and answers its number there.
@@ -320,11 +306,8 @@ impl<T: BoundedQueue<Pending>, R: BoundedQueue<Received>, A: Arbiter> Bus<T, R, 
     pub fn restart(&mut self, iface: Iface, moment: Moment) -> Result<(), Refusal>
         ensures { Answers done_reply self.old (event.Restart iface moment) result self.new }
     {
-        match self.answer(self.alloc, &Event::Restart(iface, moment)) {
-            Reply::Done => Ok(()),
-            Reply::Refused(why) => Err(why),
-            _ => unreachable!(),
-        }
+        self.answer(self.alloc, &Event::Restart(iface, moment))
+            .into_done()
     }
 
     /// How many items found room on an open socket, found none, and were taken. No event.
