@@ -7,8 +7,10 @@ ghost use Rattle.can_bus.specs.Headline.{Headline};
 ghost use Rattle.can_bus.specs.Heads.{next_head};
 ghost use Rattle.can_event.specs.Events.{IsConfig, IsLongConfig};
 ghost use Rattle.can_event.specs.Replies.{entry_of, taken_reply};
+ghost use Rattle.can_bus.specs.Lean.{record_of};
 ghost use Rattle.can_bus.specs.Legal.{IsLegal};
 ghost use Rattle.can_bus.specs.Run.{IsAnswered};
+ghost use Rattle.can_bus.specs.State.{IsKept};
 ghost use Rattle.can_bus.specs.Stats.{socket_stats_of, iface_stats_of, all_counts};
 ghost use Rattle.can_record.specs.Tapes.{tape};
 ghost use Rattle.can_event.specs.declared.event.Event.TheVariants as event;
@@ -137,6 +139,13 @@ impl<T: BoundedQueue<Pending>, R: BoundedQueue<Received>, A: Arbiter> Bus<T, R, 
     {
         let Bus { record, .. } = self;
         record
+    }
+
+    /// What it keeps beside its record.
+    pub(crate) fn state(&self) -> &State<T, R, A>
+        ensures { IsKept (record_of self.now.config self.now.history) result.now }
+    {
+        &self.state
     }
 
     /// How many entries its record has.
