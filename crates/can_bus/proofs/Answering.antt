@@ -43,7 +43,7 @@ history-entered e r past enters = refl
 -- ---- the parts and the record
 
 -- a record says no less than its history
-of_history : (j : Kept) (parts : Parts) → IsKept j parts → IsKept (record_of j.config j.history) parts
+pub of_history : (j : Kept) (parts : Parts) → IsKept j parts → IsKept (record_of j.config j.history) parts
 of_history j parts kept = record { of_parts = kept.of_parts; legal = kept.legal; proper = kept.proper; room = omega arith }
 
 -- where there is room one more entry may come

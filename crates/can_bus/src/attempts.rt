@@ -138,7 +138,7 @@ impl<T: BoundedQueue<Pending>, R: BoundedQueue<Received>, A: Arbiter> State<T, R
 
     /// Tries the frame that wins the bus, restarts the interfaces that have been off for long enough, and
     /// notifies the sockets.
-    pub fn attempt(&mut self, config: BusConfig, moment: Moment, verdict: Verdict) -> Attempt
+    pub(crate) fn attempt(&mut self, config: BusConfig, moment: Moment, verdict: Verdict) -> Attempt
         requires few { self.old.nodes.count ≤ 16 }
         requires sixteen { length self.old.nodes.counters ≡ 16 }
         requires ready { AreReady self.old }
@@ -159,7 +159,7 @@ impl<T: BoundedQueue<Pending>, R: BoundedQueue<Received>, A: Arbiter> State<T, R
     }
 
     /// Restarts an interface that is bus off, and notifies the sockets.
-    pub fn restart(&mut self, iface: Iface, moment: Moment) -> Reply
+    pub(crate) fn restart(&mut self, iface: Iface, moment: Moment) -> Reply
         requires { All (λ v. v.dropped + 1 < 2 ^ 64) self.old.sockets }
         ensures { Restarts self.old iface moment result self.new }
     {

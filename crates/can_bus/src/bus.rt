@@ -7,8 +7,10 @@ ghost use Rattle.can_bus.specs.Headline.{Headline};
 ghost use Rattle.can_bus.specs.Heads.{next_head};
 ghost use Rattle.can_event.specs.Events.{IsConfig, IsLongConfig};
 ghost use Rattle.can_event.specs.Replies.{entry_of, taken_reply};
+ghost use Rattle.can_bus.specs.Lean.{record_of};
 ghost use Rattle.can_bus.specs.Legal.{IsLegal};
 ghost use Rattle.can_bus.specs.Run.{IsAnswered};
+ghost use Rattle.can_bus.specs.State.{IsKept};
 ghost use Rattle.can_bus.specs.Stats.{socket_stats_of, iface_stats_of, all_counts};
 ghost use Rattle.can_record.specs.Tapes.{tape};
 ghost use Rattle.can_event.specs.declared.event.Event.TheVariants as event;
@@ -139,6 +141,13 @@ impl<T: BoundedQueue<Pending>, R: BoundedQueue<Received>, A: Arbiter> Bus<T, R, 
         record
     }
 
+    /// What it keeps beside its record.
+    pub(crate) fn state(&self) -> &State<T, R, A>
+        ensures { IsKept (record_of self.now.config self.now.history) result.now }
+    {
+        &self.state
+    }
+
     /// How many entries its record has.
     pub fn len(&self) -> u64
         ensures len { result ≡ length self.now.history }
@@ -201,11 +210,8 @@ impl<T: BoundedQueue<Pending>, R: BoundedQueue<Received>, A: Arbiter> Bus<T, R, 
     pub fn open(&mut self, alloc: Global, iface: Iface, capacity: u32) -> Result<SocketId, Refusal>
         ensures { Answers reply.Opened self.old (event.Open iface capacity) result self.new }
     {
-        match self.answer(alloc, &Event::Open(iface, capacity)) {
-            Reply::Opened(id) => Ok(id),
-            Reply::Refused(why) => Err(why),
-            _ => unreachable!(),
-        }
+        self.answer(alloc, &Event::Open(iface, capacity))
+            .into_opened()
     }
 
     /// Closes a socket, and counts what nobody took and what found no room.
@@ -214,11 +220,7 @@ impl<T: BoundedQueue<Pending>, R: BoundedQueue<Received>, A: Arbiter> Bus<T, R, 
     pub fn close(&mut self, id: SocketId) -> Result<Closed, Refusal>
         ensures { Answers reply.Closed self.old (event.Close id) result self.new }
     {
-        match self.answer(self.alloc, &Event::Close(id)) {
-            Reply::Closed(counts) => Ok(counts),
-            Reply::Refused(why) => Err(why),
-            _ => unreachable!(),
-        }
+        self.answer(self.alloc, &Event::Close(id)).into_closed()
     }
 
     /// Sets the filters of a socket, to a copy of these.
@@ -236,22 +238,15 @@ impl<T: BoundedQueue<Pending>, R: BoundedQueue<Received>, A: Arbiter> Bus<T, R, 
         if self.record.is_full() {
             return Err(Refusal::RecordFull);
         }
-        match self.answer_filters(alloc, id, filters) {
-            Reply::Done => Ok(()),
-            Reply::Refused(why) => Err(why),
-            _ => unreachable!(),
-        }
+        self.answer_filters(alloc, id, filters).into_done()
     }
 
     /// Sets an option of a socket. Refusals: `RecordFull`, `NoSocket`.
     pub fn set_option(&mut self, id: SocketId, option: Opt) -> Result<(), Refusal>
         ensures { Answers done_reply self.old (event.SetOption id option) result self.new }
     {
-        match self.answer(self.alloc, &Event::SetOption(id, option)) {
-            Reply::Done => Ok(()),
-            Reply::Refused(why) => Err(why),
-            _ => unreachable!(),
-        }
+        self.answer(self.alloc, &Event::SetOption(id, option))
+            .into_done()
     }
 
     /// Puts a frame into the transmit queue of the socket's interface, and answers its number there.
@@ -320,11 +315,8 @@ impl<T: BoundedQueue<Pending>, R: BoundedQueue<Received>, A: Arbiter> Bus<T, R, 
     pub fn restart(&mut self, iface: Iface, moment: Moment) -> Result<(), Refusal>
         ensures { Answers done_reply self.old (event.Restart iface moment) result self.new }
     {
-        match self.answer(self.alloc, &Event::Restart(iface, moment)) {
-            Reply::Done => Ok(()),
-            Reply::Refused(why) => Err(why),
-            _ => unreachable!(),
-        }
+        self.answer(self.alloc, &Event::Restart(iface, moment))
+            .into_done()
     }
 
     /// How many items found room on an open socket, found none, and were taken. No event.

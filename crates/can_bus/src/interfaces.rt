@@ -70,7 +70,7 @@ pub fn finish_attempt<T: BoundedQueue<Pending>, A: Arbiter>(
 
 impl<T: BoundedQueue<Pending>, R: BoundedQueue<Received>, A: Arbiter> State<T, R, A> {
     /// Sends a frame on a socket.
-    pub fn send(&mut self, id: SocketId, frame: Frame) -> Result<u64, Refusal>
+    pub(crate) fn send(&mut self, id: SocketId, frame: Frame) -> Result<u64, Refusal>
         requires sent { All (λ l. l.sent + 1 < 2 ^ 64) self.old.interfaces }
         requires refused { All (λ l. l.refused + 1 < 2 ^ 64) self.old.interfaces }
         requires known { All (λ v. v.iface < length self.old.interfaces) self.old.sockets }

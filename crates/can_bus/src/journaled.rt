@@ -4,9 +4,11 @@ ghost use Rattle.can_bus.specs.Attempts.{winner};
 ghost use Rattle.can_bus.specs.AutoRestart.{is_counting};
 ghost use Rattle.can_bus.specs.Heads.{next_head};
 ghost use Rattle.can_record.specs.Journal.{Journal};
+ghost use Rattle.can_bus.specs.Lean.{record_of};
 ghost use Rattle.can_bus.specs.Legal.{IsLegal};
 ghost use Rattle.can_bus.specs.Long.{HasTail, handed_entries, journal_of, places_left};
 ghost use Rattle.can_bus.specs.Run.{IsAnswered};
+ghost use Rattle.can_bus.specs.State.{IsKept};
 ghost use Rattle.can_bus.specs.Stats.{socket_stats_of, iface_stats_of, all_counts};
 ghost use Rattle.can_record.specs.Tapes.{tape};
 ghost use Rattle.can_event.specs.Events.{IsLongConfig};
@@ -16,6 +18,7 @@ ghost use Rattle.can_event.specs.declared.event.Event.TheVariants as event;
 
 use crate::bus::RingBus;
 use crate::long_bus::{LongEnd, LongRingBus};
+use crate::state::RingState;
 use can_confine::Counters;
 use can_event::{Event, IfaceStats, Received, Refusal, Reply, SocketId, SocketStats};
 use can_frame::{Frame, Iface};
@@ -24,7 +27,7 @@ use std::alloc::Global;
 
 /// A bus that others share. Contracts see its journal, and how many entries more it takes.
 ///
-/// Each call is what the method of the same name of `Bus` is.
+/// Each call is what the method of the same name of `Bus` is. What `state` shows gives the calls below it.
 pub trait Journaled: Drop {
     /// Its configuration and its entries so far.
     ghost journal: { Self → Journal };
@@ -81,35 +84,61 @@ pub trait Journaled: Drop {
         ensures left { left result ≡ journal self }
         ensures out { handed_by result ≡ handed_out self };
 
+    /// What it keeps beside its entries.
+    fn state(&self) -> &RingState
+        ensures { IsKept (record_of (journal self.now).config (journal self.now).history)
+            result.now };
+
     /// The number of the next attempt that tries a frame.
     fn next_attempt(&self) -> u64
-        ensures { result ≡ length (tape (journal self.now).history) };
+        ensures { result ≡ length (tape (journal self.now).history) }
+    {
+        self.state().tried()
+    }
 
     /// The interface whose frame the next attempt tries.
     fn next_winner(&self) -> Option<Iface>
-        ensures { result ≡ winner (journal self.now).config (journal self.now).history };
+        ensures { result ≡ winner (journal self.now).config (journal self.now).history }
+    {
+        self.state().winner()
+    }
 
     /// The interface and the frame that the next attempt tries.
     fn next_head(&self) -> Option<(Iface, Frame)>
-        ensures { result ≡ next_head (journal self.now).config (journal self.now).history };
+        ensures { result ≡ next_head (journal self.now).config (journal self.now).history }
+    {
+        self.state().next_head()
+    }
 
     /// Whether an interface that is bus off counts the attempts until it is restarted.
     fn is_counting(&self) -> bool
-        ensures { result ≡ is_counting (journal self.now).config (journal self.now).history };
+        ensures { result ≡ is_counting (journal self.now).config (journal self.now).history }
+    {
+        self.state().is_counting()
+    }
 
     /// The error counters of all 16 places, by interface.
     fn counters(&self) -> [Counters; 16]
-        ensures { result ≡ all_counts (journal self.now).config (journal self.now).history };
+        ensures { result ≡ all_counts (journal self.now).config (journal self.now).history }
+    {
+        self.state().counters()
+    }
 
     /// How many items found room on an open socket, found none, and were taken.
     fn socket_stats(&self, id: SocketId) -> Option<SocketStats>
         ensures { result
-            ≡ socket_stats_of (journal self.now).config (journal self.now).history id.0 };
+            ≡ socket_stats_of (journal self.now).config (journal self.now).history id.0 }
+    {
+        self.state().socket_stats(id)
+    }
 
     /// What became of the frames of an interface, and its error counters.
     fn iface_stats(&self, iface: Iface) -> Option<IfaceStats>
         ensures { result
-            ≡ iface_stats_of (journal self.now).config (journal self.now).history iface };
+            ≡ iface_stats_of (journal self.now).config (journal self.now).history iface }
+    {
+        self.state().iface_stats(iface)
+    }
 }
 
 impl Journaled for RingBus {
@@ -150,32 +179,8 @@ impl Journaled for RingBus {
         self.into_record()
     }
 
-    fn next_attempt(&self) -> u64 {
-        RingBus::next_attempt(self)
-    }
-
-    fn next_winner(&self) -> Option<Iface> {
-        RingBus::next_winner(self)
-    }
-
-    fn next_head(&self) -> Option<(Iface, Frame)> {
-        RingBus::next_head(self)
-    }
-
-    fn is_counting(&self) -> bool {
-        RingBus::is_counting(self)
-    }
-
-    fn counters(&self) -> [Counters; 16] {
-        RingBus::counters(self)
-    }
-
-    fn socket_stats(&self, id: SocketId) -> Option<SocketStats> {
-        RingBus::socket_stats(self, id)
-    }
-
-    fn iface_stats(&self, iface: Iface) -> Option<IfaceStats> {
-        RingBus::iface_stats(self, iface)
+    fn state(&self) -> &RingState {
+        RingBus::state(self)
     }
 }
 
@@ -217,31 +222,7 @@ impl Journaled for LongRingBus {
         LongRingBus::into_left(self)
     }
 
-    fn next_attempt(&self) -> u64 {
-        LongRingBus::next_attempt(self)
-    }
-
-    fn next_winner(&self) -> Option<Iface> {
-        LongRingBus::next_winner(self)
-    }
-
-    fn next_head(&self) -> Option<(Iface, Frame)> {
-        LongRingBus::next_head(self)
-    }
-
-    fn is_counting(&self) -> bool {
-        LongRingBus::is_counting(self)
-    }
-
-    fn counters(&self) -> [Counters; 16] {
-        LongRingBus::counters(self)
-    }
-
-    fn socket_stats(&self, id: SocketId) -> Option<SocketStats> {
-        LongRingBus::socket_stats(self, id)
-    }
-
-    fn iface_stats(&self, iface: Iface) -> Option<IfaceStats> {
-        LongRingBus::iface_stats(self, iface)
+    fn state(&self) -> &RingState {
+        LongRingBus::state(self)
     }
 }

@@ -35,3 +35,4 @@ pub use journaled::Journaled;
 pub use lean_bus::{LeanBus, LeanRingBus};
 pub use long_bus::{LongBus, LongEnd, LongRingBus, TAIL_SIZE};
 pub use runs::{RunFault, run};
+pub use state::{RingState, State};

@@ -1,14 +1,11 @@
 ghost use Rattle.std.specs.Prelude.{◌≡◌, ◌≢◌, ◌<◌, ◌≤◌, [], ◌++◌, length, true, Ok, Err, IfOk, OnOk, IsTrue, ◌↔◌};
 ghost use Rattle.can_bus.specs.Answer.{Answers};
-ghost use Rattle.can_bus.specs.Attempts.{winner};
-ghost use Rattle.can_bus.specs.AutoRestart.{is_counting};
 ghost use Rattle.can_bus.specs.Headline.{Headline};
-ghost use Rattle.can_bus.specs.Heads.{next_head};
+ghost use Rattle.can_bus.specs.Lean.{record_of};
 ghost use Rattle.can_bus.specs.Legal.{IsLegal};
 ghost use Rattle.can_bus.specs.Long.{HandsOut, HasPlace, KeepsTail, handed_entries, held_back, journal_of, places_left};
 ghost use Rattle.can_bus.specs.Run.{IsAnswered};
-ghost use Rattle.can_bus.specs.Stats.{socket_stats_of, iface_stats_of, all_counts};
-ghost use Rattle.can_record.specs.Tapes.{tape};
+ghost use Rattle.can_bus.specs.State.{IsKept};
 ghost use Rattle.can_event.specs.Events.{IsLongConfig};
 ghost use Rattle.can_event.specs.Replies.{taken_reply};
 ghost use Rattle.can_event.specs.declared.event.Event.TheVariants as event;
@@ -17,12 +14,8 @@ use crate::bus::{BusFault, filters_entry};
 use crate::history::History;
 use crate::state::State;
 use can_arbiter::{Arbiter, IndexArbiter};
-use can_confine::Counters;
-use can_event::{
-    BusConfig, Event, IfaceStats, Pending, Received, Refusal, Reply, SocketId, SocketStats,
-};
+use can_event::{BusConfig, Event, Pending, Received, Refusal, Reply, SocketId};
 use can_filter::FilterSet;
-use can_frame::{Frame, Iface};
 use can_queue::{BoundedQueue, RingQueue};
 use can_record::PackedRecord;
 use std::alloc::Global;
@@ -108,6 +101,13 @@ impl<T: BoundedQueue<Pending>, R: BoundedQueue<Received>, A: Arbiter> LongBus<T,
         ensures headline { Headline self.now.config self.now.history }
     {
         self.handed + self.tail.len() as u64
+    }
+
+    /// What it keeps beside its entries.
+    pub(crate) fn state(&self) -> &State<T, R, A>
+        ensures { IsKept (record_of self.now.config self.now.history) result.now }
+    {
+        &self.state
     }
 
     /// How many entries more the tail takes.
@@ -219,55 +219,6 @@ impl<T: BoundedQueue<Pending>, R: BoundedQueue<Received>, A: Arbiter> LongBus<T,
             tail,
             handed,
         }
-    }
-
-    /// The number of the next attempt that tries a frame: how many there were.
-    pub fn next_attempt(&self) -> u64
-        ensures { result ≡ length (tape self.now.history) }
-    {
-        self.state.tried()
-    }
-
-    /// The interface whose frame the next attempt tries: `None` where no live interface has one to send.
-    pub fn next_winner(&self) -> Option<Iface>
-        ensures { result ≡ winner self.now.config self.now.history }
-    {
-        self.state.winner()
-    }
-
-    /// The interface and the frame that the next attempt tries: `None` where no live interface has one to send.
-    pub fn next_head(&self) -> Option<(Iface, Frame)>
-        ensures { result ≡ next_head self.now.config self.now.history }
-    {
-        self.state.next_head()
-    }
-
-    /// Whether an interface that is bus off counts the attempts until it is restarted.
-    pub fn is_counting(&self) -> bool
-        ensures { result ≡ is_counting self.now.config self.now.history }
-    {
-        self.state.is_counting()
-    }
-
-    /// The error counters of all 16 places, by interface; where there is no interface they are 0.
-    pub fn counters(&self) -> [Counters; 16]
-        ensures { result ≡ all_counts self.now.config self.now.history }
-    {
-        self.state.counters()
-    }
-
-    /// How many items found room on an open socket, found none, and were taken.
-    pub fn socket_stats(&self, id: SocketId) -> Option<SocketStats>
-        ensures { result ≡ socket_stats_of self.now.config self.now.history id.0 }
-    {
-        self.state.socket_stats(id)
-    }
-
-    /// What became of the frames of an interface, and its error counters.
-    pub fn iface_stats(&self, iface: Iface) -> Option<IfaceStats>
-        ensures { result ≡ iface_stats_of self.now.config self.now.history iface }
-    {
-        self.state.iface_stats(iface)
     }
 }
 

@@ -36,7 +36,7 @@ pub fn find<R: BoundedQueue<Received>>(sockets: &[Socket<R>], id: SocketId) -> O
 
 impl<T: BoundedQueue<Pending>, R: BoundedQueue<Received>, A: Arbiter> State<T, R, A> {
     /// Opens a socket under the next number.
-    pub fn open(&mut self, alloc: Global, iface: Iface, capacity: u32) -> Reply
+    pub(crate) fn open(&mut self, alloc: Global, iface: Iface, capacity: u32) -> Reply
         requires { self.old.opened + 1 < 2 ^ 32 }
         ensures { Opens self.old iface capacity result self.new }
     {
@@ -61,7 +61,7 @@ impl<T: BoundedQueue<Pending>, R: BoundedQueue<Received>, A: Arbiter> State<T, R
     }
 
     /// Closes a socket.
-    pub fn close(&mut self, id: SocketId) -> Reply
+    pub(crate) fn close(&mut self, id: SocketId) -> Reply
         ensures { Closes self.old id.0 result self.new }
     {
         let Some(k) = find(&self.sockets, id) else {
@@ -72,7 +72,7 @@ impl<T: BoundedQueue<Pending>, R: BoundedQueue<Received>, A: Arbiter> State<T, R
     }
 
     /// Sets the filters of a socket to a copy of these, for which memory is taken before the socket is looked up.
-    pub fn set_filters(&mut self, alloc: Global, id: SocketId, filters: &FilterSet) -> Reply
+    pub(crate) fn set_filters(&mut self, alloc: Global, id: SocketId, filters: &FilterSet) -> Reply
         ensures { Refilters self.old id.0 filters.now result self.new }
     {
         let Ok(compiled) = filters.try_compile(alloc) else {
@@ -87,7 +87,7 @@ impl<T: BoundedQueue<Pending>, R: BoundedQueue<Received>, A: Arbiter> State<T, R
     }
 
     /// Sets an option of a socket.
-    pub fn set_option(&mut self, id: SocketId, option: Opt) -> Reply
+    pub(crate) fn set_option(&mut self, id: SocketId, option: Opt) -> Reply
         ensures { Sets self.old id.0 (λ v. record v { options = with_option option v.options })
             result self.new }
     {
@@ -100,7 +100,11 @@ impl<T: BoundedQueue<Pending>, R: BoundedQueue<Received>, A: Arbiter> State<T, R
     }
 
     /// Takes the oldest item of a socket into the room, if there is one. Returns whether there was.
-    pub fn receive_into(&mut self, id: SocketId, room: &mut Received) -> Result<bool, Refusal>
+    pub(crate) fn receive_into(
+        &mut self,
+        id: SocketId,
+        room: &mut Received,
+    ) -> Result<bool, Refusal>
         requires { All (λ v. v.taken + 1 < 2 ^ 64) self.old.sockets }
         ensures receives { Receives self.old id.0 (receive_reply room.new result) self.new }
         ensures stays { result ≢ Ok true → room.new ≡ room.old }
@@ -113,7 +117,7 @@ impl<T: BoundedQueue<Pending>, R: BoundedQueue<Received>, A: Arbiter> State<T, R
     }
 
     /// Takes the oldest item of a socket, if there is one.
-    pub fn receive(&mut self, id: SocketId) -> Reply
+    pub(crate) fn receive(&mut self, id: SocketId) -> Reply
         requires { All (λ v. v.taken + 1 < 2 ^ 64) self.old.sockets }
         ensures { Receives self.old id.0 result self.new }
     {

@@ -11,12 +11,12 @@ use crate::countdown::Countdown;
 use crate::interface::Interface;
 use crate::interfaces;
 use crate::socket::Socket;
-use can_arbiter::Arbiter;
+use can_arbiter::{Arbiter, IndexArbiter};
 use can_attempt::Nodes;
 use can_confine::Counters;
 use can_event::{BusConfig, Event, Pending, Received, Reply};
 use can_frame::{Frame, Iface};
-use can_queue::{BoundedQueue, QueueError};
+use can_queue::{BoundedQueue, QueueError, RingQueue};
 use can_record::{attempt_reply, sent_reply};
 use std::alloc::Global;
 use std::marker::Model;
@@ -42,6 +42,9 @@ pub struct State<T: BoundedQueue<Pending>, R: BoundedQueue<Received>, A: Arbiter
     pub(crate) tried: u64,
 }
 
+/// What the buses of the program keep: rings for its queues.
+pub type RingState = State<RingQueue<Pending>, RingQueue<Received>, IndexArbiter>;
+
 impl<T: BoundedQueue<Pending>, R: BoundedQueue<Received>, A: Arbiter> Model for State<T, R, A> {
     ghost use Rattle.std.specs.Prelude.{◌≤◌, vec_capacity};
     ghost use Rattle.can_bus.specs.State.{Parts};
@@ -63,7 +66,7 @@ impl<T: BoundedQueue<Pending>, R: BoundedQueue<Received>, A: Arbiter> Model for 
 
 impl<T: BoundedQueue<Pending>, R: BoundedQueue<Received>, A: Arbiter> State<T, R, A> {
     /// The state of a bus on which nothing was done.
-    pub fn new(alloc: Global, config: BusConfig) -> Result<State<T, R, A>, QueueError>
+    pub(crate) fn new(alloc: Global, config: BusConfig) -> Result<State<T, R, A>, QueueError>
         ensures { IfOk result (λ s. s ≡ kept_parts config []) }
     {
         let interfaces = interfaces::make(alloc, config.ifaces, config.tx_capacity as usize)?;
@@ -85,7 +88,7 @@ impl<T: BoundedQueue<Pending>, R: BoundedQueue<Received>, A: Arbiter> State<T, R
     /// Carries out an event where the record has room for one more entry, and returns its reply.
     ///
     /// Only `Open` and `SetFilters` take memory. Where it was refused the reply is `NoMemory`, and nothing has changed.
-    pub fn answer(&mut self, alloc: Global, config: BusConfig, event: &Event) -> Reply
+    pub(crate) fn answer(&mut self, alloc: Global, config: BusConfig, event: &Event) -> Reply
         requires { IsReady config self.old }
         ensures { (past : List AnEntry) →
             IsKept (record_of config past) self.old → length past < config.limit →

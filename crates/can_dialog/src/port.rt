@@ -106,66 +106,54 @@ pub trait Port {
     fn open(&mut self, iface: Iface, capacity: u32) -> Result<SocketId, PortRefusal>
         ensures { step self.old (Open iface capacity) result self.new }
     {
-        match self.call(Event::Open(iface, capacity))? {
-            Reply::Opened(socket) => Ok(socket),
-            Reply::Refused(why) => Err(PortRefusal::Bus(why)),
-            _ => unreachable!(),
-        }
+        self.call(Event::Open(iface, capacity))?
+            .into_opened()
+            .map_err(PortRefusal::Bus)
     }
 
     /// Closes a socket.
     fn close(&mut self, socket: SocketId) -> Result<Closed, PortRefusal>
         ensures { step self.old (Close socket) result self.new }
     {
-        match self.call(Event::Close(socket))? {
-            Reply::Closed(counts) => Ok(counts),
-            Reply::Refused(why) => Err(PortRefusal::Bus(why)),
-            _ => unreachable!(),
-        }
+        self.call(Event::Close(socket))?
+            .into_closed()
+            .map_err(PortRefusal::Bus)
     }
 
     /// Sets the filters of a socket.
     fn set_filters(&mut self, socket: SocketId, filters: FilterSet) -> Result<(), PortRefusal>
         ensures { step self.old (SetFilters socket filters) result self.new }
     {
-        match self.call(Event::SetFilters(socket, filters))? {
-            Reply::Done => Ok(()),
-            Reply::Refused(why) => Err(PortRefusal::Bus(why)),
-            _ => unreachable!(),
-        }
+        self.call(Event::SetFilters(socket, filters))?
+            .into_done()
+            .map_err(PortRefusal::Bus)
     }
 
     /// Sets an option of a socket.
     fn set_option(&mut self, socket: SocketId, option: Opt) -> Result<(), PortRefusal>
         ensures { step self.old (SetOption socket option) result self.new }
     {
-        match self.call(Event::SetOption(socket, option))? {
-            Reply::Done => Ok(()),
-            Reply::Refused(why) => Err(PortRefusal::Bus(why)),
-            _ => unreachable!(),
-        }
+        self.call(Event::SetOption(socket, option))?
+            .into_done()
+            .map_err(PortRefusal::Bus)
     }
 
     /// Sends a frame on a socket, and returns its number at the interface.
     fn send(&mut self, socket: SocketId, frame: Frame) -> Result<u64, PortRefusal>
         ensures { step self.old (Send socket frame) result self.new }
     {
-        match self.call(Event::Send(socket, frame))? {
-            Reply::Sent(number) => Ok(number),
-            Reply::Refused(why) => Err(PortRefusal::Bus(why)),
-            _ => unreachable!(),
-        }
+        self.call(Event::Send(socket, frame))?
+            .into_sent()
+            .map_err(PortRefusal::Bus)
     }
 
     /// Takes the oldest item of a socket.
     fn receive(&mut self, socket: SocketId) -> Result<Option<Received>, PortRefusal>
         ensures { step self.old (Receive socket) result self.new }
     {
-        match self.call(Event::Receive(socket))? {
-            Reply::Received(item) => Ok(item),
-            Reply::Refused(why) => Err(PortRefusal::Bus(why)),
-            _ => unreachable!(),
-        }
+        self.call(Event::Receive(socket))?
+            .into_received()
+            .map_err(PortRefusal::Bus)
     }
 
     /// Takes the oldest item of a socket into the room, and returns whether there was one.
@@ -185,11 +173,9 @@ pub trait Port {
     fn restart(&mut self, iface: Iface, moment: Moment) -> Result<(), PortRefusal>
         ensures { step self.old (Restart iface moment) result self.new }
     {
-        match self.call(Event::Restart(iface, moment))? {
-            Reply::Done => Ok(()),
-            Reply::Refused(why) => Err(PortRefusal::Bus(why)),
-            _ => unreachable!(),
-        }
+        self.call(Event::Restart(iface, moment))?
+            .into_done()
+            .map_err(PortRefusal::Bus)
     }
 
     /// What became of the items offered to an open socket.

@@ -48,3 +48,33 @@ taken_reply room taken = reply.Received (taken_item room taken)
 -- the reply to a receive that came to this with the room: an item or none, or a refusal (own choice)
 abbrev pub receive_reply : Received → Result Bool Refusal → Reply
 receive_reply room outcome = told (taken_reply room) outcome
+
+-- the reply to an open (own choice)
+abbrev pub IsOpenReply : Reply → Type 0
+IsOpenReply (reply.Opened s) = Unit {0}
+IsOpenReply (reply.Refused why) = Unit {0}
+IsOpenReply _ = ⊥
+
+-- the reply to a close (own choice)
+abbrev pub IsCloseReply : Reply → Type 0
+IsCloseReply (reply.Closed counts) = Unit {0}
+IsCloseReply (reply.Refused why) = Unit {0}
+IsCloseReply _ = ⊥
+
+-- the reply to a call that only changes something (own choice)
+abbrev pub IsDoneReply : Reply → Type 0
+IsDoneReply reply.Done = Unit {0}
+IsDoneReply (reply.Refused why) = Unit {0}
+IsDoneReply _ = ⊥
+
+-- the reply to a send (own choice)
+abbrev pub IsSendReply : Reply → Type 0
+IsSendReply (reply.Sent n) = Unit {0}
+IsSendReply (reply.Refused why) = Unit {0}
+IsSendReply _ = ⊥
+
+-- the reply to a receive (own choice)
+abbrev pub IsReceiveReply : Reply → Type 0
+IsReceiveReply (reply.Received item) = Unit {0}
+IsReceiveReply (reply.Refused why) = Unit {0}
+IsReceiveReply _ = ⊥

@@ -1,5 +1,6 @@
 ghost use Rattle.std.specs.Prelude.{◌≡◌};
-ghost use Rattle.can_event.specs.Replies.{enters};
+ghost use Rattle.can_event.specs.Replies.{IsCloseReply, IsDoneReply, IsOpenReply, IsReceiveReply, IsSendReply, enters, told};
+ghost use Rattle.can_event.specs.declared.reply.Reply.TheVariants as reply;
 
 use crate::attempt::Tried;
 use crate::received::Received;
@@ -43,6 +44,66 @@ impl Reply {
         match self {
             Reply::Refused(why) => why.leaves_entry(),
             _ => true,
+        }
+    }
+
+    /// The socket that an `Open` opened.
+    pub fn into_opened(self) -> Result<SocketId, Refusal>
+        requires { IsOpenReply self }
+        ensures { self ≡ told reply.Opened result }
+    {
+        match self {
+            Reply::Opened(id) => Ok(id),
+            Reply::Refused(why) => Err(why),
+            _ => unreachable!(),
+        }
+    }
+
+    /// What a `Close` left.
+    pub fn into_closed(self) -> Result<Closed, Refusal>
+        requires { IsCloseReply self }
+        ensures { self ≡ told reply.Closed result }
+    {
+        match self {
+            Reply::Closed(counts) => Ok(counts),
+            Reply::Refused(why) => Err(why),
+            _ => unreachable!(),
+        }
+    }
+
+    /// Whether an event that returns nothing was carried out.
+    pub fn into_done(self) -> Result<(), Refusal>
+        requires { IsDoneReply self }
+        ensures { self ≡ told (λ done. reply.Done) result }
+    {
+        match self {
+            Reply::Done => Ok(()),
+            Reply::Refused(why) => Err(why),
+            _ => unreachable!(),
+        }
+    }
+
+    /// The number of the frame of a `Send`.
+    pub fn into_sent(self) -> Result<u64, Refusal>
+        requires { IsSendReply self }
+        ensures { self ≡ told reply.Sent result }
+    {
+        match self {
+            Reply::Sent(number) => Ok(number),
+            Reply::Refused(why) => Err(why),
+            _ => unreachable!(),
+        }
+    }
+
+    /// The item of a `Receive`, or none.
+    pub fn into_received(self) -> Result<Option<Received>, Refusal>
+        requires { IsReceiveReply self }
+        ensures { self ≡ told reply.Received result }
+    {
+        match self {
+            Reply::Received(item) => Ok(item),
+            Reply::Refused(why) => Err(why),
+            _ => unreachable!(),
         }
     }
 }

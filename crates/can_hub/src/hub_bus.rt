@@ -3,12 +3,10 @@ ghost use Rattle.std.specs.Prelude.{IsTrue, ◌↔◌};
 ghost use Rattle.can_hub.specs.HubBuses.{IsOfLongRuns};
 
 use can_bus::{
-    BusConfig, BusFault, Event, IfaceStats, Journaled, LongEnd, LongRingBus, Received, Record,
-    Refusal, Reply, RingBus, SocketId, SocketStats,
+    BusConfig, BusFault, Event, Journaled, LongEnd, LongRingBus, Received, Record, Refusal, Reply,
+    RingBus, RingState, SocketId,
 };
-use can_confine::Counters;
 use can_event::MAX_LIMIT;
-use can_frame::{Frame, Iface};
 use can_record::PackedRecord;
 use std::alloc::Global;
 use std::marker::Model;
@@ -125,52 +123,10 @@ impl Journaled for HubBus {
         HubEnd { end }
     }
 
-    fn next_attempt(&self) -> u64 {
+    fn state(&self) -> &RingState {
         match &self.bus {
-            AnyBus::Whole(bus) => bus.next_attempt(),
-            AnyBus::Long(bus) => bus.next_attempt(),
-        }
-    }
-
-    fn next_winner(&self) -> Option<Iface> {
-        match &self.bus {
-            AnyBus::Whole(bus) => bus.next_winner(),
-            AnyBus::Long(bus) => bus.next_winner(),
-        }
-    }
-
-    fn next_head(&self) -> Option<(Iface, Frame)> {
-        match &self.bus {
-            AnyBus::Whole(bus) => bus.next_head(),
-            AnyBus::Long(bus) => bus.next_head(),
-        }
-    }
-
-    fn is_counting(&self) -> bool {
-        match &self.bus {
-            AnyBus::Whole(bus) => bus.is_counting(),
-            AnyBus::Long(bus) => bus.is_counting(),
-        }
-    }
-
-    fn counters(&self) -> [Counters; 16] {
-        match &self.bus {
-            AnyBus::Whole(bus) => bus.counters(),
-            AnyBus::Long(bus) => bus.counters(),
-        }
-    }
-
-    fn socket_stats(&self, id: SocketId) -> Option<SocketStats> {
-        match &self.bus {
-            AnyBus::Whole(bus) => bus.socket_stats(id),
-            AnyBus::Long(bus) => bus.socket_stats(id),
-        }
-    }
-
-    fn iface_stats(&self, iface: Iface) -> Option<IfaceStats> {
-        match &self.bus {
-            AnyBus::Whole(bus) => bus.iface_stats(iface),
-            AnyBus::Long(bus) => bus.iface_stats(iface),
+            AnyBus::Whole(bus) => Journaled::state(bus),
+            AnyBus::Long(bus) => Journaled::state(bus),
         }
     }
 }

@@ -8,7 +8,7 @@ use crate::gate::Gate;
 use crate::pass::Pass;
 use crate::refusals::StationRefusal;
 use crate::station::Station;
-use can_bus::{Attempt, Closed, Event, Journaled, Opt, Received, Refusal, Reply, SocketId};
+use can_bus::{Attempt, Closed, Event, Journaled, Opt, Received, Refusal, SocketId};
 use can_fault::{FaultSource, Verdict};
 use can_filter::FilterSet;
 use can_frame::{Frame, Iface, Moment};
@@ -39,11 +39,9 @@ impl<N: RollName + MeterName, F: FaultSource + Drop, G: Gate + Drop, B: Journale
             (event.Open iface capacity) result pass.new }
         ensures answered { Answered F reply.Opened self.now (event.Open iface capacity) result }
     {
-        match self.call(rt, alloc, pass, Event::Open(iface, capacity))? {
-            Reply::Opened(socket) => Ok(socket),
-            Reply::Refused(why) => Err(StationRefusal::Bus(why)),
-            _ => unreachable!(),
-        }
+        self.call(rt, alloc, pass, Event::Open(iface, capacity))?
+            .into_opened()
+            .map_err(StationRefusal::Bus)
     }
 
     /// Closes a socket, and counts what nobody took and what found no room. Refusals of the bus: `RecordFull`,
@@ -59,11 +57,9 @@ impl<N: RollName + MeterName, F: FaultSource + Drop, G: Gate + Drop, B: Journale
             (event.Close socket) result pass.new }
         ensures answered { Answered F reply.Closed self.now (event.Close socket) result }
     {
-        match self.call(rt, alloc, pass, Event::Close(socket))? {
-            Reply::Closed(counts) => Ok(counts),
-            Reply::Refused(why) => Err(StationRefusal::Bus(why)),
-            _ => unreachable!(),
-        }
+        self.call(rt, alloc, pass, Event::Close(socket))?
+            .into_closed()
+            .map_err(StationRefusal::Bus)
     }
 
     /// Sets the filters of a socket, to a copy of these. Refusals of the bus: `RecordFull`, `NoMemory`, `NoSocket`.
@@ -83,11 +79,9 @@ impl<N: RollName + MeterName, F: FaultSource + Drop, G: Gate + Drop, B: Journale
         let Ok(copy) = filters.try_copy(alloc) else {
             return Err(StationRefusal::Bus(Refusal::NoMemory));
         };
-        match self.call(rt, alloc, pass, Event::SetFilters(socket, copy))? {
-            Reply::Done => Ok(()),
-            Reply::Refused(why) => Err(StationRefusal::Bus(why)),
-            _ => unreachable!(),
-        }
+        self.call(rt, alloc, pass, Event::SetFilters(socket, copy))?
+            .into_done()
+            .map_err(StationRefusal::Bus)
     }
 
     /// Sets an option of a socket. Refusals of the bus: `RecordFull`, `NoSocket`.
@@ -103,11 +97,9 @@ impl<N: RollName + MeterName, F: FaultSource + Drop, G: Gate + Drop, B: Journale
             (event.SetOption socket option) result pass.new }
         ensures answered { Answered F done_reply self.now (event.SetOption socket option) result }
     {
-        match self.call(rt, alloc, pass, Event::SetOption(socket, option))? {
-            Reply::Done => Ok(()),
-            Reply::Refused(why) => Err(StationRefusal::Bus(why)),
-            _ => unreachable!(),
-        }
+        self.call(rt, alloc, pass, Event::SetOption(socket, option))?
+            .into_done()
+            .map_err(StationRefusal::Bus)
     }
 
     /// Sends a frame on a socket, and returns its number at the interface. Refusals of the bus: `RecordFull`,
@@ -124,11 +116,9 @@ impl<N: RollName + MeterName, F: FaultSource + Drop, G: Gate + Drop, B: Journale
             (event.Send socket frame) result pass.new }
         ensures answered { Answered F reply.Sent self.now (event.Send socket frame) result }
     {
-        match self.call(rt, alloc, pass, Event::Send(socket, frame))? {
-            Reply::Sent(number) => Ok(number),
-            Reply::Refused(why) => Err(StationRefusal::Bus(why)),
-            _ => unreachable!(),
-        }
+        self.call(rt, alloc, pass, Event::Send(socket, frame))?
+            .into_sent()
+            .map_err(StationRefusal::Bus)
     }
 
     /// Takes the oldest item of a socket: `None` where nothing waits. Refusals of the bus: `RecordFull`, `NoSocket`.
@@ -143,11 +133,9 @@ impl<N: RollName + MeterName, F: FaultSource + Drop, G: Gate + Drop, B: Journale
             (event.Receive socket) result pass.new }
         ensures answered { Answered F reply.Received self.now (event.Receive socket) result }
     {
-        match self.call(rt, alloc, pass, Event::Receive(socket))? {
-            Reply::Received(item) => Ok(item),
-            Reply::Refused(why) => Err(StationRefusal::Bus(why)),
-            _ => unreachable!(),
-        }
+        self.call(rt, alloc, pass, Event::Receive(socket))?
+            .into_received()
+            .map_err(StationRefusal::Bus)
     }
 
     /// Tries the frame that wins the bus, with this verdict and not the source's: `Idle` where no live interface has a
@@ -183,10 +171,8 @@ impl<N: RollName + MeterName, F: FaultSource + Drop, G: Gate + Drop, B: Journale
             (event.Restart iface moment) result pass.new }
         ensures answered { Answered F done_reply self.now (event.Restart iface moment) result }
     {
-        match self.call(rt, alloc, pass, Event::Restart(iface, moment))? {
-            Reply::Done => Ok(()),
-            Reply::Refused(why) => Err(StationRefusal::Bus(why)),
-            _ => unreachable!(),
-        }
+        self.call(rt, alloc, pass, Event::Restart(iface, moment))?
+            .into_done()
+            .map_err(StationRefusal::Bus)
     }
 }
