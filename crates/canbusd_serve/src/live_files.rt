@@ -96,20 +96,22 @@ pub fn open_all<'a, H: Files<File = File>>(
 {
     let mut all = Vec::new(alloc);
     for bus in &options.buses {
-        let made = open_files(rt, alloc, options, *bus).and_then(|files| match all.push(files) {
-            Ok(()) => Ok(()),
-            Err(_) => Err(Report::new(alloc, ProgramError::NoMemory)),
-        });
-        if let Err(failure) = made {
-            remove_all(rt, &all);
-            return Err(failure);
-        }
+        let files = match open_files(rt, alloc, options, *bus) {
+            Ok(files) => files,
+            Err(fault) => {
+                remove_all(rt, &all);
+                return Err(fault);
+            }
+        };
+        let Ok(()) = all.push(files) else {
+            return Err(Report::new(alloc, ProgramError::NoMemory));
+        };
     }
     match name_logs(rt, alloc, options, &all) {
         Ok(()) => Ok(all),
-        Err(failure) => {
+        Err(fault) => {
             remove_all(rt, &all);
-            Err(failure)
+            Err(fault)
         }
     }
 }
