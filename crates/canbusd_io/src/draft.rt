@@ -5,8 +5,9 @@ use crate::program_error::ProgramError;
 use crate::report::Report;
 use crate::shown::Shown;
 use std::alloc::{AllocError, Global};
-use std::fs::File;
-use std::io::Error;
+use std::fs::{File, OpenOptions};
+use std::io::{Error, ErrorKind};
+use std::os::unix::fs::FileTypeExt;
 use std::rt::Files;
 use std::{fs, io};
 
@@ -14,7 +15,7 @@ use std::{fs, io};
 const MOST_OF_FRONT: u64 = 61;
 
 /// A file, and where it is written: beside it with `.new` after the name. Where something is there that is no
-/// plain file, as a device or a folder, it is written in place.
+/// plain file, as a device, it is written in place.
 #[derive(Drop)]
 pub struct Draft {
     path: String,
@@ -22,7 +23,8 @@ pub struct Draft {
 }
 
 impl Draft {
-    /// The file of a bus, by the bus's first name and the kind of file. Nothing is written.
+    /// The file of a bus, by the bus's first name and the kind of file. Nothing is written. A link there that leads to a
+    /// plain file is not followed: the file takes its place.
     pub fn new<H: Files>(
         rt: &H,
         alloc: Global,
@@ -31,15 +33,23 @@ impl Draft {
         kind: &str,
     ) -> Result<Draft, AllocError> {
         let path = format!(in alloc; "{folder}/{name}.{kind}")?;
-        Draft::at(rt, alloc, path)
+        let is_plain = match fs::metadata(rt, &path) {
+            Ok(found) => found.is_file(),
+            Err(_) => true,
+        };
+        Draft::of(alloc, path, is_plain)
     }
 
-    /// The file with this path. Nothing is written.
+    /// The file with this path. Nothing is written. A link there is followed.
     pub fn at<H: Files>(rt: &H, alloc: Global, path: String) -> Result<Draft, AllocError> {
         let is_plain = match fs::symlink_metadata(rt, &path) {
             Ok(found) => found.is_file(),
             Err(_) => true,
         };
+        Draft::of(alloc, path, is_plain)
+    }
+
+    fn of(alloc: Global, path: String, is_plain: bool) -> Result<Draft, AllocError> {
         let end = if is_plain { ".new" } else { "" };
         let draft = format!(in alloc; "{path}{end}")?;
         Ok(Draft { path, draft })
@@ -93,14 +103,43 @@ impl Draft {
         Ok(Some(aside))
     }
 
-    /// Makes the file where it is to be written, and removes it again, unless it is written in place.
+    /// Looks whether the file can be made, and leaves the folder as it is.
     pub fn look<H: Files>(&self, rt: &H) -> io::Result<()> {
-        self.clear(rt);
         if self.is_apart() {
-            let _ = File::create_new(rt, &self.draft)?;
-            fs::remove_file(rt, &self.draft)?;
+            match File::create_new(rt, &self.draft) {
+                Ok(_) => return fs::remove_file(rt, &self.draft),
+                Err(error) if error.kind() == ErrorKind::AlreadyExists => {}
+                Err(error) => return Err(error),
+            }
+        }
+        if fs::symlink_metadata(rt, &self.draft)?.is_dir() {
+            return Err(ErrorKind::IsADirectory.into());
         }
         Ok(())
+    }
+
+    /// As `look`, for a file that has to be read again once it is written: a fifo is refused.
+    pub fn look_for_record<H: Files>(&self, rt: &H) -> io::Result<()> {
+        let is_fifo = match fs::metadata(rt, &self.path) {
+            Ok(found) => found.file_type().is_fifo(),
+            Err(_) => false,
+        };
+        if is_fifo {
+            return Err(Error::new(ErrorKind::InvalidInput, "a fifo can't be a record"));
+        }
+        self.look(rt)
+    }
+
+    /// Makes the file where it is to be written, in the place of what is there, and opens it: each write goes to its end.
+    pub fn make<H: Files<File = File>>(&self, rt: &H) -> io::Result<File> {
+        if !self.is_apart() {
+            return fs::create(rt, &self.path);
+        }
+        self.clear(rt);
+        OpenOptions::new()
+            .append(true)
+            .create_new(true)
+            .open(rt, &self.draft)
     }
 
     /// Gives a file that is whole its name, and removes any other.

@@ -8,7 +8,7 @@ ghost use Rattle.canbusd_io.specs.Live.{Begins, Gets, MayGet, Stays, Takes, whol
 ghost use Rattle.canbusd_io.specs.LiveLines.{LogHas, RecordHas};
 
 use crate::draft::Draft;
-use crate::live_file::{FileOver, LiveFile, look_at_lock, make};
+use crate::live_file::{FileOver, LiveFile};
 use crate::notes::reason_note;
 use crate::program_error::ProgramError;
 use crate::report::Report;
@@ -21,7 +21,7 @@ use can_record_text::{write_block, write_end, write_front};
 use std::alloc::{AllocError, Global};
 use std::fs::{File, OpenFile};
 use std::io;
-use std::io::{ErrorKind, Write};
+use std::io::{Error, ErrorKind, Write};
 use std::rt::Files;
 use std::snapshot::Snapshot;
 
@@ -50,9 +50,11 @@ impl LiveRecord<File> {
         ensures front { IfOk result (λ live. RecordHas ⟦<File as Write>⟧.contents live []) }
         ensures open { IfOk result (λ live. IsSome live.file.out) }
     {
-        let draft = draft.copy(alloc)?;
-        let file = make(rt, draft.draft())?;
-        LiveRecord::begin(alloc, draft, file, config, is_synced)
+        let own = draft.copy(alloc)?;
+        let file = draft.make(rt)?;
+        LiveRecord::begin(alloc, own, file, config, is_synced).map_err(|error| removed(
+            rt, draft, error,
+        ))
     }
 }
 
@@ -60,6 +62,11 @@ impl<F: Write + OpenFile + Drop> LiveRecord<F> {
     /// Where it is written.
     pub fn path(&self) -> &str {
         &self.file.path
+    }
+
+    /// Removes its file, which has no name yet.
+    pub fn remove<H: Files>(&self, rt: &H) {
+        self.draft.clear(rt);
     }
 
     // The record of a bus with this configuration in a file that gets its first two lines, and nothing before them.
@@ -215,9 +222,18 @@ fn entries_note(alloc: Global, entries: u64) -> Result<String, AllocError> {
     format!(in alloc; "  it has the first {entries} entries, and no end\n")
 }
 
-/// The log of a bus, which gets the lines of its tried frames while a server runs.
+// Removes the file of a start that failed.
+fn removed<H: Files>(rt: &H, draft: &Draft, error: Error) -> Error
+    ensures { result ≡ error }
+{
+    draft.clear(rt);
+    error
+}
+
+/// The log of a bus, which gets the lines of its tried frames while a server runs. It is made as a draft.
 #[derive(Drop)]
 pub struct LiveLog<F: Write + OpenFile + Drop> {
+    draft: Draft,
     pub names: Names,
     pub file: LiveFile<F>,
     /// The file before its first line, which only contracts see: it takes no memory.
@@ -225,11 +241,11 @@ pub struct LiveLog<F: Write + OpenFile + Drop> {
 }
 
 impl LiveLog<File> {
-    /// The log with this path of a bus with these names, which has no line.
+    /// The log of a bus with these names, which has no line.
     pub fn new<H: Files<File = File>>(
         rt: &H,
         alloc: Global,
-        path: &str,
+        draft: &Draft,
         names: Names,
         is_synced: bool,
     ) -> io::Result<LiveLog<File>>
@@ -237,22 +253,19 @@ impl LiveLog<File> {
         ensures none { IfOk result (λ log. LogHas ⟦<File as Write>⟧.contents log []) }
         ensures open { IfOk result (λ log. IsSome log.file.out) }
     {
-        let file = make(rt, path)?;
-        LiveLog::begin(
-            alloc,
-            String::from_str(alloc, path)?,
-            file,
-            names,
-            is_synced,
-        )
+        let own = draft.copy(alloc)?;
+        let file = draft.make(rt)?;
+        LiveLog::begin(alloc, own, file, names, is_synced).map_err(|error| removed(
+            rt, draft, error,
+        ))
     }
 }
 
 impl<F: Write + OpenFile + Drop> LiveLog<F> {
-    // The log of a bus with these names in a file with this path, which gets nothing.
+    // The log of a bus with these names in a file, which gets nothing.
     fn begin(
         alloc: Global,
-        path: String,
+        draft: Draft,
         file: F,
         names: Names,
         is_synced: bool,
@@ -263,17 +276,29 @@ impl<F: Write + OpenFile + Drop> LiveLog<F> {
         ensures none { IfOk result (λ log. LogHas F.contents log []) }
         ensures open { IfOk result (λ log. IsSome log.file.out) }
     {
+        let path = String::from_str(alloc, draft.path())?;
         let file = LiveFile::new(alloc, path, file, is_synced)?;
         Ok(LiveLog {
+            draft,
             names,
             start: Snapshot::of(&file),
             file,
         })
     }
 
-    /// Where it is written.
+    /// Where it is written once it has its name.
     pub fn path(&self) -> &str {
         &self.file.path
+    }
+
+    /// Gives the file its name, in the place of the log of an earlier run.
+    pub fn take_name<H: Files>(&self, rt: &H) -> io::Result<()> {
+        self.draft.take_name(rt)
+    }
+
+    /// Removes its file, unless it has its name.
+    pub fn remove<H: Files>(&self, rt: &H) {
+        self.draft.clear(rt);
     }
 
     /// Writes the lines of the entries that come next. A fault ends the file, and is reported once; the log is called by
@@ -310,14 +335,12 @@ fn log_failure<'a>(alloc: Global, name: &'a str, path: &str, over: &FileOver) ->
     Report::with(alloc, ProgramError::Log { name, whole_lines }, notes)
 }
 
-/// What a run that was cut off left as the draft of a record gets another name: a note of that, if there was something. A
-/// fault where another server writes it.
+/// What a run that was cut off left as the draft of a record gets another name: a note of that, if there was something.
 pub fn set_aside<H: Files<File = File>>(
     rt: &H,
     alloc: Global,
     draft: &Draft,
 ) -> io::Result<Option<String>> {
-    look_at_lock(rt, draft.draft())?;
     match draft.set_aside(rt, alloc)? {
         Some(aside) => Ok(Some(aside_note(alloc, draft.draft(), &aside)?)),
         None => Ok(None),

@@ -4,10 +4,9 @@ ghost use Rattle.canbusd_io.specs.Live.{Begins, Stays, whole_contents};
 
 use crate::whole_lines::WholeLines;
 use std::alloc::Global;
-use std::fs::{File, OpenFile, OpenOptions, TryLockError};
-use std::io::{BufWriter, Error, ErrorKind, Write};
-use std::rt::Files;
-use std::{fs, io};
+use std::fs::OpenFile;
+use std::io;
+use std::io::{BufWriter, Error, Write};
 
 /// How many bytes go out in one write at most.
 const BLOCK: usize = 65_536;
@@ -99,47 +98,5 @@ impl<F: Write + OpenFile + Drop> LiveFile<F> {
             whole_lines: whole.lines,
             why: whole.why.unwrap_or(error),
         }
-    }
-}
-
-/// Makes a file anew, for this process only, or opens what is there where it is no plain file, as a device. Each write goes
-/// to its end.
-pub fn make<H: Files<File = File>>(rt: &H, path: &str) -> io::Result<File> {
-    match fs::symlink_metadata(rt, path) {
-        Ok(found) if !found.is_file() => fs::create(rt, path),
-        Ok(_) => {
-            look_at_lock(rt, path)?;
-            fs::remove_file(rt, path)?;
-            make_new(rt, path)
-        }
-        Err(_) => make_new(rt, path),
-    }
-}
-
-/// A fault where another server writes this file.
-pub fn look_at_lock<H: Files<File = File>>(rt: &H, path: &str) -> io::Result<()> {
-    match fs::open(rt, path) {
-        Ok(file) => lock(&file),
-        Err(_) => Ok(()),
-    }
-}
-
-// Makes a file that is not there yet, for appending, and locks it for this process.
-fn make_new<H: Files<File = File>>(rt: &H, path: &str) -> io::Result<File> {
-    let file = OpenOptions::new()
-        .append(true)
-        .create_new(true)
-        .open(rt, path)?;
-    lock(&file)?;
-    Ok(file)
-}
-
-// Some file systems have no locks.
-fn lock(file: &File) -> io::Result<()> {
-    match file.try_lock() {
-        Err(TryLockError::WouldBlock) => {
-            Err(Error::new(ErrorKind::WouldBlock, "another server writes it"))
-        }
-        Ok(()) | Err(TryLockError::Error(_)) => Ok(()),
     }
 }

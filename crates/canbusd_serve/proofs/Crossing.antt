@@ -25,7 +25,7 @@ record_send : (F : RattleType) → IsSend F → IsSend (record_of.the_row F)
 record_send F s = declared_send (record_of.the_type F) (draft.the_send, (config.the_send, (file.the_send F s, (search (sendable, as_row_send) depth 20, tt))))
 
 log_send : (F : RattleType) → IsSend F → IsSend (log_of.the_row F)
-log_send F s = declared_send (log_of.the_type F) (names.the_send, (file.the_send F s, (search (sendable, as_row_send) depth 20, tt)))
+log_send F s = declared_send (log_of.the_type F) (draft.the_send, (names.the_send, (file.the_send F s, (search (sendable, as_row_send) depth 20, tt))))
 
 -- the files of a bus
 live_send : (F : RattleType) → IsSend F → IsSend (live.the_row F)

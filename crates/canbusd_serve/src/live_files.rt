@@ -14,7 +14,7 @@ use can_frame::Names;
 use can_station::Settled;
 use canbusd_io::{LiveLog, LiveRecord, ProgramError, Report, Reporter, bus_config, read_names};
 use canbusd_options::{BusWord, Recording, ServeOptions};
-use std::alloc::{AllocError, Global};
+use std::alloc::Global;
 use std::fs::{File, OpenFile};
 use std::io::Write;
 use std::rt::Files;
@@ -81,15 +81,14 @@ impl<F: Write + OpenFile + Drop> LiveFiles<F> {
     }
 }
 
-/// The files of each bus, whose records have their first lines. What runs that were cut off left of records is set aside
-/// first, and reported.
+/// The files of each bus, whose records have their first lines. Only once all are there the logs take the place of those of an
+/// earlier run; where one can't be made the others are removed again.
 ///
 /// `CannotOpen`, with the folder, where it does not take one of the files.
-pub fn open_all<'a, H: Files<File = File>, E: Write>(
+pub fn open_all<'a, H: Files<File = File>>(
     rt: &H,
     alloc: Global,
     options: &ServeOptions<'a>,
-    errors: &mut E,
 ) -> Result<Vec<LiveFiles<File>>, Report<'a>>
     ensures each { IfOk result (λ files. length files.items ≡ length options.now.buses.items) }
     ensures begun { IfOk result (λ files. AreBegun ⟦<File as Write>⟧.contents files.items) }
@@ -97,20 +96,66 @@ pub fn open_all<'a, H: Files<File = File>, E: Write>(
 {
     let mut all = Vec::new(alloc);
     for bus in &options.buses {
-        let files = open_files(rt, alloc, options, *bus, errors)?;
+        let files = match open_files(rt, alloc, options, *bus) {
+            Ok(files) => files,
+            Err(fault) => {
+                remove_all(rt, &all);
+                return Err(fault);
+            }
+        };
         let Ok(()) = all.push(files) else {
             return Err(Report::new(alloc, ProgramError::NoMemory));
         };
     }
-    Ok(all)
+    match name_logs(rt, alloc, options, &all) {
+        Ok(()) => Ok(all),
+        Err(fault) => {
+            remove_all(rt, &all);
+            Err(fault)
+        }
+    }
 }
 
-fn open_files<'a, H: Files<File = File>, E: Write>(
+// Gives the log of each bus its name.
+fn name_logs<'a, H: Files<File = File>>(
+    rt: &H,
+    alloc: Global,
+    options: &ServeOptions<'a>,
+    all: &[LiveFiles<File>],
+) -> Result<(), Report<'a>>
+    ensures { IfErr result (λ failure. IsOfServing failure.error) }
+{
+    let Some(folder) = options.folder else {
+        return Ok(());
+    };
+    for files in all {
+        let Some(log) = &files.log else {
+            continue;
+        };
+        if let Err(error) = log.take_name(rt) {
+            return Err(open_failure(alloc, folder, log.path(), &error));
+        }
+    }
+    Ok(())
+}
+
+// Removes the files of a start that failed, but for logs that have their names.
+fn remove_all<H: Files<File = File>>(rt: &H, all: &[LiveFiles<File>]) {
+    for files in all {
+        if let Some(record) = &files.record {
+            record.remove(rt);
+        }
+        if let Some(log) = &files.log {
+            log.remove(rt);
+        }
+    }
+}
+
+fn open_files<'a, H: Files<File = File>>(
     rt: &H,
     alloc: Global,
     options: &ServeOptions<'a>,
     bus: BusWord<'a>,
-    errors: &mut E,
 ) -> Result<LiveFiles<File>, Report<'a>>
     ensures begun { IfOk result (λ files. HaveLines ⟦<File as Write>⟧.contents [] files) }
     ensures fault { IfErr result (λ failure. IsOfServing failure.error) }
@@ -125,26 +170,35 @@ fn open_files<'a, H: Files<File = File>, E: Write>(
         return Err(Report::new(alloc, ProgramError::NoMemory));
     };
     let record = match options.recording {
-        Recording::Live => Some(open_record(rt, alloc, options, folder, bus, &names, errors)?),
+        Recording::Live => Some(open_record(rt, alloc, options, folder, bus, &names)?),
         Recording::AtEnd | Recording::Never => None,
     };
-    let log = Some(open_log(rt, alloc, options, folder, bus, names)?);
-    Ok(LiveFiles { record, log })
+    match open_log(rt, alloc, options, folder, bus, names) {
+        Ok(log) => Ok(LiveFiles {
+            record,
+            log: Some(log),
+        }),
+        Err(failure) => {
+            if let Some(record) = &record {
+                record.remove(rt);
+            }
+            Err(failure)
+        }
+    }
 }
 
-fn open_record<'a, H: Files<File = File>, E: Write>(
+fn open_record<'a, H: Files<File = File>>(
     rt: &H,
     alloc: Global,
     options: &ServeOptions<'a>,
     folder: &'a str,
     bus: BusWord<'a>,
     names: &Names,
-    errors: &mut E,
 ) -> Result<LiveRecord<File>, Report<'a>>
     ensures front { IfOk result (λ live. RecordHas ⟦<File as Write>⟧.contents live []) }
     ensures fault { IfErr result (λ failure. IsOfServing failure.error) }
 {
-    let draft = draft_of(rt, alloc, folder, &bus, errors)?;
+    let draft = draft_of(rt, alloc, folder, &bus, "rec")?;
     let config = bus_config(options.settings, names);
     LiveRecord::new(rt, alloc, &draft, config, options.is_synced).map_err(|error| open_failure(
         alloc,
@@ -165,16 +219,13 @@ fn open_log<'a, H: Files<File = File>>(
     ensures none { IfOk result (λ log. LogHas ⟦<File as Write>⟧.contents log []) }
     ensures fault { IfErr result (λ failure. IsOfServing failure.error) }
 {
-    let Ok(path) = log_path(alloc, folder, bus.first_name()) else {
-        return Err(Report::new(alloc, ProgramError::NoMemory));
-    };
-    LiveLog::new(rt, alloc, &path, names, options.is_synced).map_err(|error| open_failure(
-        alloc, folder, &path, &error,
+    let draft = draft_of(rt, alloc, folder, &bus, "log")?;
+    LiveLog::new(rt, alloc, &draft, names, options.is_synced).map_err(|error| open_failure(
+        alloc,
+        folder,
+        draft.draft(),
+        &error,
     ))
-}
-
-fn log_path(alloc: Global, folder: &str, name: &str) -> Result<String, AllocError> {
-    format!(in alloc; "{folder}/{name}.log")
 }
 
 /// Writes what is missing of the files of each bus, and gives its record its name. A fault ends only its file. The caller

@@ -7,15 +7,67 @@ use can_station::Settled;
 use canbusd_io::{
     Draft, ProgramError, Report, Reporter, reason_note, save_log_at, save_record_at, set_aside,
 };
-use canbusd_options::BusWord;
+use canbusd_options::{BusWord, Recording, ServeOptions};
 use std::alloc::Global;
-use std::fs::File;
-use std::io::{Error, Write};
+use std::fs;
+use std::fs::{File, TryLockError};
+use std::io::{Error, ErrorKind, Write};
 use std::rt::Files;
 
-/// Looks whether the folder takes the record of each bus. `CannotOpen`, with the folder, where it does not. What runs that
-/// were cut off left of records is set aside first, and reported.
-pub fn look_at_folder<'a, H: Files<File = File>, E: Write>(
+/// Locks the folder for this server. `CannotOpen` where another one has it. `None` where it is no folder that can be read,
+/// or its file system has no locks.
+pub fn lock_folder<'a, H: Files<File = File>>(
+    rt: &H,
+    alloc: Global,
+    folder: &'a str,
+) -> Result<Option<File>, Report<'a>>
+    ensures { IfErr result (λ failure. IsOfServing failure.error) }
+{
+    if !matches!(fs::metadata(rt, folder), Ok(found) if found.is_dir()) {
+        return Ok(None);
+    }
+    let Ok(file) = fs::open(rt, folder) else {
+        return Ok(None);
+    };
+    match file.try_lock() {
+        Ok(()) => Ok(Some(file)),
+        Err(TryLockError::WouldBlock) => {
+            let error = Error::new(ErrorKind::WouldBlock, "another server writes to it");
+            Err(open_failure(alloc, folder, folder, &error))
+        }
+        Err(TryLockError::Error(_)) => Ok(None),
+    }
+}
+
+/// Looks whether the folder takes the files that are written from the start on, the record of each bus and its log, as far as
+/// they are wanted, and leaves it as it is. `CannotOpen`, with the folder, where it does not.
+pub fn look_at_folder<'a, H: Files<File = File>>(
+    rt: &H,
+    alloc: Global,
+    folder: &'a str,
+    options: &ServeOptions<'a>,
+) -> Result<(), Report<'a>>
+    ensures { IfErr result (λ failure. IsOfServing failure.error) }
+{
+    for bus in &options.buses {
+        if !matches!(options.recording, Recording::Never) {
+            let draft = draft_of(rt, alloc, folder, bus, "rec")?;
+            if let Err(error) = draft.look_for_record(rt) {
+                return Err(open_failure(alloc, folder, draft.draft(), &error));
+            }
+        }
+        if !matches!(options.recording, Recording::AtEnd) {
+            let draft = draft_of(rt, alloc, folder, bus, "log")?;
+            if let Err(error) = draft.look(rt) {
+                return Err(open_failure(alloc, folder, draft.draft(), &error));
+            }
+        }
+    }
+    Ok(())
+}
+
+/// Sets aside what runs that were cut off left of the records of these buses, and reports it.
+pub fn set_all_aside<'a, H: Files<File = File>, E: Write>(
     rt: &H,
     alloc: Global,
     folder: &'a str,
@@ -25,34 +77,31 @@ pub fn look_at_folder<'a, H: Files<File = File>, E: Write>(
     ensures { IfErr result (λ failure. IsOfServing failure.error) }
 {
     for bus in buses {
-        let draft = draft_of(rt, alloc, folder, bus, errors)?;
-        if let Err(error) = draft.look(rt) {
-            return Err(open_failure(alloc, folder, draft.path(), &error));
+        let draft = draft_of(rt, alloc, folder, bus, "rec")?;
+        match set_aside(rt, alloc, &draft) {
+            Ok(Some(note)) => {
+                let _ = errors.write_all(note.as_bytes());
+            }
+            Ok(None) => {}
+            Err(error) => return Err(open_failure(alloc, folder, draft.draft(), &error)),
         }
     }
     Ok(())
 }
 
-/// The record of a bus, which is to be written. What a run that was cut off left of it is set aside, and reported.
-pub fn draft_of<'a, H: Files<File = File>, E: Write>(
+/// The file of a bus of this kind, which is to be written.
+pub fn draft_of<'a, H: Files>(
     rt: &H,
     alloc: Global,
-    folder: &'a str,
+    folder: &str,
     bus: &BusWord<'_>,
-    errors: &mut E,
+    kind: &str,
 ) -> Result<Draft, Report<'a>>
     ensures { IfErr result (λ failure. IsOfServing failure.error) }
 {
-    let Ok(draft) = Draft::new(rt, alloc, folder, bus.first_name(), "rec") else {
+    let Ok(draft) = Draft::new(rt, alloc, folder, bus.first_name(), kind) else {
         return Err(Report::new(alloc, ProgramError::NoMemory));
     };
-    match set_aside(rt, alloc, &draft) {
-        Ok(Some(note)) => {
-            let _ = errors.write_all(note.as_bytes());
-        }
-        Ok(None) => {}
-        Err(error) => return Err(open_failure(alloc, folder, draft.draft(), &error)),
-    }
     Ok(draft)
 }
 

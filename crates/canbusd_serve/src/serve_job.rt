@@ -16,7 +16,7 @@ use crate::host::{Host, Start};
 use crate::listening::{Listening, leave, listen, listen_failure};
 use crate::live_files::{LiveFiles, finish_all, open_all};
 use crate::notices::first_name_at;
-use crate::serve_files::{look_at_folder, save_all};
+use crate::serve_files::{lock_folder, look_at_folder, save_all, set_all_aside};
 use can_bus::{BusFault, LongEnd, TAIL_SIZE};
 use can_fault::Perfect;
 use can_meter::MeterName;
@@ -36,7 +36,7 @@ use std::net::{Net, Shutdown, TcpListener, TcpStream};
 use std::os::unix::net::UnixStream;
 use std::rt::Files;
 use std::sync::atomic::{AtomicBool, Ordering};
-use std::sync::{Mutex, Wait};
+use std::sync::{Mutex, OnceLock, Wait};
 use std::thread;
 use std::thread::Threads;
 use std::time::{Clock, Duration};
@@ -82,6 +82,7 @@ pub fn run_serve<'a, H: ServerRuntime, R: Read + Drop + Send + 'static, W: Write
         alloc,
         options,
         has_lost: AtomicBool::new(false),
+        lock: OnceLock::new(),
     };
     let benches = run.read_benches()?;
     let has_reported = match options.recording {
@@ -116,6 +117,8 @@ struct ServerRun<'r, 'a, H: ServerRuntime> {
     options: &'r ServeOptions<'a>,
     // Whether a bus has lost its driver, or a file that is written while it is served, which was reported.
     has_lost: AtomicBool,
+    // The folder, locked until the last file is written.
+    lock: OnceLock<File>,
 }
 
 impl<'r, 'a, H: ServerRuntime> ServerRun<'r, 'a, H> {
@@ -371,7 +374,7 @@ impl<'r, 'a, H: ServerRuntime> ServerRun<'r, 'a, H> {
         self.serve_until(hub, files, acceptors, until, errors)
     }
 
-    // Looks whether the folder takes files, and opens those of long runs.
+    // Takes the folder, and opens the files of long runs.
     fn open_files<N: RollName + MeterName, E: Write>(
         &self,
         hub: &Served<'_, N>,
@@ -382,14 +385,30 @@ impl<'r, 'a, H: ServerRuntime> ServerRun<'r, 'a, H> {
             HasFiles ⟦<File as Write>⟧.contents hub.now files.items) }
         ensures fault { IfErr result (λ failure. IsOfServing failure.error) }
     {
+        self.take_folder(errors)?;
         match hub {
-            Served::Whole(_) => {
-                if let Some(folder) = self.options.folder {
-                    look_at_folder(self.rt, self.alloc, folder, &self.options.buses, errors)?;
-                }
-                Ok(Vec::new(self.alloc))
+            Served::Whole(_) => Ok(Vec::new(self.alloc)),
+            Served::Long(_, _) => open_all(self.rt, self.alloc, self.options),
+        }
+    }
+
+    // Locks the folder, looks whether it takes the files, and sets aside what was left there of records that are to be
+    // written. Before that nothing in it has changed.
+    fn take_folder<E: Write>(&self, errors: &mut E) -> Result<(), Report<'a>>
+        ensures { IfErr result (λ failure. IsOfServing failure.error) }
+    {
+        let Some(folder) = self.options.folder else {
+            return Ok(());
+        };
+        if let Some(lock) = lock_folder(self.rt, self.alloc, folder)? {
+            let _ = self.lock.set(self.rt, lock);
+        }
+        look_at_folder(self.rt, self.alloc, folder, self.options)?;
+        match self.options.recording {
+            Recording::Never => Ok(()),
+            Recording::AtEnd | Recording::Live => {
+                set_all_aside(self.rt, self.alloc, folder, &self.options.buses, errors)
             }
-            Served::Long(_, _) => open_all(self.rt, self.alloc, self.options, errors),
         }
     }
 

@@ -8,9 +8,9 @@ use Rattle.canbusd_serve.proofs.live_files.open_all.Goals as goal
 pub loop-bus-preserved : goal.loop-bus-preserved
 loop-bus-preserved g c =
     let all = c.loop-bus.all.items in
-    let files = c.in_ok-files.files in
-    let pushed = c.in-Ok.ensures.items in
+    let files = c.in-Ok.files in
+    let pushed = c.in-Ok-push.ensures.items in
     let longer : length (all ++ files ∷ []) ≡ length all + 1 = length-append all (files ∷ []) in (
       omega (arith, ap length pushed, longer, c.loop-bus.invariant.0),
-      subst (AreBegun (contents-default File)) (sym pushed) (All-push (λ f. HaveLines (contents-default File) [] f) all files c.loop-bus.invariant.1 c.in_ok-files.ensures.begun),
+      subst (AreBegun (contents-default File)) (sym pushed) (All-push (λ f. HaveLines (contents-default File) [] f) all files c.loop-bus.invariant.1 c.in-Ok.ensures.begun),
     )
