@@ -1,4 +1,4 @@
-ghost use Rattle.std.specs.Prelude.{◌≡◌, length, true, IfSome, IfNone};
+ghost use Rattle.std.specs.Prelude.{◌≡◌, ◌≤◌, length, true, IfSome, IfNone};
 ghost use Rattle.can_rules.specs.Plans.{no_plan, IsSettled, IsUpToRules, head_in, ruled, after_ruled, with_rules, without_rules, SpellsRule, Injected, ReadsPlan, TakesPlanLine, at_word, refusal_of};
 ghost use Rattle.can_rules.specs.RuleWords.{is_rule};
 
@@ -149,7 +149,8 @@ impl Plan {
 
     /// How many rules are left.
     pub fn rules(&self) -> usize
-        ensures { result ≡ length self.now.rules }
+        ensures rules { result ≡ length self.now.rules }
+        ensures few { result ≤ 64 }
     {
         self.rules.len()
     }

@@ -79,7 +79,8 @@ impl Rules {
 
     /// How many there are.
     pub fn len(&self) -> usize
-        ensures { result ≡ length self.now }
+        ensures len { result ≡ length self.now }
+        ensures few { result ≤ 64 }
     {
         self.rules.len()
     }

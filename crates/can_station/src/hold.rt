@@ -1,4 +1,4 @@
-ghost use Rattle.std.specs.Prelude.{◌≡◌, ◌≢◌, Ok, Some, true, length, IfOk, IfSome, IfNone, IsTrue, ◌↔◌};
+ghost use Rattle.std.specs.Prelude.{◌≡◌, ◌≢◌, ◌≤◌, Ok, Some, true, length, IfOk, IfSome, IfNone, IsTrue, ◌↔◌};
 ghost use Rattle.can_bus.specs.Heads.{next_head};
 ghost use Rattle.can_event.specs.Replies.{receive_reply, taken_reply};
 ghost use Rattle.can_event.specs.declared.event.Event.TheVariants as event;
@@ -298,7 +298,8 @@ impl<'s, N: RollName + MeterName, F: FaultSource + Drop, G: Gate + Drop, B: Jour
 
     /// How many rules are left.
     pub fn rules(&self) -> usize
-        ensures { result ≡ length self.now.plan.rules }
+        ensures rules { result ≡ length self.now.plan.rules }
+        ensures few { result ≤ 64 }
     {
         self.state.rules()
     }

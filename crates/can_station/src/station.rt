@@ -316,9 +316,10 @@ impl<N: RollName + MeterName, F: FaultSource + Drop, G: Gate + Drop, B: Journale
         self.hold(rt).inject(text, names)
     }
 
-    /// How many rules are left.
+    /// How many rules are left, at most 64.
     pub fn rules<R: Wait>(&self, rt: &R) -> usize
-        ensures { InSome F self.now (λ held. result ≡ length held.plan.rules) }
+        ensures rules { InSome F self.now (λ held. result ≡ length held.plan.rules) }
+        ensures few { result ≤ 64 }
     {
         self.hold(rt).rules()
     }

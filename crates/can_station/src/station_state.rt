@@ -1,4 +1,4 @@
-ghost use Rattle.std.specs.Prelude.{◌≡◌, ◌≢◌, ◌<◌, ℕ, [], true, List, length, Some, Ok, IfSome, IfNone, IfOk, IsTrue, OnErr, ◌↔◌};
+ghost use Rattle.std.specs.Prelude.{◌≡◌, ◌≢◌, ◌<◌, ◌≤◌, ℕ, [], true, List, length, Some, Ok, IfSome, IfNone, IfOk, IsTrue, OnErr, ◌↔◌};
 ghost use Rattle.can_event.specs.Events.{IsLongConfig};
 ghost use Rattle.can_event.specs.Replies.{enters};
 ghost use Rattle.can_bus.specs.Heads.{next_head};
@@ -281,7 +281,8 @@ impl<N: RollName + MeterName, F: FaultSource + Drop, B: Journaled> StationState<
 
     /// How many rules are left.
     pub fn rules(&self) -> usize
-        ensures { result ≡ length self.now.plan.rules }
+        ensures rules { result ≡ length self.now.plan.rules }
+        ensures few { result ≤ 64 }
     {
         self.plan.rules()
     }

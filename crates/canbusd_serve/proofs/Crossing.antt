@@ -32,7 +32,7 @@ live_send : (F : RattleType) → IsSend F → IsSend (live.the_row F)
 live_send F s =
     let one : IsSend (record_of.the_row F) = record_send F s in
     let log : IsSend (log_of.the_row F) = log_send F s in
-    declared_send (live.the_type F) (search (sendable, as_row_send, one) depth 20, (search (sendable, as_row_send, log) depth 20, tt))
+    declared_send (live.the_type F) (search (sendable, as_row_send, one) depth 20, (search (sendable, as_row_send, log) depth 20, (search (sendable, as_row_send) depth 20, tt)))
 
 -- the files of a bus, with what they were given
 pub kept_send : (F : RattleType) (g : write.Ghosts F.Denot) → IsSend F → IsSend (kept.the_row F g)

@@ -1,4 +1,4 @@
-use Rattle.std.proofs.Common.{◌≡◌, ◌∷◌, ◌++◌, ◌∙◌, ℕ, List, [], IfSome, Option, Some, None, append-nil, append_assoc, ap, length, refl, sym, subst, take-append-drop}
+use Rattle.std.proofs.Common.{◌≡◌, ◌∷◌, ◌++◌, ◌∙◌, false, ℕ, List, [], IfSome, Option, Some, None, append-nil, append_assoc, ap, length, refl, sym, subst, take-append-drop}
 use Rattle.std.proofs.KnownBytes.{Appends-trans}
 use Rattle.std.proofs.lemmas.Grind.{flat_map-append}
 use Rattle.std.proofs.lemmas.List.{length-reverse}
@@ -19,7 +19,7 @@ use Rattle.canbusd_io.specs.declared.live.LiveRecord.{LiveRecord}
 use Rattle.can_hub.specs.Settling.{AllHanded}
 use Rattle.can_roll.specs.Seen.{ScrollSeen}
 use Rattle.can_station.specs.declared.pass.Settled.{Settled}
-use Rattle.canbusd_serve.specs.LongRuns.{AllGiven, AllGivenFirst, AreWhole, HaveLines, LogGets, RecordGets}
+use Rattle.canbusd_serve.specs.LongRuns.{AllGiven, AllGivenFirst, AreWhole, HaveLines, IsLogOpen, IsRecordOpen, LogGets, LogStays, RecordGets, RecordStays}
 use Rattle.canbusd_serve.specs.declared.live_files.LiveFiles.{LiveFiles}
 
 -- What the files of a bus have, one block after another.
@@ -75,21 +75,30 @@ log_then contents (Some l) (Some m) es more has gets =
     let bus = subst (λ (names : List (List ℕ)). MayGet (whole_contents contents) l.start.value.out m.file.out (joined (log_lines names (reverse (es ++ more))))) (sym gets.1) lines in
     subst (λ start. MayGet (whole_contents contents) start.value.out m.file.out (joined (log_lines m.names (reverse (es ++ more))))) (sym gets.0) bus
 
+-- files that are not over stay so, the record first and then the log, or a fault is noted
+going_on : {F : Type 0} (a m b : LiveFiles F) → (a.has_fault ≡ false → IsRecordOpen a.record × IsLogOpen a.log) → RecordStays a m → m.log ≡ a.log → LogStays m b → b.record ≡ m.record → b.has_fault ≡ false → IsRecordOpen b.record × IsLogOpen b.log
+going_on {F} a m b going record_stays same_log log_stays same_record none =
+    let after = log_stays none in
+    let before = record_stays after.0 in
+    let was = going before.0 in
+    (subst (λ (r : Option (LiveRecord F)). IsRecordOpen r) (sym same_record) (before.1 was.0), after.1 (subst (λ (l : Option (LiveLog F)). IsLogOpen l) (sym same_log) was.1))
+
 -- files that have the lines of entries, and get those of more, have those of all of them
 have_then : {F : Type 0} (contents : F → Option (List ℕ)) (a b : LiveFiles F) (es more : List Entry) → HaveLines contents es a → RecordGets contents a.record (entry_lines more []) b.record → LogGets contents a.log more b.log
-    → HaveLines contents (es ++ more) b
-have_then contents a b es more have record_gets log_gets = record {
+    → (b.has_fault ≡ false → IsRecordOpen b.record × IsLogOpen b.log) → HaveLines contents (es ++ more) b
+have_then contents a b es more have record_gets log_gets going = record {
   recorded = subst (λ (text : List ℕ). IfSome b.record (λ r. RecordHas contents r text)) (sym (record-lines es more)) (record_then contents a.record b.record (entry_lines es []) (entry_lines more []) have.recorded record_gets);
   logged = log_then contents a.log b.log es more have.logged log_gets;
+  going = going;
 }
 
 -- the record first, and then the log
-pub have_after : {F : Type 0} (contents : F → Option (List ℕ)) (a m b : LiveFiles F) (es more given : List Entry) → HaveLines contents es a → RecordGets contents a.record (entry_lines more []) m.record → m.log ≡ a.log
-    → LogGets contents m.log more b.log → b.record ≡ m.record → given ≡ es ++ more → HaveLines contents given b
-have_after {F} contents a m b es more given have record_gets same_log log_gets same_record is =
+pub have_after : {F : Type 0} (contents : F → Option (List ℕ)) (a m b : LiveFiles F) (es more given : List Entry) → HaveLines contents es a → RecordGets contents a.record (entry_lines more []) m.record → RecordStays a m → m.log ≡ a.log
+    → LogGets contents m.log more b.log → LogStays m b → b.record ≡ m.record → given ≡ es ++ more → HaveLines contents given b
+have_after {F} contents a m b es more given have record_gets record_stays same_log log_gets log_stays same_record is =
     subst (λ (all : List Entry). HaveLines contents all b) (sym is)
     (have_then contents a b es more have (subst (λ (r : Option (LiveRecord F)). RecordGets contents a.record (entry_lines more []) r) (sym same_record) record_gets)
-    (subst (λ (l : Option (LiveLog F)). LogGets contents l more b.log) same_log log_gets))
+    (subst (λ (l : Option (LiveLog F)). LogGets contents l more b.log) same_log log_gets) (going_on a m b have.going record_stays same_log log_stays same_record))
 
 -- ---- the end
 
@@ -108,39 +117,44 @@ end-lines es more whole count is counted =
 
 -- files that were given what a bus handed out, and get what it held back and the last line, are those of its whole history
 whole_then : {F : Type 0} (contents : F → Option (List ℕ)) (j : LongJournal) (a b : LiveFiles F) (count : ℕ) → HaveLines contents (handed_entries j) a → count ≡ length j.history
-    → RecordGets contents a.record (entry_lines (held_back j) [] ++ spell (end_words count) []) b.record → LogGets contents a.log (held_back j) b.log → AreWhole contents (reverse j.history) b
-whole_then contents j a b count have counted record_gets log_gets = record {
+    → RecordGets contents a.record (entry_lines (held_back j) [] ++ spell (end_words count) []) b.record → LogGets contents a.log (held_back j) b.log
+    → (b.has_fault ≡ false → IsRecordOpen b.record × IsLogOpen b.log) → AreWhole contents (reverse j.history) b
+whole_then contents j a b count have counted record_gets log_gets going = record {
   recorded = subst (λ (text : List ℕ). IfSome b.record (λ r. RecordHas contents r text))
       (end-lines (handed_entries j) (held_back j) (reverse j.history) count (whole_history j) (counted ∙ sym (length-reverse j.history)))
       (record_then contents a.record b.record _ _ have.recorded record_gets);
   logged = subst (λ (es : List Entry). IfSome b.log (λ l. LogHas contents l es)) (whole_history j) (log_then contents a.log b.log (handed_entries j) (held_back j) have.logged log_gets);
+  going = going;
 }
 
 -- the record first, and then the log
 pub whole_after : {F : Type 0} (contents : F → Option (List ℕ)) (j : LongJournal) (a m b : LiveFiles F) (rest : List Entry) (count : ℕ) → HaveLines contents (handed_entries j) a → rest ≡ held_back j → count ≡ length j.history
-    → RecordGets contents a.record (entry_lines rest [] ++ spell (end_words count) []) m.record → m.log ≡ a.log → LogGets contents m.log rest b.log → b.record ≡ m.record → AreWhole contents (reverse j.history) b
-whole_after {F} contents j a m b rest count have is counted record_gets same_log log_gets same_record =
+    → RecordGets contents a.record (entry_lines rest [] ++ spell (end_words count) []) m.record → RecordStays a m → m.log ≡ a.log → LogGets contents m.log rest b.log → LogStays m b → b.record ≡ m.record
+    → AreWhole contents (reverse j.history) b
+whole_after {F} contents j a m b rest count have is counted record_gets record_stays same_log log_gets log_stays same_record =
     let text = λ (es : List Entry). entry_lines es [] ++ spell (end_words count) [] in
     let ended = subst (λ (es : List Entry). RecordGets contents a.record (text es) m.record) is record_gets in
     let logged = subst (λ (es : List Entry). LogGets contents m.log es b.log) is log_gets in
     whole_then contents j a b count have counted
     (subst (λ (r : Option (LiveRecord F)). RecordGets contents a.record (text (held_back j)) r) (sym same_record) ended)
-    (subst (λ (l : Option (LiveLog F)). LogGets contents l (held_back j) b.log) same_log logged)
+    (subst (λ (l : Option (LiveLog F)). LogGets contents l (held_back j) b.log) same_log logged) (going_on a m b have.going record_stays same_log log_stays same_record)
 
 -- ---- all buses
 
 -- what was given to files is what was handed out to their scrolls, which is what was handed out of the histories
-pub given_first : (files : List (List Entry)) (scrolls : List ScrollSeen) (settled : List (Settled LongJournal)) → AllGiven files scrolls → AllHanded handed_entries scrolls settled → AllGivenFirst files settled
-given_first [] [] [] given handed = tt
-given_first (f ∷ files) (s ∷ scrolls) (e ∷ settled) given handed = (given.0 ∙ handed.0, given_first files scrolls settled given.1 handed.1)
-given_first [] [] (e ∷ settled) given handed = absurd handed
-given_first [] (s ∷ scrolls) settled given handed = absurd given
-given_first (f ∷ files) [] settled given handed = absurd given
-given_first (f ∷ files) (s ∷ scrolls) [] given handed = absurd handed
+pub given_first : {F : Type 0} (contents : F → Option (List ℕ)) (files : List (LiveFiles F)) (scrolls : List ScrollSeen) (settled : List (Settled LongJournal)) → AllGiven contents files scrolls → AllHanded handed_entries scrolls settled → AllGivenFirst contents files settled
+given_first contents [] [] [] given handed = tt
+given_first contents (f ∷ files) (s ∷ scrolls) (e ∷ settled) given handed =
+    (subst (λ (es : List Entry). HaveLines contents es f) handed.0 given.0, given_first contents files scrolls settled given.1 handed.1)
+given_first contents [] [] (e ∷ settled) given handed = absurd handed
+given_first contents [] (s ∷ scrolls) settled given handed = absurd given
+given_first contents (f ∷ files) [] settled given handed = absurd given
+given_first contents (f ∷ files) (s ∷ scrolls) [] given handed = absurd handed
 
 -- one file more, which was given what was handed out to one scroll more
-pub given_push : (files : List (List Entry)) (scrolls : List ScrollSeen) (f : List Entry) (s : ScrollSeen) → AllGiven files scrolls → f ≡ s.entries → AllGiven (files ++ f ∷ []) (scrolls ++ s ∷ [])
-given_push [] [] f s all is = (is, tt)
-given_push (x ∷ xs) (y ∷ ys) f s all is = (all.0, given_push xs ys f s all.1 is)
-given_push [] (y ∷ ys) f s all is = absurd all
-given_push (x ∷ xs) [] f s all is = absurd all
+pub given_push : {F : Type 0} (contents : F → Option (List ℕ)) (files : List (LiveFiles F)) (scrolls : List ScrollSeen) (f : LiveFiles F) (s : ScrollSeen) → AllGiven contents files scrolls → HaveLines contents s.entries f
+    → AllGiven contents (files ++ f ∷ []) (scrolls ++ s ∷ [])
+given_push contents [] [] f s all have = (have, tt)
+given_push contents (x ∷ xs) (y ∷ ys) f s all have = (all.0, given_push contents xs ys f s all.1 have)
+given_push contents [] (y ∷ ys) f s all have = absurd all
+given_push contents (x ∷ xs) [] f s all have = absurd all

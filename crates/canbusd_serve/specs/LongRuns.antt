@@ -1,11 +1,14 @@
-use Rattle.std.specs.Prelude.{◌≡◌, ℕ, List, [], length, reverse, All, IfSome, Option, Some, None}
+use Rattle.std.specs.Prelude.{◌≡◌, ℕ, false, List, [], length, reverse, All, IfSome, IsSome, Option, Some, None}
 use Rattle.std.specs.List.{AllZip}
 use Rattle.can_event.specs.declared.entry.Entry.{Entry}
-use Rattle.can_bus.specs.Long.{LongJournal, handed_entries}
+use Rattle.can_bus.specs.Long.{LongJournal, handed_entries, journal_of}
+use Rattle.can_fault.specs.declared.fault_source.Perfect.{Perfect}
+use Rattle.can_hub.specs.declared.bench.Bench.{Bench}
 use Rattle.can_hub.specs.Buses.{BusSeen}
 use Rattle.can_hub.specs.Settling.{AreNewScrolls}
 use Rattle.can_logfile.specs.Log.{joined, log_lines}
 use Rattle.can_roll.specs.Seen.{ScrollSeen}
+use Rattle.can_station.specs.declared.gate.Open.{Open}
 use Rattle.can_station.specs.declared.pass.Settled.{Settled}
 use Rattle.can_record_text.specs.Spelling.{entry_lines, text_in}
 use Rattle.can_record_text.specs.declared.version.Version.TheVariants as version
@@ -13,6 +16,9 @@ use Rattle.canbusd_io.specs.Live.{MayGet, whole_contents}
 use Rattle.canbusd_io.specs.LiveLines.{LogHas, RecordHas}
 use Rattle.canbusd_io.specs.declared.live.LiveLog.{LiveLog}
 use Rattle.canbusd_io.specs.declared.live.LiveRecord.{LiveRecord}
+use Rattle.canbusd_options.specs.declared.recording.Recording.TheVariants as recording
+use Rattle.canbusd_options.specs.declared.serve_options.ServeOptions.{ServeOptions}
+use Rattle.canbusd_serve.specs.Served.{Serves, journals}
 use Rattle.canbusd_serve.specs.declared.live_files.LiveFiles.{LiveFiles}
 use Rattle.canbusd_serve.specs.declared.serve_job.Served.{Served}
 use Rattle.canbusd_serve.specs.declared.serve_job.Served.TheVariants as served
@@ -29,18 +35,22 @@ abbrev pub HasNewScrolls : {N : Type 0} → Served N → Type 0
 HasNewScrolls (served.Whole hub) = Unit {0}
 HasNewScrolls (served.Long hub scrolls) = AreNewScrolls 0 scrolls.items × (length scrolls.items ≡ length hub.now)
 
--- the files of each bus were given what was handed out to its scroll
-abbrev pub AllGiven : List (List Entry) → List ScrollSeen → Type 0
-AllGiven files scrolls = AllZip (λ given scroll. given ≡ scroll.entries) files scrolls
+-- a record is not over, if it is wanted
+abbrev pub IsRecordOpen : {F : Type 0} → Option (LiveRecord F) → Type 0
+IsRecordOpen wanted = IfSome wanted (λ r. IsSome r.file.out)
 
--- the files of each bus of a long run were
-abbrev pub HasGiven : {N : Type 0} → Served N → List (List Entry) → List ScrollSeen → Type 0
-HasGiven (served.Whole hub) files scrolls = Unit {0}
-HasGiven (served.Long hub new) files scrolls = AllGiven files scrolls × (length scrolls ≡ length hub.now)
+-- a log is not over, if it is wanted
+abbrev pub IsLogOpen : {F : Type 0} → Option (LiveLog F) → Type 0
+IsLogOpen wanted = IfSome wanted (λ l. IsSome l.file.out)
 
--- the files of each bus were given what was handed out of the history that it leaves, which are its first entries
-abbrev pub AllGivenFirst : List (List Entry) → List (Settled LongJournal) → Type 0
-AllGivenFirst files settled = AllZip (λ given s. given ≡ handed_entries s.history) files settled
+-- the record is over only where it was before, or a fault of the files is noted, which is never forgotten
+abbrev pub RecordStays : {F : Type 0} → LiveFiles F → LiveFiles F → Type 0
+RecordStays old new =
+    new.has_fault ≡ false → (old.has_fault ≡ false) × (IsRecordOpen old.record → IsRecordOpen new.record)
+
+-- the same of the log
+abbrev pub LogStays : {F : Type 0} → LiveFiles F → LiveFiles F → Type 0
+LogStays old new = new.has_fault ≡ false → (old.has_fault ≡ false) × (IsLogOpen old.log → IsLogOpen new.log)
 
 -- a record, if it is wanted, gets a text, and is that of the same bus
 abbrev pub RecordGets :
@@ -62,11 +72,29 @@ LogGets contents (Some old) entries (Some new) =
     × (new.names ≡ old.names)
     × MayGet (whole_contents contents) old.file.out new.file.out (joined (log_lines old.names (reverse entries)))
 
--- the files of a bus have the lines of these entries, and no others, as far as they are wanted and not over
+-- the files of a bus have the lines of these entries, and no others, as far as they are wanted and not over, which
+-- they are only where a fault is noted
 pub record HaveLines {F : Type 0} (contents : F → Option (List ℕ)) (entries : List Entry)
     (files : LiveFiles F) : Type 0 where
   pub recorded : IfSome files.record (λ r. RecordHas contents r (entry_lines entries []))
   pub logged : IfSome files.log (λ l. LogHas contents l entries)
+  pub going : files.has_fault ≡ false → IsRecordOpen files.record × IsLogOpen files.log
+
+-- the files of each bus were given what was handed out to its scroll
+abbrev pub AllGiven : {F : Type 0} → (F → Option (List ℕ)) → List (LiveFiles F) → List ScrollSeen → Type 0
+AllGiven contents files scrolls = AllZip (λ f scroll. HaveLines contents scroll.entries f) files scrolls
+
+-- the files of each bus of a long run were
+abbrev pub HasGiven :
+    {N F : Type 0} → (F → Option (List ℕ)) → Served N → List (LiveFiles F) → List ScrollSeen → Type 0
+HasGiven contents (served.Whole hub) files scrolls = Unit {0}
+HasGiven contents (served.Long hub new) files scrolls =
+    AllGiven contents files scrolls × (length scrolls ≡ length hub.now)
+
+-- the files of each bus were given what was handed out of the history that it leaves, which are its first entries
+abbrev pub AllGivenFirst :
+    {F : Type 0} → (F → Option (List ℕ)) → List (LiveFiles F) → List (Settled LongJournal) → Type 0
+AllGivenFirst contents files settled = AllZip (λ f s. HaveLines contents (handed_entries s.history) f) files settled
 
 -- the files of each bus have no lines of entries
 abbrev pub AreBegun : {F : Type 0} → (F → Option (List ℕ)) → List (LiveFiles F) → Type 0
@@ -78,9 +106,35 @@ HasFiles contents (served.Whole hub) files = Unit {0}
 HasFiles contents (served.Long hub scrolls) files = AreBegun contents files × (length files ≡ length hub.now)
 
 -- the record of a bus is the text of this history, and its log has the lines of all frames that were tried in it,
--- as far as they are wanted and not over
+-- as far as they are wanted and not over, which they are only where a fault is noted
 pub record AreWhole {F : Type 0} (contents : F → Option (List ℕ)) (history : List Entry)
     (files : LiveFiles F) : Type 0 where
   pub recorded : IfSome files.record (λ r.
       MayGet (whole_contents contents) r.start.value.out r.file.out (text_in version.Four r.config history))
   pub logged : IfSome files.log (λ l. LogHas contents l history)
+  pub going : files.has_fault ≡ false → IsRecordOpen files.record × IsLogOpen files.log
+
+-- the files of each bus are whole, of the history that it leaves
+abbrev pub AreAllWhole :
+    {F : Type 0} → (F → Option (List ℕ)) → List (LiveFiles F) → List (Settled LongJournal) → Type 0
+AreAllWhole contents files settled = AllZip (λ f s. AreWhole contents (reverse s.history.history) f) files settled
+
+-- the files that the options want of a bus are there, and no fault is noted: in a folder a log, and a record if it is to
+-- be live
+pub record AreThere {F : Type 0} (o : ServeOptions) (files : LiveFiles F) : Type 0 where
+  pub faultless : files.has_fault ≡ false
+  pub logged : IsSome o.folder → IsSome files.log
+  pub recorded : IsSome o.folder → o.recording ≡ recording.Live → IsSome files.record
+
+-- so are those of each bus
+abbrev pub AreAllThere : {F : Type 0} → ServeOptions → List (LiveFiles F) → List (Settled LongJournal) → Type 0
+AreAllThere o files settled = AllZip (λ f s. AreThere o f) files settled
+
+-- a server of long runs ended well: its buses left these files, which are there and have the whole history
+pub record ServesFiles {W F : Type 0} (contents : W → Option (List ℕ)) (kept : F → Option (List ℕ)) (o : ServeOptions)
+    (benches : List (Bench Perfect Open)) (old new : W) (files : List (LiveFiles F)) : Type 0 where
+  pub serves : Serves contents o benches old new
+  pub settled : List (Settled LongJournal)
+  pub ends : serves.ends ≡ journals journal_of settled
+  pub whole : AreAllWhole kept files settled
+  pub there : AreAllThere o files settled

@@ -2,7 +2,7 @@
 ghost use Rattle.std.specs.Prelude.{◌≡◌, [], All};
 ghost use Rattle.can_record_text.specs.inner.StoredLines.{HasFittingReply};
 ghost use Rattle.can_record_text.specs.Spelling.{entry_lines};
-ghost use Rattle.canbusd_serve.specs.LongRuns.{HaveLines, LogGets, RecordGets};
+ghost use Rattle.canbusd_serve.specs.LongRuns.{HaveLines, LogGets, LogStays, RecordGets, RecordStays};
 
 use crate::host::Host;
 use crate::live_files::LiveFiles;
@@ -100,6 +100,7 @@ fn keep_record<F: Write + OpenFile + Drop, H: Wait + time::Clock, E: Write>(
     requires { All HasFittingReply entries.now.entries }
     ensures kept { RecordGets F.contents files.old.record (entry_lines entries.now.entries [])
         files.new.record }
+    ensures stays { RecordStays files.old files.new }
     ensures same { files.new.log ≡ files.old.log }
 {
     let begun = Instant::now(host.rt);
@@ -121,6 +122,7 @@ fn keep_log<F: Write + OpenFile + Drop, H: Wait + time::Clock, E: Write>(
     reported: &mut Option<Instant>,
 )
     ensures kept { LogGets F.contents files.old.log entries.now.entries files.new.log }
+    ensures stays { LogStays files.old files.new }
     ensures same { files.new.record ≡ files.old.record }
 {
     let begun = Instant::now(host.rt);

@@ -54,7 +54,7 @@ pub struct Host<'h, 'a, 'l, H, E: Write> {
     pub alloc: Global,
     pub options: &'h ServeOptions<'a>,
     pub errors: Mutex<&'h mut E>,
-    /// Whether a bus has lost its driver, or a file that is written while it is served.
+    /// Whether a bus has lost its driver.
     pub has_lost: &'l AtomicBool,
     /// When it started, where its buses have bit rates.
     pub start: Option<Start>,
@@ -123,7 +123,6 @@ impl<'a, H: Wait + time::Clock, E: Write> Host<'_, 'a, '_, H, E> {
     /// Reports that a file is over, if it is.
     pub fn report(&self, kept: Result<(), Report<'_>>) {
         if let Err(failure) = kept {
-            self.has_lost.store(true, Ordering::SeqCst);
             let mut errors = self.errors.lock(self.rt);
             failure.write_to(&mut **errors);
         }

@@ -1,13 +1,12 @@
 //! The files that a server of long runs writes while it serves.
-ghost use Rattle.std.specs.Prelude.{◌≡◌, ◌++◌, [], length, reverse, All, IfErr, IfOk, IsTrue};
+ghost use Rattle.std.specs.Prelude.{◌≡◌, ◌++◌, [], length, reverse, All, IfErr, IfOk, IsSome, IsTrue};
 ghost use Rattle.can_bus.specs.Long.{handed_entries};
 ghost use Rattle.can_record_text.specs.Spelling.{end_words, entry_lines, spell};
 ghost use Rattle.can_record_text.specs.inner.StoredLines.{HasFittingReply};
 ghost use Rattle.canbusd_io.specs.LiveLines.{LogHas, RecordHas};
-ghost use Rattle.canbusd_serve.specs.LongRuns.{AllGivenFirst, AreBegun, AreWhole, HaveLines, LogGets, RecordGets};
+ghost use Rattle.canbusd_serve.specs.LongRuns.{AllGivenFirst, AreAllWhole, AreBegun, AreAllThere, AreThere, AreWhole, HaveLines, LogGets, LogStays, RecordGets, RecordStays};
 ghost use Rattle.canbusd_serve.specs.Served.{IsOfServing};
 
-use crate::file_keeper::KeptFiles;
 use crate::serve_files::{draft_of, open_failure};
 use can_bus::{LongEnd, PackedRecord};
 use can_frame::Names;
@@ -24,6 +23,8 @@ use std::rt::Files;
 pub struct LiveFiles<F: Write + OpenFile + Drop> {
     pub record: Option<LiveRecord<F>>,
     pub log: Option<LiveLog<F>>,
+    /// Whether one of them had a fault, without which none is over.
+    has_fault: bool,
 }
 
 impl<F: Write + OpenFile + Drop> LiveFiles<F> {
@@ -36,12 +37,17 @@ impl<F: Write + OpenFile + Drop> LiveFiles<F> {
         requires { All HasFittingReply entries.now.entries }
         ensures kept { RecordGets F.contents self.old.record (entry_lines entries.now.entries [])
             self.new.record }
+        ensures stays { RecordStays self.old self.new }
         ensures same { self.new.log ≡ self.old.log }
     {
-        match &mut self.record {
-            Some(record) => record.keep(alloc, entries),
-            None => Ok(()),
+        let Some(record) = &mut self.record else {
+            return Ok(());
+        };
+        let kept = record.keep(alloc, entries);
+        if let Err(_) = &kept {
+            self.has_fault = true;
         }
+        kept
     }
 
     /// Writes the lines of the last entries and the line of the end to the record, if it is wanted, and gives it its name.
@@ -56,12 +62,17 @@ impl<F: Write + OpenFile + Drop> LiveFiles<F> {
         requires { All HasFittingReply entries.now.entries }
         ensures kept { RecordGets F.contents self.old.record
             (entry_lines entries.now.entries [] ++ spell (end_words count) []) self.new.record }
+        ensures stays { RecordStays self.old self.new }
         ensures same { self.new.log ≡ self.old.log }
     {
-        match &mut self.record {
-            Some(record) => record.finish(rt, alloc, entries, count),
-            None => Ok(()),
+        let Some(record) = &mut self.record else {
+            return Ok(());
+        };
+        let kept = record.finish(rt, alloc, entries, count);
+        if let Err(_) = &kept {
+            self.has_fault = true;
         }
+        kept
     }
 
     /// Writes the lines of their tried frames to the log, which is called by this name, if it is wanted.
@@ -72,11 +83,32 @@ impl<F: Write + OpenFile + Drop> LiveFiles<F> {
         entries: &PackedRecord,
     ) -> Result<(), Report<'a>>
         ensures kept { LogGets F.contents self.old.log entries.now.entries self.new.log }
+        ensures stays { LogStays self.old self.new }
         ensures same { self.new.record ≡ self.old.record }
     {
-        match &mut self.log {
-            Some(log) => log.keep(alloc, name, entries),
-            None => Ok(()),
+        let Some(log) = &mut self.log else {
+            return Ok(());
+        };
+        let kept = log.keep(alloc, name, entries);
+        if let Err(_) = &kept {
+            self.has_fault = true;
+        }
+        kept
+    }
+
+    /// Whether those that the options want are there, and had no fault.
+    fn are_there(&self, options: &ServeOptions<'_>) -> bool
+        ensures { IsTrue result → AreThere options.now self.now }
+    {
+        if self.has_fault {
+            return false;
+        }
+        if options.folder.is_none() {
+            return true;
+        }
+        match options.recording {
+            Recording::Live => self.log.is_some() && self.record.is_some(),
+            Recording::AtEnd | Recording::Never => self.log.is_some(),
         }
     }
 }
@@ -164,6 +196,7 @@ fn open_files<'a, H: Files<File = File>>(
         return Ok(LiveFiles {
             record: None,
             log: None,
+            has_fault: false,
         });
     };
     let Ok(names) = read_names(alloc, bus.names) else {
@@ -177,6 +210,7 @@ fn open_files<'a, H: Files<File = File>>(
         Ok(log) => Ok(LiveFiles {
             record,
             log: Some(log),
+            has_fault: false,
         }),
         Err(failure) => {
             if let Some(record) = &record {
@@ -196,6 +230,7 @@ fn open_record<'a, H: Files<File = File>>(
     names: &Names,
 ) -> Result<LiveRecord<File>, Report<'a>>
     ensures front { IfOk result (λ live. RecordHas ⟦<File as Write>⟧.contents live []) }
+    ensures open { IfOk result (λ live. IsSome live.file.out) }
     ensures fault { IfErr result (λ failure. IsOfServing failure.error) }
 {
     let draft = draft_of(rt, alloc, folder, &bus, "rec")?;
@@ -217,6 +252,7 @@ fn open_log<'a, H: Files<File = File>>(
     names: Names,
 ) -> Result<LiveLog<File>, Report<'a>>
     ensures none { IfOk result (λ log. LogHas ⟦<File as Write>⟧.contents log []) }
+    ensures open { IfOk result (λ log. IsSome log.file.out) }
     ensures fault { IfErr result (λ failure. IsOfServing failure.error) }
 {
     let draft = draft_of(rt, alloc, folder, &bus, "log")?;
@@ -228,48 +264,52 @@ fn open_log<'a, H: Files<File = File>>(
     ))
 }
 
-/// Writes what is missing of the files of each bus, and gives its record its name. A fault ends only its file. The caller
-/// shows that they were given what was handed out of the history that the bus left.
-pub fn finish_all<H: Files, E: Write>(
+/// Writes what is missing of the files of each bus, and gives its record its name. Returns whether they are what the
+/// options want, without a fault, which ends only its file. The caller shows that they were given what was handed out of
+/// the history that the bus left.
+pub fn finish_all<F: Write + OpenFile + Drop, H: Files, E: Write>(
     rt: &H,
     alloc: Global,
-    files: Vec<KeptFiles<File>>,
+    options: &ServeOptions<'_>,
     buses: &[BusWord<'_>],
+    files: &mut [LiveFiles<F>],
     settled: &[Settled<LongEnd>],
     reporter: &mut Reporter<'_, E>,
-)
-    requires { AllGivenFirst files.items settled.now }
-    ensures { IsTrue reporter.old.has_reported → IsTrue reporter.new.has_reported }
+) -> bool
+    requires each { length buses.now ≡ length settled.now }
+    requires given { AllGivenFirst F.contents files.now settled.now }
+    ensures told { IsTrue reporter.old.has_reported → IsTrue reporter.new.has_reported }
+    ensures whole { AreAllWhole F.contents files.new settled.now }
+    ensures there { IsTrue result → AreAllThere options.now files.new settled.now }
 {
-    let mut buses = buses.iter();
-    let mut settled = settled.iter();
-    for files in files {
-        let Some(bus) = buses.next() else {
-            break;
-        };
-        let Some(own) = settled.next() else {
-            break;
-        };
-        let _ = finish(rt, alloc, files, bus, &own.history, reporter);
-    }
+    let Some((first, files)) = files.split_first_mut() else {
+        return true;
+    };
+    let Some((bus, buses)) = buses.split_first() else {
+        unreachable!()
+    };
+    let Some((own, settled)) = settled.split_first() else {
+        unreachable!()
+    };
+    finish(rt, alloc, bus, first, &own.history, reporter);
+    let are_there = first.are_there(options);
+    finish_all(rt, alloc, options, buses, files, settled, reporter) && are_there
 }
 
-// Returns the files as they are at the end: the record of the bus is the text of its whole history.
+// The record of the bus is the text of its whole history then.
 fn finish<F: Write + OpenFile + Drop, H: Files, E: Write>(
     rt: &H,
     alloc: Global,
-    kept: KeptFiles<F>,
     bus: &BusWord<'_>,
+    files: &mut LiveFiles<F>,
     end: &LongEnd,
     reporter: &mut Reporter<'_, E>,
-) -> LiveFiles<F>
-    requires { kept ≡ handed_entries end.now }
+)
+    requires { HaveLines F.contents (handed_entries end.now) files.now }
     ensures told { IsTrue reporter.old.has_reported → IsTrue reporter.new.has_reported }
-    ensures whole { AreWhole F.contents (reverse end.now.history) result }
+    ensures whole { AreWhole F.contents (reverse end.now.history) files.new }
 {
-    let mut files = kept.into_files();
     let rest = end.entries();
     reporter.report(files.finish_record(rt, alloc, rest, end.len()));
     reporter.report(files.keep_log(alloc, bus.first_name(), rest));
-    files
 }

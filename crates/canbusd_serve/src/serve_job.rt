@@ -6,7 +6,7 @@ ghost use Rattle.can_hub.specs.HubBuses.{IsOfLongRuns};
 ghost use Rattle.canbusd_io.specs.declared.program_error.ProgramError.TheVariants as fault;
 ghost use Rattle.canbusd_io.specs.Files.{Took};
 ghost use Rattle.can_hub.specs.Settling.{AreNewScrolls};
-ghost use Rattle.canbusd_serve.specs.LongRuns.{AllGiven, AllGivenFirst, AreBegun, HasFiles, HasGiven, HasNewScrolls, buses_in};
+ghost use Rattle.canbusd_serve.specs.LongRuns.{AllGiven, AllGivenFirst, AreBegun, HasFiles, HasGiven, HasNewScrolls, ServesFiles, buses_in};
 ghost use Rattle.canbusd_serve.specs.Served.{AreAllBenches, AreEnds, IsBenchOf, IsHeardAt, IsListening, IsOfBus, IsOfHub, IsOfServer, IsOfServing, IsServed, Serves, journals, listening_line, record_journal};
 
 use crate::buses_notes::buses_note;
@@ -89,6 +89,7 @@ pub fn run_serve<'a, H: ServerRuntime, R: Read + Drop + Send + 'static, W: Write
         Recording::AtEnd => run.run_whole::<Brand, _, _, _>(benches, input, output, errors)?,
         Recording::Live | Recording::Never => {
             run.run_live::<Brand, _, _, _>(benches, input, output, errors)?
+                .0
         }
     };
     Ok(!has_reported && !run.has_lost.load(Ordering::SeqCst))
@@ -105,7 +106,7 @@ enum Served<'h, N: RollName + MeterName> {
 #[derive(Drop)]
 struct Run<N: RollName> {
     passes: Vec<Vec<Pass<N>>>,
-    files: Vec<KeptFiles<File>>,
+    files: Vec<LiveFiles<File>>,
     scrolls: Vec<Scroll<N>>,
 }
 
@@ -115,7 +116,7 @@ struct ServerRun<'r, 'a, H: ServerRuntime> {
     rt: &'r H,
     alloc: Global,
     options: &'r ServeOptions<'a>,
-    // Whether a bus has lost its driver, or a file that is written while it is served, which was reported.
+    // Whether a bus has lost its driver, which was reported.
     has_lost: AtomicBool,
     // The folder, locked until the last file is written.
     lock: OnceLock<File>,
@@ -188,7 +189,8 @@ impl<'r, 'a, H: ServerRuntime> ServerRun<'r, 'a, H> {
         Ok(reporter.has_reported())
     }
 
-    // Serves the buses of long runs that are made of these, and ends their files. Returns whether a fault was reported.
+    // Serves the buses of long runs that are made of these, and ends their files, which it returns. Before them it returns
+    // whether a fault was reported.
     fn run_live<
         N: RollName + MeterName + Send + Sync,
         R: Read + Drop + Send + 'static,
@@ -200,19 +202,28 @@ impl<'r, 'a, H: ServerRuntime> ServerRun<'r, 'a, H> {
         input: R,
         output: &mut W,
         errors: &mut E,
-    ) -> Result<bool, Report<'a>>
+    ) -> Result<(bool, Vec<LiveFiles<File>>), Report<'a>>
         requires named { NamedFrom N.roll N.meter 0 benches.items }
         requires each { length benches.items ≡ length self.now.options.now.buses.items }
-        ensures served { IfOk result (λ told. told ≡ false
-            → Serves W.contents self.now.options.now benches.items output.old output.new) }
+        ensures served { IfOk result (λ end. end.0 ≡ false
+            → ServesFiles W.contents ⟦<File as Write>⟧.contents self.now.options.now benches.items
+            output.old output.new end.1.items) }
         ensures fault { IfErr result (λ failure. IsOfHub IsOfLongRuns benches.items failure.error) }
     {
-        let (settled, files) = self.settle_live::<N, R, W, E>(benches, input, output, errors)?;
+        let (settled, mut files) = self.settle_live::<N, R, W, E>(benches, input, output, errors)?;
         let buses = &self.options.buses;
         let mut reporter = Reporter::new(errors);
         reporter.report(put_ends(self.alloc, buses, &settled, output));
-        finish_all(self.rt, self.alloc, files, buses, &settled, &mut reporter);
-        Ok(reporter.has_reported())
+        let are_there = finish_all(
+            self.rt,
+            self.alloc,
+            self.options,
+            buses,
+            &mut files,
+            &settled,
+            &mut reporter,
+        );
+        Ok((reporter.has_reported() || !are_there, files))
     }
 
     // Serves the buses that are made of these, and settles them.
@@ -259,12 +270,13 @@ impl<'r, 'a, H: ServerRuntime> ServerRun<'r, 'a, H> {
         input: R,
         output: &mut W,
         errors: &mut E,
-    ) -> Result<(Vec<Settled<LongEnd>>, Vec<KeptFiles<File>>), Report<'a>>
+    ) -> Result<(Vec<Settled<LongEnd>>, Vec<LiveFiles<File>>), Report<'a>>
         requires named { NamedFrom N.roll N.meter 0 benches.items }
         requires each { length benches.items ≡ length self.now.options.now.buses.items }
         ensures ends { IfOk result (λ end.
             AreEnds benches.items (journals journal_of end.0.items)) }
-        ensures handed { IfOk result (λ end. AllGivenFirst end.1.items end.0.items) }
+        ensures handed { IfOk result (λ end.
+            AllGivenFirst ⟦<File as Write>⟧.contents end.1.items end.0.items) }
         ensures listening { OnOk result
             (IsListening W.contents self.now.options.now.address.now output.old output.new) }
         ensures fault { IfErr result (λ failure. IsOfHub IsOfLongRuns benches.items failure.error) }
@@ -320,7 +332,7 @@ impl<'r, 'a, H: ServerRuntime> ServerRun<'r, 'a, H> {
         ensures passes { IfOk result (λ run.
             length run.passes.items ≡ length (buses_in hub.entry)) }
         ensures given { IfOk result (λ run.
-            HasGiven hub.entry run.files.items run.scrolls.items) }
+            HasGiven ⟦<File as Write>⟧.contents hub.entry run.files.items run.scrolls.items) }
         ensures listening { OnOk result
             (IsListening W.contents self.now.options.now.address.now output.old output.new) }
         ensures fault { IfErr result (λ failure. IsOfServing failure.error) }
@@ -359,7 +371,7 @@ impl<'r, 'a, H: ServerRuntime> ServerRun<'r, 'a, H> {
         ensures passes { IfOk result (λ run.
             length run.passes.items ≡ length (buses_in hub.entry)) }
         ensures given { IfOk result (λ run.
-            HasGiven hub.entry run.files.items run.scrolls.items) }
+            HasGiven ⟦<File as Write>⟧.contents hub.entry run.files.items run.scrolls.items) }
         ensures listening { OnOk result
             (IsListening W.contents self.now.options.now.address.now output.old output.new) }
         ensures fault { IfErr result (λ failure. IsOfServing failure.error) }
@@ -425,7 +437,7 @@ impl<'r, 'a, H: ServerRuntime> ServerRun<'r, 'a, H> {
         ensures passes { IfOk result (λ run.
             length run.passes.items ≡ length (buses_in hub.entry)) }
         ensures given { IfOk result (λ run.
-            HasGiven hub.entry run.files.items run.scrolls.items) }
+            HasGiven ⟦<File as Write>⟧.contents hub.entry run.files.items run.scrolls.items) }
         ensures fault { IfErr result (λ failure. IsOfServing failure.error) }
     {
         let host = Host {
@@ -481,7 +493,8 @@ impl<'r, 'a, H: ServerRuntime> ServerRun<'r, 'a, H> {
         requires scrolls { AreNewScrolls 0 scrolls.items }
         requires each { length scrolls.items ≡ length hub.now }
         ensures passes { IfOk result (λ run. length run.passes.items ≡ length hub.now) }
-        ensures given { IfOk result (λ run. AllGiven run.files.items run.scrolls.items) }
+        ensures given { IfOk result (λ run.
+            AllGiven ⟦<File as Write>⟧.contents run.files.items run.scrolls.items) }
         ensures each { IfOk result (λ run. length run.scrolls.items ≡ length hub.now) }
     {
         let mut run = Run {
@@ -504,7 +517,7 @@ impl<'r, 'a, H: ServerRuntime> ServerRun<'r, 'a, H> {
         run.passes = serve_long(self.rt, self.alloc, hub, acceptors, host, until, scribes)?;
         for kept in kept {
             let (keeper, scroll) = kept.into_parts();
-            run.files.push_reserved(keeper.kept);
+            run.files.push_reserved(keeper.kept.into_files());
             run.scrolls.push_reserved(scroll);
         }
         Ok(run)

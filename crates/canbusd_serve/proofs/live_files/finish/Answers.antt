@@ -1,7 +1,5 @@
-use Rattle.std.proofs.Common.{All, List, sym, subst}
-use Rattle.can_event.specs.declared.entry.Entry.{Entry}
+use Rattle.std.proofs.Common.{All, sym, subst}
 use Rattle.can_record_text.specs.inner.StoredLines.{HasFittingReply}
-use Rattle.canbusd_serve.specs.LongRuns.{HaveLines}
 use Rattle.canbusd_serve.proofs.Fitting.{rest_fit}
 use Rattle.canbusd_serve.proofs.Keeping.{whole_after}
 use Rattle.canbusd_serve.proofs.live_files.finish.Goals as goal
@@ -14,7 +12,5 @@ finish_record-requires g c =
 pub returns-clause-whole : goal.returns-clause-whole
 returns-clause-whole g c =
     let contents = g.F.Write.contents in
-    let files = c.into_files-files.result in
-    let given = subst (λ (es : List Entry). HaveLines contents es files) c.requires c.into_files-files.ensures in
-    whole_after contents c.args.end.now files c.finish_record.new.self c.keep_log.new.self c.entries-rest.result.now.entries c.len.result given c.entries-rest.ensures.entries c.len.ensures c.finish_record.ensures.kept c.finish_record.ensures.same
-    c.keep_log.ensures.kept c.keep_log.ensures.same
+    whole_after contents c.args.end.now c.args.files.now c.finish_record.new.self c.keep_log.new.self c.entries-rest.result.now.entries c.len.result c.requires c.entries-rest.ensures.entries c.len.ensures
+    c.finish_record.ensures.kept c.finish_record.ensures.stays c.finish_record.ensures.same c.keep_log.ensures.kept c.keep_log.ensures.stays c.keep_log.ensures.same

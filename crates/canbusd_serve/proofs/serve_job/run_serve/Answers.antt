@@ -33,5 +33,5 @@ returns-clause-served g c = λ whole.
       | in-AtEnd+in_ok-has_reported-in-AtEnd w ↦ subst (λ out. IsServed contents o c.args.output.now out) (sym w.output-is)
           (serves-all contents o benches c.args.output.now w.run_whole.new.output made (w.in_ok-has_reported-in-AtEnd.ensures.served (sym w.has_reported-is ∙ quiet)))
       | in-Live+in_ok-has_reported-in-Live w ↦ subst (λ out. IsServed contents o c.args.output.now out) (sym w.output-is)
-          (serves-all contents o benches c.args.output.now w.run_live.new.output made (w.in_ok-has_reported-in-Live.ensures.served (sym w.has_reported-is ∙ quiet)))
+          (serves-all contents o benches c.args.output.now w.run_live.new.output made (w.in_ok-has_reported-in-Live.ensures.served (sym w.has_reported-is ∙ quiet)).serves)
     ]

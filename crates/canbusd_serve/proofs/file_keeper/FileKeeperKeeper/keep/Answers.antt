@@ -14,5 +14,6 @@ keep_record-requires g c = last_fit c.args.block.now.entries.entries c.requires
 
 pub invariant_of-self : goal.invariant_of-self
 invariant_of-self g c =
-    have_after g.F.Write.contents _ c.keep_record.new.files c.keep_log.new.files _ c.args.block.now.entries.entries c.note.new.self c.self.invariant c.keep_record.ensures.kept c.keep_record.ensures.same c.keep_log.ensures.kept c.keep_log.ensures.same
+    have_after g.F.Write.contents _ c.keep_record.new.files c.keep_log.new.files _ c.args.block.now.entries.entries c.note.new.self c.self.invariant c.keep_record.ensures.kept c.keep_record.ensures.stays c.keep_record.ensures.same c.keep_log.ensures.kept
+    c.keep_log.ensures.stays c.keep_log.ensures.same
     c.note.ensures

@@ -1,7 +1,10 @@
 use Rattle.std.proofs.Common.{◌≡◌, ◌+◌, ◌∷◌, ◌++◌, ◌∙◌, List, [], ap, arith, length, length-append, subst, sym}
 use Rattle.can_event.specs.declared.entry.Entry.{Entry}
 use Rattle.can_roll.specs.Seen.{ScrollSeen}
-use Rattle.canbusd_serve.specs.LongRuns.{AllGiven}
+use Rattle.std.specs.declared.fs.File.{File}
+use Rattle.std.specs.declared.io.traits.Write.{contents-default}
+use Rattle.canbusd_serve.specs.LongRuns.{AllGiven, HaveLines}
+use Rattle.canbusd_serve.specs.declared.live_files.LiveFiles.{LiveFiles}
 use denote.Exit.{yes}
 use denote.Param.{param}
 use denote.Param.Send.{IsSend, IsSync, arg_send, param_send, sendable}
@@ -27,13 +30,15 @@ loop-kept-2-preserved g c =
     let own = c.into_parts-keeper in
     let old_files = c.loop-kept-2.run.files.items in
     let old_scrolls = c.loop-kept-2.run.scrolls.items in
-    let f : List Entry = own.result.0.kept in
+    let f : LiveFiles File = c.into_files.result in
     let s : ScrollSeen = own.result.1 in
     let more_files : length (old_files ++ f ∷ []) ≡ length old_files + 1 = length-append old_files (f ∷ []) in
     let more_scrolls : length (old_scrolls ++ s ∷ []) ≡ length old_scrolls + 1 = length-append old_scrolls (s ∷ []) in
-    let all = given_push old_files old_scrolls f s i.given (own.ensures.given ∙ sym (ap (λ (x : ScrollSeen). x.entries) own.ensures.scroll)) in
+    let contents = contents-default File in
+    let have : HaveLines contents s.entries f = subst (λ (es : List Entry). HaveLines contents es f) (own.ensures.given ∙ sym (ap (λ (x : ScrollSeen). x.entries) own.ensures.scroll)) c.into_files.ensures in
+    let all = given_push contents old_files old_scrolls f s i.given have in
     record {
-      given = subst (λ (ss : List ScrollSeen). AllGiven c.push_reserved.new.self.items ss) (sym scrolls.items) (subst (λ (fs : List (List Entry)). AllGiven fs (old_scrolls ++ s ∷ [])) (sym files.items) all);
+      given = subst (λ (ss : List ScrollSeen). AllGiven contents c.push_reserved.new.self.items ss) (sym scrolls.items) (subst (λ (fs : List (LiveFiles File)). AllGiven contents fs (old_scrolls ++ s ∷ [])) (sym files.items) all);
       passes = i.passes;
       counted = omega (arith, steps.1, i.counted, ap length steps.0);
       each = omega (arith, ap length scrolls.items, more_scrolls, steps.1, i.each);

@@ -1,4 +1,6 @@
 use Rattle.std.proofs.Common.{length, ap, ◌∙◌}
+use Rattle.std.specs.declared.fs.File.{File}
+use Rattle.std.specs.declared.io.traits.Write.{contents-default}
 use Rattle.can_bus.specs.Long.{journal_of}
 use Rattle.canbusd_serve.proofs.Keeping.{given_first}
 use Rattle.canbusd_serve.proofs.Serving.{buses-length, settles-ends}
@@ -13,4 +15,4 @@ returns-in-Ok-settle_scrolls-clause-ends g c =
 
 pub returns-in-Ok-settle_scrolls-clause-handed : goal.returns-in-Ok-settle_scrolls-clause-handed
 returns-in-Ok-settle_scrolls-clause-handed g c =
-    given_first _ _ _ c.in_ok-passes.ensures.given.0 c.in-Ok-settle_scrolls.ensures.handed
+    given_first (contents-default File) _ _ _ c.in_ok-passes.ensures.given.0 c.in-Ok-settle_scrolls.ensures.handed

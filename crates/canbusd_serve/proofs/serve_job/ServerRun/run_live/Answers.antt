@@ -1,0 +1,58 @@
+use Rattle.std.proofs.Common.{◌≡◌, ◌∷◌, ◌++◌, ◌∙◌, ℕ, suc, List, [], Bool, false, Result, Ok, Err, IfErr, IsTrue, OnOk, ap, drop, length, refl, subst, sym, take}
+use Rattle.std.specs.List.{AllZip}
+use Rattle.std.proofs.KnownBytes.{Appends-trans}
+use Rattle.std.proofs.Math.Seq.{take-append_seam}
+use Rattle.std.specs.declared.fs.File.{File}
+use Rattle.std.specs.declared.io.traits.Write.{contents-default}
+use Rattle.can_bus.specs.Long.{LongJournal, journal_of}
+use Rattle.can_station.specs.declared.pass.Settled.{Settled}
+use Rattle.canbusd_io.specs.Files.{Took}
+use Rattle.canbusd_options.specs.declared.bus_word.BusWord.{BusWord}
+use Rattle.canbusd_serve.specs.LongRuns.{AreAllThere, AreAllWhole, ServesFiles}
+use Rattle.canbusd_serve.specs.Served.{end_lines, journals}
+use Rattle.canbusd_serve.specs.declared.live_files.LiveFiles.{LiveFiles}
+use Rattle.canbusd_serve.proofs.serve_job.ServerRun.run_live.Goals as goal
+
+-- what holds of an outcome without a fault, where none was reported
+unreported : {T E : Type 0} (r : Result T E) (a b : Bool) (P : Type 0) → IfErr r (λ _. IsTrue a) → (IsTrue a → IsTrue b) → b ≡ false → OnOk r P → P
+unreported (Ok t) a b P told kept quiet p = p
+unreported (Err e) a b P told kept quiet p = let yes : IsTrue b = kept told in cc
+
+zip_length : {A B : Type 0} (R : A → B → Type 0) (xs : List A) (ys : List B) → AllZip R xs ys → length xs ≡ length ys
+zip_length R [] [] all = refl
+zip_length R (x ∷ xs) (y ∷ ys) all = ap suc (zip_length R xs ys all.1)
+zip_length R [] (y ∷ ys) all = absurd all
+zip_length R (x ∷ xs) [] all = absurd all
+
+-- a list that is as long as the vector that it is written to is what that has
+written : {A : Type 0} (xs ys : List A) (n : ℕ) → length xs ≡ n → take n (xs ++ drop (length xs) ys) ≡ xs
+written xs ys n is = ap (λ (k : ℕ). take k (xs ++ drop (length xs) ys)) (sym is) ∙ take-append_seam xs (drop (length xs) ys)
+
+pub returns-clause-served : goal.returns-clause-served
+returns-clause-served g c = λ quiet.
+    let both = c.if-has_reported.result-false quiet in
+    let kept = contents-default File in
+    let o = c.args.self.now.options.now in
+    let old = c.in_ok-settled.files in
+    let new = c.finish_all-are_there.new.files in
+    let settled = c.in_ok-settled.settled.items in
+    let listening = c.in_ok-settled.ensures.listening in
+    let whole = subst (λ (s : List (Settled LongJournal)). AreAllWhole kept new s) c.deref-4.ensures.value c.finish_all-are_there.ensures.whole in
+    let there = subst (λ (s : List (Settled LongJournal)). AreAllThere o new s) c.deref-4.ensures.value (c.finish_all-are_there.ensures.there both.1) in
+    let each : length new ≡ old.len = zip_length _ new settled whole ∙ sym (zip_length _ old.items settled c.in_ok-settled.ensures.handed) ∙ sym old.ok.0 in
+    let put = unreported c.put_ends.result _ _ _ c.report.ensures.reported c.finish_all-are_there.ensures.told (sym c.has_reported.ensures ∙ both.0) c.put_ends.ensures in
+    let lines = subst (λ (s : List (Settled LongJournal)). Took g.W.Write.contents c.settle_live.new.output c.put_ends.new.output (end_lines o.buses.items (journals journal_of s))) c.deref-2.ensures.value
+    (subst (λ (b : List BusWord). Took g.W.Write.contents c.settle_live.new.output c.put_ends.new.output (end_lines b (journals journal_of c.deref-2.result.now))) c.deref.ensures.value put) in
+    subst (λ (f : List (LiveFiles File)). ServesFiles g.W.Write.contents kept o c.args.benches.items c.args.output.now c.put_ends.new.output f) (sym (written new old.items old.len each)) (record {
+      serves = record {
+        ends = journals journal_of settled;
+        are = c.in_ok-settled.ensures.ends;
+        heard = listening.0;
+        address = listening.1;
+        wrote = Appends-trans _ _ _ _ _ listening.2 lines;
+      };
+      settled = settled;
+      ends = refl;
+      whole = whole;
+      there = there;
+    })
