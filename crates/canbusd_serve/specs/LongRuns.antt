@@ -119,8 +119,8 @@ abbrev pub AreAllWhole :
     {F : Type 0} → (F → Option (List ℕ)) → List (LiveFiles F) → List (Settled LongJournal) → Type 0
 AreAllWhole contents files settled = AllZip (λ f s. AreWhole contents (reverse s.history.history) f) files settled
 
--- the files that the options want of a bus are there, and no fault is noted: in a folder a log, and a record if it is to
--- be live
+-- the files that the options want of a bus are there, and no fault is noted: in a folder a log, and a record if it is
+-- to be live
 pub record AreThere {F : Type 0} (o : ServeOptions) (files : LiveFiles F) : Type 0 where
   pub faultless : files.has_fault ≡ false
   pub logged : IsSome o.folder → IsSome files.log
