@@ -15,6 +15,7 @@ from typing import Optional, TypeVar, Union
 from canbusd._program import find_program
 from canbusd._text import NAME
 from canbusd._wire import LEAST_BITRATE, MOST_BITRATE, MOST_DBITRATE, Rates
+from canbusd.faults import Script
 
 Self = TypeVar("Self", bound="ProgramRun")
 
@@ -78,6 +79,20 @@ def check_names(names: Sequence[str]) -> Sequence[str]:
         known = f"1 to {MOST_NAMES} different ones of 1 to 15 ASCII letters, digits, _, - and ."
         raise ValueError(f"names of a bus's interfaces are {known}, not {','.join(names)!r}")
     return names
+
+
+def bus_of(names: Union[str, Sequence[str]], faults: Optional[Script]) -> tuple[tuple[str, ...], Optional[Script]]:
+    """Returns the names of a bus and its faults, which may be a file after the names, as for the program: can0,can1@FILE."""
+    if isinstance(names, str):
+        names, given, script_path = names.partition("@")
+        if given and faults is not None:
+            raise ValueError("faults are given twice, as a file after the names too")
+        faults = Path(script_path) if given else faults
+    parts = tuple(names.split(",") if isinstance(names, str) else names)
+    if not parts or not all(isinstance(name, str) for name in parts):
+        raise ValueError(f"names are those of the interfaces, such as 'can0,can1', not {names!r}")
+    check_names(parts)
+    return parts, faults
 
 
 def remove(folder: Path, process: int) -> None:

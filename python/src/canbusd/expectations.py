@@ -23,7 +23,8 @@ from canbusd.supervision import Supervision
 if TYPE_CHECKING:
     from can.message import Message
 
-    from canbusd._observer import Observer, ObservingSession
+    from canbusd._observer import Observer
+    from canbusd._observing_session import ObservingSession
 
 #: The transmit error count from which an interface is bus off, and what a destroyed frame adds to it.
 OFF, DESTROYED = 256, 8

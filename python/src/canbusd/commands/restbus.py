@@ -10,7 +10,8 @@ from typing import Optional
 
 from canbusd._rest_live import LiveRestBus
 from canbusd._rest_nodes import interfaces_of, sender
-from canbusd.bus import CanbusdBus, interfaces, seconds
+from canbusd._arguments import seconds
+from canbusd.bus import CanbusdBus, interfaces
 from canbusd.commands import add_address
 from canbusd.rest_bus import RestBus
 from canbusd.signals import Database, load_database

@@ -19,7 +19,8 @@ import canbusd._python_can  # noqa: F401  it says what is missing, so it comes f
 from can.exceptions import CanOperationError
 
 from canbusd._wire import Rates, Wire
-from canbusd.bus import CanbusdBus, interfaces, seconds
+from canbusd._arguments import seconds
+from canbusd.bus import CanbusdBus, interfaces
 from canbusd.commands import add_address, add_database, database_of
 from canbusd.frames import SENDING, Frame, frame_like
 from canbusd.report import filled
