@@ -12,6 +12,7 @@ from canbusd._injection import TIMEOUT
 from canbusd._observing_session import ObservingSession, Reader, wait_for_input
 from canbusd._protocol import in_words
 from canbusd._raw_session import fault
+from canbusd._text import seconds_words, times
 from canbusd._received import MOST_KEPT, MOST_SHOWN, Received, Seen, StateSeen, state_in
 from canbusd._wanted import Wanted
 from canbusd.frames import Frame, described_line
@@ -84,7 +85,9 @@ class Observer:
                 if session.taken >= queued:
                     break
                 if left <= 0:
-                    raise fault("CanTimeoutError", f"{session.channel}: frames did not come within {TIMEOUT:g} seconds")
+                    raise fault(
+                        "CanTimeoutError", f"{session.channel}: frames did not come within {seconds_words(TIMEOUT)}"
+                    )
                 wait_for_input([session], left)
 
     def wait(self, look: Callable[[], Optional[T]], may_be: Callable[[Seen], bool], within: float) -> Optional[T]:
@@ -221,7 +224,7 @@ class Observer:
         for name in self.received.channels(channel):
             dropped = self._sessions[name].stats().dropped - self._dropped.get(name, 0)
             if dropped:
-                texts.append(f"{dropped} frames were dropped at {name} (rxqueue)")
+                texts.append(f"{times(dropped, 'frame was', 'frames were')} dropped at {name} (rxqueue)")
         with self._lock:
             forgotten = self.received.missed(channel)
         if forgotten:
@@ -246,7 +249,9 @@ class Observer:
         for name in observed:
             dropped = self._sessions[name].stats().dropped
             if dropped:
-                shown.append(f"{dropped} frames were dropped at {name}: they came too fast for `rxqueue`")
+                shown.append(
+                    f"{times(dropped, 'frame was', 'frames were')} dropped at {name}: they came too fast for `rxqueue`"
+                )
         return "\n".join([*shown, *self._states()])
 
     def channel(self, seen: Seen) -> str:

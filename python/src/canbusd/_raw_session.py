@@ -12,6 +12,7 @@ from typing import Optional
 from canbusd._connection import LONGEST_POLL, POLL, Connection, NoAnswer, SessionRefused
 from canbusd._injection import NO_INTERFACE, InjectsFaults, no_interface
 from canbusd._protocol import ErrorCounters, Load, Stats, counters_of, load_of, refusal_in, stats_of
+from canbusd._text import times
 
 NO_BUFFERS, BUS_OFF, NOT_BUS_OFF, RECORD_FULL = "no buffers", "bus off", "not bus off", "record full"
 # What the system's own CAN sockets report.
@@ -133,7 +134,7 @@ class RawSession(InjectsFaults):
         while rest:
             room = window - stats.waiting
             if room < 1:
-                stats = self._departure(stats, deadline, f" after {total - len(rest)} of {total} messages")
+                stats = self._departure(stats, deadline, f" after {total - len(rest)} of {times(total, 'message')}")
                 room = max(1, window - stats.waiting)
             answers = self.answers([*rest[:room], "stats"])
             stats = self._parsed(answers.pop(), stats_of)
@@ -141,7 +142,7 @@ class RawSession(InjectsFaults):
             rest[: len(answers)] = refused
             reason = next((answer for answer in answers if answer not in ("", NO_BUFFERS)), None)
             if reason is not None:
-                raise refusal(reason, f" after {total - len(rest)} of {total} messages")
+                raise refusal(reason, f" after {total - len(rest)} of {times(total, 'message')}")
             if len(refused) < len(answers) and timeout is None:
                 deadline = time.monotonic() + self._timeout
             window = max(1, stats.waiting) if refused else min(most, window + 1)

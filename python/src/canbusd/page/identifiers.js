@@ -1,0 +1,29 @@
+// Statistics of each identifier, of the attempts that the filters leave: how many were done, their periods, the last data.
+
+function identifierList() {
+  const made = new Rolling("identifiers", [["identifier", "10ch", "n"], ["sender", "minmax(0, 1fr)", "w"],
+    ["done", "minmax(0, 8ch)", "n h"], ["failed", "minmax(0, 7ch)", "n h"], ...PERIOD_COLUMNS, ["last", "minmax(0, 1.6fr)", "f"]], one => [one.identifier, listed(one.senders), grouped(one.periods.number),
+    one.failed ? badText(grouped(one.failed)) : "0", ...one.periods.words, one.last && [one.last, messageOf(one.place)]],
+  one => choose(one.step));
+  made.isChosen = one => isAttempt(view.step) && one.identifier === identifierOf(textOf(view.step));
+  return made;
+}
+const identifierOf = text => text.split("#")[0];
+const allIdentifiers = () => new Set(run.texts.filter((text, place) => text && !run.meanings[place]).map(identifierOf));
+function findIdentifiers({ node, matches, from, to }) {
+  const found = new Map(), keys = run.texts.map(identifierOf);
+  for (let step = from; step < to; step++) {
+    if (!isAttempt(step) || node >= 0 && steps.iface[step] !== node || !matches[steps.frame[step]]) continue;
+    const identifier = keys[steps.frame[step]];
+    let one = found.get(identifier);
+    if (!one) found.set(identifier, one = { identifier, senders: 0, failed: 0, periods: new Periods(), last: "", place: 0 });
+    one.senders |= 1 << steps.iface[step];
+    one.step = step;
+    if (steps.kind[step]) { one.failed++; continue; }
+    one.periods.add(moments[step]);
+    one.place = steps.frame[step];
+    one.last = run.texts[one.place];
+  }
+  const order = [...found.values()].sort((one, other) => one.identifier < other.identifier ? -1 : 1);
+  return [order, allIdentifiers().size];
+}
