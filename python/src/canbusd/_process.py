@@ -1,5 +1,6 @@
 """What Server and Bench share: the options of the program, a folder of its own, and an end."""
 
+import _thread
 import os
 import shutil
 import signal
@@ -96,9 +97,19 @@ def bus_of(names: Union[str, Sequence[str]], faults: Optional[Script]) -> tuple[
 
 
 def remove(folder: Path, process: int) -> None:
-    """Removes the folder of a run, in the process that started it; one that was forked leaves it there."""
+    """Removes the folder of a run, in the process that started it; one that was forked leaves it there.
+
+    Python prints an exception of a finalizer and forgets it. So a Ctrl-C that comes meanwhile is sent again by another
+    thread, which gets its turn once the finalizer is over.
+    """
     if os.getpid() == process:
-        shutil.rmtree(folder, ignore_errors=True)
+        try:
+            shutil.rmtree(folder, ignore_errors=True)
+        except KeyboardInterrupt:
+            try:
+                shutil.rmtree(folder, ignore_errors=True)
+            finally:
+                _thread.start_new_thread(os.kill, (process, signal.SIGINT))
 
 
 class ProgramRun:
