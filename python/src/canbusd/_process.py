@@ -105,7 +105,8 @@ def remove(folder: Path, process: int) -> None:
     if os.getpid() == process:
         try:
             shutil.rmtree(folder, ignore_errors=True)
-        except KeyboardInterrupt:
+        except (KeyboardInterrupt, OSError):
+            # An OSError hides one, by which a descriptor was closed twice: others are ignored.
             try:
                 shutil.rmtree(folder, ignore_errors=True)
             finally:

@@ -67,7 +67,7 @@ class Server(Expectations, SimulatesNodes, RunsPrograms, ProgramRun):
     ``observe`` names the interfaces whose frames :meth:`expect` looks at, by default all, or the first of each bus where
     there are more than 8; without any, ``observe=()``, the record has nothing of it. ``database``, a file or what
     load_database returns, has the names of messages and signals that are expected. The server runs when the constructor returns,
-    and is ended by :meth:`stop`, by the end of a ``with`` block, and by the end of this process, whatever ends it.
+    and is ended by :meth:`stop`, by the end of a ``with`` block, and by the end of this process, even by a crash.
     """
 
     def __init__(

@@ -12,6 +12,15 @@ on("taken", column => {
   }
   other.places = [byAttempt, Float64Array.from([...other.since, (other.since[other.count - 1] ?? 0) + 1e-4])];
 });
+// The first attempt that may be seen: one that began before what is seen may reach into it.
+function firstSeen(places) {
+  let low = 0, high = other.count;
+  while (low < high) {
+    const middle = low + high >> 1;
+    if (places[middle] < view.from) low = middle + 1; else high = middle;
+  }
+  return Math.max(low - 1, 0);
+}
 class OtherLane {
   constructor(number, name) {
     const title = `${name} in ${run.other.title}`;
@@ -19,9 +28,10 @@ class OtherLane {
   }
   draw(plot, top, fills) {
     const places = other.places[Number(byTime.isOn)], kinds = new Uint8Array(plot.width);
-    for (let k = 0; k < other.count; k++) {
+    for (let k = firstSeen(places); k < other.count && places[k] < view.to; k++) {
+      if (other.iface[k] !== this.number) continue;
       const from = placeOf(plot, places[k]), to = time.isInstant ? from + 3 : placeOf(plot, places[k + 1]);
-      if (other.iface[k] !== this.number || to < 0 || from >= plot.width || to <= from) continue;
+      if (to < 0 || to <= from) continue;
       const left = Math.max(Math.floor(from), 0), room = Math.min(to, plot.width) - left;
       if (room < 2) { kinds[left] = Math.max(kinds[left], 1 + other.kind[k]); continue; }
       block(plot.pen, fills[KINDS[other.kind[k]]], left, top + 2, Math.max(room - (room > 5 ? 1 : 0), 1), STRIP - 4);
