@@ -9,7 +9,13 @@ function identifierList() {
   return made;
 }
 const identifierOf = text => text.split("#")[0];
-const allIdentifiers = () => new Set(run.texts.filter((text, place) => text && !run.meanings[place]).map(identifierOf));
+// How many there are in all, once the run is known.
+let allIdentifiers = 0;
+on("taken", () => {
+  const tried = new Set();
+  for (let step = 0; step < axis.count; step++) if (isAttempt(step)) tried.add(steps.frame[step]);
+  allIdentifiers = new Set([...tried].map(place => identifierOf(run.texts[place]))).size;
+});
 function findIdentifiers({ node, matches, from, to }) {
   const found = new Map(), keys = run.texts.map(identifierOf);
   for (let step = from; step < to; step++) {
@@ -25,5 +31,5 @@ function findIdentifiers({ node, matches, from, to }) {
     one.last = run.texts[one.place];
   }
   const order = [...found.values()].sort((one, other) => one.identifier < other.identifier ? -1 : 1);
-  return [order, allIdentifiers().size];
+  return [order, allIdentifiers];
 }

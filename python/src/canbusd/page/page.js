@@ -104,7 +104,7 @@ function showWords() {
   at("of-fate").append(...options(FATE_WORDS.map((words, k) => [words, k])));
   at("none").hidden = run.events.length > 0;
   at("events").hidden = at("kinds").hidden = !run.events.length;
-  const numbers = [run.events.length, attemptOf[axis.count], run.itemsInAll, names.length, run.sockets.length, allIdentifiers().size,
+  const numbers = [run.events.length, attemptOf[axis.count], run.itemsInAll, names.length, run.sockets.length, allIdentifiers,
     signals.all().length];
   [...at("tabs").children].forEach((button, k) => { if (k < numbers.length) button.append(` ${grouped(numbers[k])}`); });
   at("tabs").querySelector("[aria-controls=tab-signals]").hidden = !signals.all().length;
