@@ -142,6 +142,12 @@ class Session(InjectsFaults):
         answer = self.call(message)[0]
         return "" if answer == "ok" else answer
 
+    def _refused(self, message: str) -> str:
+        try:
+            return self._answer(message)
+        except Refused as fault:
+            return str(fault)
+
     def _live(self) -> int:
         if self._closed:
             raise ValueError(f"the session on {self.channel} is closed")
