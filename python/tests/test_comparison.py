@@ -31,7 +31,7 @@ def test_where_they_first_differ(tmp_path):
         "outcome, fault, who accepted it: can0 104#04 done against can0 104#04 destroyed (global bit)"
     )
     assert beside(one, other) == [
-        f"first difference in attempt 4: {found.words}",
+        f"First difference in attempt 4: {found.words}",
         "       1 can0 101#01 done",
         "       2 can0 102#02 done",
         "       3 can0 103#03 done",
@@ -45,7 +45,7 @@ def test_where_they_first_differ(tmp_path):
 
 def test_runs_that_are_alike_and_one_that_goes_on(tmp_path):
     one, same, longer = run_of(tmp_path, "a"), run_of(tmp_path, "b"), run_of(tmp_path, "c", frames=8)
-    assert beside(one, same) == ["no difference in 6 attempts"]
+    assert beside(one, same) == ["No difference in 6 attempts"]
     assert first_difference(one, longer) == (6, "the second run has 2 attempts more")
     assert first_difference(longer, one) == (6, "the first run has 2 attempts more")
     nothing = run_of(tmp_path, "d", frames=0)
@@ -57,7 +57,7 @@ def test_the_command(tmp_path):
     run_of(tmp_path, "b", Faults().destroyed(4))
     records = [tmp_path / "a" / "can0.rec", tmp_path / "b" / "can0.rec"]
     status, written, said = call("report", "--text", "--names", "can0,can1", *records)
-    assert (status, said) == (0, "") and written.startswith("first difference in attempt 4: outcome, fault")
+    assert (status, said) == (0, "") and written.startswith("First difference in attempt 4: outcome, fault")
     status, written, said = call("report", *records)
     assert (status, "</html>" in written) == (0, True)
     cure = "has no name: it never sent a frame; --names NAME,.. gives all of them"
@@ -72,7 +72,7 @@ def test_both_on_one_axis(opened, tmp_path, width):  # noqa: F811
     shown = opened(one.replay, one.names, pair=Pair(one, other, "b.rec"))
     shown.size(width)
     assert shown.run("view.step") == 4
-    assert shown.run("at('title').textContent").startswith("first difference in attempt 4: ")
+    assert shown.run("at('title').textContent").startswith("First difference in attempt 4: ")
     assert shown.run("lanes.map(lane => lane.name)") == ["can0", "can1", "can0 \u2032", "can1 \u2032"]
     chosen = "The first difference. The same attempt in b.rec: can0 104#04 destroyed (global bit)"
     assert chosen in shown.run("at('chosen').textContent")

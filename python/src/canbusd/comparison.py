@@ -57,8 +57,8 @@ def heading(one: Record, other: Record) -> str:
     """Returns in one line where two runs first differ."""
     found = first_difference(one, other)
     if found is None:
-        return f"no difference in {times(len(tried(one)), 'attempt')}"
-    return f"first difference in attempt {found.attempt:,}: {found.words}"
+        return f"No difference in {times(len(tried(one)), 'attempt')}"
+    return f"First difference in attempt {found.attempt:,}: {found.words}"
 
 
 def beside(one: Record, other: Record) -> list[str]:

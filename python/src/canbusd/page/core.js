@@ -67,7 +67,7 @@ class Periods {
   }
 }
 const grouped3 = number => number.toLocaleString("en", { minimumFractionDigits: 3, maximumFractionDigits: 3 });
-const PERIOD_COLUMNS = ["period, ms", "least", "largest", "jitter"].map(head => [head, "minmax(0, 10ch)", "n h"]);
+const PERIOD_COLUMNS = ["period, ms", "least", "largest", "jitter"].map(head => [head, "minmax(0, 8.5ch)", "n h"]);
 
 // Colours, and lines of hatching over a tile of 6 pixels, so that no kind is shown by its colour only.
 

@@ -1,10 +1,11 @@
 // Statistics of each identifier, of the attempts that the filters leave: how many were done, their periods, the last data.
 
 function identifierList() {
-  const made = new Rolling("identifiers", [["identifier", "10ch", "n"], ["sender", "minmax(0, 1fr)", "w"],
-    ["done", "minmax(0, 8ch)", "n h"], ["failed", "minmax(0, 7ch)", "n h"], ...PERIOD_COLUMNS, ["last", "minmax(0, 1.6fr)", "f"]], one => [one.identifier, listed(one.senders), grouped(one.periods.number),
-    one.failed ? badText(grouped(one.failed)) : "0", ...one.periods.words, one.last && [one.last, messageOf(one.place)]],
-  one => choose(one.step));
+  const columns = [["identifier", "10ch", "n"], ["sender", "minmax(0, 1fr)", "w"], ["done", "minmax(0, 7ch)", "n h"],
+    ["failed", "minmax(0, 6ch)", "n h"], ...PERIOD_COLUMNS, ["last", "minmax(0, 2.2fr)", "f"]];
+  const cells = one => [one.identifier, listed(one.senders), grouped(one.periods.number),
+    one.failed ? badText(grouped(one.failed)) : "0", ...one.periods.words, one.last && [one.last, messageOf(one.place)]];
+  const made = new Rolling("identifiers", columns, cells, one => choose(one.step));
   made.isChosen = one => isAttempt(view.step) && one.identifier === identifierOf(textOf(view.step));
   return made;
 }
