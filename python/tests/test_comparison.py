@@ -59,9 +59,7 @@ def test_the_command(tmp_path):
     status, written, said = call("report", "--text", "--names", "can0,can1", *records)
     assert (status, said) == (0, "") and written.startswith("First difference in attempt 4: outcome, fault")
     status, written, said = call("report", *records)
-    assert (status, "</html>" in written) == (0, True)
-    cure = "has no name: it never sent a frame; --names NAME,.. gives all of them"
-    assert said.splitlines() == [f"canbusd report: {record}: interface 1 {cure}" for record in records]
+    assert (status, "</html>" in written, said) == (0, True, "")
 
 
 @pytest.mark.skipif(PROGRAM is None, reason="not installed: chromium")

@@ -426,6 +426,13 @@ def test_filters(opened):
     assert found(of_fate="3") == "0 of 4,900"
 
 
+def test_interfaces_that_never_sent(opened):
+    """have no name in the log, and the page says how they get one"""
+    shown = opened(bus_off(), ("can0", "interface 1"))
+    assert shown.run("at('facts').textContent").endswith(" No log beside the record names all interfaces: --names NAME,.. does.")
+    assert "--names" not in opened(bus_off()).run("at('facts').textContent")
+
+
 def test_what_was_lost_is_on_the_page(shown):
     text = shown.run("at('chosen').innerText")
     assert "32 of its 32 attempts since attempt 0 failed: global bit 32" in text

@@ -158,7 +158,7 @@ def names_of(record: RecordText, path: Optional[Path], given: Optional[Sequence[
         names = given.split(",") if isinstance(given, str) else given
         if len(names) != record.ifaces:
             raise BadRecord(
-                f"its bus has {times(record.ifaces, 'interface')}, and {times(len(names), 'name is', 'names are')} given: {','.join(names)}"
+                f"its bus has {times(record.ifaces, 'interface')}, and these names are given: {','.join(names)}"
             )
         if len(set(names)) != len(names) or not all(map(NAME.fullmatch, names)):
             raise BadRecord(f"no names of interfaces, or the same twice: {','.join(names)}")

@@ -9,7 +9,6 @@ from collections.abc import Callable
 from typing import Any, Optional
 
 from canbusd._protocol import ALL_CLASSES
-from canbusd._text import times
 from canbusd.bus import CanbusdBus
 from canbusd.commands import add_address, add_database, database_of
 from canbusd.frames import ERROR, EXTENDED, INVERTED, Frame, frame_like, log_line
@@ -170,7 +169,7 @@ class Drops:
             if dropped > self.dropped[place]:
                 more = dropped - self.dropped[place]
                 print(
-                    f"canbusd dump: {name}: {times(more, 'frame')} dropped, {dropped} in all: they came too fast",
+                    f"canbusd dump: {name}: {more} frame{'' if more == 1 else 's'} dropped, {dropped} in all: they came too fast",
                     file=sys.stderr,
                 )
             self.dropped[place] = dropped

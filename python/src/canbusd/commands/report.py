@@ -6,7 +6,6 @@ import os
 import sys
 from collections.abc import Iterable
 from pathlib import Path
-from typing import Optional
 
 from canbusd import _summary, drawings
 from canbusd._command import add_record, replayed
@@ -14,7 +13,6 @@ from canbusd._slots import load_of, load_words, slots_of
 from canbusd.commands import add_database, add_rates, database_of, rates_of
 from canbusd.comparison import beside
 from canbusd.faults import plan_of, script_text
-from canbusd.record import Record
 from canbusd.rules import deciders
 
 EPILOG = """\
@@ -64,8 +62,6 @@ def run(options: argparse.Namespace) -> None:
     rates = rates_of(options)
     record = replayed(options.record, options.names, options.cut)
     other = None if options.other is None else replayed(options.other, options.names, options.cut)
-    for one, path in ((record, options.record), (other, options.other)):
-        say_unnamed(one, path)
     if options.text or options.counters or options.arbitration:
         if options.text:
             write(_summary.story(record, MOST_EVENTS) if other is None else beside(record, other))
@@ -92,15 +88,6 @@ def title_beside(path: str, other: str) -> str:
     """How the second of two records is called: by its folder, too, where both files have one name."""
     name = os.path.basename(other)
     return other if name == os.path.basename(path) else name
-
-
-def say_unnamed(record: Optional[Record], path: str) -> None:
-    """Reports on standard error which interfaces have no name, since they never sent and --names does not say."""
-    unnamed = [] if record is None else [name for name in record.names if name.startswith("interface ")]
-    if unnamed:
-        said = "has no name: it" if len(unnamed) == 1 else "have no names: they"
-        cure = "; --names NAME,.. gives all of them"
-        print(f"canbusd report: {path}: {', '.join(unnamed)} {said} never sent a frame{cure}", file=sys.stderr)
 
 
 def write(lines: Iterable[str]) -> None:

@@ -48,8 +48,8 @@ function stepOfAttempt(number) {
   }
   return Math.min(low, Math.max(axis.count - 1, 0));
 }
-function stepInHash() {
-  const wanted = /^#(step|attempt)=(\d+)$/.exec(location.hash);
+function stepInHash(hash) {
+  const wanted = /^#(step|attempt)=(\d+)$/.exec(hash);
   if (!wanted) return null;
   return wanted[1] === "step" ? Math.min(Number(wanted[2]), Math.max(axis.count - 1, 0)) : stepOfAttempt(Number(wanted[2]));
 }
@@ -82,7 +82,11 @@ function listen() {
     moved: () => { if (at("in-view").checked) for (const one of Object.values(lists)) one.isStale = true; } });
   listenToTime();
   listenToKeys(KEYS);
-  window.addEventListener("hashchange", () => { const step = stepInHash(); if (step !== null) choose(step); });
+  window.addEventListener("hashchange", event => {
+    // Not that of the page, which may be another one meanwhile: `sayHash` waits.
+    const step = stepInHash(new URL(event.newURL).hash);
+    if (step !== null) choose(step);
+  });
 }
 const LEGEND = [["done", "done", "the frame was sent, and accepted by all that saw no fault"],
   ["lastbit", "last bit", "the sender saw a fault in the last bit: receivers have the frame, and it is sent again"],
@@ -95,7 +99,9 @@ const LEGEND = [["done", "done", "the frame was sent, and accepted by all that s
 function showWords() {
   document.title = `${run.heading} (${run.title})`;
   at("title").textContent = run.heading;
-  at("facts").textContent = `${run.title}. ${run.facts}`;
+  const isUnnamed = names.some(name => name.startsWith("interface "));
+  at("facts").textContent = `${run.title}. ${run.facts}`
+    + (isUnnamed ? " No log beside the record names all interfaces: --names NAME,.. does." : "");
   legend("legend", LEGEND);
   const options = words => [["all", ""], ...words].map(([text, value]) => element("option", text, { value }));
   at("of-node").append(...options(names.map((name, i) => [name, i])));
@@ -135,7 +141,7 @@ async function begin() {
   listen();
   showIfaces();
   readTheme();
-  view.step = stepInHash() ?? run.first;
+  view.step = stepInHash(location.hash) ?? run.first;
   sayAxis();
   showTab = makeTabs("tabs", showList);
   showTab("tab-events");
