@@ -12,7 +12,7 @@ from serving import ROOT, program
 pytest.importorskip("can", reason="no python-can: apt-get install python3-can")
 
 
-def tests_of(folder, *options):
+def run_example(folder, *options):
     """Runs the tests of an example, as the guide says; what pytest writes."""
     words = [sys.executable, "-m", "pytest", "-q", "-p", "no:cacheprovider", "-p", "canbusd.pytest_plugin", *options]
     env = {**os.environ, "CANBUSD": program(), "CANBUSD_RUN": command()}
@@ -26,7 +26,7 @@ def tests_of(folder, *options):
 
 @needs_gcc
 def test_heartbeat():
-    assert "1 passed" in tests_of("examples/c")
+    assert "1 passed" in run_example("examples/c")
 
 
 @needs_gcc
@@ -35,4 +35,4 @@ def test_heartbeat():
 def test_car(options):
     """12 tests of each cluster, in real and in virtual time"""
     pytest.importorskip("canmatrix", reason="no canmatrix: apt-get install python3-canmatrix")
-    assert "24 passed" in tests_of("examples/car", *options)
+    assert "24 passed" in run_example("examples/car", *options)

@@ -18,7 +18,7 @@
 #include <unistd.h>
 
 enum { ENGINE = 0x100, COMFORT = 0x200, STATE = 0x300, REQUEST = 0x7E0, ANSWER = 0x7E8 };
-enum { PERIOD = 50, LOST = 100, STUCK = 200 };
+enum { PERIOD = 50, LOST = 250, STUCK = 400 };
 static const char NAME[] = "CLUSTER-000000001";
 
 struct cluster {

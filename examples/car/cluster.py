@@ -3,7 +3,7 @@
     python3 cluster.py INTERFACE
 
 Each 50 milliseconds it sends what it shows, 300: the speed of the engine, which comes in 100; a lamp, where the engine was
-not heard for 100 milliseconds, or its counter stayed the same for 200; and that there may be ice, by the temperature in page
+not heard for 250 milliseconds, or its counter stayed the same for 400; and that there may be ice, by the temperature in page
 1 of 200. By ISO-TP, 7E0 and 7E8, it answers which cluster it is (22 F1 90). Counting of its own frames begins anew with each
 restart after bus off.
 """
@@ -18,7 +18,7 @@ ENGINE, COMFORT, STATE = 0x100, 0x200, 0x300
 REQUEST, ANSWER = 0x7E0, 0x7E8
 # Of linux/can/error.h and raw.h.
 BUS_OFF, RESTARTED, ERROR_FILTER = 0x040, 0x100, 2
-PERIOD, LOST, STUCK = 0.05, 0.1, 0.2
+PERIOD, LOST, STUCK = 0.05, 0.25, 0.4
 NAME = b"CLUSTER-000000001"
 FRAME = struct.Struct("=IB3x8s")
 
