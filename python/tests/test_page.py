@@ -429,7 +429,9 @@ def test_filters(opened):
 def test_interfaces_that_never_sent(opened):
     """have no name in the log, and the page says how they get one"""
     shown = opened(bus_off(), ("can0", "interface 1"))
-    assert shown.run("at('facts').textContent").endswith(" No log beside the record names all interfaces: --names NAME,.. does.")
+    assert shown.run("at('facts').textContent").endswith(
+        " No log beside the record names all interfaces: --names NAME,.. does."
+    )
     assert "--names" not in opened(bus_off()).run("at('facts').textContent")
 
 
