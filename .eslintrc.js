@@ -7,8 +7,6 @@ module.exports = {
   // Newer than the linter's list of what browsers have.
   globals: { DecompressionStream: "readonly", frames: "writable", print: "writable" },
   rules: {
-    // wire.js adds to functions of page.js.
-    "no-func-assign": "off",
     // A page has its own `find`, `frames`, `print` and `valueOf` in place of the browser's.
     "no-redeclare": ["error", { builtinGlobals: false }],
     // What one page shares with another need not be used in both.

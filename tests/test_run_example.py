@@ -1,4 +1,4 @@
-"""The example of a C program that is driven to bus off."""
+"""Examples of programs with CAN sockets: a C program that is driven to bus off, and a car whose cluster is in C and in Python."""
 
 import os
 import subprocess
@@ -12,22 +12,27 @@ from serving import ROOT, program
 pytest.importorskip("can", reason="no python-can: apt-get install python3-can")
 
 
-@needs_gcc
-def test_heartbeat():
-    """its test passes, as the guide says"""
-    words = [
-        sys.executable,
-        "-m",
-        "pytest",
-        "-q",
-        "-p",
-        "no:cacheprovider",
-        "-p",
-        "canbusd.pytest_plugin",
-        "examples/c",
-    ]
+def run_example(folder, *options):
+    """Runs the tests of an example, as the guide says; what pytest writes."""
+    words = [sys.executable, "-m", "pytest", "-q", "-p", "no:cacheprovider", "-p", "canbusd.pytest_plugin", *options]
     env = {**os.environ, "CANBUSD": program(), "CANBUSD_RUN": command()}
     done = subprocess.run(
-        words, cwd=ROOT, env=env, stdout=subprocess.PIPE, stderr=subprocess.STDOUT, text=True, timeout=120, check=False
-    )
-    assert done.returncode == 0 and "1 passed" in done.stdout, done.stdout
+        [*words, folder], cwd=ROOT, env=env, stdout=subprocess.PIPE, stderr=subprocess.STDOUT, text=True, timeout=240,
+        check=False,
+    )  # fmt: skip
+    assert done.returncode == 0, done.stdout
+    return done.stdout
+
+
+@needs_gcc
+def test_heartbeat():
+    assert "1 passed" in run_example("examples/c")
+
+
+@needs_gcc
+@pytest.mark.quiet
+@pytest.mark.parametrize("options", [(), ("--canbusd-virtual",)])
+def test_car(options):
+    """12 tests of each cluster, in real and in virtual time"""
+    pytest.importorskip("canmatrix", reason="no canmatrix: apt-get install python3-canmatrix")
+    assert "24 passed" in run_example("examples/car", *options)

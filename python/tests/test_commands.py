@@ -222,7 +222,7 @@ def test_dump_says_what_found_no_room():
             lines = dumped(child, sender)
             assert 0 < len(lines) < frames
             said = ""
-            while sum(map(int, re.findall(r"^canbusd dump: can1: (\d+) frames dropped, ", said, re.M))) < frames - len(
+            while sum(map(int, re.findall(r"^canbusd dump: can1: (\d+) frames? dropped, ", said, re.M))) < frames - len(
                 lines
             ):
                 assert select.select([child.stderr], [], [], WAIT)[0], said

@@ -11,7 +11,7 @@ import can
 import pytest
 from conftest import WAIT, message, shape
 
-import canbusd._connection as connection_module
+from canbusd._questions import MOST_PAGES, PAGE
 from canbusd.bus import CanbusdBus, interfaces
 from canbusd.server import Server
 
@@ -224,11 +224,11 @@ def test_whose_a_frame_is(play):
 def test_only_the_last_own_numbers_are_kept(play):
     played = play()
     with CanbusdBus("can0", address=played.address, receive_own_messages=True) as bus:
-        pages = connection_module.MOST_PAGES + 1
+        pages = MOST_PAGES + 1
         for page in range(pages):
-            played.answers["send"] = f"< ack {page * connection_module.PAGE} >"
+            played.answers["send"] = f"< ack {page * PAGE} >"
             bus.send(message(1))
-        played.write(b"".join(b"< frame 123 1.000000  same %d >" % (n * connection_module.PAGE) for n in range(pages)))
+        played.write(b"".join(b"< frame 123 1.000000  same %d >" % (n * PAGE) for n in range(pages)))
         assert [bus.recv(WAIT).is_rx for _ in range(pages)] == [True] + [False] * (pages - 1)
 
 
@@ -265,7 +265,7 @@ class Overtaken:
 def test_what_another_thread_has_just_read_is_not_waited_for(play, what):
     played = play()
     with CanbusdBus("can0", address=played.address) as bus:
-        connection = bus._connection
+        connection = bus._session._connection
         text = b"< frame 123 1.000000 01 >" if what == "frame" else b"< ack 0 >"
         played.answers["send"] = ""
 

@@ -148,7 +148,7 @@ def test_what_a_bench_does_not_take():
         for wrong in ("next 1 bad\n", "next 1 from ecu good", "0 good"):
             with pytest.raises(ValueError):
                 bench.inject(wrong)
-        with pytest.raises(Refused, match="^no such interface$"):
+        with pytest.raises(Refused, match="^no such interface: next 1 from ecu good: ecu is none of can0, can1$"):
             can0.inject("next 1 from ecu good")
         with pytest.raises(Refused, match="^bad rule$"):
             can0.call("fault next 0 good")
@@ -158,7 +158,7 @@ def test_what_a_bench_does_not_take():
         # All of them or none.
         assert can0.rules_left() == 63
         can0.inject("next 1 lastbit")
-        with pytest.raises(Refused, match="^too many rules$"):
+        with pytest.raises(Refused, match="^too many rules: next 1 lastbit$"):
             can0.inject("next 1 lastbit")
         assert can0.rules_left() == 64
         can0.send(0x123)

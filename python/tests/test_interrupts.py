@@ -81,3 +81,35 @@ def test_an_interrupt_leaves_the_bus_in_step(call, reader):
         words = [sys.executable, "-c", CLIENT, server.address, call, reader]
         done = subprocess.run(words, env=environment, capture_output=True, text=True, timeout=2 * WAIT, check=False)
     assert (done.returncode, done.stdout, done.stderr) == (0, "in step\n", "")
+
+
+# A Ctrl-C comes while the folder of a run that nobody has any more is removed.
+FINALIZED = """
+import os, shutil, signal, time
+from canbusd import Bench
+
+remove = shutil.rmtree
+
+def interrupted(*words, **more):
+    shutil.rmtree = remove
+    os.kill(os.getpid(), signal.SIGINT)
+
+shutil.rmtree = interrupted
+bench = Bench("can0")
+bench.stop()
+folder = bench._folder
+try:
+    del bench
+    for _ in range(2000):
+        time.sleep(0.01)
+except KeyboardInterrupt:
+    print("interrupted")
+assert not os.path.exists(folder)
+"""
+
+
+def test_an_interrupt_of_a_finalizer_is_not_lost():
+    environment = {**os.environ, "PYTHONPATH": str(Path(canbusd.__file__).parents[1])}
+    words = [sys.executable, "-c", FINALIZED]
+    done = subprocess.run(words, env=environment, capture_output=True, text=True, timeout=WAIT, check=False)
+    assert (done.returncode, done.stdout, done.stderr) == (0, "interrupted\n", "")

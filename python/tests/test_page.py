@@ -80,7 +80,7 @@ ENDS = """lanes.map((lane, k) => {
   const name = at('gutter').children[k + 1].querySelector('.name'), end = name.lastElementChild;
   return end.getBoundingClientRect().right <= name.getBoundingClientRect().right + 1 ? end.textContent : null;
 })"""
-TABS = ["tab-events", "tab-attempts", "tab-items", "tab-nodes", "tab-sockets"]
+TABS = ["tab-events", "tab-attempts", "tab-items", "tab-nodes", "tab-sockets", "tab-identifiers"]
 
 
 @pytest.fixture(scope="module")
@@ -94,9 +94,9 @@ def browser(tmp_path_factory):
 def opened(browser, tmp_path):
     """Opens the page of a run, of a bus with these bit rates if there are any."""
 
-    def open_page(run, names=NAMES, rates=None):
+    def open_page(run, names=NAMES, rates=None, pair=None):
         path = tmp_path / "run.html"
-        path.write_text(page(run, names, "run.rec", rates=rates), encoding="utf-8")
+        path.write_text(page(run, names, "run.rec", rates=rates, pair=pair), encoding="utf-8")
         browser.size(1200)
         browser.open(f"file://{path}")
         return browser
@@ -355,23 +355,50 @@ def test_events_follow(shown):
 
 def test_time_since_the_start(opened):
     """beside moments of the clock, in the list of events; a bench's moments begin with the run"""
-    cells = "[...document.querySelectorAll('#events .row')].map(row => [row.cells?.length ?? row.children.length,"
-    cells += " row.children[2].textContent])"
+    cells = "[...document.querySelectorAll('#events .row')].map(row => [2, 3].map(k => row.children[k].textContent))"
     start = 1_732_540_000
     attempts = [
         f"attempt {start + k}.500000 global-bit = tried 0 0 123# destroyed 0000 000{k // 32}" for k in range(1, 33)
     ]
     shown = opened(record_of("open 0 256 = socket 0", "send 0 123# = number 0", *attempts))
     assert shown.run(cells) == [
-        [5, "since the start"],
-        [5, "11.000000"],
-        [5, "15.000000"],
-        [5, "31.000000"],
-        [5, "31.000000"],
+        ["since the start", "since last"],
+        ["11.000000", ""],
+        ["15.000000", "4.000000"],
+        ["31.000000", "16.000000"],
+        ["31.000000", "0.000000"],
     ]
     assert shown.run(CUT) == []
+    shown.run("showTab('tab-attempts')")
+    shown.settle()
+    rows = "[...document.querySelectorAll('#tried .row')].map(row => [1, 2].map(k => row.children[k].textContent))"
+    assert shown.run(rows)[-3:] == [["29.000000", "1.000000"], ["30.000000", "1.000000"], ["31.000000", "1.000000"]]
     shown = opened(bus_off())
-    assert shown.run(cells)[0] == [4, "kind"]
+    assert shown.run(cells)[0] == ["since last", "kind"]
+
+
+def test_statistics_of_identifiers(opened):
+    """100 comes after 10, 12 and 8 ms, 200 after 10.5 ms, and 300 once"""
+    tried = [
+        ("0.000000", "0 0 100#01"), ("0.001000", "1 0 200#AA"), ("0.010000", "0 1 100#02"), ("0.011500", "1 1 200#AB"),
+        ("0.022000", "0 2 100#03"), ("0.023000", "0 3 300#"), ("0.030000", "0 4 100#04"),
+    ]  # fmt: skip
+    sends = [f"send {words.split()[0]} {words.split()[2]} = number {words.split()[1]}" for _, words in tried]
+    attempts = []
+    for (moment, words), send in zip(tried, sends):
+        attempts += [send, f"attempt {moment} good = tried {words} done 000{2 - int(words[0])} 0000"]
+    both = ["open 0 256 = socket 0", "open 1 256 = socket 1"]
+    shown = opened(record_of(*both, *attempts))
+    shown.run("showTab('tab-identifiers')")
+    shown.settle()
+    rows = "[...document.querySelectorAll('#identifiers .rows .row')].map(row => [...row.children].map(one => one.textContent))"
+    assert shown.run(rows) == [
+        ["100", "can0", "4", "0", "10.000", "8.000", "12.000", "2.000", "100#04"],
+        ["200", "can1", "2", "0", "10.500", "10.500", "10.500", "0.000", "200#AB"],
+        ["300", "can0", "1", "0", "", "", "", "", "300#"],
+    ]
+    shown.run("at('of-frame').value = '2', at('of-frame').dispatchEvent(new Event('input')), 0")
+    assert [row[0] for row in shown.run(rows)] == ["200"] and shown.run("at('found').textContent") == "1 of 3"
 
 
 def test_filters(opened):
@@ -397,6 +424,15 @@ def test_filters(opened):
     # Two of the 100 were destroyed, and came to no socket.
     assert found() == "98 of 4,900"
     assert found(of_fate="3") == "0 of 4,900"
+
+
+def test_interfaces_that_never_sent(opened):
+    """have no name in the log, and the page says how they get one"""
+    shown = opened(bus_off(), ("can0", "interface 1"))
+    assert shown.run("at('facts').textContent").endswith(
+        " No log beside the record names all interfaces: --names NAME,.. does."
+    )
+    assert "--names" not in opened(bus_off()).run("at('facts').textContent")
 
 
 def test_what_was_lost_is_on_the_page(shown):

@@ -10,7 +10,7 @@ import pytest
 
 RECIPES = Path(__file__).resolve().parents[2] / "docs" / "RECIPES.md"
 MOST_LINES = 25
-NEEDED = {"can-isotp": "isotp", "udsoncan": "udsoncan", "a-rest-bus": "canmatrix"}
+NEEDED = {"udsoncan": "udsoncan", "a-rest-bus": "canmatrix"}
 
 
 def recipes():
@@ -39,7 +39,7 @@ def written(installed, tmp_path_factory):
 
 
 def test_all_recipes_are_there():
-    assert len(recipes()) == 14
+    assert len(recipes()) == 12
     for name, code in recipes().items():
         assert f"(#{name})" in RECIPES.read_text(encoding="utf-8")
         assert code.count("\n") <= MOST_LINES, name

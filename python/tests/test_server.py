@@ -356,7 +356,8 @@ OF_A_SERVER = ("it kills it", "it drops a bus")
 
 
 @pytest.mark.parametrize(
-    "does, run", [(does, run) for does in FORKED for run in ("server", "bench") if run == "server" or does not in OF_A_SERVER]
+    "does, run",
+    [(does, run) for does in FORKED for run in ("server", "bench") if run == "server" or does not in OF_A_SERVER],
 )
 def test_a_forked_process_leaves_the_run_to_its_parent(does, run):
     program = f"""

@@ -22,6 +22,7 @@ from canbusd._wire import Rates, Wire
 from canbusd.faults import Faults
 from canbusd.frames import Frame
 from canbusd.server import Server
+from canbusd.signals import load_database
 from canbusd.commands.watch import MOST_FRAMES, MOST_TICKS, Board, Watcher, fault_of
 
 WAIT = 30
@@ -149,9 +150,9 @@ def called(server, *words):
 class Watch:
     """The command as a process."""
 
-    def __init__(self, server, *names):
+    def __init__(self, server, *names, options=()):
         self.child = subprocess.Popen(
-            [*WATCH, "--port", "0", "--interval", "0.05", "-a", server.address, *names],
+            [*WATCH, "--port", "0", "--interval", "0.05", "-a", server.address, *options, *names],
             env=ENVIRONMENT, stdout=subprocess.PIPE, stderr=subprocess.PIPE, text=True,
         )  # fmt: skip
         said = self.child.stdout.readline()
@@ -312,6 +313,44 @@ def test_the_page(tmp_path):
             assert browser.run("document.documentElement.scrollWidth") == 500
             server.stop()
             browser.until("at('facts').textContent.startsWith('The server has ended')")
+            assert browser.faults == []
+        finally:
+            browser.close()
+
+
+@pytest.mark.skipif(PROGRAM is None, reason="no chromium on the PATH")
+def test_signals_of_the_page(tmp_path):
+    """their last values in one table, and lanes of those that are chosen: a band of names, a curve"""
+    pytest.importorskip("canmatrix", reason="not installed: canmatrix")
+    file = Path(__file__).with_name("car.dbc")
+    car = load_database(file, library="canmatrix")
+    cells = "[...document.querySelectorAll('#signals .rows .row')].map(row => [row.children[1].textContent, row.children[2].textContent])"
+    with Server("can0,can1") as server, Watch(server, "can0", "can1", options=["--dbc", str(file)]) as watch:
+        browser = Browser(tmp_path)
+        try:
+            browser.size(1200)
+            browser.open(watch.url)
+            browser.run("showTab('tab-signals')")
+            with server.bus("can0") as bus:
+                for speed, gear in ((50, "Drive"), (120.5, "Reverse")):
+                    bus.send(car.encode("Engine", {"speed": speed, "gear": gear, "temperature": 20}).message())
+                    browser.until(f"signals.at({{ key: 'Engine.speed' }}) === {speed}")
+            browser.run("signals.all().filter(({ name }) => ['gear', 'speed'].includes(name)).forEach(toggleSignal)")
+            browser.settle()
+            assert browser.run(cells) == [
+                ["gear", "Reverse"],
+                ["speed", "120.5 km/h"],
+                ["temperature", "20 degC"],
+                ["torque", "0 Nm"],
+            ]
+            shown = browser.run("lanes.slice(-2).map(lane => [lane.name, lane.said.textContent])")
+            assert shown == [["gear", "Reverse"], ["speed", "120.5 km/h"]]
+            before = browser.run("ticks.length")
+            browser.until(f"ticks.length > {before} + 1")
+            assert browser.run("lanes.slice(-2).map(lane => lane.said.isConnected).join()") == "true,true"
+            browser.run("[...at('gutter').querySelectorAll('button.goes')].forEach(button => button.click())")
+            browser.settle()
+            assert browser.run("lanes.length") == 2
             assert browser.faults == []
         finally:
             browser.close()

@@ -2,6 +2,7 @@
 
 import contextlib
 import importlib
+import importlib.util
 import io
 import re
 from collections.abc import Iterator
@@ -14,6 +15,9 @@ from canbusd.formats import DatabaseError, MessageFormat, Raw, SignalFormat, bit
 # What canmatrix prints where it leaves a line of a DBC file out.
 LEFT_OUT = re.compile(r"error with line no: ([0-9]+)\nb['\"]?(.*?)(?:\\r)?(?:\\n)?['\"]?$", re.M)
 
+# The files that canmatrix reads by lxml, without which it knows nothing of them.
+OF_LXML = (".arxml", ".kcd", ".xml")
+
 
 def messages_in(path: str) -> Iterator[MessageFormat]:
     """Yields the messages of a file."""
@@ -25,7 +29,8 @@ def messages_in(path: str) -> Iterator[MessageFormat]:
     if line:
         raise DatabaseError(f"line {line[1]}: {shown(line[2].strip())}")
     if not matrices:
-        raise DatabaseError("no such format")
+        needs_lxml = path.lower().endswith(OF_LXML) and importlib.util.find_spec("lxml") is None
+        raise DatabaseError(f"no such format{'; it needs lxml (apt-get install python3-lxml)' if needs_lxml else ''}")
     for matrix in matrices.values():
         for frame in matrix.frames:
             yield message_of(frame, matrix, path)

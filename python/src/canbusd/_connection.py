@@ -12,7 +12,6 @@ called. threading.Condition, which gives its lock back to wait and then takes it
 
 import contextlib
 import os
-import re
 import select
 import socket
 import threading
@@ -21,17 +20,12 @@ from collections import deque
 from collections.abc import Callable, Sequence
 from typing import NoReturn, Optional, TypeVar, Union
 
+from canbusd._address import connect
 from canbusd._protocol import LONGEST_ANSWER
+from canbusd._questions import ECHO, VERDICT, Asked, OwnNumbers
+from canbusd._readiness import PIECE, Readiness
 from canbusd._text import seconds_words
-from canbusd.frames import HANDED_OVER, MESSAGE
 
-DEFAULT_ADDRESS = "127.0.0.1:29536"
-# What an address is where nobody listens: of TCP, and a Unix path that is not there.
-NO_SERVER = (ConnectionRefusedError, FileNotFoundError)
-# HOST:PORT or [V6]:PORT.
-HOST_PORT = re.compile(r"(?:\[([^][]+)\]|([^][:]+)):([0-9]{1,5})")
-# The most bytes that are read at once.
-PIECE = 65536
 # Seconds that a server is given to end a session.
 CLOSE_TIMEOUT = 1.0
 # Seconds between two looks at what a server has no news of, such as a full transmit queue: at first, and at most.
@@ -40,14 +34,6 @@ POLL, LONGEST_POLL = 0.0002, 0.01
 LONGEST_WAIT = 3600.0
 # Seconds after which a thread looks for what another one has read, if that was interrupted before it woke it.
 LONGEST_NAP = 1.0
-
-# How an answer ends: with an echo, or as the verdict on a frame, which is one message.
-ECHO, VERDICT = "e", "v"
-# The verdict that accepts a frame, with its number. A bus has fewer than 2**32 entries, so it has ten digits at most.
-ACK, LONGEST_ACK = "ack ", len("ack ") + 10
-# How many numbers are noted together, and how many such pages are kept: a frame that is older than all of them would be
-# received 16 million numbers late.
-PAGE, MOST_PAGES = 4096, 4096
 
 T = TypeVar("T")
 
@@ -58,96 +44,6 @@ class NoAnswer(TimeoutError):
 
 class SessionRefused(Exception):
     """The server refused the session; the text is its own."""
-
-
-def parse_address(
-    text: str, what: str = "address", least_port: int = 1
-) -> tuple[Optional[str], Optional[tuple[str, int]]]:
-    """Returns the Unix path, or the host and the port, that an address names; ValueError where it names neither."""
-    if text.startswith(("/", ".")):
-        return text, None
-    words = HOST_PORT.fullmatch(text)
-    if not words or not least_port <= int(words[3]) < 65536:
-        known = "HOST:PORT, [V6]:PORT, or a Unix path that begins with / or ."
-        raise ValueError(f"{what} is {known}, not {text!r}{meant(text)}")
-    return None, (words[1] or words[2], int(words[3]))
-
-
-def meant(text: str) -> str:
-    """Returns the address that a text with a part of one may mean, as a question; nothing where it may mean none."""
-    if re.fullmatch(":?[0-9]{1,5}", text):
-        return f" (127.0.0.1:{text.lstrip(':')}?)"
-    return f" (./{text}?)" if re.fullmatch("[^:]*[.][^:]*", text) else ""
-
-
-def server_address(given: Optional[str] = None) -> str:
-    """Returns the address of the server: this one, else that of $CANBUSD_ADDRESS, else the default; ValueError if it is none."""
-    address = str(given or os.environ.get("CANBUSD_ADDRESS") or DEFAULT_ADDRESS)
-    parse_address(address)
-    return address
-
-
-def reason_of(fault: Exception) -> str:
-    """Returns why there is no session, in words."""
-    hint = " (is `canbusd serve` running there?)" if isinstance(fault, NO_SERVER) else ""
-    return f"{getattr(fault, 'strerror', None) or fault}{hint}"
-
-
-def connect(address: str, timeout: float) -> socket.socket:
-    """Returns a socket that is connected to this address, and on which nothing waits."""
-    path, host_port = parse_address(address)
-    if host_port is not None:
-        connected = socket.create_connection(host_port, timeout)
-        # A command that waited for the acknowledgement of the one before it would wait for 40 milliseconds.
-        connected.setsockopt(socket.IPPROTO_TCP, socket.TCP_NODELAY, 1)
-    else:
-        assert path is not None
-        connected = socket.socket(socket.AF_UNIX)
-        try:
-            connected.settimeout(timeout)
-            connected.connect(path)
-        except BaseException:
-            connected.close()
-            raise
-    connected.setblocking(False)
-    return connected
-
-
-class Readiness:
-    """A file descriptor that is readable where the socket is, or where frames are at hand that were read already."""
-
-    def __init__(self, connected: socket.socket) -> None:
-        self._reader, self._writer = os.pipe()
-        os.set_blocking(self._reader, False)
-        self._is_shown = False
-        self._epoll = select.epoll()
-        self._epoll.register(self._reader, select.EPOLLIN)
-        self._epoll.register(connected, select.EPOLLIN)
-
-    def fileno(self) -> int:
-        """Returns the file descriptor."""
-        return self._epoll.fileno()
-
-    def show(self, is_ready: bool) -> None:
-        """Makes it readable, or readable only where the socket is."""
-        if is_ready and not self._is_shown:
-            os.write(self._writer, b"!")
-            self._is_shown = True
-        elif not is_ready:
-            # Also where it is not known to be shown: an interrupted call is made good.
-            self._is_shown = False
-            with contextlib.suppress(BlockingIOError):
-                os.read(self._reader, PIECE)
-
-    def forget(self, connected: socket.socket) -> None:
-        """Looks no more at the socket, which has ended and would be readable for ever."""
-        self._epoll.unregister(connected)
-
-    def close(self) -> None:
-        """Closes the file descriptors."""
-        self._epoll.close()
-        os.close(self._reader)
-        os.close(self._writer)
 
 
 class Connection:
@@ -169,17 +65,13 @@ class Connection:
         self._pieces: list[bytes] = []
         self._rest = ""
         self._frames: deque[str] = deque()
-        # Whether the server accepts each frame by its number, whether these are noted, and pages with a place for each.
-        self._has_acks = self._notes_own = False
-        self._own: dict[int, bytearray] = {}
+        # Whether the server accepts each frame by its number, and the numbers of one's own, where they are noted.
+        self._has_acks = False
+        self._own: Optional[OwnNumbers] = None
         # How long the question at hand is, and what was sent of it.
         self._length, self._sent = 0, [0]
-        # How each answer that was asked for ends, how many have come, and how many are of questions that were given up.
-        # At first it is the greeting.
-        self._ends, self._came, self._owed = VERDICT, 0, 0
-        # The answers to the question at hand, and what has come of the next.
-        self._answers: list[str] = []
-        self._answer = ""
+        # At first what is still to come is the greeting.
+        self._asked = Asked(VERDICT)
         self._end: Optional[str] = None
         self._is_closing = self._is_closed = False
         self._readiness: Optional[Readiness] = None
@@ -206,7 +98,7 @@ class Connection:
             deadline = time.monotonic() + self._timeout
             with self._lock:
                 self._settle()
-                self._length, self._sent, self._ends = len(data), [], self._ends + ends
+                self._length, self._sent, self._asked = len(data), [], self._asked.and_then(ends)
                 sent = self._send(data)
             if sent != len(data):
                 self._write(memoryview(data)[sent or 0 :], deadline)
@@ -218,13 +110,12 @@ class Connection:
     def ask_acks(self, notes_own: bool = False) -> None:
         """Has the server accept each frame by its number, in place of an echo, and notes these for `is_own` if asked to;
         an older server goes on with echoes."""
-        self._notes_own = notes_own
+        self._own = OwnNumbers() if notes_own else None
         self._has_acks = self.ask(["ack 1"]) == ["ok"]
 
     def is_own(self, number: int) -> bool:
         """Whether this is the number that a frame of this session got at its interface."""
-        page = self._own.get(number // PAGE)
-        return page is not None and page[number % PAGE] != 0
+        return self._own is not None and number in self._own
 
     def frame(self, timeout: Optional[float]) -> Optional[str]:
         """Returns the next message that hands over a frame, from `<` on; None where none came in this time, in seconds."""
@@ -313,8 +204,8 @@ class Connection:
                 self._reading.release()
 
     def _greet(self) -> None:
-        self._wait(lambda: self._answers or None, time.monotonic() + self._timeout)
-        greeting = self._answers[0] if self._answers else ""
+        self._wait(lambda: self._asked.answers or None, time.monotonic() + self._timeout)
+        greeting = next(iter(self._asked.answers), "")
         if greeting.startswith("error "):
             raise SessionRefused(greeting[len("error ") :])
         if greeting != "hi":
@@ -322,7 +213,7 @@ class Connection:
             raise NoAnswer(f"no server of canbusd: {shown} in place of its greeting")
 
     def _answered(self) -> Optional[list[str]]:
-        return self._answers if self._came == len(self._ends) else None
+        return [*self._asked.answers] if self._asked.is_answered else None
 
     def _next_frame(self) -> Optional[str]:
         frame = self._frames.popleft() if self._frames else None
@@ -338,8 +229,7 @@ class Connection:
         sent = sum(self._sent)
         if 0 < sent < self._length:
             self._stop("half a command was written")
-        ends = self._ends[self._came :] if sent else self._ends[self._came : self._owed]
-        self._ends, self._came, self._owed, self._answers, self._answer = ends, 0, len(ends), [], ""
+        self._asked = self._asked.given_up(was_sent=sent > 0)
 
     def _write(self, left: memoryview, deadline: float) -> None:
         """Writes the rest of a question. Meanwhile frames are read: a server that waits for its reader takes no
@@ -461,27 +351,9 @@ class Connection:
         is_end = b"" in self._pieces
         messages = (self._rest + b"".join(self._pieces).decode("ascii", "replace")).split(">")
         rest = messages.pop()
-        frames: list[str] = []
-        answers, answer, came, unasked = self._answers.copy(), self._answer, self._came, ""
-        for one in messages:
-            if one.startswith("< frame "):
-                frames.append(one)
-                continue
-            message = one[one.rfind("<") + 1 :].strip()
-            if message.startswith(HANDED_OVER) and MESSAGE.fullmatch(message):
-                frames.append(f"< {message}")
-            elif came == len(self._ends):
-                unasked = unasked or message
-            elif self._ends[came] == ECHO and message != "echo":
-                answer = message
-            else:
-                if self._ends[came] == VERDICT:
-                    answer = self._verdict(message)
-                if came >= self._owed:
-                    answers.append(answer)
-                answer, came = "", came + 1
+        asked, frames, unasked = self._asked.sorted(messages, self._note)
         # All of it or nothing: no handler of a signal is called before the frames are there.
-        self._pieces, self._rest, self._answers, self._answer, self._came = [], rest, answers, answer, came
+        self._pieces, self._rest, self._asked = [], rest, asked
         self._frames.extend(frames)
         if unasked and not self._is_closing:
             self._stop(f"the server says: {unasked}")
@@ -492,22 +364,9 @@ class Connection:
         if self._readiness is not None and self._frames:
             self._readiness.show(True)
 
-    def _verdict(self, message: str) -> str:
-        """The answer that a verdict on a frame is: the empty text for `ack 17`, whose number is noted."""
-        number = message[len(ACK) :]
-        if not message.startswith(ACK) or not number.isdecimal() or len(message) > LONGEST_ACK:
-            return message
-        if self._notes_own:
-            self._note_own(int(number))
-        return ""
-
-    def _note_own(self, number: int) -> None:
-        page = self._own.get(number // PAGE)
-        if page is None:
-            page = self._own[number // PAGE] = bytearray(PAGE)
-            if len(self._own) > MOST_PAGES:
-                del self._own[next(iter(self._own))]
-        page[number % PAGE] = 1
+    def _note(self, number: int) -> None:
+        if self._own is not None:
+            self._own.note(number)
 
     def _stop(self, reason: str) -> None:
         """The connection is of no use any more. The first reason is the one that counts."""

@@ -33,6 +33,10 @@ class InjectsFaults:
         """What a message gets: the empty text for `ok`, an answer, or the text of a refusal."""
         raise NotImplementedError
 
+    def _refused(self, message: str) -> str:
+        """The text of the refusal of a message; the empty text for none."""
+        return self._answer(message)
+
     def _refusal(self, text: str) -> Exception:
         """What is raised for a refusal."""
         return Refused(text)
@@ -54,7 +58,7 @@ class InjectsFaults:
 
     def _give(self, rules: Iterable[Rule]) -> None:
         for rule in rules:
-            answer = self._answer(f"fault {rule}")
+            answer = self._refused(f"fault {rule}")
             if answer:
                 raise self._refusal(f"{answer}: {rule}{self._wrong_name(rule) if answer == NO_INTERFACE else ''}")
 

@@ -1,28 +1,28 @@
-"""Nodes that a server simulates: the mixin of Server."""
+"""Nodes that a bench or a server simulates: its mixins."""
 
 from collections.abc import Mapping, Sequence
-from typing import TYPE_CHECKING, Any, Optional, Union
+from typing import TYPE_CHECKING, Any, Generic, Optional, TypeVar, Union
 
 if TYPE_CHECKING:
+    from canbusd._rest_nodes import Source
     from canbusd.bus import CanbusdBus
     from canbusd.isotp import IsoTp
-    from canbusd._rest_nodes import Source
     from canbusd.rest_bus import RestBus
+    from canbusd.signals import Database
+
+R = TypeVar("R", bound="RestBus")
 
 
-class SimulatesNodes:
-    """What a server has of simulated nodes."""
-
-    address: str
-    _result: Any
+class HasRestBus(Generic[R]):
+    """What a bench and a server have of a rest bus."""
 
     @property
     def interfaces(self) -> list[str]:
         """The names of all interfaces."""
         raise NotImplementedError
 
-    def bus(self, channel: str, **kwargs: Any) -> "CanbusdBus":
-        """Returns a bus of python-can."""
+    def _make_rest_bus(self, database: "Database", interfaces: Mapping[str, str]) -> R:
+        """The rest bus of a database, whose nodes send by these interfaces."""
         raise NotImplementedError
 
     def rest_bus(
@@ -31,17 +31,32 @@ class SimulatesNodes:
         without: Union[str, Sequence[str]] = (),
         nodes: Optional[Mapping[str, str]] = None,
         interface: Optional[str] = None,
-    ) -> "RestBus":
-        """Returns the rest bus of a database, or of its file: all nodes but those `without`, which send in its `with` block.
+    ) -> R:
+        """Returns the rest bus of a database, or of its file: all nodes but those `without`.
 
-        A node sends by the interface that `nodes` has for it, else by `interface`, else by the one with its name.
+        They send in its `with` block, those of a bench in `rest.run(until=..)`. A node sends by the interface that `nodes` has
+        for it, else by `interface`, else by the one with its name.
         """
-        from canbusd._rest_live import LiveRestBus
         from canbusd._rest_nodes import database_of, interfaces_of
 
         known = database_of(database)
-        chosen = interfaces_of(known, without, nodes or {}, interface, self.interfaces)
-        return LiveRestBus(known, chosen, self.bus, lambda: self._result is not None)
+        return self._make_rest_bus(known, interfaces_of(known, without, nodes or {}, interface, self.interfaces))
+
+
+class SimulatesNodes(HasRestBus["RestBus"]):
+    """What a server has of simulated nodes."""
+
+    address: str
+    _result: Any
+
+    def bus(self, channel: str, **kwargs: Any) -> "CanbusdBus":
+        """Returns a bus of python-can."""
+        raise NotImplementedError
+
+    def _make_rest_bus(self, database: "Database", interfaces: Mapping[str, str]) -> "RestBus":
+        from canbusd._rest_live import LiveRestBus
+
+        return LiveRestBus(database, interfaces, self.bus, lambda: self._result is not None)
 
     def isotp(self, channel: str, *, tx: int, rx: int, **options: Any) -> "IsoTp":
         """Returns an end of ISO-TP on an interface: it sends with the identifier `tx`, and receives what has `rx`.

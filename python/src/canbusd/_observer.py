@@ -1,8 +1,6 @@
 """The sessions by which a server is seen from inside a test: see canbusd.expectations."""
 
 import contextlib
-import os
-import select
 import threading
 import time
 from collections import deque
@@ -10,9 +8,11 @@ from collections.abc import Callable, Iterator, Sequence
 from itertools import groupby, islice
 from typing import Optional, TypeVar
 
-from canbusd._connection import Connection, NoAnswer, SessionRefused, reason_of
-from canbusd._injection import TIMEOUT, InjectsFaults
-from canbusd._protocol import ErrorCounters, Stats, counters_of, in_words, options, refusal_in, stats_of
+from canbusd._injection import TIMEOUT
+from canbusd._observing_session import ObservingSession, Reader, wait_for_input
+from canbusd._protocol import in_words
+from canbusd._raw_session import fault
+from canbusd._text import seconds_words, times
 from canbusd._received import MOST_KEPT, MOST_SHOWN, Received, Seen, StateSeen, state_in
 from canbusd._wanted import Wanted
 from canbusd.frames import Frame, described_line
@@ -26,98 +26,12 @@ MOST_OBSERVED = 8
 MOST_WITH_STATES = 16
 # How many frames a session keeps as they came, where nobody expects anything.
 MOST_UNREAD = 20_000
-# Seconds for which what comes is left to come, so that much of it is read at once, where nobody waits for it.
-NAP = 0.02
-# Seconds after which who waits looks for what another thread has read.
-LONGEST_NAP = 0.05
 
 
 def observed_by_default(buses: Sequence[Sequence[str]]) -> list[str]:
     """Returns which interfaces are observed where none is named."""
     names = [name for bus in buses for name in bus]
     return names if len(names) <= MOST_OBSERVED else [bus[0] for bus in buses]
-
-
-def fault(kind: str, text: str) -> Exception:
-    """The exception of python-can of this kind, if there is python-can, else a RuntimeError."""
-    try:
-        from can import exceptions
-    except ImportError:
-        return RuntimeError(text)
-    found: Exception = getattr(exceptions, kind)(text)
-    return found
-
-
-class ObservingSession(InjectsFaults):
-    """A session on an interface that receives frames, or error message frames only. It needs no python-can."""
-
-    def __init__(self, address: str, name: str, has_frames: bool) -> None:
-        self.name = name
-        #: How many frames were taken here.
-        self.taken = 0
-        # What was read, and is not handed on yet.
-        self._texts: deque[str] = deque()
-        words = [] if has_frames else ["filter 0"]
-        asked = [f"open {name}", "rawmode", *words, *options(fd=True), "origin 1", "status"]
-        try:
-            self._connection = Connection(address, TIMEOUT)
-            *answers, status = self._connection.ask(asked)
-            refused = [answer for answer in map(refusal_in, answers) if answer]
-            if refused:
-                self._connection.close()
-                raise SessionRefused(refused[0])
-        except (OSError, SessionRefused) as reason:
-            raise fault("CanInitializationError", f"{name}: no session to observe it: {reason_of(reason)}") from None
-        #: The state of the interface at first, and its error counts.
-        self.first = self._parsed(status, counters_of)
-
-    def error_counters(self) -> ErrorCounters:
-        """Returns the state of the interface and its error counts."""
-        return self._parsed(self._answer("status"), counters_of)
-
-    def stats(self) -> Stats:
-        """Returns the counts of this socket and of its interface."""
-        return self._parsed(self._answer("stats"), stats_of)
-
-    def read(self) -> int:
-        """Reads what has come, without waiting; returns how many frames are not handed on."""
-        try:
-            # An exception of a signal's handler loses none: each is kept as it is returned.
-            self._texts.extend(iter(self._next, None))
-        except ConnectionError as reason:
-            raise fault("CanOperationError", f"{self.name}: {reason}") from None
-        return len(self._texts)
-
-    def hand_on(self, add: Callable[[str, str], None]) -> None:
-        """Hands on what has come, as messages of the protocol, without waiting; what came before the end of the session too."""
-        try:
-            self.read()
-        except Exception:
-            if not self._texts:
-                raise
-        while self._texts:
-            add(self.name, self._texts[0])
-            self._texts.popleft()
-            self.taken += 1
-
-    def fileno(self) -> int:
-        """The file descriptor by which something comes."""
-        return self._connection.socket_fileno()
-
-    def close(self) -> None:
-        """Ends the session."""
-        self._connection.close()
-
-    def _next(self) -> Optional[str]:
-        return self._connection.frame(0)
-
-    def _answer(self, message: str) -> str:
-        try:
-            return refusal_in(self._connection.ask([message])[0])
-        except NoAnswer as reason:
-            raise fault("CanTimeoutError", f"{self.name}: {reason}") from None
-        except ConnectionError as reason:
-            raise fault("CanOperationError", f"{self.name}: {reason}") from None
 
 
 class Observer:
@@ -171,7 +85,9 @@ class Observer:
                 if session.taken >= queued:
                     break
                 if left <= 0:
-                    raise fault("CanTimeoutError", f"{session.name}: frames did not come within {TIMEOUT:g} seconds")
+                    raise fault(
+                        "CanTimeoutError", f"{session.channel}: frames did not come within {seconds_words(TIMEOUT)}"
+                    )
                 wait_for_input([session], left)
 
     def wait(self, look: Callable[[], Optional[T]], may_be: Callable[[Seen], bool], within: float) -> Optional[T]:
@@ -308,7 +224,7 @@ class Observer:
         for name in self.received.channels(channel):
             dropped = self._sessions[name].stats().dropped - self._dropped.get(name, 0)
             if dropped:
-                texts.append(f"{dropped} frames were dropped at {name} (rxqueue)")
+                texts.append(f"{times(dropped, 'frame was', 'frames were')} dropped at {name} (rxqueue)")
         with self._lock:
             forgotten = self.received.missed(channel)
         if forgotten:
@@ -333,7 +249,9 @@ class Observer:
         for name in observed:
             dropped = self._sessions[name].stats().dropped
             if dropped:
-                shown.append(f"{dropped} frames were dropped at {name}: they came too fast for `rxqueue`")
+                shown.append(
+                    f"{times(dropped, 'frame was', 'frames were')} dropped at {name}: they came too fast for `rxqueue`"
+                )
         return "\n".join([*shown, *self._states()])
 
     def channel(self, seen: Seen) -> str:
@@ -387,43 +305,3 @@ class Observer:
                 unread = [session.read() for session in self._sessions.values()]
                 if max(unread) > MOST_UNREAD:
                     self._gather()
-
-
-def wait_for_input(sessions: Sequence[ObservingSession], seconds: float) -> None:
-    """Waits until something comes to one of these, or for these seconds; not for long, since another thread may read it."""
-    poll = select.poll()
-    for session in sessions:
-        poll.register(session.fileno(), select.POLLIN)
-    poll.poll(min(seconds, LONGEST_NAP) * 1000)
-
-
-class Reader:
-    """A thread that calls `read` while something comes to these sessions, at most every 20 milliseconds."""
-
-    def __init__(self, sessions: Sequence[ObservingSession], read: Callable[[], None]) -> None:
-        self._ended = threading.Event()
-        self._end_reader, self._end_writer = os.pipe()
-        poll = select.poll()
-        for number in (self._end_reader, *(session.fileno() for session in sessions)):
-            poll.register(number, select.POLLIN)
-        self._thread = threading.Thread(target=self._run, args=(poll, read), name="canbusd observer", daemon=True)
-        self._thread.start()
-
-    def _run(self, poll: "select.poll", read: Callable[[], None]) -> None:
-        while True:
-            poll.poll()
-            if self._ended.wait(NAP):
-                return
-            try:
-                read()
-            except Exception:  # The connection has ended, as who expects something next finds.
-                return
-
-    def end(self) -> None:
-        """Ends the thread."""
-        if not self._ended.is_set():
-            self._ended.set()
-            os.write(self._end_writer, b"!")
-            self._thread.join()
-            os.close(self._end_reader)
-            os.close(self._end_writer)

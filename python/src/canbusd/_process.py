@@ -1,5 +1,6 @@
 """What Server and Bench share: the options of the program, a folder of its own, and an end."""
 
+import _thread
 import os
 import shutil
 import signal
@@ -15,6 +16,7 @@ from typing import Optional, TypeVar, Union
 from canbusd._program import find_program
 from canbusd._text import NAME
 from canbusd._wire import LEAST_BITRATE, MOST_BITRATE, MOST_DBITRATE, Rates
+from canbusd.faults import Script
 
 Self = TypeVar("Self", bound="ProgramRun")
 
@@ -80,10 +82,35 @@ def check_names(names: Sequence[str]) -> Sequence[str]:
     return names
 
 
+def bus_of(names: Union[str, Sequence[str]], faults: Optional[Script]) -> tuple[tuple[str, ...], Optional[Script]]:
+    """Returns the names of a bus and its faults, which may be a file after the names, as for the program: can0,can1@FILE."""
+    if isinstance(names, str):
+        names, given, script_path = names.partition("@")
+        if given and faults is not None:
+            raise ValueError("faults are given twice, as a file after the names too")
+        faults = Path(script_path) if given else faults
+    parts = tuple(names.split(",") if isinstance(names, str) else names)
+    if not parts or not all(isinstance(name, str) for name in parts):
+        raise ValueError(f"names are those of the interfaces, such as 'can0,can1', not {names!r}")
+    check_names(parts)
+    return parts, faults
+
+
 def remove(folder: Path, process: int) -> None:
-    """Removes the folder of a run, in the process that started it; one that was forked leaves it there."""
+    """Removes the folder of a run, in the process that started it; one that was forked leaves it there.
+
+    Python prints an exception of a finalizer and forgets it. So a Ctrl-C that comes meanwhile is sent again by another
+    thread, which gets its turn once the finalizer is over.
+    """
     if os.getpid() == process:
-        shutil.rmtree(folder, ignore_errors=True)
+        try:
+            shutil.rmtree(folder, ignore_errors=True)
+        except (KeyboardInterrupt, OSError):
+            # An OSError hides one, by which a descriptor was closed twice: others are ignored.
+            try:
+                shutil.rmtree(folder, ignore_errors=True)
+            finally:
+                _thread.start_new_thread(os.kill, (process, signal.SIGINT))
 
 
 class ProgramRun:

@@ -11,6 +11,10 @@ from typing import NoReturn, Optional, Union
 SET_BY: dict[str, str] = {}
 
 
+class ServerError(RuntimeError):
+    """The server could not be started, or ended with a fault; the text is what canbusd said of it."""
+
+
 class ProgramNotFound(FileNotFoundError):
     """There is no program canbusd where it is looked for."""
 

@@ -8,8 +8,9 @@ from typing import Optional
 
 from can.exceptions import CanError
 
-from canbusd.bus import CanbusdBus, refusal
+from canbusd._raw_session import refusal
 from canbusd._schedule import MICROS
+from canbusd.bus import CanbusdBus
 from canbusd.commands import NOTHING
 from canbusd.frames import Frame, command_of
 from canbusd.rest_bus import PASSING, RestBus, RestMessage
@@ -75,7 +76,7 @@ class LiveRestBus(RestBus):
         return time.monotonic_ns() // 1000
 
     def send_now(self, message: RestMessage, frame: Frame) -> None:
-        [answer] = self._buses[message.interface]._calls([command_of(frame)])
+        answer = self._buses[message.interface]._session.answer(command_of(frame))
         message.count(answer)
         if answer:
             raise refusal(answer)
@@ -100,7 +101,7 @@ class LiveRestBus(RestBus):
         for name, bus in self._buses.items():
             its = [(message, frame) for message, frame in frames if message.interface == name]
             if its:
-                for (message, _), answer in zip(its, bus._calls([command_of(frame) for _, frame in its])):
+                for (message, _), answer in zip(its, bus._session.answers([command_of(frame) for _, frame in its])):
                     self._note(message, answer)
 
     def _note(self, message: RestMessage, answer: str) -> None:

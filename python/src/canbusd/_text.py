@@ -10,6 +10,11 @@ def shown(line: str) -> str:
     return "".join(char if " " <= char <= "~" else "?" for char in line[:60]) + (" .." if len(line) > 60 else "")
 
 
+def times(count: int, one: str, many: str = "") -> str:
+    """`1 frame`, `2 frames`."""
+    return f"{count:,} {one if count == 1 else many or one + 's'}"
+
+
 def seconds_words(seconds: float) -> str:
     """A number of seconds: `1 second`, `0.5 seconds`."""
     return f"{seconds:g} second{'' if seconds == 1 else 's'}"

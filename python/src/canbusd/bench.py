@@ -13,65 +13,35 @@ out whole before the next.
 
 import os
 import re
-import select
-import threading
 from collections.abc import Mapping, Sequence
-from dataclasses import replace
 from pathlib import Path
 from typing import TYPE_CHECKING, Optional, Union
 
-from canbusd._injection import InjectsFaults, Refused as Refused
+from canbusd._bench_session import Session as Session
+from canbusd._dialogue import MOST_INPUT as MOST_INPUT, BenchError as BenchError, Dialogue, moment_text
+from canbusd._injection import Refused as Refused
+from canbusd._nodes import HasRestBus
+from canbusd._process import bus_of, option_words, rate_words, rates_of
 from canbusd._program import audited
-from canbusd._protocol import (
-    LONGEST_MESSAGE,
-    ErrorCounters,
-    Filters,
-    Load,
-    Stats,
-    counters_of,
-    filter_message,
-    load_of,
-    options,
-    stats_of,
-)
-from canbusd._process import RUNNING, ProgramRun, check_names, option_words, rate_words, rates_of
+from canbusd._protocol import Filters, options
 from canbusd._summary import write_page
 from canbusd.faults import Script, plan_of, rules_of, script_text
-from canbusd.frames import Frame, MessageLike, command_of, frame_like, frame_of, identifier_word, without_origin
+from canbusd.frames import Frame, identifier_word
 from canbusd.log import read_log
 from canbusd.record import Attempt, Record, read_record
 from canbusd.rules import MOST_RULES, check_rules, parse_rule
+from canbusd.signals import Database
 
 if TYPE_CHECKING:
     from can.message import Message
 
     from canbusd._rest_bench import BenchRestBus
-    from canbusd._rest_nodes import Source
 
-#: Seconds after which a bench that says nothing is given up.
-TIMEOUT = 30.0
 MOST_SESSIONS = 64
-#: Bytes of input that the program takes.
-MOST_INPUT = 1 << 24
-MESSAGES = re.compile(r"< (.*?) >")
-CLOSED = re.compile(r"[0-9]+ < closed ([0-9]+) ([0-9]+) >")
-AT = re.compile(r"[0-9]{1,10}\.[0-9]{6}")
 TRIED = re.compile(
     r"(?:idle|tried (?P<winner>\S+) (?P<number>\d+) (?P<outcome>\w+) (?P<accepted>\S+) (?P<off>\S+))"
     r"(?: restarted (?P<restarted>\S+))?(?: at (?P<at>[0-9.]+))?"
 )
-
-
-class BenchError(RuntimeError):
-    """The bench ended with a fault; the text is what canbusd said of it."""
-
-
-def moment_text(at: Union[str, float]) -> str:
-    """Returns a moment as the bench reads it: seconds with six digits after the point."""
-    text = at if isinstance(at, str) else f"{at:.6f}"
-    if not AT.fullmatch(text):
-        raise ValueError(f"at is a number of seconds from 0 to 9999999999.999999, not {at!r}")
-    return text
 
 
 def set_of(names: Optional[str]) -> tuple[str, ...]:
@@ -79,145 +49,7 @@ def set_of(names: Optional[str]) -> tuple[str, ...]:
     return tuple(names.split(",")) if names and names != "-" else ()
 
 
-def bus_of(names: Union[str, Sequence[str]], faults: Optional[Script]) -> tuple[tuple[str, ...], Optional[Script]]:
-    """Returns the names of a bus and its faults, which may be a file after the names, as for the program: can0,can1@FILE."""
-    if isinstance(names, str):
-        names, given, script_path = names.partition("@")
-        if given and faults is not None:
-            raise ValueError("faults are given twice, as a file after the names too")
-        faults = Path(script_path) if given else faults
-    parts = tuple(names.split(",") if isinstance(names, str) else names)
-    if not parts or not all(isinstance(name, str) for name in parts):
-        raise ValueError(f"names are those of the interfaces, such as 'can0,can1', not {names!r}")
-    check_names(parts)
-    return parts, faults
-
-
-class Session(InjectsFaults):
-    """A client of the bus with a raw socket on one interface, made by `Bench.open`."""
-
-    def __init__(self, bench: "Bench", number: int, channel: str) -> None:
-        self._bench, self._number = bench, number
-        self._closed = False
-        # The numbers at its interface of the frames that it has sent.
-        self._own: set[int] = set()
-        #: The name of its interface.
-        self.channel = channel
-
-    def send(
-        self,
-        frame: Union[int, MessageLike],
-        data: bytes = b"",
-        *,
-        is_extended_id: Optional[bool] = None,
-        is_remote_frame: bool = False,
-        is_fd: bool = False,
-        bitrate_switch: bool = False,
-        error_state_indicator: bool = False,
-        dlc: int = 0,
-    ) -> None:
-        """Puts a frame into the transmit queue of the interface, or raises Refused.
-
-        `frame` is a Frame, a message of python-can, or an identifier, which has 11 bits up to 7FF unless
-        `is_extended_id` says otherwise. `dlc` is the length that a remote frame asks for.
-        """
-        if isinstance(frame, int):
-            extended = frame > 0x7FF if is_extended_id is None else is_extended_id
-            sent = Frame(
-                frame,
-                data,
-                extended,
-                is_remote_frame,
-                is_fd=is_fd,
-                dlc=dlc,
-                bitrate_switch=bitrate_switch,
-                error_state_indicator=error_state_indicator,
-            )
-        elif isinstance(frame, str):
-            raise ValueError(
-                f"frame is an identifier, a message or a Frame, such as Frame.parse('123#11'), not {frame!r}"
-            )
-        else:
-            sent = frame_like(frame)
-        command, accepted = command_of(sent), self._bench._sent[self.channel]
-        with self._bench._turn:
-            accepted.append(sent)
-            try:
-                self.call(command)
-            except Refused:
-                accepted.pop()
-                raise
-            self._own.add(len(accepted) - 1)
-
-    def receive(self) -> list[Frame]:
-        """Takes what the socket has received, oldest first; error message frames too, if they were asked for."""
-        number = self._live()
-        frames = (self._frame(message) for message in self._bench._ask(f"drain {number}\nfeed {number} < echo >"))
-        return [frame for frame in frames if frame is not None]
-
-    def status(self) -> ErrorCounters:
-        """Returns the state of the interface and its error counts."""
-        return self._parsed(self._answer("status"), counters_of)
-
-    def stats(self) -> Stats:
-        """Returns the counts of the socket and of its interface."""
-        return self._parsed(self._answer("stats"), stats_of)
-
-    def load(self) -> Load:
-        """Returns how busy the wire was, in the last whole second before the moment that is set, and in all."""
-        return self._parsed(self._answer("load"), load_of)
-
-    def set_filters(self, filters: Optional[Filters] = None) -> None:
-        """Sets the filters of the socket, in python-can's form; None receives everything."""
-        message = filter_message(filters)
-        if message is None:
-            raise ValueError("filters are more than fit into one message of 1,024 bytes")
-        self.call(message)
-
-    def restart(self, at: Union[str, float, None] = None) -> None:
-        """Brings the interface back from bus off, at this moment if one is given."""
-        number = self._live()
-        self._bench._ask(f"feed {number} < restart >< echo >", at)
-
-    def call(self, message: str) -> list[str]:
-        """Feeds a message of the protocol, such as `recvown 1`, and returns the answers to it; a refusal is raised."""
-        if re.search(r"[<>\n]|^\s*close\b", message):
-            raise ValueError(f"message is one message without < and >, and not close: {message!r}")
-        text = f" {message} "
-        if len(text.encode()) > LONGEST_MESSAGE:
-            # As the session says of one that is not too long for a line of the bench.
-            raise Refused("message too long")
-        with self._bench._turn:
-            answers = self._bench._ask(f"feed {self._live()} <{text}>< echo >")
-            self._bench._follow(message)
-        return answers
-
-    def close(self) -> tuple[int, int]:
-        """Closes the socket; returns how many frames it had not read, and how many it dropped."""
-        line = self._bench._line_after(f"feed {self._live()} < close >")
-        counts = CLOSED.fullmatch(line)
-        if not counts:
-            raise Refused(line.partition("< error ")[2].rstrip(" >") or line)
-        self._closed = True
-        return int(counts[1]), int(counts[2])
-
-    def _frame(self, message: str) -> Optional[Frame]:
-        """The frame that a message hands over; None for an answer."""
-        text, number = without_origin(message)
-        frame = frame_of(text)
-        return replace(frame, is_rx=False) if frame is not None and number in self._own else frame
-
-    def _answer(self, message: str) -> str:
-        answer = self.call(message)[0]
-        return "" if answer == "ok" else answer
-
-    def _live(self) -> int:
-        if self._closed:
-            raise ValueError(f"the session on {self.channel} is closed")
-        return self._number
-
-
-class Bench(ProgramRun):
+class Bench(Dialogue, HasRestBus["BenchRestBus"]):
     """A bus with these interfaces, as `"can0,can1"` or a list, and the options of `canbusd bench`.
 
     With a `bitrate` attempts take the time of their bits, and their moment is the end of their frame; with a `dbitrate`
@@ -248,13 +80,7 @@ class Bench(ProgramRun):
         super().__init__(out)
         self._sessions = 0
         self._sent: dict[str, list[Frame]] = {name: [] for name in self.names}
-        self._moment = "0.000000"
         self._rates = rates_of(bitrate, dbitrate)
-        # One call at a time. Where one was interrupted, its answer is still to come, and would be taken for that of the next.
-        self._turn = threading.RLock()
-        self._in_step = True
-        self._written = 0
-        self._rest = b""
         words += ["--record", str(self._path("rec")), "--log", str(self._path("log")), "--"]
         bus = ",".join(self.names)
         if script:
@@ -306,22 +132,15 @@ class Bench(ProgramRun):
             self._greet()
             return session
 
-    def rest_bus(
-        self,
-        database: "Source",
-        without: Union[str, Sequence[str]] = (),
-        nodes: Optional[Mapping[str, str]] = None,
-        interface: Optional[str] = None,
-    ) -> "BenchRestBus":
-        """Returns the rest bus of a database, or of its file: all nodes but those `without`, which send in `rest.run(until=..)`.
+    @property
+    def interfaces(self) -> list[str]:
+        """The names of all interfaces."""
+        return list(self.names)
 
-        A node sends by the interface that `nodes` has for it, else by `interface`, else by the one with its name.
-        """
+    def _make_rest_bus(self, database: Database, interfaces: Mapping[str, str]) -> "BenchRestBus":
         from canbusd._rest_bench import BenchRestBus
-        from canbusd._rest_nodes import database_of, interfaces_of
 
-        known = database_of(database)
-        return BenchRestBus(known, interfaces_of(known, without, nodes or {}, interface, self.names), self)
+        return BenchRestBus(database, interfaces, self)
 
     def inject(self, faults: Script) -> None:
         """Gives the bus these rules of faults, after those that it has, from the next attempt on.
@@ -390,17 +209,6 @@ class Bench(ProgramRun):
             raise Refused(lines[-1])
         return [attempt for attempt in attempts if attempt is not None]
 
-    def stop(self) -> None:
-        """Ends the run; its record and its log are written. The sessions can't be used any more."""
-        self._check_process()
-        with self._turn:
-            if self._child.stdin is None:
-                return
-            self._close_input()
-            while self._more():
-                pass
-            self._finish()
-
     def record(self) -> Record:
         """Ends the run and returns its record."""
         self.stop()
@@ -461,78 +269,3 @@ class Bench(ProgramRun):
         self._sessions += 1
         if self._sessions <= MOST_SESSIONS:
             self._line_after(f"session {self._sessions}")
-
-    def _ask(self, lines: str, at: Union[str, float, None] = None) -> list[str]:
-        """Carries out lines whose last one ends with `< echo >`, and returns what the session writes before that echo; a
-        refusal is raised.
-
-        A line of messages is answered in one line, so an echo that was asked for is not taken for the last.
-        """
-        with self._turn:
-            self._write(lines, at)
-            messages: list[str] = []
-            while not messages or messages[-1] != "echo":
-                messages += MESSAGES.findall(self._line())
-            self._in_step = True
-        for message in messages:
-            if message.startswith("error ") and frame_of(message) is None:
-                raise Refused(message[len("error ") :])
-        return messages[:-1]
-
-    def _line_after(self, line: str) -> str:
-        with self._turn:
-            self._write(line)
-            written = self._line()
-            self._in_step = True
-        return written
-
-    def _write(self, lines: str, at: Union[str, float, None] = None) -> None:
-        """Writes lines, before which the moment is set if one is given."""
-        self._check_process()
-        if self._child.stdin is None:
-            raise ValueError("the bench has ended")
-        if not self._in_step:
-            raise BenchError("a call was interrupted, and its answer is still to come: the bench can only be ended")
-        moment = self._moment if at is None else moment_text(at)
-        data = f"at {moment}\n{lines}\n".encode() if at is not None else f"{lines}\n".encode()
-        if self._written + len(data) > MOST_INPUT:
-            self.stop()
-            raise BenchError(
-                f"a bench takes {MOST_INPUT} bytes of input, and has got them: it was ended, and has its record"
-            )
-        self._in_step = False
-        self._moment = moment
-        self._written += len(data)
-        try:
-            self._child.stdin.write(data)
-        except BrokenPipeError:
-            self._finish()
-
-    def _line(self) -> str:
-        while b"\n" not in self._rest:
-            if not self._more():
-                self._finish()
-                raise BenchError("the bench ended")
-        line, _, self._rest = self._rest.partition(b"\n")
-        return line.decode()
-
-    def _more(self) -> bool:
-        """Reads what the bench wrote; False at its end."""
-        assert self._child.stdout is not None
-        output = self._child.stdout.fileno()
-        if not select.select([output], [], [], TIMEOUT)[0]:
-            self._signal()
-            self._finish(f"the bench said nothing for {TIMEOUT:.0f} seconds")
-        piece = os.read(output, 65536)
-        self._rest += piece
-        return bool(piece)
-
-    def _finish(self, fault: str = "") -> None:
-        """Waits for the end of the program, and raises this fault, or what the program said if it ended with one."""
-        self._close_input()
-        status = self._child.wait(TIMEOUT)
-        assert self._child.stdout is not None
-        self._child.stdout.close()
-        RUNNING.discard(self)
-        if status != 0:
-            raise BenchError("\n".join(filter(None, [fault, self.said])) or f"the bench ended with status {status}")

@@ -5,7 +5,6 @@
 """
 
 import contextlib
-import errno
 import functools
 import logging
 import threading
@@ -19,34 +18,25 @@ import canbusd._python_can  # noqa: F401  it says what is missing, so it comes f
 import can
 from can.broadcastmanager import CyclicSendTaskABC
 from can.bus import BusABC, BusState
-from can.exceptions import CanInitializationError, CanOperationError, CanTimeoutError
+from can.exceptions import CanInitializationError, CanOperationError
 from can.message import Message
 
-from canbusd._connection import (
-    LONGEST_POLL,
-    POLL,
-    Connection,
-    NoAnswer,
-    SessionRefused,
-    reason_of,
-    server_address,
-)
-from canbusd._injection import NO_INTERFACE, InjectsFaults, no_interface
+from canbusd._address import reason_of, server_address
+from canbusd._arguments import bit_rates, interface_name, mask_or_truth, seconds, truth
+from canbusd._connection import Connection, SessionRefused
+from canbusd._injection import InjectsFaults
 from canbusd._protocol import (
     ErrorCounters,
     Filters,
     Load,
     Stats,
-    counters_of,
     filter_message,
     filter_words,
     interfaces_of,
     load_of,
     options,
-    refusal_in,
-    stats_of,
 )
-from canbusd._text import NAME
+from canbusd._raw_session import ERROR_CODES, RawSession, refusal
 from canbusd.frames import command_of, identifier_word, passes_filters, received, without_origin
 
 if TYPE_CHECKING:
@@ -55,15 +45,6 @@ if TYPE_CHECKING:
 Self = TypeVar("Self", bound="CanbusdBus")
 
 LOG = logging.getLogger("can.canbusd")
-NO_BUFFERS, BUS_OFF, NOT_BUS_OFF, RECORD_FULL = "no buffers", "bus off", "not bus off", "record full"
-# What the system's own CAN sockets report.
-ERROR_CODES = {NO_BUFFERS: errno.ENOBUFS, BUS_OFF: errno.ENETDOWN}
-# What to do, where it can be said in a few words.
-CURES = {
-    NO_BUFFERS: ": the transmit queue is full; send(msg, timeout=1) waits for room, and a server's txqueue= makes more",
-    BUS_OFF: ": restart() brings the interface back, as the server's auto_restart= does",
-    RECORD_FULL: ": start the server again with a higher limit= (--limit), or with record='live' (--record live)",
-}
 BUS_STATES = {
     "active": BusState.ACTIVE,
     "warning": BusState.ACTIVE,
@@ -72,52 +53,6 @@ BUS_STATES = {
 }
 # Seconds in which a server has to answer that may not be there.
 DETECTION = 1.0
-TRUTHS = {"1": True, "true": True, "yes": True, "on": True, "0": False, "false": False, "no": False, "off": False}
-
-
-def truth(name: str, value: object) -> bool:
-    """Returns a truth value, which may be given as a text."""
-    found = TRUTHS.get(str(value).lower())
-    if found is None:
-        raise ValueError(f"{name} is true or false, not {value!r}")
-    return found
-
-
-def mask_or_truth(name: str, value: object) -> Union[bool, int]:
-    """Returns a mask of error classes, or whether to receive all; 0 and 1 are truth values."""
-    if str(value).lower() in TRUTHS:
-        return truth(name, value)
-    try:
-        mask = int(str(value), 0)
-    except ValueError:
-        mask = -1
-    if not 0 <= mask <= 0xFFFFFFFF:
-        raise ValueError(f"{name} is true, false or a mask of error classes, not {value!r}")
-    return mask
-
-
-def seconds(name: str, value: object) -> float:
-    """Returns a number of seconds above 0, which may be given as a text."""
-    try:
-        found = float(str(value))
-    except ValueError:
-        found = 0.0
-    if not 0 < found < float("inf"):
-        raise ValueError(f"{name} is a number of seconds above 0, not {value!r}")
-    return found
-
-
-def bit_rates(**rates: object) -> dict[str, int]:
-    """Returns those of these bit rates that are given; each may be a text."""
-    try:
-        return {name: int(str(rate)) for name, rate in rates.items() if rate is not None}
-    except ValueError:
-        raise ValueError(f"{' and '.join(rates)} are whole numbers, of bits a second, not {rates!r}") from None
-
-
-def refusal(text: str, after: str = "") -> CanOperationError:
-    """The exception for what the server refused; its `error_code` is that of the system's own CAN sockets."""
-    return CanOperationError(f"{text}{after}{CURES.get(text, '')}", ERROR_CODES.get(text))
 
 
 def interfaces(address: Optional[str] = None, timeout: float = 5.0) -> list[str]:
@@ -156,14 +91,6 @@ class Periodic:
             if not self._is_refused:
                 LOG.warning("%s: a periodic message is not sent: %s", self._bus.channel, fault)
             self._is_refused = True
-
-
-def interface_name(channel: object) -> str:
-    """Returns the name of an interface; ValueError for a channel that is none."""
-    name = str(channel)
-    if not NAME.fullmatch(name):
-        raise ValueError(f"channel is the name of an interface, such as can0, not {channel!r}")
-    return name
 
 
 class CanbusdBus(InjectsFaults, BusABC):
@@ -224,7 +151,7 @@ class CanbusdBus(InjectsFaults, BusABC):
         self.window = 10
         self.channel_info = f"canbusd: channel '{self.channel}' of the server at {self.address}"
         self._prepare()
-        self._connection = self._open(messages)
+        self._session = self._open(messages)
         with self._closed_on_a_fault():
             super().__init__(channel=self.channel, can_filters=can_filters)  # type: ignore[arg-type]
             self._compare(rates)
@@ -236,10 +163,10 @@ class CanbusdBus(InjectsFaults, BusABC):
         try:
             yield
         except CanOperationError as fault:
-            self._connection.close()
+            self._session.close()
             raise CanInitializationError(f"{self.channel_info}: {fault}") from None
         except BaseException:
-            self._connection.close()
+            self._session.close()
             raise
 
     def _prepare(self) -> None:
@@ -256,7 +183,7 @@ class CanbusdBus(InjectsFaults, BusABC):
 
     def _compare(self, rates: Mapping[str, int]) -> None:
         """Logs which of these bit rates are not the server's; it is not asked where there are none."""
-        load = load_of(self._call("load")) if rates else None
+        load = load_of(self._session.answer("load")) if rates else None
         if load is None:
             # An older server does not say.
             return
@@ -281,16 +208,7 @@ class CanbusdBus(InjectsFaults, BusABC):
         :raises ~can.exceptions.CanTimeoutError: where the queue was full until the timeout, or no answer came
         :raises ValueError: where this is no message that can be sent here
         """
-        command = self._command(msg)
-        answer = self._call(command)
-        if answer == NO_BUFFERS and timeout is not None and timeout > 0:
-            deadline = time.monotonic() + timeout
-            before: Optional[Stats] = None
-            while answer == NO_BUFFERS:
-                before = self._departure(before, deadline)
-                answer = self._call(command)
-        if answer:
-            raise refusal(answer)
+        self._session.send(self._command(msg), timeout)
 
     def send_many(self, msgs: Iterable[Message], timeout: Optional[float] = None) -> None:
         """Sends messages in their order, as many in one write as the transmit queue has room for.
@@ -302,25 +220,7 @@ class CanbusdBus(InjectsFaults, BusABC):
         :param timeout: seconds for all messages; none: as long as some are accepted within the timeout of the bus
         :raises: what :meth:`send` raises; the text says how many messages were accepted
         """
-        rest = [self._command(msg) for msg in msgs]
-        total, window = len(rest), self.window
-        stats = self.stats()
-        deadline = time.monotonic() + (self._timeout if timeout is None else timeout)
-        while rest:
-            room = window - stats.waiting
-            if room < 1:
-                stats = self._departure(stats, deadline, f" after {total - len(rest)} of {total} messages")
-                room = max(1, window - stats.waiting)
-            answers = self._calls([*rest[:room], "stats"])
-            stats = self._parsed(answers.pop(), stats_of)
-            refused = [command for command, answer in zip(rest, answers) if answer]
-            rest[: len(answers)] = refused
-            fault = next((answer for answer in answers if answer not in ("", NO_BUFFERS)), None)
-            if fault is not None:
-                raise refusal(fault, f" after {total - len(rest)} of {total} messages")
-            if len(refused) < len(answers) and timeout is None:
-                deadline = time.monotonic() + self._timeout
-            window = max(1, stats.waiting) if refused else min(self.window, window + 1)
+        self._session.send_many([self._command(msg) for msg in msgs], self.window, timeout)
 
     def set_filters(self, filters: Optional[Filters] = None) -> None:
         """Receives what matches one of these filters, by the rules of linux/can.h; without any, everything.
@@ -342,37 +242,30 @@ class CanbusdBus(InjectsFaults, BusABC):
     def state(self, new_state: BusState) -> None:
         if new_state is not BusState.ACTIVE:
             raise NotImplementedError(f"{new_state} can't be set: there is no listen-only mode, and no switching off")
-        answer = self._call("restart")
-        if answer not in ("", NOT_BUS_OFF):
-            raise refusal(answer)
+        self._session.restart(is_needed=False)
 
     def restart(self) -> None:
         """Brings the interface back from bus off; CanOperationError where it is not bus off."""
-        answer = self._call("restart")
-        if answer:
-            raise refusal(answer)
+        self._session.restart()
 
     def error_counters(self) -> ErrorCounters:
         """Returns the state of the interface and its error counts."""
-        return self._parsed(self._call("status"), counters_of)
+        return self._session.error_counters()
 
     def stats(self) -> Stats:
         """Returns the counts of this socket and of its interface."""
-        return self._parsed(self._call("stats"), stats_of)
+        return self._session.stats()
 
     def load(self) -> Load:
         """Returns how busy the bus was, and its bit rates; without them `Load(0, 0, 0, 0)`."""
-        return self._parsed(self._call("load"), load_of)
+        return self._session.load()
 
     def fileno(self) -> int:
         """Returns a file descriptor that is readable where `recv` has something to return or to raise.
 
         It is none that may be read: a frame that was read from the server already counts too.
         """
-        try:
-            return self._connection.fileno()
-        except ConnectionError as fault:
-            raise CanOperationError(str(fault)) from None
+        return self._session.fileno()
 
     def flush_tx_buffer(self) -> None:
         """Not offered: frames in the transmit queue of an interface can't be taken back."""
@@ -381,7 +274,7 @@ class CanbusdBus(InjectsFaults, BusABC):
     def shutdown(self) -> None:
         """Ends the session; who waits in another thread gets a CanOperationError. It may be called again."""
         super().shutdown()
-        self._connection.close()
+        self._session.close()
 
     @staticmethod
     def _detect_available_configs() -> "list[AutoDetectedConfig]":
@@ -412,17 +305,15 @@ class CanbusdBus(InjectsFaults, BusABC):
         self._pairs = [filter_words(one) for one in filters or ()]
         # More than fit into one message are applied here.
         self._filters_here = message is None
-        answer = self._call(message or str(filter_message(None)))
+        answer = self._session.answer(message or str(filter_message(None)))
         if answer:
             raise refusal(answer)
-        self._unfiltered = self._connection.frames_at_hand() if self._pairs else 0
+        self._unfiltered = self._session.frames_at_hand() if self._pairs else 0
 
     def _next(self, timeout: Optional[float]) -> Optional[Message]:
+        text = self._session.frame(timeout)
         try:
-            text = self._connection.frame(timeout)
             message = None if text is None else self._message(text)
-        except ConnectionError as fault:
-            raise CanOperationError(str(fault)) from None
         except (TypeError, ValueError):
             message = None
         if text is not None and (message is None or not isfinite(message.timestamp)):
@@ -440,7 +331,7 @@ class CanbusdBus(InjectsFaults, BusABC):
 
     def _is_own(self, number: int) -> bool:
         """Whether a frame that this interface has sent, with this number there, is one's own."""
-        return self._connection.is_own(number)
+        return self._session.is_own(number)
 
     def _passes(self, message: Message) -> bool:
         """Whether a message passes the filters, where the server did not apply them to it."""
@@ -460,60 +351,14 @@ class CanbusdBus(InjectsFaults, BusABC):
             raise ValueError("an FD frame needs a bus with fd=True")
         return command_of(msg)
 
-    def _open(self, messages: Sequence[str]) -> Connection:
-        connection = None
+    def _open(self, messages: Sequence[str]) -> RawSession:
         try:
-            connection = Connection(self.address, self._timeout)
-            answers = connection.ask([f"open {self.channel}", "rawmode", *messages])
-            faults = [answer for answer in answers if answer != "ok"]
-            if faults:
-                text = refusal_in(faults[0])
-                raise SessionRefused(
-                    no_interface(connection) if text == NO_INTERFACE else f"{text}{CURES.get(text, '')}"
-                )
-            connection.ask_acks(self._receives_own)
-            if self._receives_own:
-                # An older server does not know it, and then all messages are received ones.
-                connection.ask(["origin 1"])
+            return RawSession(self.address, self.channel, messages, self._timeout, self._receives_own)
         except (OSError, SessionRefused) as fault:
-            if connection is not None:
-                connection.close()
             raise CanInitializationError(f"{self.channel_info}: {reason_of(fault)}") from None
-        return connection
-
-    def _calls(self, commands: Sequence[str]) -> list[str]:
-        """Gives these commands, and returns the answer to each: the text of a refusal, and nothing for `ok`."""
-        return [refusal_in(answer) for answer in self._ask(commands)]
-
-    def _call(self, command: str) -> str:
-        return refusal_in(self._ask([command])[0])
-
-    def _ask(self, commands: Sequence[str]) -> list[str]:
-        """The server's own answers to these commands."""
-        try:
-            return self._connection.ask(commands)
-        except NoAnswer as fault:
-            raise CanTimeoutError(str(fault)) from None
-        except ConnectionError as fault:
-            raise CanOperationError(str(fault)) from None
 
     def _answer(self, message: str) -> str:
-        return self._call(message)
+        return self._session.answer(message)
 
     def _refusal(self, text: str) -> Exception:
         return refusal(text)
-
-    def _departure(self, before: Optional[Stats], deadline: float, after: str = "") -> Stats:
-        """Waits until a frame has left the transmit queue since these counts, and returns the counts then.
-
-        A refused send is an entry of the record; looking at the counts is none.
-        """
-        pause = POLL
-        while True:
-            now = self.stats()
-            if time.monotonic() >= deadline:
-                raise CanTimeoutError(f"{NO_BUFFERS}{after}: the transmit queue stayed full", errno.ENOBUFS)
-            if before is None or now.done + now.lost != before.done + before.lost:
-                return now
-            time.sleep(min(pause, max(0.0, deadline - time.monotonic())))
-            pause = min(2 * pause, LONGEST_POLL)

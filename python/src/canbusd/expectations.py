@@ -15,6 +15,7 @@ from typing import TYPE_CHECKING, Any, Optional, TypeVar, Union
 
 from canbusd._connection import LONGEST_POLL, POLL
 from canbusd._protocol import STATES, ErrorCounters, Stats, in_words
+from canbusd._text import seconds_words
 from canbusd._wanted import Wanted
 from canbusd.faults import Faults, Script
 from canbusd.signals import Value
@@ -23,7 +24,8 @@ from canbusd.supervision import Supervision
 if TYPE_CHECKING:
     from can.message import Message
 
-    from canbusd._observer import Observer, ObservingSession
+    from canbusd._observer import Observer
+    from canbusd._observing_session import ObservingSession
 
 #: The transmit error count from which an interface is bus off, and what a destroyed frame adds to it.
 OFF, DESTROYED = 256, 8
@@ -93,7 +95,7 @@ class Expectations(Supervision):
         __tracebackhide__ = True
         found = wait_for(predicate, timeout)
         if found is None:
-            raise TimeoutError(f"not so within {timeout:g} seconds{self._shown()}")
+            raise TimeoutError(f"not so within {seconds_words(timeout)}{self._shown()}")
         return found
 
     def expect_from_now(self) -> None:
@@ -132,7 +134,7 @@ class Expectations(Supervision):
         found = observer.find(wanted.matches, channel, within)
         if found is None:
             was = observer.said_instead(wanted, channel)
-            text = f"no {wanted} within {within:g} seconds{was}{observer.missed(channel)}"
+            text = f"no {wanted} within {seconds_words(within)}{was}{observer.missed(channel)}"
             raise AssertionError(f"{text}{self._shown()}")
         return found.frame.message(channel or observer.channel(found))
 
@@ -187,7 +189,7 @@ class Expectations(Supervision):
         if found is None:
             was = observer.states_since(name)
             since = f": it was {', then '.join(was)}" if was else ""
-            text = f"{in_words(name, now)}, and was not {state} within {within:g} seconds{since}"
+            text = f"{in_words(name, now)}, and was not {state} within {seconds_words(within)}{since}"
             raise AssertionError(f"{text}{self._shown()}")
         return now if now.state == state else found.counters
 
@@ -223,7 +225,7 @@ class Drive:
         now, left = in_words(self._name, counters), self._bus.rules_left()
         is_kept = left and not self._is_only(left)
         others = "; end_rules() ends what is left of its rule, with the bus's others" if is_kept else ""
-        return f"{now}, and did not go bus off within {timeout:g} seconds: {self._reason(counters, stats)}{others}"
+        return f"{now}, and did not go bus off within {seconds_words(timeout)}: {self._reason(counters, stats)}{others}"
 
     def end_rule(self) -> None:
         """Ends what is left of its rule where the bus has no other: a bus ends all its rules or none."""

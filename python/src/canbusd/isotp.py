@@ -20,6 +20,7 @@ from types import TracebackType
 from typing import TYPE_CHECKING, Any, Optional
 
 from canbusd._program import ProgramNotFound, find_program
+from canbusd._text import seconds_words
 
 if TYPE_CHECKING:
     from canbusd.bus import CanbusdBus
@@ -130,7 +131,7 @@ class CanIsoTp(IsoTp):
         deadline = time.monotonic() + timeout
         while self._stack.transmitting():
             if time.monotonic() > deadline:
-                raise IsoTpError(f"the transfer is not over after {timeout:g} seconds")
+                raise IsoTpError(f"the transfer is not over after {seconds_words(timeout)}")
             time.sleep(0.001)
         self._raise()
 
@@ -180,7 +181,7 @@ class SocketIsoTp(IsoTp):
         self._is_read = False
         try:
             if self._next("o", START) is None:
-                raise IsoTpError(f"no socket on {channel} within {START:g} seconds")
+                raise IsoTpError(f"no socket on {channel} within {seconds_words(START)}")
         except BaseException:
             self.close()
             raise
@@ -193,7 +194,7 @@ class SocketIsoTp(IsoTp):
                 raise IsoTpError(f"this end was closed: {fault.strerror}", fault.errno) from None
             answer = self._next("s", timeout)
         if answer is None:
-            raise IsoTpError(f"the transfer is not over after {timeout:g} seconds")
+            raise IsoTpError(f"the transfer is not over after {seconds_words(timeout)}")
         raise_error(answer)
 
     def recv(self, timeout: Optional[float] = None) -> Optional[bytes]:

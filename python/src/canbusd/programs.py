@@ -11,6 +11,7 @@ from pathlib import Path
 from typing import Any, Optional, Union
 
 from canbusd._connection import LONGEST_POLL, POLL
+from canbusd._program import ServerError, find_program
 from canbusd._text import seconds_words
 
 #: What a program is called by: its words, or one text that is split as a shell splits it.
@@ -161,3 +162,54 @@ class Program:
 
     def _name(self) -> str:
         return shlex.join(self._words)
+
+
+class RunsPrograms:
+    """What a server has of programs with CAN sockets: its mixin."""
+
+    address: str
+    _folder: Path
+    _result: Any
+    _programs: list[Program]
+
+    def run(self, words: Words, wait: bool = False, **kwargs: Any) -> "subprocess.CompletedProcess[Any]":
+        """Runs a program whose CAN sockets are those of this server to its end: ``"cansend can0 123#"``, or a list of words.
+
+        With ``wait`` its writes wait where the transmit queue is full. The other arguments are those of subprocess.run,
+        but for ``shell``: a str is split into words as a shell does, and what only a shell does is a ValueError.
+        """
+        check_no_shell(kwargs)
+        return subprocess.run([*self._run_words(wait), *words_of(words)], **kwargs)
+
+    def start(self, words: Words, wait: bool = False, may_end: bool = False, **kwargs: Any) -> Program:
+        """Starts such a program, one that stays, as ``"candump can0"``; the end of the server ends it.
+
+        If it has ended by itself before, :meth:`stop` is a ServerError, and so a failure of the test, unless it
+        ``may_end``. The other arguments are those of subprocess.Popen; its output is :attr:`Program.output`.
+        """
+        check_no_shell(kwargs)
+        found = words_of(words)
+        if self._result is not None:
+            raise ServerError("the server has ended, and no program can be started on its buses")
+        path = self._folder / f"program{len(self._programs)}"
+        program = Program(found, self._run_words(wait), path, may_end, **kwargs)
+        self._programs.append(program)
+        return program
+
+    def environment(self) -> dict[str, str]:
+        """Returns the environment of this process with what makes a program's CAN sockets those of this server.
+
+        For programs that others start: ``subprocess.Popen(["candump", "can0"], env=server.environment())``.
+        """
+        words = [*self._run_words(), "env", "-0"]
+        pairs = os.fsdecode(subprocess.run(words, stdout=subprocess.PIPE, check=True).stdout).split("\0")
+        return dict(pair.split("=", 1) for pair in pairs if pair)
+
+    def _run_words(self, wait: bool = False) -> list[str]:
+        return [find_program("canbusd-run"), "--address", self.address, *(["--wait"] if wait else []), "--"]
+
+    def _end_programs(self) -> list[str]:
+        """Ends what :meth:`start` has started; what is wrong with those that had ended before."""
+        for program in self._programs:
+            program.stop()
+        return [fault for program in self._programs for fault in [program.fault()] if fault is not None]

@@ -13,7 +13,7 @@ from dataclasses import dataclass
 from typing import Optional, Union
 
 from canbusd._record_text import BadRecord, RecordText, parse_text
-from canbusd._text import NAME
+from canbusd._text import NAME, times
 from canbusd.frames import Frame
 from canbusd.log import log_beside, names_in_log
 from canbusd.replay import Replay, Step
@@ -158,7 +158,7 @@ def names_of(record: RecordText, path: Optional[Path], given: Optional[Sequence[
         names = given.split(",") if isinstance(given, str) else given
         if len(names) != record.ifaces:
             raise BadRecord(
-                f"its bus has {record.ifaces} interfaces, and {len(names)} names are given: {','.join(names)}"
+                f"its bus has {times(record.ifaces, 'interface')}, and these names are given: {','.join(names)}"
             )
         if len(set(names)) != len(names) or not all(map(NAME.fullmatch, names)):
             raise BadRecord(f"no names of interfaces, or the same twice: {','.join(names)}")

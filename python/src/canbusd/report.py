@@ -6,7 +6,8 @@ of these a list of [signal, value, unit]. A value is a number, or a text where t
 a text, empty where there is none. A frame that is shorter than its message has the empty list. Without a file both
 objects are empty.
 
-With bit rates the header has an object `wire` more, and the page a script that shows it; without them neither.
+With bit rates the header has an object `wire` more, with a run to compare it with an object `other`, and the page a script
+for each; without them neither.
 """
 
 import base64
@@ -19,9 +20,11 @@ import sys
 import zlib
 from array import array
 from collections.abc import Iterable, Sequence
-from typing import Any, Optional
+from typing import Any, NamedTuple, Optional
 
+from canbusd import comparison
 from canbusd.frames import Frame, meaning
+from canbusd.record import Record
 from canbusd._protocol import STATES
 from canbusd._report_wire import wire_of
 from canbusd._wire import Rates
@@ -33,8 +36,19 @@ from canbusd.story import Event, events_of, facts_of, heading_of, refused_sends,
 KINDS = ["done", "lastbit", "destroyed", "noack", "restart", "idle"]
 FATES = ["taken", "waiting", "unread", "dropped"]
 
+# The scripts of a page, in their order, before the last one, which begins.
+SCRIPTS = ("core", "lanes", "lists", "run", "strips", "signals", "chosen", "run_signals", "identifiers", "tables")
+
 Json = dict[str, Any]
 Column = list[Any]
+
+
+class Pair(NamedTuple):
+    """Two runs that are compared, and how the second is called."""
+
+    one: Record
+    other: Record
+    title: str
 
 
 class Block:
@@ -288,6 +302,7 @@ def data_of(
     database: Optional[Database] = None,
     rules: Sequence[str] = (),
     rates: Optional[Rates] = None,
+    pair: Optional[Pair] = None,
 ) -> str:
     """The data of a page, as its script reads it."""
     block, texts, verdicts = Block(), Texts(), Texts()
@@ -319,6 +334,13 @@ def data_of(
     }
     if rates is not None:
         header["wire"] = wire_of(run, timeline.rows, timeline.places, rates, block.column)
+    if pair is not None:
+        header["heading"] = comparison.heading(pair.one, pair.other)
+        other = comparison.columns_of(pair.one, pair.other, pair.title, KINDS, block.column)
+        numbers = [step.attempt if step.kind != "restart" else -1 for step in run.steps]
+        if other["difference"] in numbers:
+            header["first"] = timeline.places[numbers.index(other["difference"])]
+        header["other"] = other
     return block.packed(header)
 
 
@@ -330,13 +352,15 @@ def page(
     database: Optional[Database] = None,
     rules: Sequence[str] = (),
     rates: Optional[Rates] = None,
+    pair: Optional[Pair] = None,
 ) -> str:
     """Returns the page of a run, with its first items, and with the rule of each attempt, if they are given.
 
-    With the bit rates of its bus it has the bus load.
+    With the bit rates of its bus it has the bus load, and with a pair the other run and where they first differ.
     """
-    data = data_of(run, names, title, most_items, database, rules, rates)
-    scripts = ["core.js", "lanes.js", "lists.js", *(["wire.js"] if rates is not None else []), "page.js"]
+    data = data_of(run, names, title, most_items, database, rules, rates, pair)
+    more = [*(["wire"] if rates is not None else []), *(["other"] if pair is not None else [])]
+    scripts = [f"{name}.js" for name in (*SCRIPTS, *more, "page")]
     return filled("page.html", scripts).replace("/*RUN*/", data)
 
 

@@ -16,17 +16,19 @@ from collections.abc import Mapping, Sequence
 from pathlib import Path
 from typing import TYPE_CHECKING, Any, NamedTuple, Optional, Union
 
-from canbusd._connection import SessionRefused, parse_address, reason_of
+from canbusd._address import parse_address, reason_of
+from canbusd._connection import SessionRefused
 from canbusd._injection import RuleSession
 from canbusd._live import LiveLog, LiveRecord, left_by
 from canbusd._nodes import SimulatesNodes
 from canbusd._observer import Observer, observed_by_default
-from canbusd._program import audited, find_program
-from canbusd._process import RUNNING, ProgramRun, check_names, option_words, rate_words, rates_of
+from canbusd._program import ServerError as ServerError, audited
+from canbusd._process import RUNNING, ProgramRun, option_words, rate_words, rates_of
+from canbusd._serve_words import bus_words, record_options, script_of
 from canbusd.expectations import Expectations
-from canbusd.faults import Script, plan_of, rules_of, script_text
+from canbusd.faults import Script, plan_of, rules_of
 from canbusd.log import read_log
-from canbusd.programs import Program, Words, check_no_shell, words_of
+from canbusd.programs import Program, RunsPrograms
 from canbusd.record import Attempt, Record, read_record
 from canbusd.rules import Rule, check_rules, deciders
 from canbusd.signals import Database, load_database
@@ -43,10 +45,6 @@ ENTRIES = re.compile(r"bus (\S+) entries (\d+)")
 MOST_BUSES = 16
 
 
-class ServerError(RuntimeError):
-    """The server could not be started, or ended with a fault; the text is what canbusd said of it."""
-
-
 class Result(NamedTuple):
     """How a server ended."""
 
@@ -56,63 +54,7 @@ class Result(NamedTuple):
     entries: dict[str, int]
 
 
-def bus_words(
-    buses: tuple[str, ...], faults: Union[Script, Mapping[str, Script], None], folder: Path
-) -> dict[str, list[str]]:
-    """Returns the interfaces of each bus by the first of them, after the fault scripts were written into this folder.
-
-    The last word of each list is what the program is given: `can0,can1@FILE`.
-    """
-    by_bus: dict[str, list[str]] = {}
-    known: set[str] = set()
-    for bus in buses:
-        names = check_names(bus.partition("@")[0].split(","))
-        twice = next((name for name in names if name in known), None)
-        if twice is not None:
-            raise ValueError(f"buses are of different interfaces, and two have {twice!r}")
-        known.update(names)
-        by_bus[names[0]] = [*names, bus]
-    if faults is None:
-        return by_bus
-    if not isinstance(faults, Mapping):
-        if len(by_bus) != 1:
-            raise ValueError("faults of several buses are a dict, by the name of a bus's first interface")
-        faults = {next(iter(by_bus)): faults}
-    for given, script in faults.items():
-        name = given.split(",")[0]
-        if name not in by_bus:
-            raise ValueError(f"faults= names {given!r}, but the server has no such bus")
-        if "@" in by_bus[name][-1]:
-            raise ValueError(f"faults of {given!r} are given twice")
-        file = folder / f"{name}.faults"
-        file.write_text(script_text(script), encoding="utf-8")
-        by_bus[name][-1] += f"@{file}"
-    return by_bus
-
-
-def record_options(
-    record: str, limit: Optional[int], flush: Optional[int], sync: bool
-) -> tuple[list[str], dict[str, int]]:
-    """Returns the words that say when the record is written, and the options that are numbers; ValueError as they are."""
-    if record not in ("end", "live", "none"):
-        raise ValueError(f"record is 'end', 'live' or 'none', not {record!r}")
-    if record == "end":
-        if flush is not None or sync:
-            raise ValueError("flush and sync are of a server whose record is 'live' or 'none'")
-        return [], {"limit": 1_000_000 if limit is None else limit}
-    if limit is not None:
-        raise ValueError(f"limit= needs record='end', not {record!r}")
-    words = ["--record", record, *(["--sync"] if sync else [])]
-    return words, {} if flush is None else {"flush": flush}
-
-
-def script_of(bus: str) -> str:
-    """The text of the script of a bus, as the program was given it; the empty text where it is gone since."""
-    _, _, file = bus.partition("@")
-    return Path(file).read_text(encoding="utf-8") if os.path.isfile(file) else ""
-
-
-class Server(Expectations, SimulatesNodes, ProgramRun):
+class Server(Expectations, SimulatesNodes, RunsPrograms, ProgramRun):
     """`canbusd serve` with these buses, each the names of its interfaces: ``Server("can0,can1", "car0")``.
 
     The options are those of the program. ``faults`` is a script for the one bus there is (:class:`canbusd.Faults`, a
@@ -125,7 +67,7 @@ class Server(Expectations, SimulatesNodes, ProgramRun):
     ``observe`` names the interfaces whose frames :meth:`expect` looks at, by default all, or the first of each bus where
     there are more than 8; without any, ``observe=()``, the record has nothing of it. ``database``, a file or what
     load_database returns, has the names of messages and signals that are expected. The server runs when the constructor returns,
-    and is ended by :meth:`stop`, by the end of a ``with`` block, and by the end of this process, whatever ends it.
+    and is ended by :meth:`stop`, by the end of a ``with`` block, and by the end of this process, even by a crash.
     """
 
     def __init__(
@@ -237,48 +179,6 @@ class Server(Expectations, SimulatesNodes, ProgramRun):
         """Ends all rules of faults of a bus; lines of its script by the numbers of attempts stay."""
         with self._rule_session(interface) as session:
             session.end_rules()
-
-    def run(self, words: Words, wait: bool = False, **kwargs: Any) -> "subprocess.CompletedProcess[Any]":
-        """Runs a program whose CAN sockets are those of this server to its end: ``"cansend can0 123#"``, or a list of words.
-
-        With ``wait`` its writes wait where the transmit queue is full. The other arguments are those of subprocess.run,
-        but for ``shell``: a str is split into words as a shell does, and what only a shell does is a ValueError.
-        """
-        check_no_shell(kwargs)
-        return subprocess.run([*self._run_words(wait), *words_of(words)], **kwargs)
-
-    def start(self, words: Words, wait: bool = False, may_end: bool = False, **kwargs: Any) -> Program:
-        """Starts such a program, one that stays, as ``"candump can0"``; the end of the server ends it.
-
-        If it has ended by itself before, :meth:`stop` is a ServerError, and so a failure of the test, unless it
-        ``may_end``. The other arguments are those of subprocess.Popen; its output is :attr:`Program.output`.
-        """
-        check_no_shell(kwargs)
-        found = words_of(words)
-        if self._result is not None:
-            raise ServerError("the server has ended, and no program can be started on its buses")
-        path = self._folder / f"program{len(self._programs)}"
-        program = Program(found, self._run_words(wait), path, may_end, **kwargs)
-        self._programs.append(program)
-        return program
-
-    def environment(self) -> dict[str, str]:
-        """Returns the environment of this process with what makes a program's CAN sockets those of this server.
-
-        For programs that others start: ``subprocess.Popen(["candump", "can0"], env=server.environment())``.
-        """
-        words = [*self._run_words(), "env", "-0"]
-        pairs = os.fsdecode(subprocess.run(words, stdout=subprocess.PIPE, check=True).stdout).split("\0")
-        return dict(pair.split("=", 1) for pair in pairs if pair)
-
-    def _run_words(self, wait: bool = False) -> list[str]:
-        return [find_program("canbusd-run"), "--address", self.address, *(["--wait"] if wait else []), "--"]
-
-    def _end_programs(self) -> list[str]:
-        """Ends what :meth:`start` has started; what is wrong with those that had ended before."""
-        for program in self._programs:
-            program.stop()
-        return [fault for program in self._programs for fault in [program.fault()] if fault is not None]
 
     def stop(self) -> Result:
         """Ends the server, after the programs that it started; logs and records are written. Again it returns the same.

@@ -14,6 +14,7 @@ import os
 from collections.abc import Callable, Iterable, Iterator, Mapping
 from typing import Any, NamedTuple, Optional, Union
 
+from canbusd._text import times
 from canbusd.formats import DatabaseError as DatabaseError
 from canbusd.formats import MessageFormat, Signal, Value as Value
 from canbusd.frames import FD_LENGTHS, BadFrame, Frame, MessageLike
@@ -92,7 +93,7 @@ class Database:
         if message is None:
             return None
         if len(frame.data) < message.size:
-            return Decoded(message.name, (), f"{len(frame.data)} of {message.size} bytes")
+            return Decoded(message.name, (), f"{len(frame.data)} of {times(message.size, 'byte')}")
         # Those of the libraries are of many kinds.
         try:
             return Decoded(message.name, tuple(message.decode(bytes(frame.data[: message.size]))))

@@ -7,6 +7,7 @@ from collections.abc import Iterable, Iterator, Sequence
 from typing import NamedTuple
 
 from canbusd._protocol import STATES
+from canbusd._text import times
 from canbusd.record import members_of
 from canbusd.replay import Replay, Step, severity
 
@@ -24,11 +25,6 @@ class Event(NamedTuple):
     kind: str
     iface: int
     words: str
-
-
-def times(count: int, one: str, many: str = "") -> str:
-    """`1 frame`, `2 frames`."""
-    return f"{count:,} {one if count == 1 else many or one + 's'}"
 
 
 def joined(words: Sequence[str]) -> str:

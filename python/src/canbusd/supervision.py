@@ -10,6 +10,7 @@ from typing import TYPE_CHECKING, Optional, Union
 
 from canbusd._judged import Change, Followed, first_change, follow, gap_words, gaps_of, wrong_gaps
 from canbusd._received import Seen
+from canbusd._text import seconds_words
 from canbusd._wanted import Step, Wanted, wanted_of
 from canbusd.signals import Database
 
@@ -72,10 +73,10 @@ class Supervision:
         lines += [f"  .. {len(wrong) - MOST_GAPS} more"] if len(wrong) > MOST_GAPS else []
         fault = f"{len(wrong)} of {len(gaps)} gaps {'is' if len(wrong) == 1 else 'are'} wrong" if wrong else ""
         if len(gaps) < count:
-            came = f"came {len(frames)} of {count + 1} times within {seconds:g} seconds"
+            came = f"came {len(frames)} of {count + 1} times within {seconds_words(seconds)}"
             fault = f"{came}, and {fault}" if fault else came
         if fault:
-            every = f"{wanted} every {period:g} seconds, give or take {allowed:g}"
+            every = f"{wanted} every {seconds_words(period)}, give or take {allowed:g}"
             text = f"no {every}: {fault}{observer.missed(channel)}"
             raise AssertionError("\n".join([text, *lines]) + self._shown())
         observer.take(frames[-1], channel)
@@ -127,7 +128,7 @@ class Supervision:
             text = f"{observer.line(intruder, channel)} came between {wanted[len(found) - 1]} and {step}"
         else:
             after = f" after {wanted[len(found) - 1]}" if found else ""
-            text = f"no {step}{after} within {within:g} seconds{observer.missed(channel)}"
+            text = f"no {step}{after} within {seconds_words(within)}{observer.missed(channel)}"
             # It may be there, in another order.
             early = next((seen for seen in frames if found and step.matches(seen.frame)), None)
             text += f": it came before, {observer.line(early, channel)}" if early else ""

@@ -4,6 +4,7 @@ import argparse
 import sys
 from collections.abc import Sequence
 
+from canbusd._text import times
 from canbusd.logs import is_candump, read_entries, write_entries
 
 EPILOG = """\
@@ -32,4 +33,4 @@ def run(options: argparse.Namespace) -> None:
     if not count:
         print(f"canbusd convert: {options.source} has no frame", file=sys.stderr)
     channels = "" if is_candump(options.target) else ", ".join(f"{place} {name}" for place, name in enumerate(known, 1))
-    print(f"{count} frames{f'; channels: {channels}' if channels else ''}")
+    print(f"{times(count, 'frame')}{f'; channels: {channels}' if channels else ''}")

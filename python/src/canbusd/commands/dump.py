@@ -169,7 +169,7 @@ class Drops:
             if dropped > self.dropped[place]:
                 more = dropped - self.dropped[place]
                 print(
-                    f"canbusd dump: {name}: {more} frames dropped, {dropped} in all: they came too fast",
+                    f"canbusd dump: {name}: {more} frame{'' if more == 1 else 's'} dropped, {dropped} in all: they came too fast",
                     file=sys.stderr,
                 )
             self.dropped[place] = dropped

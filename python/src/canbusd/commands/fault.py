@@ -2,7 +2,8 @@
 
 import argparse
 
-from canbusd._connection import SessionRefused, reason_of, server_address
+from canbusd._address import reason_of, server_address
+from canbusd._connection import SessionRefused
 from canbusd._injection import Refused, RuleSession
 from canbusd.commands import add_address
 

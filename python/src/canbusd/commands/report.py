@@ -11,6 +11,7 @@ from canbusd import _summary, drawings
 from canbusd._command import add_record, replayed
 from canbusd._slots import load_of, load_words, slots_of
 from canbusd.commands import add_database, add_rates, database_of, rates_of
+from canbusd.comparison import beside
 from canbusd.faults import plan_of, script_text
 from canbusd.rules import deciders
 
@@ -28,6 +29,7 @@ long each frame was on the wire, and how long it waited from the first attempt i
   canbusd report --names can0,can1 run.rec > run.html
   canbusd report --bitrate 500000 --names can0,can1 run.rec > run.html
   canbusd report --counters --names can0,can1 run.rec
+  canbusd report yesterday/ecu.rec today/ecu.rec > both.html
 """
 MOST_EVENTS = 1000
 
@@ -35,6 +37,9 @@ MOST_EVENTS = 1000
 def add_arguments(parser: argparse.ArgumentParser) -> None:
     """Adds the words of the command."""
     add_record(parser)
+    parser.add_argument(
+        "other", nargs="?", metavar="OTHER", help="a second record: where the runs first differ, and both on one axis"
+    )
     add_database(parser)
     parser.add_argument(
         "--items", type=int, default=1000000, metavar="N", help="items on the page at most (default 1000000)"
@@ -56,16 +61,17 @@ def run(options: argparse.Namespace) -> None:
     """Writes the page, or the drawings, on standard output."""
     rates = rates_of(options)
     record = replayed(options.record, options.names, options.cut)
+    other = None if options.other is None else replayed(options.other, options.names, options.cut)
     if options.text or options.counters or options.arbitration:
         if options.text:
-            write(_summary.story(record, MOST_EVENTS))
+            write(_summary.story(record, MOST_EVENTS) if other is None else beside(record, other))
             write([load_words(load_of(slots_of(record.replay, rates)))] if rates else [])
         if options.text or options.arbitration:
             write(drawings.arbitration(record, options.first, options.last))
         if options.text or options.counters:
             write(drawings.counters(record, options.first, options.last))
         return
-    from canbusd.report import page
+    from canbusd.report import Pair, page
 
     rules: list[str] = []
     if options.faults is not None:
@@ -74,7 +80,14 @@ def run(options: argparse.Namespace) -> None:
     if isinstance(sys.stdout, io.TextIOWrapper):
         sys.stdout.reconfigure(encoding="utf-8")
     database, most_items = database_of(options), max(options.items, 0)
-    sys.stdout.write(page(record.replay, record.names, title, most_items, database, rules, rates))
+    pair = None if other is None else Pair(record, other, title_beside(options.record, options.other))
+    sys.stdout.write(page(record.replay, record.names, title, most_items, database, rules, rates, pair))
+
+
+def title_beside(path: str, other: str) -> str:
+    """How the second of two records is called: by its folder, too, where both files have one name."""
+    name = os.path.basename(other)
+    return other if name == os.path.basename(path) else name
 
 
 def write(lines: Iterable[str]) -> None:

@@ -10,7 +10,9 @@ from typing import Optional
 
 from canbusd._rest_live import LiveRestBus
 from canbusd._rest_nodes import interfaces_of, sender
-from canbusd.bus import CanbusdBus, interfaces, seconds
+from canbusd._text import times
+from canbusd._arguments import seconds
+from canbusd.bus import CanbusdBus, interfaces
 from canbusd.commands import add_address
 from canbusd.rest_bus import RestBus
 from canbusd.signals import Database, load_database
@@ -96,5 +98,5 @@ def send_until(rest: LiveRestBus, duration: Optional[float]) -> None:
             rest.check()
             time.sleep(min(left, 0.2))
     counts = rest.counts()
-    said = f"{counts.accepted} frames sent, {counts.refused} refused, {counts.skipped} skipped"
+    said = f"{times(counts.accepted, 'frame')} sent, {counts.refused} refused, {counts.skipped} skipped"
     print(f"canbusd restbus: {said}", file=sys.stderr)

@@ -7,7 +7,8 @@ from collections.abc import Sequence
 
 from canbusd._protocol import Load
 from canbusd._summary import HEADINGS, Row, load_words, table
-from canbusd.bus import CanbusdBus, interfaces, seconds
+from canbusd._arguments import seconds
+from canbusd.bus import CanbusdBus, interfaces
 from canbusd.commands import NOTHING, add_address
 
 EPILOG = """\

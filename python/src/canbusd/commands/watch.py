@@ -19,11 +19,12 @@ import canbusd._python_can  # noqa: F401  it says what is missing, so it comes f
 from can.exceptions import CanOperationError
 
 from canbusd._wire import Rates, Wire
-from canbusd.bus import CanbusdBus, interfaces, seconds
+from canbusd._arguments import seconds
+from canbusd.bus import CanbusdBus, interfaces
 from canbusd.commands import add_address, add_database, database_of
 from canbusd.frames import SENDING, Frame, frame_like
 from canbusd.report import filled
-from canbusd.signals import Database
+from canbusd.signals import Database, Decoded
 
 EPILOG = """\
 The page is served on 127.0.0.1 only. It shows on a time line how many frames each interface sent, its state, error
@@ -111,7 +112,12 @@ class Pages(ThreadingHTTPServer):
         self.board = board
         data = json.dumps(known).replace("<", "\\u003c")
         self.page = (
-            filled("watch.html", ["core.js", "lanes.js", "lists.js", "watch.js"]).replace("/*RUN*/", data).encode()
+            filled(
+                "watch.html",
+                ["core.js", "lanes.js", "lists.js", "signals.js", "watch_signals.js", "watch_loads.js", "watch.js"],
+            )
+            .replace("/*RUN*/", data)
+            .encode()
         )
 
     def get_request(self) -> tuple[Any, Any]:
@@ -222,7 +228,8 @@ class Watcher:
     def take(self, number: int, rows: dict[tuple[float, str, int], Row], faults: list[int]) -> None:
         """Takes what an interface has received.
 
-        A row is moment, frame, interfaces, what it says, sender, and how many nanoseconds it took the wire.
+        A row is moment, frame, interfaces, what it says, sender, how many nanoseconds it took the wire, and its message with
+        its signals, if a file knows it.
         """
         for _ in range(MOST_FRAMES):
             message = self.buses[number].recv(0)
@@ -234,20 +241,32 @@ class Watcher:
                 faults[kind] += 1
             # An error frame is the interface's own; a frame that several have received is one row.
             key = frame.timestamp, str(frame), number if frame.is_error_frame else -1
-            row = rows.setdefault(key, [frame.timestamp, str(frame), 0, self.meaning(frame), -1, self.busy(frame)])
+            if key not in rows:
+                decoded = self.decoded(frame)
+                signals = None if decoded is None else [decoded.message, decoded.signals]
+                rows[key] = [frame.timestamp, str(frame), 0, says(frame, decoded), -1, self.busy(frame), signals]
+            row = rows[key]
             row[2] |= 1 << number
             row[4] = row[4] if frame.is_rx else number
 
+    def decoded(self, frame: Frame) -> Optional[Decoded]:
+        """The message and the signals of a frame, if there is a file that knows it."""
+        return self.database.decode(frame) if self.database is not None else None
+
     def meaning(self, frame: Frame) -> str:
         """What an error message frame says, or one that a file knows."""
-        decoded = self.database.decode(frame) if self.database is not None else None
-        return str(decoded) if decoded is not None else frame.meaning
+        return says(frame, self.decoded(frame))
 
     def busy(self, frame: Frame) -> int:
         """How many nanoseconds a frame took the wire, with those that follow it; 0 where there is no bit rate."""
         if self.wire is None or frame.is_error_frame:
             return 0
         return self.wire.times(str(frame), "done", "good").attempt
+
+
+def says(frame: Frame, decoded: Optional[Decoded]) -> str:
+    """What an error message frame says, or one that was decoded."""
+    return frame.meaning if decoded is None else str(decoded)
 
 
 def is_frame(row: Row) -> bool:

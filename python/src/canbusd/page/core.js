@@ -42,6 +42,33 @@ const loss = number => element("td", grouped(number), { className: number ? "num
 // The symbol of a kind of attempt, or of another thing that the legend has.
 const mark = name => element("i", [], { className: "mark " + name });
 
+// What one script adds to what another does: functions that are called when it has done it.
+const added = {};
+function on(what, each) { (added[what] ||= []).push(each); }
+function happened(what, ...given) { for (const each of added[what] || []) each(...given); }
+
+// Periods between moments in seconds: how many moments, and of the periods the least, the mean and the largest.
+class Periods {
+  constructor() { Object.assign(this, { number: 0, least: Infinity, most: 0, first: 0, last: 0 }); }
+  add(moment) {
+    if (this.number++) {
+      this.least = Math.min(this.least, moment - this.last);
+      this.most = Math.max(this.most, moment - this.last);
+    } else this.first = moment;
+    this.last = moment;
+  }
+  get mean() { return (this.last - this.first) / (this.number - 1); }
+  // The largest difference of a period from the mean.
+  get jitter() { return Math.max(this.mean - this.least, this.most - this.mean); }
+  // In milliseconds, the mean first; nothing of a single moment.
+  get words() {
+    if (this.number < 2) return ["", "", "", ""];
+    return [this.mean, this.least, this.most, this.jitter].map(seconds => grouped3(seconds * 1000));
+  }
+}
+const grouped3 = number => number.toLocaleString("en", { minimumFractionDigits: 3, maximumFractionDigits: 3 });
+const PERIOD_COLUMNS = ["period, ms", "least", "largest", "jitter"].map(head => [head, "minmax(0, 8.5ch)", "n h"]);
+
 // Colours, and lines of hatching over a tile of 6 pixels, so that no kind is shown by its colour only.
 
 const HATCH = {

@@ -4,7 +4,8 @@
 const STRIP = 20, BAND = 13, CURVES = 48, SPACE = 9, TOP = 264;
 const view = { from: 0, to: 1, step: 0 };
 let axis = new Axis([0], 1), lanes = [];
-const time = { axisWords: [], ticks: () => [], words: () => "", choose: () => {}, moved: () => {} };
+// Steps are instants where that is so of the axis that is shown; where `lengthOf` is given, they end before the next begins.
+const time = { isInstant: false, lengthOf: null, axisWords: [], ticks: () => [], words: () => "", choose: () => {}, moved: () => {} };
 
 // Where things are.
 
@@ -14,6 +15,11 @@ function plotted() {
   return { full, width: Math.max(full - right, 1), isNarrow: isNarrow() };
 }
 const placeOf = (plot, place) => (place - view.from) / (view.to - view.from) * plot.width;
+
+// How wide a step is that has a length, and where any ends.
+const widthOf = (plot, step) => time.lengthOf(step) / (view.to - view.from) * plot.width;
+const endOf = (plot, step) => time.lengthOf ? placeOf(plot, axis.start[step]) + widthOf(plot, step)
+  : placeOf(plot, axis.start[step + 1] ?? axis.length);
 
 // The steps of each pixel: those of pixel x are from edges[x] to before edges[x + 1].
 function edgesOf(width, from, to) {
@@ -242,7 +248,12 @@ function buildGutter() {
     if (lane.canGo) {
       name.classList.add("goes");
       name.title += "; choose to take the lane away";
-      name.onclick = () => { lanes = lanes.filter(one => one !== lane); buildGutter(); redraw(); };
+      name.onclick = () => {
+        lanes = lanes.filter(one => one !== lane);
+        happened("lane gone", lane);
+        buildGutter();
+        redraw();
+      };
     }
     if (lane.canFold) {
       name.setAttribute("aria-expanded", !lane.isFolded);
@@ -268,8 +279,7 @@ function sayValues() {
 // The chosen step, over ruler and lanes.
 function placeCursor() {
   const plot = plotted(), from = placeOf(plot, axis.start[view.step]);
-  const to = placeOf(plot, axis.start[view.step + 1] ?? axis.length);
-  moveCursor(plot, from, time.isInstant ? from : to);
+  moveCursor(plot, from, time.isInstant ? from : endOf(plot, view.step));
 }
 // At least 3 pixels wide, and nothing of it beside the lanes.
 function moveCursor(plot, from, to) {

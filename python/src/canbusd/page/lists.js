@@ -5,7 +5,7 @@ const MOST_ROOM = 8e6;
 
 // A list of which only the rows in view are made. A column is a heading, a width, and whether it has numbers ("n"), is
 // said with its heading where the page is narrow ("h"), may be wrapped there ("w"), or is cut there, with a sign, so that
-// there is room for what follows it ("f"). The arrow keys move in a list, Enter chooses.
+// there is room for what follows it ("f"), or is left out there ("x"). The arrow keys move in a list, Enter chooses.
 class Rolling {
   constructor(id, columns, cellsOf, choose = null) {
     Object.assign(this, { columns, cellsOf, choose, list: [], active: 0, rows: new Map() });
@@ -77,7 +77,7 @@ class Rolling {
     (this.rows.get(this.active) || this.box).focus({ preventScroll: true });
   }
   row(place) {
-    const one = this.list[place], cells = this.cellsOf(one);
+    const one = this.list[place], cells = this.cellsOf(one, this.list[place - 1]);
     // Where a row is wrapped it is parted at the blanks.
     const made = cells.flatMap((content, k) => [this.cell("gridcell", this.columns[k], content), " "]);
     const row = element("div", made, { className: "row" });

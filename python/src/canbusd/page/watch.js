@@ -19,6 +19,7 @@ const joined = new Set();
 function take(news) {
   if (news.start) {
     [ticks, frames, events, offs, total, busyInAll] = [[], [], [], [], 0, 0];
+    bySignal.clear();
     byKey = new Map();
     byIdentifier = new Map();
   }
@@ -51,7 +52,7 @@ function takeTick(tick) {
 // The first digit of an error message frame has bit 29.
 const isError = text => /^[23].{7}#/.test(text);
 // A frame that an interface got later is the same row.
-function takeFrame(moment, text, seen, says, sender, busy) {
+function takeFrame(moment, text, seen, says, sender, busy, decoded) {
   const key = `${moment} ${text}`, known = isError(text) ? undefined : byKey.get(key);
   if (known && !(known.seen & seen)) {
     known.seen |= seen;
@@ -71,22 +72,12 @@ function takeFrame(moment, text, seen, says, sender, busy) {
   total++;
   busyInAll += busy;
   joinBuses(seen);
-  const identifier = text.split("#")[0], one = byIdentifier.get(identifier) || { number: 0, moment, sender: -1, busy: 0 };
-  const from = sender < 0 ? one.sender : sender, period = moment - one.moment;
-  byIdentifier.set(identifier, { identifier, number: one.number + 1, moment, period, text, sender: from, busy: one.busy + busy });
+  if (decoded) takeSignals(moment, ...decoded);
+  const identifier = text.split("#")[0], one = byIdentifier.get(identifier) || { periods: new Periods(), sender: -1, busy: 0 };
+  one.periods.add(moment);
+  const from = sender < 0 ? one.sender : sender;
+  byIdentifier.set(identifier, { identifier, periods: one.periods, moment, text, sender: from, busy: one.busy + busy });
 }
-// Nodes that got one frame are on one bus.
-function joinBuses(seen) {
-  if (joined.has(seen)) return;
-  joined.add(seen);
-  const got = new Set(busOf.filter((_, i) => seen >> i & 1)), first = Math.min(...got);
-  busOf = busOf.map(bus => got.has(bus) ? first : bus);
-}
-// The buses that were busy, by their first nodes, and what is said of one.
-const busyBuses = some => [...new Set(busOf)].filter(bus => some.some(tick => tick.loads[bus]));
-const percent = permille => `${(permille / 10).toFixed(1)} %`;
-const loadWords = (tick, bus) => `bus load ${percent(tick.loads[bus])}${new Set(busOf).size > 1 ? ` (${names[bus]})` : ""}`;
-
 // The time line: a tick is a step, and its place is its time.
 
 function measure() {
@@ -111,23 +102,6 @@ function measure() {
   const [tec, rec, queue] = [1, 2, QUEUE].map(column), queueMost = Math.max(...queue.map(one => one.most));
   nodeLanes.forEach((lane, i) => Object.assign(lane, { tec: tec[i], rec: rec[i], queue: queue[i], queueMost }));
   measureLoads();
-}
-// A lane for each bus that was busy, above those of the nodes.
-function measureLoads() {
-  const buses = busyBuses(ticks), isOne = new Set(busOf).size === 1;
-  const none = new Numbers(new Uint16Array(0)), laneOf = bus => loadLanes.get(bus) || new CurveLane("", none, null, { scale: "100 %" });
-  const made = buses.map(bus => [bus, laneOf(bus)]);
-  for (const [bus, lane] of made) {
-    const title = `share of the last whole second in which the wire was busy, as the server says of ${names[bus]}`;
-    const numbers = new Numbers(Uint16Array.from(ticks, tick => Math.min(tick.loads[bus], 1000)));
-    const words = step => percent(ticks[step].loads[bus]), name = isOne ? "bus load" : `load ${names[bus]}`;
-    Object.assign(lane, { name, title, numbers, words, most: 1000 });
-  }
-  const lanesNow = [...made.map(([, lane]) => lane), ...nodeLanes], said = lanesNow.map(({ name }) => name).join();
-  loadLanes = new Map(made);
-  if (said === measure.said) return;
-  [lanes, measure.said] = [lanesNow, said];
-  buildGutter();
 }
 function tickAt(seconds) {
   let low = 0, high = ticks.length - 1;
@@ -212,9 +186,11 @@ function makeLists() {
     isBad(frame.kind) ? element("span", frame.kind, { className: "bad" }) : frame.kind, frame.says]);
   lists["tab-identifiers"] = make("identifiers", [["identifier", "10ch", "n"], ["sender", "minmax(0, 1fr)", "h"],
     ["frames", "9ch", "n h"], ...isTimed ? [["share of wire time", "18ch", "n h"]] : [],
-    ["ms since the one before", "22ch", "n h"], ["last", "minmax(0, 2fr)"], ["moment", "15ch", "n"]],
-    one => [one.identifier, senderOf(one), grouped(one.number), ...isTimed ? [percent(1000 * one.busy / busyInAll)] : [],
-      (one.period * 1000).toFixed(3), one.text, momentWords(one.moment)]);
+    ...PERIOD_COLUMNS, ["last", "minmax(0, 2fr)", "f"],
+    ["moment", "15ch", "n"]],
+    one => [one.identifier, senderOf(one), grouped(one.periods.number), ...isTimed ? [percent(1000 * one.busy / busyInAll)] : [],
+      ...one.periods.words, one.text, momentWords(one.moment)]);
+  lists["tab-signals"] = signalList();
   chips = new Chips("kinds", () => showLists());
 }
 function found() {
@@ -223,6 +199,7 @@ function found() {
   if (tab === "tab-identifiers") {
     return [...byIdentifier.values()].filter(one => fits(one.text)).sort((one, other) => one.identifier < other.identifier ? -1 : 1);
   }
+  if (tab === "tab-signals") return findSignals()[0];
   if (tab === "tab-frames") return frames.filter(one => fits(one.text) && (node === "" || one.sender === Number(node)));
   const seen = events.filter(one => node === "" || one.iface === Number(node));
   chips.set(new Map(EVENTS.map(kind => [kind, seen.reduce((sum, one) => sum + (one.kind === kind), 0)])
@@ -231,8 +208,8 @@ function found() {
 }
 // A list stays at its end while the latest are wanted, else with what is at its top.
 function showLists() {
-  const list = lists[tab], isLog = tab !== "tab-identifiers", top = list.list[Math.round(list.box.scrollTop / list.step)];
-  const all = found(), of = { "tab-frames": frames, "tab-events": events, "tab-identifiers": [...byIdentifier] }[tab].length;
+  const list = lists[tab], isLog = tab === "tab-frames" || tab === "tab-events", top = list.list[Math.round(list.box.scrollTop / list.step)];
+  const all = found(), of = { "tab-frames": frames, "tab-events": events, "tab-identifiers": [...byIdentifier], "tab-signals": signals.all() }[tab].length;
   list.set(all);
   at("found").textContent = `${grouped(all.length)} of ${grouped(of)}`;
   if (!isLog) return;
@@ -254,11 +231,6 @@ function showIfaces() {
   at("ifaces").replaceChildren(...rowsOf(heads, ifaces.map(([state, ...counts], i) => [names[i],
     element("td", stateWords(state), { className: state === "active" ? "" : "bad" }),
     ...counts.slice(0, 5), ...counts.slice(5).map(loss), ...isTimed ? [busOf[i] === i ? loadCell(loads[i]) : ""] : []])));
-}
-// A load with a small bar.
-function loadCell(permille) {
-  const bar = element("meter", [], { max: 1000, value: permille, title: "of the last whole second" });
-  return element("td", [bar, ` ${percent(permille)}`], { className: "number" });
 }
 function showMoment() {
   const made = [];
@@ -330,7 +302,7 @@ function chooseTick(first, last) {
   chosen = null;
   chooseAt(ticks[last - 1].time);
   const list = lists[tab], place = list.list.findIndex(one => one.moment >= axis.start[last - 1] + ticks[0].time);
-  if (place >= 0 && tab !== "tab-identifiers") list.box.scrollTop = Math.max(0, place - 2) * list.step;
+  if (place >= 0 && (tab === "tab-frames" || tab === "tab-events")) list.box.scrollTop = Math.max(0, place - 2) * list.step;
 }
 function pause() {
   isPaused = !isPaused;
@@ -355,7 +327,7 @@ const KEYS = {
   "/": () => { if (at("of-frame").parentElement.hidden) showTab("tab-frames"); at("of-frame").focus(); },
 };
 function listen() {
-  for (const id of ["of-frame", "of-node"]) at(id).addEventListener("input", redraw);
+  for (const id of ["of-frame", "of-node", "of-signal"]) at(id).addEventListener("input", redraw);
   Object.assign(time, { ticks: ticksOf, words: tipWords, choose: chooseTick, axisWords: ["time of day"] });
   for (const id of ["lanes", "ruler", "overview"]) {
     at(id).addEventListener("pointerdown", () => { isLatest = false; });
@@ -401,6 +373,7 @@ function begin() {
   listen();
   readTheme();
   buildGutter();
+  at("tabs").querySelector("[aria-controls=tab-signals]").hidden = !isDecoded;
   showTab = makeTabs("tabs", showList);
   showTab("tab-frames");
   keepDrawn(show, () => {});

@@ -1,13 +1,12 @@
 // Time on the wire, in the pages of runs whose bus has bit rates: bus load, and how long frames took and waited. The other
-// pages have nothing of this. So it comes before page.js, and adds to functions of that before it begins.
+// pages have nothing of this: it adds to what their scripts do.
 
 // Times are in nanoseconds since the first attempt began.
-const wire = { isByTime: true };
-const extend = (first, more) => (...given) => more(first(...given), ...given);
+const wire = {};
 
 // Columns, and sums of the time in which the wire was busy.
 
-take = extend(take, (_, { column }) => {
+on("taken", column => {
   for (const name of ["begin", "nominal", "fast", "frame", "busy", "since"]) wire[name] = column(run.wire[name]);
   const count = steps.kind.length, starts = new Float64Array(count + 1);
   wire.sums = new Float64Array(count + 1);
@@ -16,7 +15,9 @@ take = extend(take, (_, { column }) => {
     wire.sums[k + 1] = wire.sums[k] + wire.busy[k];
   }
   starts[count] = Math.max(run.wire.end / 1e9, 1e-5);
-  axis = axes[1] = new Axis(starts, 1e-5);
+  axes[1] = new Axis(starts, 1e-5);
+  byTime.lengthOf = step => wire.busy[step] / 1e9;
+  showAxis(true);
   view.to = axis.length;
   placeIdentifiers();
 });
@@ -39,7 +40,7 @@ function busyUntil(nanos) {
 }
 // The time at a place of the axis that is shown.
 function nanosAt(place) {
-  if (wire.isByTime || !axis.count) return place * 1e9;
+  if (byTime.isOn || !axis.count) return place * 1e9;
   const step = axis.stepAt(place), from = axis.start[step], next = wire.begin[step + 1] ?? run.wire.end;
   return wire.begin[step] + (next - wire.begin[step]) * Math.min((place - from) / (axis.start[step + 1] - from), 1);
 }
@@ -92,46 +93,9 @@ class LoadLane {
   }
   values() { return [["", `in view ${percent(loadSeen())}`], ["", `in all ${percent(loadOfAll())}`]]; }
 }
-makeLanes = extend(makeLanes, () => {
+on("lanes made", () => {
   lanes.unshift(new LoadLane());
   makeTab();
-});
-
-// The axis by time, on which an attempt is as long as it took.
-
-turnAxis = () => {
-  const first = axis.stepAt(view.from), last = Math.min(axis.from(view.to), axis.count);
-  wire.isByTime = !wire.isByTime;
-  axis = axes[Number(wire.isByTime)];
-  layer = "";
-  sayAxis();
-  look(axis.start[first], axis.start[last]);
-};
-listen = extend(listen, () => { KEYS.t = turnAxis; });
-sayAxis = extend(sayAxis, () => {
-  at("by-time").setAttribute("aria-pressed", wire.isByTime);
-  time.axisWords = wire.isByTime ? ["since the first", "attempt"] : ["attempt", "moment"];
-  buildGutter();
-});
-ticksOf = plot => {
-  const most = plot.width / (plot.isNarrow ? 110 : 130);
-  return !axis.count ? [] : wire.isByTime ? secondTicks(most) : attemptTicks(most);
-};
-strip = (plain => (plot, i, top, fills) => {
-  const last = plot.edges[Math.floor(plot.width)];
-  if (!wire.isByTime || last - plot.edges[0] > plot.width / 2) { plain(plot, i, top, fills); return; }
-  for (let step = axis.stepAt(view.from); step < last; step++) {
-    const from = placeOf(plot, axis.start[step]), to = Math.min(from + widthOf(plot, step), plot.width);
-    const left = Math.max(from, 0), wide = Math.max(to - left - (to - left > 5 ? 1 : 0), 2);
-    const room = placeOf(plot, axis.start[step + 1]) - to - 6;
-    if (to >= 0 && left < plot.width) bar(plot, i, step, top, left, wide, fills, room > wide ? room : 0);
-  }
-})(strip);
-const widthOf = (plot, step) => wire.busy[step] / 1e9 / (view.to - view.from) * plot.width;
-placeCursor = extend(placeCursor, () => {
-  if (!wire.isByTime || !axis.count) return;
-  const plot = plotted(), from = placeOf(plot, axis.start[view.step]);
-  moveCursor(plot, from, from + widthOf(plot, view.step));
 });
 
 // Words.
@@ -150,7 +114,7 @@ function overlaps() {
   }
   return found;
 }
-showWords = extend(showWords, () => {
+on("worded", () => {
   const early = overlaps();
   at("facts").append(` Bus load ${percent(loadOfAll())} at ${rateWords()}.`, early ? ` ${times(early, "attempt begins", "attempts begin")} `
     + "before the wire is free: this run did not take the time of its bits, so times on the wire mean little." : "");
@@ -160,21 +124,20 @@ showWords = extend(showWords, () => {
     + "in which the wire was busy, with frames, flags of errors and the 3 bits after them, for each three pixels; red "
     + "above it: more than the wire can carry, as in a run whose frames took no time.");
 });
-tipWords = extend(tipWords, (words, first, last) => {
-  if (last - first > 1) return `${words}\nbus load ${percent(loadIn(wire.begin[first], wire.begin[last] ?? run.wire.end))}`;
-  if (!isAttempt(first)) return words;
-  return `${words}\n${isWhole(first) ? `${duration(wire.frame[first])} on the wire` : `busy for ${duration(wire.busy[first])}`}`;
+on("tip", (lines, first, last) => {
+  if (last - first > 1) lines.push(`bus load ${percent(loadIn(wire.begin[first], wire.begin[last] ?? run.wire.end))}`);
+  else if (isAttempt(first)) {
+    lines.push(isWhole(first) ? `${duration(wire.frame[first])} on the wire` : `busy for ${duration(wire.busy[first])}`);
+  }
 });
-fieldList = extend(fieldList, (list, step) => {
+on("fields", (pairs, step) => {
   const identifier = wire.identifierOf[steps.frame[step]], of = sumsSeen();
-  const pairs = [
+  pairs.push(
     [isWhole(step) ? "on the wire" : "whole frame", `${duration(wire.frame[step])}: ${bitWords(step)}`],
     ["attempt", `${duration(wire.busy[step])}, from its start until the next one may begin`],
     ["queueing delay", delayWords(step)],
     [`${wire.identifiers[identifier]} in view`, shareWords(of.busy[identifier], of)],
-  ];
-  list.append(...pairs.flatMap(([name, value]) => [element("dt", name), element("dd", value)]));
-  return list;
+  );
 });
 // Whether the frame was sent whole: in other attempts it was destroyed before.
 const isWhole = step => ["done", "lastbit"].includes(KINDS[steps.kind[step]]);
@@ -234,6 +197,6 @@ function showLoads() {
       number(fixed(sums.busy[one] / 1e6, 3)), number(percent(sums.busy[one] / sums.nanos)),
       number(percent(sums.busy[one] / sums.all))])));
 }
-showList = extend(showList, (_, name) => { if (name === "tab-load") showLoads(); });
-show = extend(show, () => { if (tab === "tab-load") showLoads(); });
-print = extend(print, (_, isOn) => { if (isOn) showLoads(); });
+on("list shown", name => { if (name === "tab-load") showLoads(); });
+on("shown", () => { if (tab === "tab-load") showLoads(); });
+on("printed", isOn => { if (isOn) showLoads(); });

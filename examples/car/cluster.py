@@ -1,0 +1,90 @@
+"""An instrument cluster, as a program for SocketCAN: cluster.c in Python. It knows nothing of canbusd.
+
+    python3 cluster.py INTERFACE
+
+Each 50 milliseconds it sends what it shows, 300: the speed of the engine, which comes in 100; a lamp, where the engine was
+not heard for 250 milliseconds, or its counter stayed the same for 400; and that there may be ice, by the temperature in page
+1 of 200. By ISO-TP, 7E0 and 7E8, it answers which cluster it is (22 F1 90). Counting of its own frames begins anew with each
+restart after bus off.
+"""
+
+import select
+import socket
+import struct
+import sys
+import time
+
+ENGINE, COMFORT, STATE = 0x100, 0x200, 0x300
+REQUEST, ANSWER = 0x7E0, 0x7E8
+# Of linux/can/error.h and raw.h.
+BUS_OFF, RESTARTED, ERROR_FILTER = 0x040, 0x100, 2
+PERIOD, LOST, STUCK = 0.05, 0.25, 0.4
+NAME = b"CLUSTER-000000001"
+FRAME = struct.Struct("=IB3x8s")
+
+
+class Cluster:
+    """What it shows, without a bus."""
+
+    def __init__(self, now):
+        self.heard = self.counted = now
+        self.counter, self.speed, self.alive = -1, 0, 0
+        self.is_ice, self.is_on = False, True
+
+    def take(self, identifier, data, now):
+        """Takes a frame."""
+        if identifier & socket.CAN_ERR_FLAG:
+            if identifier & BUS_OFF:
+                self.is_on = False
+            elif identifier & RESTARTED:
+                self.is_on, self.alive = True, 0
+        elif identifier == ENGINE:
+            self.heard, self.speed = now, data[0] | data[1] << 8
+            if data[2] & 15 != self.counter:
+                self.counter, self.counted = data[2] & 15, now
+        elif identifier == COMFORT and data[0] == 1:
+            self.is_ice = data[1] / 2 - 40 <= 3
+
+    def state(self, now):
+        """Returns the data of the frame that says what it shows."""
+        lamp = 1 if now - self.heard > LOST else 2 if now - self.counted > STUCK else 0
+        data = bytes([lamp | self.is_ice << 3 | self.alive << 4, self.speed & 255, self.speed >> 8])
+        self.alive = (self.alive + 1) & 15
+        return data
+
+
+def answer(request):
+    """The answer to a request of a tester."""
+    if request == b"\x22\xf1\x90":
+        return b"\x62\xf1\x90" + NAME
+    return bytes([0x7F, request[0], 0x31])
+
+
+def main(interface):
+    node = socket.socket(socket.PF_CAN, socket.SOCK_RAW, socket.CAN_RAW)
+    node.setsockopt(socket.SOL_CAN_RAW, ERROR_FILTER, BUS_OFF | RESTARTED)
+    node.bind((interface,))
+    tester = socket.socket(socket.PF_CAN, socket.SOCK_DGRAM, socket.CAN_ISOTP)
+    tester.bind((interface, REQUEST, ANSWER))
+    due = time.monotonic()
+    cluster = Cluster(due)
+    while True:
+        for ready in select.select([node, tester], [], [], max(0.0, due - time.monotonic()))[0]:
+            if ready is node:
+                identifier, length, data = FRAME.unpack(node.recv(FRAME.size))
+                cluster.take(identifier, data[:length], time.monotonic())
+            else:
+                tester.send(answer(tester.recv(4095)))
+        now = time.monotonic()
+        if now >= due:
+            due += PERIOD
+            if cluster.is_on:
+                data = cluster.state(now)
+                try:
+                    node.send(FRAME.pack(STATE, len(data), data))
+                except OSError as fault:
+                    # Bus off, or a full queue: the next one may go.
+                    print(fault, flush=True)
+
+
+main(sys.argv[1])

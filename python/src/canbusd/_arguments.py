@@ -1,0 +1,55 @@
+"""The arguments of a bus: each may be a text, as in can.conf and on a command line."""
+
+from typing import Union
+
+from canbusd._text import NAME
+
+TRUTHS = {"1": True, "true": True, "yes": True, "on": True, "0": False, "false": False, "no": False, "off": False}
+
+
+def truth(name: str, value: object) -> bool:
+    """Returns a truth value, which may be given as a text."""
+    found = TRUTHS.get(str(value).lower())
+    if found is None:
+        raise ValueError(f"{name} is true or false, not {value!r}")
+    return found
+
+
+def mask_or_truth(name: str, value: object) -> Union[bool, int]:
+    """Returns a mask of error classes, or whether to receive all; 0 and 1 are truth values."""
+    if str(value).lower() in TRUTHS:
+        return truth(name, value)
+    try:
+        mask = int(str(value), 0)
+    except ValueError:
+        mask = -1
+    if not 0 <= mask <= 0xFFFFFFFF:
+        raise ValueError(f"{name} is true, false or a mask of error classes, not {value!r}")
+    return mask
+
+
+def seconds(name: str, value: object) -> float:
+    """Returns a number of seconds above 0, which may be given as a text."""
+    try:
+        found = float(str(value))
+    except ValueError:
+        found = 0.0
+    if not 0 < found < float("inf"):
+        raise ValueError(f"{name} is a number of seconds above 0, not {value!r}")
+    return found
+
+
+def bit_rates(**rates: object) -> dict[str, int]:
+    """Returns those of these bit rates that are given; each may be a text."""
+    try:
+        return {name: int(str(rate)) for name, rate in rates.items() if rate is not None}
+    except ValueError:
+        raise ValueError(f"{' and '.join(rates)} are whole numbers, of bits a second, not {rates!r}") from None
+
+
+def interface_name(channel: object) -> str:
+    """Returns the name of an interface; ValueError for a channel that is none."""
+    name = str(channel)
+    if not NAME.fullmatch(name):
+        raise ValueError(f"channel is the name of an interface, such as can0, not {channel!r}")
+    return name

@@ -1,0 +1,97 @@
+"""Sorts what a server writes into frames and answers, and notes which frames a session has sent itself."""
+
+from collections.abc import Callable, Iterable
+from typing import NamedTuple
+
+from canbusd.frames import HANDED_OVER, MESSAGE
+
+# How an answer ends: with an echo, or as the verdict on a frame, which is one message.
+ECHO, VERDICT = "e", "v"
+# The verdict that accepts a frame, with its number. A bus has fewer than 2**32 entries, so it has ten digits at most.
+ACK, LONGEST_ACK = "ack ", len("ack ") + 10
+# How many numbers are noted together, and how many such pages are kept: a frame that is older than all of them would be
+# received 16 million numbers late.
+PAGE, MOST_PAGES = 4096, 4096
+
+
+class Asked(NamedTuple):
+    """What was asked, and what has come of the answers. It is replaced as a whole, so that no exception leaves half of it."""
+
+    #: How each answer that was asked for ends.
+    ends: str
+    #: How many of them have come, and how many are of questions that were given up.
+    came: int = 0
+    owed: int = 0
+    #: The answers to the question at hand, and what has come of the next.
+    answers: tuple[str, ...] = ()
+    answer: str = ""
+
+    @property
+    def is_answered(self) -> bool:
+        """Whether all answers have come."""
+        return self.came == len(self.ends)
+
+    def given_up(self, was_sent: bool) -> "Asked":
+        """The question at hand is given up. If it was sent, the rest of its answers is still to come."""
+        ends = self.ends[self.came :] if was_sent else self.ends[self.came : self.owed]
+        return Asked(ends, 0, len(ends))
+
+    def and_then(self, ends: str) -> "Asked":
+        """A question whose answers end like this."""
+        return self._replace(ends=self.ends + ends)
+
+    def sorted(self, messages: Iterable[str], note: Callable[[int], None]) -> tuple["Asked", list[str], str]:
+        """Returns what is left to come after these messages, the frames among them, and the first that nobody asked for.
+
+        `note` gets the number of each frame that was accepted.
+        """
+        frames: list[str] = []
+        ends, came, owed, answers, answer = self.ends, self.came, self.owed, [*self.answers], self.answer
+        unasked = ""
+        for one in messages:
+            if one.startswith("< frame "):
+                frames.append(one)
+                continue
+            message = one[one.rfind("<") + 1 :].strip()
+            if message.startswith(HANDED_OVER) and MESSAGE.fullmatch(message):
+                frames.append(f"< {message}")
+            elif came == len(ends):
+                unasked = unasked or message
+            elif ends[came] == ECHO and message != "echo":
+                answer = message
+            else:
+                if ends[came] == VERDICT:
+                    answer = verdict(message, note)
+                if came >= owed:
+                    answers.append(answer)
+                answer, came = "", came + 1
+        return Asked(ends, came, owed, tuple(answers), answer), frames, unasked
+
+
+def verdict(message: str, note: Callable[[int], None]) -> str:
+    """The answer that a verdict on a frame is: the empty text for `ack 17`, whose number is noted."""
+    number = message[len(ACK) :]
+    if not message.startswith(ACK) or not number.isdecimal() or len(message) > LONGEST_ACK:
+        return message
+    note(int(number))
+    return ""
+
+
+class OwnNumbers:
+    """The numbers that the frames of a session got at its interface: pages with a place for each."""
+
+    def __init__(self) -> None:
+        self._pages: dict[int, bytearray] = {}
+
+    def __contains__(self, number: int) -> bool:
+        page = self._pages.get(number // PAGE)
+        return page is not None and page[number % PAGE] != 0
+
+    def note(self, number: int) -> None:
+        """Adds a number; the oldest are forgotten."""
+        page = self._pages.get(number // PAGE)
+        if page is None:
+            page = self._pages[number // PAGE] = bytearray(PAGE)
+            if len(self._pages) > MOST_PAGES:
+                del self._pages[next(iter(self._pages))]
+        page[number % PAGE] = 1

@@ -1,0 +1,46 @@
+"""A file descriptor that shows when a connection has something for its reader."""
+
+import contextlib
+import os
+import select
+import socket
+
+# The most bytes that are read at once.
+PIECE = 65536
+
+
+class Readiness:
+    """A file descriptor that is readable where the socket is, or where frames are at hand that were read already."""
+
+    def __init__(self, connected: socket.socket) -> None:
+        self._reader, self._writer = os.pipe()
+        os.set_blocking(self._reader, False)
+        self._is_shown = False
+        self._epoll = select.epoll()
+        self._epoll.register(self._reader, select.EPOLLIN)
+        self._epoll.register(connected, select.EPOLLIN)
+
+    def fileno(self) -> int:
+        """Returns the file descriptor."""
+        return self._epoll.fileno()
+
+    def show(self, is_ready: bool) -> None:
+        """Makes it readable, or readable only where the socket is."""
+        if is_ready and not self._is_shown:
+            os.write(self._writer, b"!")
+            self._is_shown = True
+        elif not is_ready:
+            # Also where it is not known to be shown: an interrupted call is made good.
+            self._is_shown = False
+            with contextlib.suppress(BlockingIOError):
+                os.read(self._reader, PIECE)
+
+    def forget(self, connected: socket.socket) -> None:
+        """Looks no more at the socket, which has ended and would be readable for ever."""
+        self._epoll.unregister(connected)
+
+    def close(self) -> None:
+        """Closes the file descriptors."""
+        self._epoll.close()
+        os.close(self._reader)
+        os.close(self._writer)

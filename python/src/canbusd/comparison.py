@@ -1,0 +1,97 @@
+"""Two runs beside each other: where they first differ, and the columns by which the page of one shows the other."""
+
+from collections.abc import Callable, Iterable
+from typing import Any, NamedTuple, Optional
+
+from canbusd._text import times
+from canbusd.record import Attempt, Record
+
+Column = list[Any]
+#: What of an attempt is compared, and how it is named: all but its moment, which no two runs of a server share.
+COMPARED = {
+    "winner": "sender",
+    "frame": "frame",
+    "outcome": "outcome",
+    "fault": "fault",
+    "accepted": "who accepted it",
+    "off": "who went bus off",
+    "restarted": "who was restarted",
+}
+# How many attempts of both are shown before the first difference and after it.
+AROUND = 3
+
+
+class Difference(NamedTuple):
+    """The first attempt in which two runs differ, by its number, and in what."""
+
+    attempt: int
+    words: str
+
+
+def tried(record: Record) -> list[Attempt]:
+    """The attempts of a run that had a frame; they are numbered from 0."""
+    return [attempt for attempt in record.attempts if attempt.outcome != "idle"]
+
+
+def first_difference(one: Record, other: Record) -> Optional[Difference]:
+    """Returns where two runs first differ; None where both made the same attempts."""
+    mine, its = tried(one), tried(other)
+    for number, (attempt, same) in enumerate(zip(mine, its)):
+        found = [what for name, what in COMPARED.items() if getattr(attempt, name) != getattr(same, name)]
+        if found:
+            return Difference(number, f"{', '.join(found)}: {line(attempt)} against {line(same)}")
+    if len(mine) == len(its):
+        return None
+    longer = "the first run" if len(mine) > len(its) else "the second run"
+    return Difference(min(len(mine), len(its)), f"{longer} has {times(abs(len(mine) - len(its)), 'attempt')} more")
+
+
+def line(attempt: Attempt) -> str:
+    """An attempt in short: `can0 123#11 destroyed (global bit)`."""
+    fault = "" if attempt.fault == "good" else f" ({attempt.fault})"
+    off = f", {' and '.join(attempt.off)} bus off" if attempt.off else ""
+    return f"{attempt.winner} {attempt.frame} {attempt.outcome}{fault}{off}"
+
+
+def heading(one: Record, other: Record) -> str:
+    """Returns in one line where two runs first differ."""
+    found = first_difference(one, other)
+    if found is None:
+        return f"No difference in {times(len(tried(one)), 'attempt')}"
+    return f"First difference in attempt {found.attempt:,}: {found.words}"
+
+
+def beside(one: Record, other: Record) -> list[str]:
+    """Returns the lines that show where two runs first differ, with the attempts around it: `-` the first, `+` the second."""
+    found = first_difference(one, other)
+    lines = [heading(one, other)]
+    if found is None:
+        return lines
+    mine, its = tried(one), tried(other)
+    for number in range(max(0, found.attempt - AROUND), found.attempt + AROUND + 1):
+        left, right = ("".join(map(line, run[number : number + 1])) for run in (mine, its))
+        if left == right:
+            lines += [f"  {number:6} {left}"] if left else []
+        else:
+            lines += [f"{sign} {number:6} {text}" for sign, text in (("-", left), ("+", right)) if text]
+    return lines
+
+
+def columns_of(
+    one: Record, other: Record, title: str, kinds: list[str], column: Callable[[str, Iterable[float]], Column]
+) -> dict[str, Any]:
+    """Returns what the page of a run has of another one: names, texts, and a number of each for an attempt."""
+    attempts, found = tried(other), first_difference(one, other)
+    texts: dict[str, int] = {}
+    places = [texts.setdefault(line(attempt), len(texts)) for attempt in attempts]
+    first = attempts[0].timestamp if attempts else 0.0
+    return {
+        "title": title,
+        "names": list(other.names),
+        "difference": None if found is None else found.attempt,
+        "kind": column("B", (kinds.index(attempt.outcome) for attempt in attempts)),
+        "iface": column("B", (other.names.index(attempt.winner) for attempt in attempts)),
+        "line": column("I", places),
+        "since": column("d", (attempt.timestamp - first for attempt in attempts)),
+        "texts": list(texts),
+    }

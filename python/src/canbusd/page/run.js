@@ -1,0 +1,146 @@
+// The page of a run: what the replay found, in columns. Only the showing is done here.
+
+// The kinds of events, the worst first.
+const EVENTS = ["bus off", "lost", "dropped", "refused", "passive", "warning", "active", "restart", "second copy"];
+const FATES = ["taken", "waiting", "unread", "dropped"];
+const FATE_WORDS = ["taken by the client", "waiting at the end", "unread at the close", "dropped: no room"];
+const DROPPED = 3;
+const ARRAYS = { B: Uint8Array, H: Uint16Array, I: Uint32Array, d: Float64Array };
+const STEP_WIDTH = { 4: 0.8, 5: 0.5 };
+// Which axis is shown: by attempts, or by time. Where attempts have no length on it they are instants there.
+const byTime = { isOn: false, lengthOf: null };
+let run, steps, items, names, tec, rec, queues, attemptOf, contenders, moments, axes, tallies, failures, firstMoment = 0;
+let chips, showTab, tab = "tab-events";
+const lists = {};
+
+// The data: a header in JSON, then the columns that it names.
+
+// Browsers limit how long a data URL may be, so it is decoded in parts.
+const PART = 1 << 22;
+async function unpack(text) {
+  const coded = text.trim(), parts = [];
+  for (let k = 0; k < coded.length; k += PART) {
+    const part = await fetch("data:application/octet-stream;base64," + coded.slice(k, k + PART));
+    parts.push(await part.arrayBuffer());
+  }
+  const packed = new Blob(parts).stream().pipeThrough(new DecompressionStream("deflate"));
+  const whole = await new Response(packed).arrayBuffer();
+  const size = new DataView(whole).getUint32(0, true), columns = 8 + size;
+  const header = JSON.parse(new TextDecoder().decode(new Uint8Array(whole, 8, size)));
+  const numbers = ([code, place, length]) => new ARRAYS[code](whole, columns + place, length);
+  return { header, column: one => risen(numbers(one), one[3]) };
+}
+function risen(numbers, rises) {
+  if (rises) for (let k = 1; k < numbers.length; k++) numbers[k] += numbers[k - 1];
+  return numbers;
+}
+const columnsOf = (table, column) =>
+  Object.fromEntries(Object.entries(table).map(([name, one]) => [name, column(one)]));
+
+function take({ header, column }) {
+  run = header;
+  names = run.names;
+  steps = columnsOf(run.steps, column);
+  items = columnsOf(run.items, column);
+  contenders = columnsOf(run.contenders, column);
+  [tec, rec, queues] = [run.tec, run.rec, run.waiting].map(columns => columns.map(one => new Numbers(column(one))));
+  placeSteps();
+  sumUp();
+  happened("taken", column);
+}
+// The places of steps on both axes, the numbers of attempts, and whose bits are where.
+function placeSteps() {
+  const count = steps.kind.length, byStep = new Float64Array(count + 1), byTime = new Float64Array(count + 1);
+  attemptOf = new Uint32Array(count + 1);
+  moments = new Float64Array(count);
+  contenders.offsets = new Uint32Array(count + 1);
+  firstMoment = count ? steps.seconds[0] : 0;
+  let latest = 0;
+  for (let k = 0; k < count; k++) {
+    byStep[k + 1] = byStep[k] + (STEP_WIDTH[steps.kind[k]] || 1);
+    attemptOf[k + 1] = attemptOf[k] + (steps.kind[k] < RESTART);
+    contenders.offsets[k + 1] = contenders.offsets[k] + steps.met[k];
+    moments[k] = steps.seconds[k] - firstMoment + steps.micros[k] / 1e6;
+    byTime[k] = latest = Math.max(latest, moments[k] - moments[0]);
+  }
+  byTime[count] = latest + Math.max(latest / 1000, 1e-5);
+  axes = [new Axis(byStep, Math.min(5, Math.max(byStep[count], 1))), new Axis(byTime, 1e-5)];
+  showAxis(false);
+  view.to = axis.length;
+}
+function showAxis(isByTime) {
+  byTime.isOn = isByTime;
+  time.isInstant = isByTime && !byTime.lengthOf;
+  time.lengthOf = isByTime ? byTime.lengthOf : null;
+  axis = axes[Number(isByTime)];
+  layer = "";
+}
+// Sums over steps: what each node won by kind, and where attempts failed.
+function sumUp() {
+  const count = steps.kind.length, codes = new Uint8Array(count);
+  failures = new Uint8Array(count);
+  for (let k = 0; k < count; k++) {
+    const kind = steps.kind[k];
+    codes[k] = kind === IDLE ? 0 : 1 + steps.iface[k] * IDLE + kind;
+    failures[k] = kind > 0 && kind < RESTART ? 1 : 0;
+  }
+  tallies = new Tallies(codes, 1 + names.length * IDLE);
+  failures = new Tallies(failures, 2);
+}
+const won = (sums, iface, kind) => sums[1 + iface * IDLE + kind];
+
+// Words.
+
+const members = set => names.filter((_, i) => set >> i & 1);
+const listed = set => members(set).join(", ") || "nobody";
+const isAttempt = step => steps.kind[step] < RESTART;
+// Idle attempts in a row have no one moment.
+const momentOf = step =>
+  steps.kind[step] === IDLE ? "" : `${steps.seconds[step]}.${String(steps.micros[step]).padStart(6, "0")}`;
+// Seconds since the first attempt; with the clock's moments, since 1970, they are a column of their own.
+const firstStep = () => steps.kind.findIndex(kind => kind !== IDLE);
+const sinceStart = step => sinceStep(step, firstStep());
+const sinceStep = (step, first) => {
+  if (first === undefined || steps.kind[step] === IDLE || steps.kind[first] === IDLE) return "";
+  return (steps.seconds[step] - steps.seconds[first] + (steps.micros[step] - steps.micros[first]) / 1e6).toFixed(6);
+};
+const hasClock = () => axis.count && steps.seconds[Math.max(0, firstStep())] >= 1e8;
+const textOf = step => run.texts[steps.frame[step]];
+const isFault = step => steps.kind[step] > 0 && steps.kind[step] < RESTART || steps.hit[step] > 0;
+const faultOf = step => run.verdicts[steps.verdict[step]];
+
+function titleOf(step) {
+  if (steps.kind[step] === RESTART) return "restart";
+  if (steps.kind[step] === IDLE) return `${grouped(steps.number[step])} idle`;
+  return `attempt ${grouped(attemptOf[step])}`;
+}
+const placeWords = step => titleOf(step) + (momentOf(step) && ` at ${momentOf(step)}`);
+function sentence(step) {
+  const who = names[steps.iface[step]], kind = steps.kind[step];
+  if (kind === RESTART) return `${who} is restarted: it is back on the bus, with both counts 0.`;
+  if (kind === IDLE) return `No node on the bus had a frame to send.${awayWords(step)}`;
+  const off = steps.off[step] ? ` ${who} goes bus off.` : "";
+  return `${who} wins with its frame ${steps.number[step]}, ${textOf(step)}. `
+    + `Fault: ${faultOf(step)}. Outcome: ${KIND_WORDS[kind]}. `
+    + `Accepted by ${listed(steps.accepted[step])}.${off}`;
+}
+function awayWords(step) {
+  const away = names.filter((_, i) => tec[i].all[step] >= OFF);
+  return away.length ? ` Bus off: ${away.join(", ")}.` : "";
+}
+function tipWords(first, last) {
+  const lines = tipLines(first, last);
+  happened("tip", lines, first, last);
+  return lines.join("\n");
+}
+function tipLines(first, last) {
+  if (last - first === 1) {
+    const counts = names.map((name, i) => `${name} ${tec[i].all[first]}/${rec[i].all[first]}`).slice(0, 8).join(", ");
+    return [placeWords(first), sentence(first), `Counts after it (transmit/receive): ${counts}`];
+  }
+  const sums = tallies.of(first, last), of = kind => names.reduce((all, _, i) => all + won(sums, i, kind), 0);
+  const parts = KIND_WORDS.slice(0, IDLE).map((word, kind) => [of(kind), word]).filter(([number]) => number);
+  const words = parts.map(([number, word]) => `${grouped(number)} ${word}`).join(", ");
+  const to = Math.max(attemptOf[first], attemptOf[last] - 1);
+  return [`attempts ${grouped(attemptOf[first])} to ${grouped(to)}`, words];
+}

@@ -1,0 +1,48 @@
+// The signals of a run: those of the frames that it tried, and the steps in which each message was sent.
+
+const sentIn = new Map();
+on("taken", () => {
+  const known = new Map();
+  for (const [place, message] of Object.entries(run.messages)) {
+    if (!sentIn.has(message)) sentIn.set(message, []);
+    for (const [name, , unit] of signalsOf(place)) known.set(signalKey(message, name), { message, name, unit });
+  }
+  for (let step = 0; step < axis.count; step++) {
+    const message = steps.kind[step] < 2 ? run.messages[steps.frame[step]] : undefined;
+    if (message !== undefined) sentIn.get(message).push(step);
+  }
+  const all = [...known].map(([key, one]) => ({ ...one, key })).sort((one, other) => one.key < other.key ? -1 : 1);
+  signals.all = () => all;
+});
+const valueOf = (step, name) => signalsOf(steps.frame[step]).find(([signal]) => signal === name)?.[1];
+// The last step of a message that has the signal, up to the cursor; a multiplexed one is not in each.
+signals.at = ({ message, name }) => {
+  const sent = sentIn.get(message) || [];
+  let low = 0, high = sent.length;
+  while (low < high) {
+    const middle = low + high >> 1;
+    if (sent[middle] <= view.step) low = middle + 1; else high = middle;
+  }
+  for (let k = low - 1; k >= 0; k--) {
+    const value = valueOf(sent[k], name);
+    if (value !== undefined) return value;
+  }
+  return undefined;
+};
+signals.column = ({ message, name }) => {
+  const of = new Float64Array(axis.count).fill(NaN), sent = sentIn.get(message) || [];
+  const values = sent.map(step => valueOf(step, name)), texts = [...new Set(values.filter(value => typeof value === "string"))];
+  let from = 0, now = NaN;
+  sent.forEach((step, k) => {
+    if (values[k] === undefined) return;
+    of.fill(now, from, step);
+    [from, now] = [step, texts.length ? codeOf(texts, values[k]) : Number(values[k])];
+  });
+  return { of: of.fill(now, from), texts };
+};
+// A number without a name gets one.
+function codeOf(texts, value) {
+  const found = texts.indexOf(String(value));
+  return found >= 0 ? found : texts.push(String(value)) - 1;
+}
+on("signals shown", showChosen);

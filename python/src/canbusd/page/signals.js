@@ -1,0 +1,74 @@
+// Signals, where the page knows them by a file: a list of all with their values at the cursor, and a lane for each that is
+// chosen: a curve, or bands where the file has names for numbers. A page says where the values are:
+//   `all` lists the signals, each with its message, name, unit and `key`; `at` returns the value of one at the cursor, and
+//   `column` its values after each step, NaN before the first, with the names of an enumeration.
+
+const signals = { all: () => [], at: () => undefined, column: () => ({ of: new Float64Array(0), texts: [] }), shown: [] };
+const signalKey = (message, name) => `${message}.${name}`;
+const signalWords = (value, unit) => value === undefined ? "" : `${typeof value === "number" ? +value.toFixed(6) : value} ${unit}`.trim();
+
+// A column of names: a band for as long as each stays.
+class BandLane {
+  constructor(name, numbers, texts, more) { Object.assign(this, { name, numbers, texts, height: 34 }, more); }
+  draw(plot, top) {
+    const { pen } = plot, tints = [theme.tec, theme.rec, theme.queue, theme.soft], last = new Int32Array(plot.width);
+    pixels(plot, this.numbers, (x, _, __, value) => { last[x] = value; });
+    for (let x = 0; x < plot.width;) {
+      let end = x + 1;
+      while (end < plot.width && last[end] === last[x]) end++;
+      if (last[x]) {
+        block(pen, theme.panel, x, top + 4, end - x, 20);
+        block(pen, tints[(last[x] - 1) % tints.length], x, top + 21, Math.max(end - x - 1, 1), 3);
+        plate(pen, [this.texts[last[x] - 1]], x, end - x, top + 13, theme.panel, theme.text);
+      }
+      x = end;
+    }
+    across(plot, top + this.height - 5, theme.line);
+  }
+  values() { return [["", signalWords(signals.at(this.signal), "")]]; }
+}
+function signalLane(one) {
+  const { of, texts } = signals.column(one), more = { signal: one, canGo: true, title: `${one.key}: the last value that was sent` };
+  if (texts.length) return new BandLane(one.name, new Numbers(Uint16Array.from(of, value => Number.isNaN(value) ? 0 : value + 1)), texts, more);
+  let low = Infinity, high = -Infinity;
+  for (const value of of) {
+    if (value < low) low = value;
+    if (value > high) high = value;
+  }
+  const part = value => Number.isNaN(value) ? 0 : Math.round((value - low) / (high - low || 1) * 9999) + 1;
+  return new CurveLane(one.name, new Numbers(Uint16Array.from(of, part)), () => signalWords(signals.at(one), one.unit) || "none yet", {
+    ...more, most: 10000, hasArea: false, ...high < low ? {} : { scale: signalWords(high, one.unit), foot: signalWords(low, one.unit) },
+  });
+}
+const isShown = one => signals.shown.some(({ key }) => key === one.key);
+function toggleSignal(one) {
+  signals.shown = isShown(one) ? signals.shown.filter(({ key }) => key !== one.key) : [...signals.shown, one];
+  lanes = [...lanes.filter(lane => lane.signal?.key !== one.key), ...isShown(one) ? [signalLane(one)] : []];
+  buildGutter();
+  redraw();
+  happened("signals shown");
+}
+on("lane gone", lane => {
+  if (!lane.signal) return;
+  signals.shown = signals.shown.filter(({ key }) => key !== lane.signal.key);
+  happened("signals shown");
+});
+function signalList() {
+  const made = new Rolling("signals", [["message", "minmax(0, 1fr)", "w"], ["signal", "minmax(0, 1fr)", "w"],
+    ["value at the cursor", "minmax(0, 1fr)", "n h"], ["lane", "6ch", "h"]],
+  one => [one.message, one.name, signalWords(signals.at(one), one.unit), isShown(one) ? "shown" : ""], toggleSignal);
+  made.isChosen = isShown;
+  for (const what of ["signals shown", "cursor moved"]) on(what, () => { made.clear(); made.show(); });
+  return made;
+}
+function findSignals() {
+  const words = at("of-signal").value.trim().toLowerCase().split(/\s+/), all = signals.all();
+  return [all.filter(({ key }) => words.every(word => key.toLowerCase().includes(word))), all.length];
+}
+// A button that shows or hides a signal's lane.
+function laneButton(one) {
+  const button = element("button", "lane", { type: "button", title: `${one.name} as a lane, or no longer` });
+  button.setAttribute("aria-pressed", isShown(one));
+  button.onclick = () => toggleSignal(one);
+  return button;
+}

@@ -1,0 +1,139 @@
+// The attempts of a node: bars where there is room for each, else shares of those that are there.
+
+function strip(plot, i, top, fills) {
+  const first = plot.edges[0], last = plot.edges[Math.floor(plot.width)], wide = 3;
+  if (!time.isInstant && last - first <= plot.width / 2) {
+    for (let step = axis.stepAt(view.from); step < last; step++) {
+      const left = Math.max(placeOf(plot, axis.start[step]), 0), end = endOf(plot, step), to = Math.min(end, plot.width);
+      const wide = Math.max(to - left - (to - left > 5 ? 1 : 0), time.lengthOf ? 2 : 1);
+      const room = placeOf(plot, axis.start[step + 1]) - to - 6;
+      if (end >= 0 && left < plot.width) bar(plot, i, step, top, left, wide, fills, time.lengthOf && room > wide ? room : 0);
+    }
+    return;
+  }
+  const sums = bucketsOf(plot, wide);
+  for (const { x, first: from, steps: count, sums: sum } of sums.all) {
+    const wider = Math.min(wide, plot.width - x);
+    if (count === 1) {
+      bar(plot, i, from, top, x, wider, fills, labelRoom(plot, from, x));
+      continue;
+    }
+    stack(plot, i, sum, top, x, wider, fills, time.isInstant ? sums.most : count);
+  }
+}
+// Of each three pixels that have steps: their sums, for all lanes. `most` is the most steps of any.
+function bucketsOf(plot, wide) {
+  if (plot.buckets) return plot.buckets;
+  const all = [];
+  let most = 1;
+  for (let x = 0; x < plot.width; x += wide) {
+    const first = plot.edges[x], last = plot.edges[Math.min(x + wide, Math.floor(plot.width))], count = last - first;
+    if (!count) continue;
+    all.push({ x, first, steps: count, sums: count > 1 ? tallies.of(first, last) : null });
+    most = Math.max(most, count);
+  }
+  return plot.buckets = { all, most };
+}
+function stack(plot, i, sums, top, x, wide, fills, whole) {
+  let y = top + STRIP - 2;
+  for (let kind = 0; kind < RESTART; kind++) {
+    const number = won(sums, i, kind);
+    if (!number) continue;
+    // What failed is seen, however small its share is.
+    const high = Math.max(number / whole * (STRIP - 4), kind ? 1.5 : 0.5);
+    block(plot.pen, fills[KINDS[kind]], x, y -= high, wide, high);
+  }
+  if (won(sums, i, RESTART)) block(plot.pen, theme.restart, x, top, wide, 4);
+}
+// How much room there is for words after an instant.
+function labelRoom(plot, step, x) {
+  if (!time.isInstant) return 0;
+  const next = step + 1 < axis.count ? placeOf(plot, axis.start[step + 1]) : plot.width;
+  return Math.min(next, plot.width) - x - 6;
+}
+function bar(plot, i, step, top, left, wide, fills, room = 0) {
+  const { pen } = plot, kind = steps.kind[step], high = STRIP - 4;
+  if (kind === IDLE) {
+    block(pen, theme.idle, left, top + STRIP - 5, wide, 3);
+    if (i === 0) plate(pen, [titleOf(step), grouped(steps.number[step])], left, wide, top + 9, theme.page, theme.soft);
+    return;
+  }
+  if (steps.accepted[step] >> i & 1) block(pen, theme.accepted, left, top + STRIP - 5, wide, 3);
+  if (steps.hit[step] >> i & 1) block(pen, theme.hit, left, top, wide, 4);
+  if (steps.iface[step] !== i) return;
+  block(pen, fills[KINDS[kind]], left, top + 2, wide, high);
+  const words = kind === RESTART ? ["restart"] : [textOf(step), textOf(step).split("#")[0]];
+  if (!room) plate(pen, words, left, wide, top + 2 + high / 2, theme[KINDS[kind]], theme.on);
+  else {
+    const text = words.find(one => pen.measureText(one).width < room);
+    if (text) write(pen, text, left + wide + 3, top + 2 + high / 2, theme.soft);
+  }
+}
+
+// The ruler, by attempts with their moments or by time with the attempts.
+
+function ticksOf(plot) {
+  if (!axis.count) return [];
+  const most = plot.width / (plot.isNarrow ? 110 : 130);
+  return byTime.isOn ? secondTicks(most) : attemptTicks(most);
+}
+function attemptTicks(most) {
+  const [first, last] = [view.from, view.to - 1e-9].map(place => attemptOf[axis.stepAt(place)]);
+  return rounded(first, last, most, 1).found.map(number => {
+    const step = stepOfAttempt(number);
+    return { place: axis.start[step], words: [grouped(number), momentOf(step)] };
+  });
+}
+function secondTicks(most) {
+  const { each, found } = rounded(view.from, view.to, most, 1e-6);
+  const digits = Math.max(0, -Math.floor(Math.log10(each) + 1e-9));
+  return found.map(place => ({
+    place, words: [`${place.toFixed(digits)} s`, grouped(attemptOf[axis.stepAt(place + 1e-9)])],
+  }));
+}
+
+// The whole run in a strip: what share failed, and where a node was bus off.
+
+function drawOverview() {
+  const canvas = at("overview"), width = canvas.parentElement.clientWidth, key = [width, byTime.isOn].join();
+  if (layer === key) return;
+  layer = key;
+  const pen = sized(canvas, width, 24), edges = edgesOf(width, 0, axis.length), shares = new Float64Array(width);
+  const fills = fillsOf(pen), plot = { pen, width, edges };
+  block(pen, theme.panel, 0, 0, width, 24);
+  tec.forEach(numbers => pixels(plot, numbers, (x, _, high) => { if (high >= OFF) block(pen, fills.off, x, 0, 2, 24); }));
+  for (let x = 0; x < width; x++) {
+    const count = edges[x + 1] - edges[x];
+    shares[x] = count ? failures.of(edges[x], edges[x + 1])[1] / count : 0;
+  }
+  const most = shares.reduce((one, other) => Math.max(one, other), 0.01);
+  shares.forEach((share, x) => { if (share) block(pen, theme.destroyed, x, 24 - share / most * 20, 1, share / most * 20); });
+}
+
+// Lanes.
+
+function makeLanes() {
+  const queueMost = Math.max(...queues.map(one => one.most));
+  lanes = names.map((name, i) => new NodeLane(i, name, { tec: tec[i], rec: rec[i], queue: queues[i], queueMost }, strip));
+  const worst = run.sockets[run.socket];
+  if (worst && worst.dropped) lanes.push(socketLane(worst));
+  happened("lanes made");
+}
+// How full the receive queue of a socket was after each step, and in which steps it lost items.
+function socketLane(socket) {
+  const count = steps.kind.length, fill = new Int32Array(count + 1), marks = new Uint8Array(count);
+  for (let item = 0; item < items.step.length; item++) {
+    if (items.socket[item] !== socket.number) continue;
+    if (items.fate[item] === DROPPED) { marks[items.step[item]] = 1; continue; }
+    fill[items.step[item]]++;
+    if (FATES[items.fate[item]] !== "waiting") fill[items.step[item] + items.later[item]]--;
+  }
+  for (let k = 1; k <= count; k++) fill[k] += fill[k - 1];
+  const numbers = new Numbers(Uint16Array.from(fill.subarray(0, count)));
+  const cut = isCut() ? `; only up to ${titleOf(items.step[items.step.length - 1])}` : "";
+  return new CurveLane(`socket ${socket.number}`, numbers, step => `${grouped(numbers.all[step])} of ${grouped(socket.capacity)}`, {
+    marks, isSocket: true, scale: `most ${grouped(numbers.most)}`,
+    title: `receive queue of socket ${socket.number} on ${names[socket.iface]}; red above: dropped${cut}`,
+  });
+}
+const isCut = () => run.itemsInAll > items.step.length;
