@@ -115,7 +115,7 @@ void ask(int fd, unsigned long request, const char *name) {
         say(" %X", (unsigned short)asked.ifr_flags);
     } else if (returned == 0 && request == SIOCGIFHWADDR) {
         say(" %d", asked.ifr_hwaddr.sa_family);
-    } else if (returned == 0 && request != SIOCGIFINDEX && request != SIOCGIFMAP) {
+    } else if (returned == 0 && request == SIOCGIFMTU) {
         say(" %d", asked.ifr_ifindex);
     }
 }

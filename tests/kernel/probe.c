@@ -1,5 +1,5 @@
-/* Runs the cases of the files that are named, as `probe raw`, or only some, as `probe raw:write_0 raw:order`, or all of
- * all files, and prints a line for each: its name, and what its calls returned. */
+/* Runs all cases, or those of the files that are named, as `probe raw`, or only some, as `probe raw:write_0 raw:order`,
+ * and prints a line for each: its name, and what its calls returned. `probe --list` prints the names. */
 #include "probe.h"
 #include <stdarg.h>
 
@@ -82,6 +82,15 @@ static void run(const struct probe *probe, const char *topic) {
     fflush(stdout);
 }
 
+/* The file of a case, without its folder and ending. */
+static const char *topic_of(const struct probe *probe) {
+    static char topic[32];
+    const char *slash = strrchr(probe->file, '/');
+    snprintf(topic, sizeof topic, "%s", slash ? slash + 1 : probe->file);
+    topic[strcspn(topic, ".")] = '\0';
+    return topic;
+}
+
 /* Whether a word names this topic, or this case of it. */
 static bool is_named(const char *word, const char *topic, const char *name) {
     size_t length = strlen(topic);
@@ -89,20 +98,27 @@ static bool is_named(const char *word, const char *topic, const char *name) {
            (!word[length] || (word[length] == ':' && !strcmp(word + length + 1, name)));
 }
 
+static bool is_wanted(const struct probe *probe, const char *topic, int count, char **words) {
+    for (int i = 0; i < count; i++) {
+        if (is_named(words[i], topic, probe->name)) {
+            return true;
+        }
+    }
+    return count == 0;
+}
+
 int main(int count, char **words) {
+    bool is_list = count > 1 && !strcmp(words[1], "--list");
     line = mmap(NULL, LINE, PROT_READ | PROT_WRITE, MAP_SHARED | MAP_ANONYMOUS, -1, 0);
     nowhere = mmap(NULL, 65536, PROT_NONE, MAP_PRIVATE | MAP_ANONYMOUS, -1, 0);
-    set_barriers();
+    if (!is_list) {
+        set_barriers();
+    }
     for (const struct probe *probe = __start_probes; probe < __stop_probes; probe++) {
-        const char *file = strrchr(probe->file, '/');
-        char topic[32];
-        snprintf(topic, sizeof topic, "%s", file ? file + 1 : probe->file);
-        topic[strcspn(topic, ".")] = '\0';
-        bool is_wanted = count == 1;
-        for (int i = 1; i < count; i++) {
-            is_wanted |= is_named(words[i], topic, probe->name);
-        }
-        if (is_wanted) {
+        const char *topic = topic_of(probe);
+        if (is_list) {
+            printf("%s:%s\n", topic, probe->name);
+        } else if (is_wanted(probe, topic, count - 1, words + 1)) {
             run(probe, topic);
         }
     }
