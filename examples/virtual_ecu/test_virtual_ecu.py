@@ -26,7 +26,7 @@ def machine(tmp_path_factory):
     if not shutil.which("qemu-system-x86_64"):
         pytest.skip("no qemu-system-x86_64: apt-get install qemu-system-x86")
     initrd = tmp_path_factory.mktemp("guest") / "initrd"
-    made = subprocess.run([FOLDER / "guest", initrd], stderr=subprocess.PIPE, text=True, check=False)
+    made = subprocess.run(["sh", FOLDER / "guest", initrd], stderr=subprocess.PIPE, text=True, check=False)
     if made.returncode:
         pytest.skip(made.stderr.strip())
     (kernel,) = Path(os.environ["CANBUSD_KERNEL"], "boot").glob("vmlinuz-*")
