@@ -17,7 +17,7 @@ from canbusd import Faults, Server
 
 FOLDER = Path(__file__).parent
 #: Seconds in which a guest starts without KVM on a busy machine, and in which it replies.
-START, REPLY = 120, 30
+START, REPLY = 300, 30
 
 
 @pytest.fixture(scope="module")
@@ -58,6 +58,14 @@ def ask(tester, value):
     tester.send(can.Message(arbitration_id=0x100, data=[value], is_extended_id=False))
 
 
+def test_sigterm_where_nobody_acknowledges(machine, tmp_path):
+    """The second heartbeat waits for room, and with it the machine."""
+    with Server("ecu", txqueue=1, out=tmp_path) as server:
+        guest = server.start(machine, wait=True)
+        guest.expect("heartbeat 2", within=START)
+        assert guest.stop(timeout=REPLY) == 0
+
+
 def test_a_reply(tester):
     ask(tester, 1)
     assert tester.recv(timeout=REPLY).data == b"\x01"
@@ -86,11 +94,3 @@ def test_the_ecu_goes_bus_off(server, tester):
         ecu.restart()
     ask(tester, 5)
     assert tester.recv(timeout=REPLY).data == b"\x05"
-
-
-def test_sigterm_where_nobody_acknowledges(machine, tmp_path):
-    """The second heartbeat waits for room, and with it the machine."""
-    with Server("ecu", txqueue=1, out=tmp_path) as server:
-        guest = server.start(machine, wait=True)
-        guest.expect("heartbeat 2", within=START)
-        assert guest.stop(timeout=REPLY) == 0
