@@ -78,7 +78,7 @@ struct session {
     bool is_counting;           /* a reply to session_ask_counts is due */
     uint32_t dropped;           /* by the server, as far as is known */
     uint64_t seen;              /* items that have come */
-    bool is_asked, is_answered; /* how many were queued for it: see order.c */
+    bool is_asked, is_answered; /* how many were queued for it */
     uint64_t queued;
     struct options given; /* what the server has */
     enum due due;         /* what has not come yet */
@@ -105,6 +105,10 @@ int session_send(struct session *session, const struct canfd_frame *frame, bool 
 
 /* Asks for the counts, which come in the order of the frames; nothing waits for them. */
 void session_ask_counts(struct session *session);
+
+/* Begins to ask how many items the server has queued for this session until now; whether all these have come. */
+void session_ask_all(struct session *session);
+bool session_has_all(struct session *session);
 
 /* The number that the server gave the frame which was sent last. */
 uint64_t session_last_number(const struct session *session);

@@ -255,6 +255,21 @@ void session_ask_counts(struct session *session) {
     }
 }
 
+void session_ask_all(struct session *session) {
+    session->is_asked = session->is_answered = false;
+}
+
+bool session_has_all(struct session *session) {
+    if (!session->is_receiving) {
+        return true;
+    }
+    if (!session->is_asked && !session->is_counting) {
+        session_ask_counts(session);
+        session->is_asked = session->is_counting;
+    }
+    return session->is_asked && session->is_answered && session->seen >= session->queued;
+}
+
 int session_counts(struct session *session, uint64_t *gone, uint64_t *waiting) {
     unsigned long done, kept, lost;
     int error = session_command(session, "< stats >");
