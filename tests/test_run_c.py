@@ -42,6 +42,8 @@ PLAIN = (
     pytest.param("isotp", marks=pytest.mark.quiet),
     pytest.param("isotp_state", marks=pytest.mark.quiet),
     "edges",
+    "devices",
+    "handles",
 )
 
 

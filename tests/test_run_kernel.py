@@ -25,6 +25,7 @@ SAME = (
     "isotp",
     "isotp_state",
     "edges",
+    "devices",
 )
 
 

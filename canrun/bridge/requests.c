@@ -110,6 +110,9 @@ static int get_address(struct reply *reply) {
     return 0;
 }
 
+/* The interface that the socket is bound to as a device, of which CAN takes no notice. */
+static int device;
+
 /* Carries out a request whose data are these, and whose reply goes there; returns an errno, 0, or SENT_LATER. */
 static int carry_out(const struct wire_request *request, const char *data, size_t length, int to, struct reply *reply) {
     switch (request->kind) {
@@ -118,6 +121,8 @@ static int carry_out(const struct wire_request *request, const char *data, size_
     case WIRE_SET: return set_option(request->option, data, length);
     case WIRE_GET: return get_option(request->option, reply);
     case WIRE_SOCKET_SET: outbox_set(request->option, request->number); return 0;
+    case WIRE_SET_DEVICE: device = request->ifindex; return 0;
+    case WIRE_GET_DEVICE: reply->head.value = device; return 0;
     case WIRE_ADDRESS: return get_address(reply);
     case WIRE_ERROR: reply->head.value = error_take(); return 0;
     case WIRE_CLOSE: return begin_close(to);

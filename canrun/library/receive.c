@@ -325,7 +325,6 @@ EXPORT int recvmmsg(int fd, struct mmsghdr *messages, unsigned count, int flags,
 }
 
 /* What programs call that are built with _FORTIFY_SOURCE. */
-void __chk_fail(void) __attribute__((noreturn));
 EXPORT ssize_t __read_chk(int fd, void *data, size_t length, size_t room);
 EXPORT ssize_t __recv_chk(int fd, void *data, size_t length, size_t room, int flags);
 EXPORT ssize_t __recvfrom_chk(int fd, void *restrict data, size_t length, size_t room, int flags,
