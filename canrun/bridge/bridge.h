@@ -82,6 +82,7 @@ struct session {
     uint64_t queued;
     struct options given; /* what the server has */
     enum due due;         /* what has not come yet */
+    bool is_silent;       /* nothing came for that in time, and the next waits for a moment only */
     char reply[160];      /* the first reply to what was given last that is not ok */
     size_t have;
     char input[32768];

@@ -41,7 +41,7 @@ uint64_t isotp_last_number(void);
 struct isotp_timer {
     unsigned steps; /* that are left */
     uint64_t due;   /* when this step should be over, by the clock; 0: the timer does not run */
-    bool is_asking;
+    unsigned rounds; /* questions to the server since then, while that is asked */
 };
 void isotp_timer_start(struct isotp_timer *timer, unsigned seconds);
 void isotp_timer_stop(struct isotp_timer *timer);

@@ -179,12 +179,23 @@ static void put_text(struct session *session, const char *text, size_t length) {
     }
 }
 
+/* How long a read waits: writes of several threads do not wait one after the other for a server that does not reply. */
+static void set_silent(struct session *session, bool is_silent) {
+    const struct timeval time = {is_silent ? 0 : PATIENCE, is_silent ? 100000 : 0};
+    session->is_silent = is_silent;
+    setsockopt(session->fd, SOL_SOCKET, SO_RCVTIMEO, &time, sizeof time);
+}
+
 /* Waits for the end of the last command; false where it does not come in time. */
 static bool settle(struct session *session) {
     while (session->due && session->fd >= 0) {
         if (!session_read(session, true)) {
+            set_silent(session, true);
             return false;
         }
+    }
+    if (session->is_silent) {
+        set_silent(session, false);
     }
     return true;
 }
@@ -233,7 +244,7 @@ struct session *session_start(int *error) {
     } else if ((session->fd = address_connect(&address)) < 0) {
         *error = refused(ENODEV, "there is no server at CANBUSD_ADDRESS");
     } else {
-        setsockopt(session->fd, SOL_SOCKET, SO_RCVTIMEO, &(struct timeval){PATIENCE, 0}, sizeof(struct timeval));
+        set_silent(session, false);
         *error = session_command(session, "");
         if (!*error && strcmp(session->reply, "hi") != 0) {
             *error = refused(ENODEV, "what listens at CANBUSD_ADDRESS is no canbusd");
