@@ -39,8 +39,8 @@ uint64_t isotp_last_number(void);
 /* ---- isotp_timer.c ---- */
 
 struct isotp_timer {
-    unsigned steps; /* that are left */
-    uint64_t due;   /* when this step should be over, by the clock; 0: the timer does not run */
+    unsigned steps;  /* that are left */
+    uint64_t due;    /* when this step should be over, by the clock; 0: the timer does not run */
     unsigned rounds; /* questions to the server since then, while that is asked */
 };
 void isotp_timer_start(struct isotp_timer *timer, unsigned seconds);

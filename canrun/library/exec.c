@@ -17,8 +17,8 @@ static void note(const char *file, bool is_searched) {
     bool is_found = file && (is_searched ? !program_find(file, path) : snprintf(path, PATH_MAX, "%s", file) < PATH_MAX);
     const char *obstacle = is_found ? program_bypass(path) : NULL;
     if (obstacle) {
-        int length =
-            snprintf(line, sizeof line, "canbusd-run: note: %s %s, so its CAN sockets are the kernel's\n", path, obstacle);
+        int length = snprintf(line, sizeof line, "canbusd-run: note: %s %s, so its CAN sockets are the kernel's\n",
+                              path, obstacle);
         syscall(SYS_write, STDERR_FILENO, line, MIN((size_t)length, sizeof line - 1));
     }
     errno = before;

@@ -120,7 +120,8 @@ int take_error(int fd);
 /* Notes that this is a socket of ISO-TP. */
 void note_isotp(int fd);
 
-/* Whether the next message of a socket says that it has an error, as far as that has not been taken; it is taken out. */
+/* Whether the next message of a socket says that it has an error, as far as that has not been taken; it is taken out.
+ */
 bool has_error(int fd);
 void drop_error(int fd);
 

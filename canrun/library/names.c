@@ -100,8 +100,8 @@ static struct link *links(void) {
     for (int i = 0; all && i < count; i++) {
         struct link *one = &all[i];
         interface_name(INTERFACE_FIRST + i, one->name);
-        one->address = (struct sockaddr_ll){
-            .sll_family = AF_PACKET, .sll_ifindex = INTERFACE_FIRST + i, .sll_hatype = ARPHRD_CAN};
+        one->address =
+            (struct sockaddr_ll){.sll_family = AF_PACKET, .sll_ifindex = INTERFACE_FIRST + i, .sll_hatype = ARPHRD_CAN};
         one->entry = (struct ifaddrs){.ifa_next = i + 1 < count ? &one[1].entry : NULL,
                                       .ifa_name = one->name,
                                       .ifa_flags = IFF_UP | IFF_RUNNING | IFF_NOARP,

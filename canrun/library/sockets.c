@@ -17,7 +17,9 @@ static enum wire_protocol protocol_for(int type, int protocol) {
     static const struct {
         int protocol, type;
         enum wire_protocol wire;
-    } known[] = {{CAN_RAW, SOCK_RAW, WIRE_RAW}, {CAN_BCM, SOCK_DGRAM, WIRE_BCM}, {CAN_ISOTP, SOCK_DGRAM, WIRE_ISOTP},
+    } known[] = {{CAN_RAW, SOCK_RAW, WIRE_RAW},
+                 {CAN_BCM, SOCK_DGRAM, WIRE_BCM},
+                 {CAN_ISOTP, SOCK_DGRAM, WIRE_ISOTP},
                  {CAN_J1939, SOCK_DGRAM, 0}};
     if (type < 0 || type > SOCK_PACKET) {
         refuse("socket", EINVAL, "there is no such type of sockets");

@@ -1,5 +1,5 @@
-/* What goes past the usual calls: functions by a handle of the C library, and a question by netlink as libsocketcan puts
- * it, which waits for another reply than an error. */
+/* What goes past the usual calls: functions by a handle of the C library, and a question by netlink as libsocketcan
+ * puts it, which waits for another reply than an error. */
 #include "check.h"
 #include <dlfcn.h>
 #include <linux/rtnetlink.h>
