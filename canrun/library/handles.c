@@ -5,9 +5,12 @@
 
 #include <dlfcn.h>
 
+/* A sanitizer looks its functions up by dlsym before it can take anything of others. */
+#define EARLY __attribute__((no_sanitize("address", "undefined")))
+
 typedef void *(*finder)(void *restrict, const char *restrict);
 
-finder real_dlsym(void) {
+EARLY finder real_dlsym(void) {
     /* Since 2.34, and as the first of the architectures had it. */
     static const char *const versions[] = {"GLIBC_2.34", "GLIBC_2.2.5", "GLIBC_2.17", "GLIBC_2.27"};
     static finder found;
@@ -38,7 +41,7 @@ static void *ours(void *function) {
 #endif
 
 /* RTLD_NEXT depends on where the call comes from: it is handed on by a jump, and the C library sees the caller. */
-EXPORT void *dlsym(void *restrict handle, const char *restrict name) {
+EXPORT EARLY void *dlsym(void *restrict handle, const char *restrict name) {
     if (handle == RTLD_NEXT || handle == RTLD_DEFAULT) {
         JUMP return real_dlsym()(handle, name);
     }
