@@ -310,7 +310,7 @@ bool request_serve(void);
 int request_news(void);
 bool request_is_kept(void);
 
-/* No message of ISO-TP is being sent: the socket can be written. */
+/* Where no message of ISO-TP is being sent, or waits to be, the socket can be written. */
 void request_release(void);
 
 /* The end of a pair by which a close waits for the end of this bridge, or -1. */

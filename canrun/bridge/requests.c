@@ -15,7 +15,26 @@ struct reply {
     char data[WIRE_REPLY];
 };
 
+/* While a message of ISO-TP is being sent its request stays in the socket, so that the program's end has no room, and
+ * is not ready to be written. So do those that come after it, which are read all the same. */
+static int kept_length;
+static unsigned kept_count;
+
+void request_release(void) {
+    while (kept_count && !isotp_is_busy()) {
+        if (recv(PROGRAM, &(char){0}, 1, MSG_DONTWAIT) >= 0) {
+            kept_count--;
+        } else if (errno != ECONNRESET) {
+            /* ECONNRESET, where the program has left something unread, comes once in place of a request. */
+            kept_count = 0;
+        }
+    }
+    kept_length = kept_count ? kept_length : 0;
+}
+
+/* Who has the reply finds the socket ready to be written, where it is. */
 static void put_reply(int to, int error, struct reply *reply) {
+    request_release();
     reply->head.error = error;
     if (error) {
         reply->head.length = (uint32_t)MIN(strlen(refusal), sizeof reply->data);
@@ -131,11 +150,6 @@ static int carry_out(const struct wire_request *request, const char *data, size_
     }
 }
 
-/* While a message of ISO-TP is being sent its request stays in the socket, so that the program's end has no room, and
- * is not ready to be written. So do those that come after it, which are read all the same. */
-static int kept_length;
-static unsigned kept_count;
-
 static ssize_t next_request(struct msghdr *message) {
     if (protocol != WIRE_ISOTP) {
         return recvmsg(PROGRAM, message, MSG_DONTWAIT | MSG_CMSG_CLOEXEC);
@@ -163,18 +177,6 @@ bool request_is_kept(void) {
     }
     setsockopt(PROGRAM, SOL_SOCKET, SO_PEEK_OFF, &kept_length, sizeof kept_length);
     return recv(PROGRAM, &(char){0}, 1, MSG_DONTWAIT | MSG_PEEK | MSG_TRUNC) > 0;
-}
-
-void request_release(void) {
-    while (kept_count) {
-        if (recv(PROGRAM, &(char){0}, 1, MSG_DONTWAIT) >= 0) {
-            kept_count--;
-        } else if (errno != ECONNRESET) {
-            /* ECONNRESET, where the program has left something unread, comes once in place of a request. */
-            kept_count = 0;
-        }
-    }
-    kept_length = 0;
 }
 
 bool request_serve(void) {
