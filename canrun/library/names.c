@@ -6,8 +6,6 @@
 
 #include <errno.h>
 #include <linux/if_link.h>
-#include <linux/if_packet.h>
-#include <net/if_arp.h>
 #include <stdlib.h>
 #include <string.h>
 
@@ -75,18 +73,18 @@ EXPORT void if_freenameindex(struct if_nameindex *list) {
     free(list);
 }
 
-/* ---- getifaddrs: an interface without addresses is there by its link ---- */
+/* ---- getifaddrs: an interface of CAN has no address ---- */
 
 struct link {
     struct ifaddrs entry;
-    struct sockaddr_ll address;
     char name[IFNAMSIZ];
     struct rtnl_link_stats counts;
 };
 
+/* Name and counts of an entry of the C library are elsewhere. */
 static bool is_ours(const struct ifaddrs *entry) {
-    const struct sockaddr_ll *address = (const struct sockaddr_ll *)entry->ifa_addr;
-    return address && address->sll_family == AF_PACKET && address->sll_ifindex >= INTERFACE_FIRST;
+    const struct link *link = (const struct link *)entry;
+    return entry->ifa_name == link->name && entry->ifa_data == &link->counts;
 }
 
 /* The interfaces of the server, in one block; NULL where there are none, or no memory. */
@@ -100,12 +98,9 @@ static struct link *links(void) {
     for (int i = 0; all && i < count; i++) {
         struct link *one = &all[i];
         interface_name(INTERFACE_FIRST + i, one->name);
-        one->address =
-            (struct sockaddr_ll){.sll_family = AF_PACKET, .sll_ifindex = INTERFACE_FIRST + i, .sll_hatype = ARPHRD_CAN};
         one->entry = (struct ifaddrs){.ifa_next = i + 1 < count ? &one[1].entry : NULL,
                                       .ifa_name = one->name,
                                       .ifa_flags = IFF_UP | IFF_RUNNING | IFF_NOARP,
-                                      .ifa_addr = (struct sockaddr *)&one->address,
                                       .ifa_data = &one->counts};
     }
     return all;

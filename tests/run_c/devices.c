@@ -1,21 +1,17 @@
 /* Interfaces as devices: getifaddrs, and sockets bound to a device, which CAN sockets do not mind. */
 #include "check.h"
 #include <ifaddrs.h>
-#include <linux/if_packet.h>
-#include <net/if_arp.h>
 
-/* An interface has one entry, of its link. */
+/* An interface has one entry, without an address. */
 static void entry(const struct ifaddrs *list, const char *name) {
     int count = 0;
     for (; list; list = list->ifa_next) {
-        const struct sockaddr_ll *address = (const struct sockaddr_ll *)list->ifa_addr;
         if (strcmp(list->ifa_name, name) != 0) {
             continue;
         }
         count++;
-        CHECK(address && address->sll_family == AF_PACKET && address->sll_hatype == ARPHRD_CAN);
-        CHECK(address->sll_ifindex == (int)if_nametoindex(name) && list->ifa_data);
-        CHECK(list->ifa_flags & IFF_UP && list->ifa_flags & IFF_NOARP && !list->ifa_netmask);
+        CHECK(list->ifa_flags & IFF_UP && list->ifa_flags & IFF_NOARP && list->ifa_data);
+        CHECK(!list->ifa_addr && !list->ifa_netmask && !list->ifa_broadaddr);
     }
     CHECK(count == 1);
 }
