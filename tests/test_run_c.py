@@ -43,6 +43,7 @@ PLAIN = (
     pytest.param("isotp_state", marks=pytest.mark.quiet),
     "edges",
     "devices",
+    "rows",
     "handles",
 )
 

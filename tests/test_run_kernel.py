@@ -26,6 +26,7 @@ SAME = (
     "isotp_state",
     "edges",
     "devices",
+    "rows",
 )
 
 

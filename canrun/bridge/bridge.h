@@ -62,7 +62,7 @@ bool message_number(const char **at, uint64_t *number);
 
 /* The options and filters of a socket. */
 struct options {
-    int loopback, receive_own, fd_frames, join;
+    int loopback, receive_own, fd_frames, xl_frames, join;
     uint32_t errors;
     unsigned filters; /* which list: 0 for the first, which passes all; NO_FILTERS; else a number of its own */
 };

@@ -99,6 +99,9 @@ bool copy_to(void *program, const void *data, size_t length);
 /* The most pieces of a message, as the kernel has it. */
 #define PIECES_MOST 1024
 
+/* How many of these bytes the pieces of a message have room for. */
+size_t room_of(const struct msghdr *message, size_t length);
+
 /* What a reply brings, besides its error. The data are cut where there is no room. */
 struct answer {
     int value;

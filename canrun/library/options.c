@@ -159,6 +159,9 @@ EXPORT int setsockopt(int fd, int level, int option, const void *value, socklen_
     if (level == SOL_SOCKET && is_of_device(option)) {
         return set_device(fd, option, value, length);
     }
+    if (level == SOL_SOCKET && option == SO_PEEK_OFF) {
+        return refuse("setsockopt", EOPNOTSUPP, "a CAN socket has no such option");
+    }
     if (level == SOL_SOCKET) {
         return set_socket_option(fd, option, value, length);
     }
@@ -169,8 +172,11 @@ EXPORT int setsockopt(int fd, int level, int option, const void *value, socklen_
         return refuse("setsockopt", EINVAL, "the value is too long");
     }
     struct iovec data = {(void *)value, length};
-    return ask(fd, "setsockopt", &(struct wire_request){.kind = WIRE_SET, .option = option, .length = length}, &data, 1,
-               NULL);
+    struct wire_request request = {.kind = WIRE_SET, .option = option, .length = length};
+    int result = ask(fd, "setsockopt", &request, &data, 1, NULL);
+    /* Whether there is such an option comes before its value. */
+    request = (struct wire_request){.kind = WIRE_GET, .option = option};
+    return result && errno == EFAULT && !ask(fd, "setsockopt", &request, NULL, 0, NULL) ? fail(EFAULT) : result;
 }
 
 /* Takes the error, and what says that there is one, so that nothing is left to be read. */
@@ -192,6 +198,14 @@ static int socket_fact(int fd, enum wire_protocol protocol, int option) {
     }
 }
 
+/* Options of SOL_SOCKET that a CAN socket refuses; 0 for others. */
+static int socket_refusal(int option) {
+    return option == SO_PEERNAME     ? ENOTCONN
+           : option == SO_PEEK_OFF   ? EOPNOTSUPP
+           : option == SO_PEERGROUPS ? ENODATA
+                                     : 0;
+}
+
 /* The kernel's rules for how much of a value is returned: a short one is cut, but never a list of filters. */
 static int get_protocol_option(int fd, enum wire_protocol protocol, int option, void *value, socklen_t *length) {
     char whole[WIRE_REPLY];
@@ -200,11 +214,14 @@ static int get_protocol_option(int fd, enum wire_protocol protocol, int option, 
     if (!copy_from(&has, length, sizeof has)) {
         return fail(EFAULT);
     }
+    if ((int)has < 0) {
+        return fail(EINVAL);
+    }
     if (ask(fd, "getsockopt", &(struct wire_request){.kind = WIRE_GET, .option = option}, NULL, 0, &answer)) {
         return -1;
     }
     socklen_t needed = (socklen_t)answer.length;
-    if (protocol == WIRE_RAW && option == CAN_RAW_FILTER && (int)has >= 0 && has < needed) {
+    if (protocol == WIRE_RAW && option == CAN_RAW_FILTER && has < needed) {
         return copy_to(length, &needed, sizeof needed) ? refuse("getsockopt", ERANGE, "the filters need more room")
                                                        : fail(EFAULT);
     }
@@ -217,6 +234,9 @@ EXPORT int getsockopt(int fd, int level, int option, void *restrict value, sockl
     int fact = protocol && level == SOL_SOCKET ? socket_fact(fd, protocol, option) : -1;
     if (protocol && level == SOL_SOCKET && option == SO_PEERCRED) {
         return copy_value(value, length, &nobody, sizeof nobody, false);
+    }
+    if (protocol && level == SOL_SOCKET && socket_refusal(option)) {
+        return refuse("getsockopt", socket_refusal(option), "a CAN socket has no such option");
     }
     if (protocol && level == SOL_SOCKET && is_of_device(option)) {
         return get_device(fd, option, value, length);

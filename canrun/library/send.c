@@ -188,7 +188,12 @@ EXPORT ssize_t writev(int fd, const struct iovec *parts, int count) {
     if (count < 0 || count > PIECES_MOST || !protocol) {
         return real()->writev(fd, parts, count);
     }
-    return send_named(fd, protocol, &(struct msghdr){.msg_iov = (struct iovec *)parts, .msg_iovlen = (size_t)count}, 0);
+    struct iovec copy[count + 1];
+    struct msghdr message = {.msg_iov = copy, .msg_iovlen = (size_t)count};
+    if (!copy_from(copy, parts, (size_t)count * sizeof *copy)) {
+        return fail(EFAULT);
+    }
+    return room_of(&message, 1) ? can_sendmsg(fd, protocol, &message, 0) : 0;
 }
 
 EXPORT int sendmmsg(int fd, struct mmsghdr *messages, unsigned count, int flags) {
