@@ -163,7 +163,7 @@ bool session_read(struct session *session, bool waits) {
 /* Writes all of it, or loses the session. What comes meanwhile is handled: a server that waits for its reader takes no
  * commands, and one that has closed takes none, but may have said why. */
 static void put_text(struct session *session, const char *text, size_t length) {
-    uint64_t until = clock_now() + PATIENCE * SECOND;
+    uint64_t until = 0;
     size_t written = 0;
     while (session->fd >= 0) {
         ssize_t part = send(session->fd, text + written, length - written, MSG_DONTWAIT | MSG_NOSIGNAL);
@@ -171,6 +171,7 @@ static void put_text(struct session *session, const char *text, size_t length) {
         if (written == length) {
             return;
         }
+        until = until ? until : clock_now() + PATIENCE * SECOND;
         if (wait_for_session(session, until)) {
             session_read(session, false);
         } else {
