@@ -28,6 +28,8 @@ SAME = (
     "isotp",
     "isotp_state",
     "edges",
+    "devices",
+    "rows",
 )
 #: Servers among which the cases are divided; most of their time is waits.
 LOTS = 12
