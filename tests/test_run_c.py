@@ -42,6 +42,9 @@ PLAIN = (
     pytest.param("isotp", marks=pytest.mark.quiet),
     pytest.param("isotp_state", marks=pytest.mark.quiet),
     "edges",
+    "devices",
+    "rows",
+    "handles",
 )
 
 

@@ -28,7 +28,7 @@ from running import (
     run,
     started,
 )
-from serving import ROOT, WAIT, come_true, plain, serving
+from serving import ROOT, WAIT, come_true, line_of, plain, serving, threads_of
 
 NOWHERE = "127.0.0.1:9"
 
@@ -101,13 +101,13 @@ def test_other_server():
         address = f"127.0.0.1:{other.getsockname()[1]}"
         with subprocess.Popen([command(), "--address", address, "true"], stderr=subprocess.PIPE, text=True) as child:
             connection, _ = other.accept()
-            connection.sendall(b"220 mail.example\r\n")
+            connection.sendall(b"220 \x1b[31mmail.example\r\n")
             connection.close()
             said = child.stderr.read()
-            assert child.wait(WAIT) == 125 and "something else: it says 220 mail.example" in said, said
+            assert child.wait(WAIT) == 125 and "something else: it says 220 ?[31mmail.example" in said, said
 
 
-@pytest.mark.parametrize("answer", [b"< error unknown command >", b"< interfaces can0", b""])
+@pytest.mark.parametrize("answer", [b"< error unknown command >", b"< interfaces can0", b"< interfaces >", b""])
 def test_older_server(answer):
     """a server that can't say which interfaces it has is reported as older"""
     with socket.create_server(("127.0.0.1", 0)) as older:
@@ -411,6 +411,14 @@ def test_debug():
         server.end()
 
 
+#: A program that starts another by posix_spawn, and then becomes one that PATH has.
+STARTS = [
+    "/usr/bin/python3",
+    "-c",
+    "import os; os.waitpid(os.posix_spawn('{0}', ['x'], os.environ), 0); os.execvp('true', ['true'])",
+]
+
+
 @needs_gcc
 def test_obstacles(tmp_path):
     """a note says why the sockets of a program are the kernel's: linked statically, setuid, 32 bits, Go"""
@@ -429,6 +437,11 @@ def test_obstacles(tmp_path):
         note = "canbusd-run: note: {} {}, so its CAN sockets are the kernel's\n"
         static = run(server, built["static"])
         assert (static.returncode, static.stderr) == (0, note.format(built["static"], "is linked statically"))
+        # A shell, or Python, starts it: the same line.
+        for words in (["sh", "-c", built["static"]], ["bash", "-c", f"exec {built['static']}"], STARTS):
+            started = run(server, *(word.format(built["static"]) for word in words))
+            assert started.stderr == static.stderr, words
+        assert run(server, "sh", "-c", built["dynamic"]).stderr == ""
         small = run(server, str(tmp_path / "small"))
         assert small.stderr.startswith(note.format(tmp_path / "small", "is a 32-bit program"))
         if os.geteuid() == 0:
@@ -558,19 +571,27 @@ with socket.socket(29, 3, 1) as s:
 
 
 def test_server_stops():
-    """a server that is stopped for longer than a write waits: the write fails, and all goes on when it continues"""
+    """a server that is stopped for longer than a write waits: the writes fail, however many at once, and all goes on when
+    it continues"""
     text = """
-import errno, socket, struct, sys
+import errno, socket, struct, sys, threading, time
 s = socket.socket(29, 3, 1)
 s.bind(("can0",))
 print("ready", flush=True)
 sys.stdin.readline()
 frame = struct.pack("=IB3x8s", 0x123, 1, b"1")
-try:
-    s.send(frame)
-except OSError as fault:
-    print(errno.errorcode[fault.errno], flush=True)
+def write():
+    begun = time.monotonic()
+    try:
+        s.send(frame)
+    except OSError as fault:
+        print(errno.errorcode[fault.errno], time.monotonic() - begun < 8, flush=True)
+writers = [threading.Thread(target=write) for _ in range(3)]
+for writer in writers:
+    writer.start()
 sys.stdin.readline()
+for writer in writers:
+    writer.join()
 s.send(frame)
 print("sent", flush=True)
 """
@@ -578,16 +599,18 @@ print("sent", flush=True)
         server, "/usr/bin/python3", "-c", text, stdin=subprocess.PIPE
     ) as child:
         reader = plain(server, "can1")
-        assert child.stdout.readline() == "ready\n"
+        assert line_of(child.stdout) == "ready\n"
         os.killpg(server.child.pid, signal.SIGSTOP)
+        assert come_true(lambda: all(state == "T" for _, state, _ in threads_of(pid for pid, _ in server.processes())))
         child.stdin.write("\n")
         child.stdin.flush()
-        assert child.stdout.readline() == "ETIMEDOUT\n"
+        assert [line_of(child.stdout) for _ in range(3)] == ["ETIMEDOUT True\n"] * 3
         os.killpg(server.child.pid, signal.SIGCONT)
+        assert come_true(lambda: reader.frame() == ("123", b"1"))
         child.stdin.write("\n")
         child.stdin.flush()
-        assert child.stdout.readline() == "sent\n"
-        assert [reader.frame() for _ in range(2)] == [("123", b"1")] * 2
+        assert line_of(child.stdout) == "sent\n"
+        assert reader.frame() == ("123", b"1")
         reader.close()
 
 

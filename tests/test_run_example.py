@@ -1,6 +1,7 @@
-"""Examples of programs with CAN sockets: a C program that is driven to bus off, and a car whose cluster is in C and in Python."""
+"""The examples of programs by canbusd-run: one that is driven to bus off, a car, and a virtual ECU."""
 
 import os
+import shutil
 import subprocess
 import sys
 
@@ -12,15 +13,15 @@ from serving import ROOT, program
 pytest.importorskip("can", reason="no python-can: apt-get install python3-can")
 
 
-def run_example(folder, *options):
+def run_example(folder, *options, patience=240):
     """Runs the tests of an example, as the guide says; what pytest writes."""
     words = [sys.executable, "-m", "pytest", "-q", "-p", "no:cacheprovider", "-p", "canbusd.pytest_plugin", *options]
     env = {**os.environ, "CANBUSD": program(), "CANBUSD_RUN": command()}
     done = subprocess.run(
-        [*words, folder], cwd=ROOT, env=env, stdout=subprocess.PIPE, stderr=subprocess.STDOUT, text=True, timeout=240,
+        [*words, folder], cwd=ROOT, env=env, stdout=subprocess.PIPE, stderr=subprocess.STDOUT, text=True, timeout=patience,
         check=False,
     )  # fmt: skip
-    assert done.returncode == 0, done.stdout
+    assert done.returncode == 0 and "skipped" not in done.stdout, done.stdout
     return done.stdout
 
 
@@ -36,3 +37,11 @@ def test_car(options):
     """12 tests of each cluster, in real and in virtual time"""
     pytest.importorskip("canmatrix", reason="no canmatrix: apt-get install python3-canmatrix")
     assert "24 passed" in run_example("examples/car", *options)
+
+
+@pytest.mark.slow
+def test_virtual_ecu():
+    """a guest of QEMU with its own driver"""
+    if not shutil.which("qemu-system-x86_64") or "CANBUSD_KERNEL" not in os.environ:
+        pytest.skip("no qemu-system-x86_64, or CANBUSD_KERNEL names no kernel (examples/virtual_ecu/guest)")
+    assert "4 passed" in run_example("examples/virtual_ecu", patience=900)

@@ -5,7 +5,7 @@ import textwrap
 import pytest
 
 from running import needs, passes, server, settled, started, written  # noqa: F401  the fixture
-from serving import ROOT, serving
+from serving import ROOT, plain, serving
 
 pytest.importorskip("can", reason="no python-can: apt-get install python3-can")
 
@@ -316,3 +316,21 @@ def test_isotp(server):
             assert b.send(data) == length and a.recv(5000) == data
         """,
     )
+
+
+def test_handle_of_libc(server):
+    """the functions of a handle of the C library, as scapy's native sockets of ISO-TP have one, are canbusd-run's too"""
+    text = """
+import ctypes, socket, struct
+libc = ctypes.CDLL("libc.so.6", use_errno=True)
+index = socket.if_nametoindex("can0")
+fd = libc.socket(socket.PF_CAN, socket.SOCK_RAW, socket.CAN_RAW)
+assert libc.bind(fd, struct.pack("=HHiII", socket.AF_CAN, 0, index, 0, 0), 16) == 0, ctypes.get_errno()
+assert libc.write(fd, struct.pack("=IB3x8s", 0x123, 2, b"ab"), 16) == 16
+made = socket.socket(socket.PF_CAN, socket.SOCK_DGRAM, socket.CAN_ISOTP)
+assert libc.bind(made.fileno(), struct.pack("=HHiII", socket.AF_CAN, 0, index, 0x321, 0x123), 16) == 0
+assert made.send(b"cd") == 2
+"""
+    reader = plain(server, "can1")
+    passes(server, "/usr/bin/python3", "-c", text)
+    assert [reader.frame() for _ in range(2)] == [("123", b"ab"), ("123", b"\x02cd")]

@@ -336,9 +336,9 @@ def test_isotp_stmin(is_busy):
         receiver = ending.enter_context(
             listening(server, "isotprecv", "-s", "321", "-d", "123", "-m", "0A", "tester", stdout=subprocess.PIPE)
         )
-        if is_busy:
+        if is_busy:  # Bursts of 23 ms whose frames go first; without a pause between them nothing else ever goes.
             ending.enter_context(
-                started(server, "cangen", "-g", "0", "-I", "100", "-L", "8", "other", options=["--wait"])
+                started(server, "cangen", "-g", "40", "-c", "10", "-I", "100", "-L", "8", "other", options=["--wait"])
             )
         passes(server, "isotpsend", "-b", "-D", "60", "-s", "123", "-d", "321", "ecu")
         assert len(written(receiver).split()) == 60
@@ -366,18 +366,42 @@ def test_canplayer_log_with_faults(tmp_path):
         assert logged(server, "can0") == ["can0 123#01", "can0 124#02"]
 
 
-@pytest.mark.slow
+#: Some runs of a test that a hang would fail, and, slow, as many as --cases.
+few_and_many = pytest.mark.parametrize("runs", [10, pytest.param(0, marks=pytest.mark.slow)], ids=["few", "many"])
+
+
+@few_and_many
 @needs("cangen")
 @pytest.mark.parametrize("places", ["1", "10"])
-def test_wait_never_hangs(places, cases):
-    """as many runs as --cases, each of 1,000 frames that find the queue full again and again"""
-    words = [command(), "--wait", "cangen", "-g", "0", "-n", "1000", "can0"]
+def test_wait_never_hangs(places, runs, cases):
+    """each run has 1,000 frames that find the queue full again and again"""
+    words = ["cangen", "-g", "0", "-n", "1000", "can0"]
     with serving("--pace", "0", "--txqueue", places, "--record", "none", "can0,can1") as server:
-        for _ in range(cases):
-            ended = subprocess.run(
-                words, env=environment(server), timeout=60, capture_output=True, text=True, check=False
-            )
+        for _ in range(runs or cases):
+            ended = run(server, *words, options=["--wait"])
             assert (ended.returncode, ended.stderr) == (0, ""), ended
+        server.end()
+
+
+@few_and_many
+@needs("cangen", "isotpsend", "isotprecv")
+def test_isotp_full_queue(runs, cases):
+    """without --wait a message of ISO-TP ends also where others keep the queue full: it got through or did not"""
+    with serving(
+        "--pace", "0", "--txqueue", "1", "--record", "none", "can0,can1"
+    ) as server, contextlib.ExitStack() as end:
+        end.enter_context(started(server, "cangen", "-g", "0", "-i", "-I", "100", "can0", stdout=subprocess.DEVNULL))
+        end.enter_context(
+            started(server, "isotprecv", "-l", "-s", "321", "-d", "123", "can1", stdout=subprocess.DEVNULL)
+        )
+        for _ in range(runs or cases):
+            sent = run(server, "isotpsend", "-b", "-D", "20", "-s", "123", "-d", "321", "can0", patience=60)
+            assert sent.stderr in (
+                "",
+                "write: Communication error on send\n",
+                "write: No buffer space available\n",
+            ), sent
+        end.close()
         server.end()
 
 

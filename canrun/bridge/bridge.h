@@ -62,7 +62,7 @@ bool message_number(const char **at, uint64_t *number);
 
 /* The options and filters of a socket. */
 struct options {
-    int loopback, receive_own, fd_frames, join;
+    int loopback, receive_own, fd_frames, xl_frames, join;
     uint32_t errors;
     unsigned filters; /* which list: 0 for the first, which passes all; NO_FILTERS; else a number of its own */
 };
@@ -78,10 +78,11 @@ struct session {
     bool is_counting;           /* a reply to session_ask_counts is due */
     uint32_t dropped;           /* by the server, as far as is known */
     uint64_t seen;              /* items that have come */
-    bool is_asked, is_answered; /* how many were queued for it: see order.c */
+    bool is_asked, is_answered; /* how many were queued for it */
     uint64_t queued;
     struct options given; /* what the server has */
     enum due due;         /* what has not come yet */
+    bool is_silent;       /* nothing came for that in time, and the next waits for a moment only */
     char reply[160];      /* the first reply to what was given last that is not ok */
     size_t have;
     char input[32768];
@@ -105,6 +106,10 @@ int session_send(struct session *session, const struct canfd_frame *frame, bool 
 
 /* Asks for the counts, which come in the order of the frames; nothing waits for them. */
 void session_ask_counts(struct session *session);
+
+/* Begins to ask how many items the server has queued for this session until now; whether all these have come. */
+void session_ask_all(struct session *session);
+bool session_has_all(struct session *session);
 
 /* The number that the server gave the frame which was sent last. */
 uint64_t session_last_number(const struct session *session);
@@ -305,7 +310,7 @@ bool request_serve(void);
 int request_news(void);
 bool request_is_kept(void);
 
-/* No message of ISO-TP is being sent: the socket can be written. */
+/* Where no message of ISO-TP is being sent, or waits to be, the socket can be written. */
 void request_release(void);
 
 /* The end of a pair by which a close waits for the end of this bridge, or -1. */

@@ -8,9 +8,9 @@
 
 /* The longest message, as the kernel has it by default. */
 #define ISOTP_LONGEST 8300
-/* How long the other end may be silent, and how long a frame may take until it was on the bus. */
-#define ISOTP_TIMEOUT SECOND
-#define ISOTP_ECHO_TIMEOUT (2 * SECOND)
+/* How many seconds the other end may be silent, and a frame may take until it was on the bus. */
+#define ISOTP_TIMEOUT 1
+#define ISOTP_ECHO_TIMEOUT 2
 
 struct isotp {
     canid_t rx_id, tx_id;
@@ -35,6 +35,18 @@ bool isotp_is_well_padded(const struct canfd_frame *frame, unsigned from);
 int isotp_put(const struct canfd_frame *frame, void (*done)(const struct later *later, int error));
 /* The number of the frame that was sent last. */
 uint64_t isotp_last_number(void);
+
+/* ---- isotp_timer.c ---- */
+
+struct isotp_timer {
+    unsigned steps;  /* that are left */
+    uint64_t due;    /* when this step should be over, by the clock; 0: the timer does not run */
+    unsigned rounds; /* questions to the server since then, while that is asked */
+};
+void isotp_timer_start(struct isotp_timer *timer, unsigned seconds);
+void isotp_timer_stop(struct isotp_timer *timer);
+/* Whether it has run out just now. */
+bool isotp_timer_is_over(struct isotp_timer *timer);
 
 /* ---- isotp_send.c ---- */
 

@@ -11,7 +11,8 @@ static struct {
     char data[ISOTP_LONGEST];
     size_t at, length;
     unsigned number, in_block, frame_length;
-    uint64_t due, last_moment;
+    uint64_t last_moment;
+    struct isotp_timer timer; /* of the next frame */
 } rx;
 
 bool isotp_is_receiving(void) {
@@ -24,7 +25,7 @@ static void deliver(const void *data, size_t length, uint64_t moment) {
 
 static void give_up(int error) {
     rx.is_open = false;
-    rx.due = 0;
+    isotp_timer_stop(&rx.timer);
     error_set(error);
 }
 
@@ -46,13 +47,13 @@ static void send_flow_control(unsigned status) {
     rx.in_block = 0;
     rx.last_moment = 0;
     isotp_put(&frame, flow_control_sent);
-    rx.due = clock_now() + ISOTP_TIMEOUT;
+    isotp_timer_start(&rx.timer, ISOTP_TIMEOUT);
 }
 
 static void receive_single(const struct canfd_frame *frame, uint64_t moment) {
     unsigned address = isotp_address_size(), front = address + 1, length = frame->data[address] & 15;
     rx.is_open = false;
-    rx.due = 0;
+    isotp_timer_stop(&rx.timer);
     if (frame->len > CAN_MAX_DLEN) {
         if (length) {
             return; /* The length of a long frame has a byte of its own. */
@@ -74,7 +75,7 @@ static void receive_first(const struct canfd_frame *frame) {
     const uint8_t *data = frame->data + address;
     size_t length = (size_t)(data[0] & 15) << 8 | data[1];
     rx.is_open = false;
-    rx.due = 0;
+    isotp_timer_stop(&rx.timer);
     if (frame->len < CAN_MAX_DLEN || frame->len != isotp_padded(frame->len)) {
         return; /* A first frame is full. */
     }
@@ -89,7 +90,7 @@ static void receive_first(const struct canfd_frame *frame) {
         if (!(isotp.options.flags & CAN_ISOTP_LISTEN_MODE)) {
             send_flow_control(OVERFLOW_);
         }
-        rx.due = 0;
+        isotp_timer_stop(&rx.timer);
         return;
     }
     rx.is_open = true;
@@ -99,7 +100,7 @@ static void receive_first(const struct canfd_frame *frame) {
     rx.number = 1;
     rx.in_block = 0;
     rx.last_moment = 0;
-    rx.due = clock_now() + ISOTP_TIMEOUT;
+    isotp_timer_start(&rx.timer, ISOTP_TIMEOUT);
     memcpy(rx.data, frame->data + front, rx.at);
     if (!(isotp.options.flags & CAN_ISOTP_LISTEN_MODE)) {
         send_flow_control(CONTINUE);
@@ -126,7 +127,7 @@ static void receive_consecutive(const struct canfd_frame *frame, uint64_t moment
     size_t part = MIN(left, (size_t)frame->len - front);
     memcpy(rx.data + rx.at, frame->data + front, part);
     rx.at += part;
-    rx.due = clock_now() + ISOTP_TIMEOUT;
+    isotp_timer_start(&rx.timer, ISOTP_TIMEOUT);
     if (rx.at < rx.length) {
         if (isotp.flow.bs && ++rx.in_block == isotp.flow.bs && !(isotp.options.flags & CAN_ISOTP_LISTEN_MODE)) {
             send_flow_control(CONTINUE);
@@ -134,7 +135,7 @@ static void receive_consecutive(const struct canfd_frame *frame, uint64_t moment
         return;
     }
     rx.is_open = false;
-    rx.due = 0;
+    isotp_timer_stop(&rx.timer);
     if (isotp_is_well_padded(frame, front + (unsigned)part)) {
         deliver(rx.data, rx.length, moment);
     } else {
@@ -162,11 +163,8 @@ void isotp_receive_frame(const struct canfd_frame *frame, uint64_t moment) {
 }
 
 uint64_t isotp_receive_due(void) {
-    if (rx.due && rx.due <= clock_now()) {
-        rx.due = 0;
-        if (rx.is_open) {
-            give_up(ETIMEDOUT);
-        }
+    if (isotp_timer_is_over(&rx.timer) && rx.is_open) {
+        give_up(ETIMEDOUT);
     }
-    return rx.due;
+    return rx.timer.due;
 }

@@ -19,7 +19,8 @@ static struct {
     size_t at, length;
     unsigned number, block, in_block; /* the next number; frames until a flow control frame, and since one */
     uint64_t frame;                   /* the number of the frame whose echo is waited for */
-    uint64_t gap, due;
+    uint64_t gap, next;               /* the pause before a frame, and when this one is over */
+    struct isotp_timer timer;         /* of the echo, or of flow control */
 } tx;
 
 bool isotp_is_sending(void) {
@@ -28,13 +29,13 @@ bool isotp_is_sending(void) {
 
 static void end(int error) {
     tx.state = IDLE;
-    tx.due = 0;
+    isotp_timer_stop(&tx.timer);
     isotp_send_done(error);
 }
 
 /* A frame has gone into the transmit queue: now it has to come back, or to be replied to, in time. */
 static void begin_waiting(void) {
-    tx.due = clock_now() + (tx.state == SENDING ? ISOTP_ECHO_TIMEOUT : ISOTP_TIMEOUT);
+    isotp_timer_start(&tx.timer, tx.state == SENDING ? ISOTP_ECHO_TIMEOUT : ISOTP_TIMEOUT);
 }
 
 /* What could not be sent has no echo, and the message ends by that, as in the kernel. */
@@ -46,7 +47,7 @@ static void sent_late(const struct later *later, int error) {
 
 void isotp_send_abort(void) {
     tx.state = IDLE;
-    tx.due = 0;
+    isotp_timer_stop(&tx.timer);
     room_forget(sent_late);
 }
 
@@ -55,7 +56,7 @@ void isotp_send_abort(void) {
 static int put(const struct canfd_frame *frame, int state) {
     tx.state = state;
     tx.frame = NO_FRAME;
-    tx.due = 0;
+    isotp_timer_stop(&tx.timer);
     int error = isotp_put(frame, sent_late);
     if (error == SENT_LATER) {
         return 0;
@@ -163,7 +164,7 @@ static void send_consecutive(void) {
 
 void isotp_send_flow_control(const struct canfd_frame *frame) {
     unsigned address = isotp_address_size();
-    if ((tx.state != WAITS && tx.state != WAITS_FIRST) || !tx.due) {
+    if ((tx.state != WAITS && tx.state != WAITS_FIRST) || !tx.timer.due) {
         return;
     }
     if (frame->len < address + 3 || !isotp_is_well_padded(frame, address + 3)) {
@@ -197,19 +198,19 @@ void isotp_send_echo(uint64_t number) {
         begin_waiting();
     } else if (tx.gap) {
         tx.state = PAUSES;
-        tx.due = clock_now() + tx.gap;
+        isotp_timer_stop(&tx.timer);
+        tx.next = clock_now() + tx.gap;
     } else {
         send_consecutive();
     }
 }
 
 uint64_t isotp_send_due(void) {
-    if (tx.due && tx.due <= clock_now()) {
-        if (tx.state == PAUSES) {
-            send_consecutive();
-        } else {
-            end(ECOMM);
-        }
+    if (tx.state == PAUSES && tx.next <= clock_now()) {
+        send_consecutive();
     }
-    return tx.due;
+    if (isotp_timer_is_over(&tx.timer)) {
+        end(ECOMM);
+    }
+    return tx.state == PAUSES ? tx.next : tx.timer.due;
 }

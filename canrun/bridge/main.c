@@ -79,9 +79,7 @@ static void serve(void) {
     uint64_t closed = 0;
     for (;;) {
         int64_t due = do_due();
-        if (protocol == WIRE_ISOTP && !isotp_is_busy()) {
-            request_release();
-        }
+        request_release();
         if (closed && (!is_busy(closed) || close_is_over())) {
             return;
         }

@@ -129,45 +129,49 @@ static void get_origin(const char *at, struct item *item) {
     }
 }
 
+/* The kinds of messages that hand over a frame. */
+static const struct kind {
+    const char *word;
+    bool is_fd;
+    uint32_t flag;
+} KINDS[] = {{"frame ", false, 0},
+             {"remote ", false, CAN_RTR_FLAG},
+             {"fdframe ", true, 0},
+             {"fdframex ", true, 0},
+             {"error ", false, CAN_ERR_FLAG}};
+
+/* Reads what follows the word; false where it is no frame: a refusal, such as `error bad id`, has no moment. */
+static bool get_item(const struct kind *kind, const char *at, struct item *item) {
+    uint32_t identifier;
+    uint64_t remote_length = 0;
+    *item = (struct item){.is_fd = kind->is_fd};
+    /* Linux sets it in each FD frame that it hands out. */
+    item->frame.flags = kind->is_fd ? CANFD_FDF : 0;
+    if (at[-2] == 'x') {
+        get_flags(&at, &item->frame);
+    }
+    int digits = get_hex(&at, &identifier);
+    if (!digits || !get_moment(&at, &item->moment)) {
+        return false;
+    }
+    bool is_long = digits == 8 && kind->flag != CAN_ERR_FLAG;
+    item->frame.can_id = identifier | kind->flag | (is_long ? CAN_EFF_FLAG : 0);
+    if (kind->flag == CAN_RTR_FLAG) {
+        message_number(&at, &remote_length);
+        item->frame.len = (uint8_t)MIN(remote_length, (uint64_t)CAN_MAX_DLEN);
+    } else {
+        get_data(&at, &item->frame);
+    }
+    get_origin(at, item);
+    return true;
+}
+
 bool message_to_item(const char *text, struct item *item) {
-    static const struct {
-        const char *word;
-        bool is_fd;
-        uint32_t flag;
-    } kinds[] = {{"frame ", false, 0},
-                 {"remote ", false, CAN_RTR_FLAG},
-                 {"fdframe ", true, 0},
-                 {"fdframex ", true, 0},
-                 {"error ", false, CAN_ERR_FLAG}};
-    for (size_t i = 0; i < sizeof kinds / sizeof *kinds; i++) {
-        size_t length = strlen(kinds[i].word);
-        if (strncmp(text, kinds[i].word, length) != 0) {
-            continue;
+    for (size_t i = 0; i < sizeof KINDS / sizeof *KINDS; i++) {
+        size_t length = strlen(KINDS[i].word);
+        if (!strncmp(text, KINDS[i].word, length)) {
+            return get_item(&KINDS[i], text + length, item);
         }
-        const char *at = text + length;
-        uint32_t identifier;
-        uint64_t remote_length = 0;
-        *item = (struct item){.is_fd = kinds[i].is_fd};
-        /* Linux sets it in each FD frame that it hands out. */
-        item->frame.flags = kinds[i].is_fd ? CANFD_FDF : 0;
-        if (text[length - 2] == 'x') {
-            get_flags(&at, &item->frame);
-        }
-        int digits = get_hex(&at, &identifier);
-        /* A refusal, such as `error bad id`, has no moment. */
-        if (!digits || !get_moment(&at, &item->moment)) {
-            return false;
-        }
-        bool is_long = digits == 8 && kinds[i].flag != CAN_ERR_FLAG;
-        item->frame.can_id = identifier | kinds[i].flag | (is_long ? CAN_EFF_FLAG : 0);
-        if (kinds[i].flag == CAN_RTR_FLAG) {
-            message_number(&at, &remote_length);
-            item->frame.len = (uint8_t)MIN(remote_length, (uint64_t)CAN_MAX_DLEN);
-        } else {
-            get_data(&at, &item->frame);
-        }
-        get_origin(at, item);
-        return true;
     }
     return false;
 }

@@ -72,21 +72,9 @@ static void ask_all(void) {
         until = held[i].item.moment > until ? held[i].item.moment : until;
     }
     for (int i = 0; i < session_count; i++) {
-        sessions[i]->is_asked = sessions[i]->is_answered = false;
+        session_ask_all(sessions[i]);
     }
     is_open = true;
-}
-
-/* Whether all that was queued for this session when it was asked has come. */
-static bool has_come(struct session *session) {
-    if (!session->is_receiving) {
-        return true;
-    }
-    if (!session->is_asked && !session->is_counting) {
-        session_ask_counts(session);
-        session->is_asked = session->is_counting;
-    }
-    return session->is_asked && session->is_answered && session->seen >= session->queued;
 }
 
 int64_t order_due(void) {
@@ -96,7 +84,7 @@ int64_t order_due(void) {
             ask_all();
         }
         for (int i = 0; i < session_count; i++) {
-            has_all &= has_come(sessions[i]);
+            has_all &= session_has_all(sessions[i]);
             waits |= sessions[i]->is_receiving && !sessions[i]->is_asked;
         }
         if (!has_all) {

@@ -87,6 +87,7 @@ void outbox_put(const void *data, size_t length, uint64_t moment, int index, uin
 void outbox_ring(void) {
     struct wire_trailer trailer = {.is_error = 1};
     put("", 0, &trailer);
+    outbox_flush();
 }
 
 static size_t after(size_t at) {

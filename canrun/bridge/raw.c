@@ -10,6 +10,8 @@
 #include <stdlib.h>
 #include <string.h>
 
+/* CAN_RAW_XL_FRAMES, which older headers have not. No interface has CAN XL, but who has it on has FD frames too. */
+#define RAW_XL_FRAMES 7
 /* The most characters of filters in a message, which has 1024 with its command. */
 #define FILTER_TEXT 1000
 
@@ -109,6 +111,7 @@ static void *place_of(int option) {
     case CAN_RAW_RECV_OWN_MSGS: return &options.receive_own;
     case CAN_RAW_FD_FRAMES: return &options.fd_frames;
     case CAN_RAW_JOIN_FILTERS: return &options.join;
+    case RAW_XL_FRAMES: return &options.xl_frames;
     case CAN_RAW_ERR_FILTER: return &options.errors;
     default: return NULL;
     }
@@ -152,6 +155,7 @@ int raw_set(int option, const void *value, size_t length) {
     memcpy(&number, value, sizeof number);
     number = option == CAN_RAW_ERR_FILTER ? number & CAN_ERR_MASK : number != 0;
     memcpy(place, &number, sizeof number);
+    options.fd_frames |= options.xl_frames;
     return sessions_apply();
 }
 

@@ -15,7 +15,26 @@ struct reply {
     char data[WIRE_REPLY];
 };
 
+/* While a message of ISO-TP is being sent its request stays in the socket, so that the program's end has no room, and
+ * is not ready to be written. So do those that come after it, which are read all the same. */
+static int kept_length;
+static unsigned kept_count;
+
+void request_release(void) {
+    while (kept_count && !isotp_is_busy()) {
+        if (recv(PROGRAM, &(char){0}, 1, MSG_DONTWAIT) >= 0) {
+            kept_count--;
+        } else if (errno != ECONNRESET) {
+            /* ECONNRESET, where the program has left something unread, comes once in place of a request. */
+            kept_count = 0;
+        }
+    }
+    kept_length = kept_count ? kept_length : 0;
+}
+
+/* Who has the reply finds the socket ready to be written, where it is. */
 static void put_reply(int to, int error, struct reply *reply) {
+    request_release();
     reply->head.error = error;
     if (error) {
         reply->head.length = (uint32_t)MIN(strlen(refusal), sizeof reply->data);
@@ -110,6 +129,9 @@ static int get_address(struct reply *reply) {
     return 0;
 }
 
+/* The interface that the socket is bound to as a device, of which CAN takes no notice. */
+static int device;
+
 /* Carries out a request whose data are these, and whose reply goes there; returns an errno, 0, or SENT_LATER. */
 static int carry_out(const struct wire_request *request, const char *data, size_t length, int to, struct reply *reply) {
     switch (request->kind) {
@@ -118,6 +140,8 @@ static int carry_out(const struct wire_request *request, const char *data, size_
     case WIRE_SET: return set_option(request->option, data, length);
     case WIRE_GET: return get_option(request->option, reply);
     case WIRE_SOCKET_SET: outbox_set(request->option, request->number); return 0;
+    case WIRE_SET_DEVICE: device = request->ifindex; return 0;
+    case WIRE_GET_DEVICE: reply->head.value = device; return 0;
     case WIRE_ADDRESS: return get_address(reply);
     case WIRE_ERROR: reply->head.value = error_take(); return 0;
     case WIRE_CLOSE: return begin_close(to);
@@ -125,11 +149,6 @@ static int carry_out(const struct wire_request *request, const char *data, size_
     default: return refused(EINVAL, "library and bridge are not of the same version");
     }
 }
-
-/* While a message of ISO-TP is being sent its request stays in the socket, so that the program's end has no room, and
- * is not ready to be written. So do those that come after it, which are read all the same. */
-static int kept_length;
-static unsigned kept_count;
 
 static ssize_t next_request(struct msghdr *message) {
     if (protocol != WIRE_ISOTP) {
@@ -158,18 +177,6 @@ bool request_is_kept(void) {
     }
     setsockopt(PROGRAM, SOL_SOCKET, SO_PEEK_OFF, &kept_length, sizeof kept_length);
     return recv(PROGRAM, &(char){0}, 1, MSG_DONTWAIT | MSG_PEEK | MSG_TRUNC) > 0;
-}
-
-void request_release(void) {
-    while (kept_count) {
-        if (recv(PROGRAM, &(char){0}, 1, MSG_DONTWAIT) >= 0) {
-            kept_count--;
-        } else if (errno != ECONNRESET) {
-            /* ECONNRESET, where the program has left something unread, comes once in place of a request. */
-            kept_count = 0;
-        }
-    }
-    kept_length = 0;
 }
 
 bool request_serve(void) {

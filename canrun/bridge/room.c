@@ -106,7 +106,7 @@ static void look(struct session *session) {
 }
 
 int64_t room_due(void) {
-    uint64_t now = clock_now();
+    uint64_t now = count ? clock_now() : 0;
     int64_t next = -1;
     for (int i = 0; i < session_count; i++) {
         if (first_at(sessions[i]->index) == count) {

@@ -163,7 +163,7 @@ bool session_read(struct session *session, bool waits) {
 /* Writes all of it, or loses the session. What comes meanwhile is handled: a server that waits for its reader takes no
  * commands, and one that has closed takes none, but may have said why. */
 static void put_text(struct session *session, const char *text, size_t length) {
-    uint64_t until = clock_now() + PATIENCE * SECOND;
+    uint64_t until = 0;
     size_t written = 0;
     while (session->fd >= 0) {
         ssize_t part = send(session->fd, text + written, length - written, MSG_DONTWAIT | MSG_NOSIGNAL);
@@ -171,6 +171,7 @@ static void put_text(struct session *session, const char *text, size_t length) {
         if (written == length) {
             return;
         }
+        until = until ? until : clock_now() + PATIENCE * SECOND;
         if (wait_for_session(session, until)) {
             session_read(session, false);
         } else {
@@ -179,12 +180,23 @@ static void put_text(struct session *session, const char *text, size_t length) {
     }
 }
 
+/* How long a read waits: writes of several threads do not wait one after the other for a server that does not reply. */
+static void set_silent(struct session *session, bool is_silent) {
+    const struct timeval time = {is_silent ? 0 : PATIENCE, is_silent ? 100000 : 0};
+    session->is_silent = is_silent;
+    setsockopt(session->fd, SOL_SOCKET, SO_RCVTIMEO, &time, sizeof time);
+}
+
 /* Waits for the end of the last command; false where it does not come in time. */
 static bool settle(struct session *session) {
     while (session->due && session->fd >= 0) {
         if (!session_read(session, true)) {
+            set_silent(session, true);
             return false;
         }
+    }
+    if (session->is_silent) {
+        set_silent(session, false);
     }
     return true;
 }
@@ -233,7 +245,7 @@ struct session *session_start(int *error) {
     } else if ((session->fd = address_connect(&address)) < 0) {
         *error = refused(ENODEV, "there is no server at CANBUSD_ADDRESS");
     } else {
-        setsockopt(session->fd, SOL_SOCKET, SO_RCVTIMEO, &(struct timeval){PATIENCE, 0}, sizeof(struct timeval));
+        set_silent(session, false);
         *error = session_command(session, "");
         if (!*error && strcmp(session->reply, "hi") != 0) {
             *error = refused(ENODEV, "what listens at CANBUSD_ADDRESS is no canbusd");
@@ -253,6 +265,21 @@ void session_ask_counts(struct session *session) {
     if (!session->is_counting && session->fd >= 0) {
         session->is_counting = send(session->fd, text, sizeof text - 1, MSG_DONTWAIT | MSG_NOSIGNAL) == sizeof text - 1;
     }
+}
+
+void session_ask_all(struct session *session) {
+    session->is_asked = session->is_answered = false;
+}
+
+bool session_has_all(struct session *session) {
+    if (!session->is_receiving) {
+        return true;
+    }
+    if (!session->is_asked && !session->is_counting) {
+        session_ask_counts(session);
+        session->is_asked = session->is_counting;
+    }
+    return session->is_asked && session->is_answered && session->seen >= session->queued;
 }
 
 int session_counts(struct session *session, uint64_t *gone, uint64_t *waiting) {

@@ -93,14 +93,15 @@ static bool is_privileged(const char *path) {
            (geteuid() != 0 && getxattr(path, "security.capability", NULL, 0) > 0);
 }
 
-const char *program_obstacle(const char *path) {
-    if (is_privileged(path)) {
-        return "is setuid, setgid or has capabilities";
-    }
+const char *program_bypass(const char *path) {
     int fd = open(path, O_RDONLY | O_CLOEXEC);
     const char *obstacle = fd >= 0 ? elf_obstacle(fd) : NULL;
     if (fd >= 0) {
         close(fd);
     }
     return obstacle;
+}
+
+const char *program_obstacle(const char *path) {
+    return is_privileged(path) ? "is setuid, setgid or has capabilities" : program_bypass(path);
 }

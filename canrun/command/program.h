@@ -11,4 +11,7 @@ int program_find(const char *name, char path[PATH_MAX]);
  */
 const char *program_obstacle(const char *path);
 
+/* The same of the kind of program only, whoever runs it. */
+const char *program_bypass(const char *path);
+
 #endif

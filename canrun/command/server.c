@@ -4,6 +4,7 @@
 
 #include "../shared/address.h"
 
+#include <ctype.h>
 #include <errno.h>
 #include <netdb.h>
 #include <poll.h>
@@ -81,6 +82,9 @@ static const char *other_greeting(char *greeting) {
         return FULL;
     }
     greeting[strcspn(greeting, "\r\n")] = 0;
+    for (char *at = greeting; *at; at++) {
+        *at = isprint((unsigned char)*at) ? *at : '?';
+    }
     snprintf(said, sizeof said, "what listens there is something else: %s%s",
              *greeting ? "it says " : "it says nothing", greeting);
     return said;
@@ -95,7 +99,7 @@ static bool ask_interfaces(int fd, struct server *server) {
     }
     read_message(fd, message, sizeof message);
     char *names = message + sizeof before - 1, *end = strstr(message, after);
-    if (strncmp(message, before, sizeof before - 1) != 0 || !end || end - names >= INTERFACE_NAMES) {
+    if (strncmp(message, before, sizeof before - 1) != 0 || !end || end <= names || end - names >= INTERFACE_NAMES) {
         return false;
     }
     *end = 0;

@@ -91,7 +91,8 @@ EXPORT int ioctl(int fd, unsigned long request, ...) {
     va_start(list, request);
     void *argument = va_arg(list, void *);
     va_end(list);
-    bool is_ours = is_of_interface(request) || is_of_stamp(request) || request == FIONREAD || request == TIOCOUTQ;
+    bool is_ours = is_of_interface(request) || is_of_stamp(request) || request == FIONREAD || request == TIOCOUTQ ||
+                   request == SIOCATMARK;
     enum wire_protocol protocol = is_ours ? protocol_of(fd) : 0;
     if (protocol && is_of_stamp(request)) {
         return stamp_ioctl(fd, request, argument);

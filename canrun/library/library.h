@@ -7,9 +7,13 @@
 
 #include "../shared/wire.h"
 
+#include <ifaddrs.h>
 #include <net/if.h>
+#include <poll.h>
+#include <spawn.h>
 #include <stdbool.h>
 #include <stddef.h>
+#include <sys/epoll.h>
 #include <sys/ioctl.h>
 #include <sys/socket.h>
 #include <sys/uio.h>
@@ -37,6 +41,19 @@
     X(if_indextoname)     \
     X(if_nameindex)       \
     X(if_freenameindex)   \
+    X(getifaddrs)         \
+    X(freeifaddrs)        \
+    X(poll)               \
+    X(ppoll)              \
+    X(epoll_wait)         \
+    X(epoll_pwait)        \
+    X(epoll_pwait2)       \
+    X(execve)             \
+    X(execv)              \
+    X(execvp)             \
+    X(execvpe)            \
+    X(posix_spawn)        \
+    X(posix_spawnp)       \
     X(close)              \
     X(read)               \
     X(readv)              \
@@ -60,8 +77,14 @@ struct real {
 /* They are found when the library is loaded, or by the first call where another library calls before that. */
 const struct real *real(void);
 
+/* dlsym of the C library, in place of that of this one. */
+void *(*real_dlsym(void))(void *restrict, const char *restrict);
+
 /* The protocol of a CAN socket; 0 for any other descriptor. It leaves errno as it was. */
 enum wire_protocol protocol_of(int fd);
+
+/* The same; for another descriptor `is_netlink` says whether it is a socket of netlink. */
+enum wire_protocol protocol_to_send(int fd, bool *is_netlink);
 
 /* Sets errno, and returns -1. */
 int fail(int error);
@@ -75,6 +98,9 @@ bool copy_to(void *program, const void *data, size_t length);
 
 /* The most pieces of a message, as the kernel has it. */
 #define PIECES_MOST 1024
+
+/* How many of these bytes the pieces of a message have room for. */
+size_t room_of(const struct msghdr *message, size_t length);
 
 /* What a reply brings, besides its error. The data are cut where there is no room. */
 struct answer {
@@ -93,6 +119,21 @@ int put_request(int fd, int with, const struct wire_request *request, const stru
 
 /* Takes the error that a socket has by itself, as SO_ERROR does; 0 where it has none. It leaves errno as it was. */
 int take_error(int fd);
+
+/* Notes that this is a socket of ISO-TP. */
+void note_isotp(int fd);
+
+/* Whether the next message of a socket says that it has an error, as far as that has not been taken; it is taken out.
+ */
+bool has_error(int fd);
+void drop_error(int fd);
+
+/* The C library's end of a program whose buffer is too small. */
+void __chk_fail(void) __attribute__((noreturn));
+
+/* Whether a message of netlink asks for an interface of the server, and its refusal. */
+bool asks_for_interface(const void *data, size_t length);
+ssize_t refuse_question(void);
 
 /* Makes a CAN socket. */
 int can_socket(int type, int protocol);

@@ -14,7 +14,7 @@
 #define NEAR 32768
 
 /* The pages that were last read, and last written. */
-static uintptr_t known[2];
+static uintptr_t known[2] = {UINTPTR_MAX, UINTPTR_MAX};
 
 static bool is_known(uintptr_t from, size_t length, bool writes) {
     uintptr_t here = (uintptr_t)__builtin_frame_address(0), page = from / PAGE;

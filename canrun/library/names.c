@@ -5,6 +5,7 @@
 #include "../shared/interfaces.h"
 
 #include <errno.h>
+#include <linux/if_link.h>
 #include <stdlib.h>
 #include <string.h>
 
@@ -70,4 +71,60 @@ EXPORT struct if_nameindex *if_nameindex(void) {
 
 EXPORT void if_freenameindex(struct if_nameindex *list) {
     free(list);
+}
+
+/* ---- getifaddrs: an interface of CAN has no address ---- */
+
+struct link {
+    struct ifaddrs entry;
+    char name[IFNAMSIZ];
+    struct rtnl_link_stats counts;
+};
+
+/* Name and counts of an entry of the C library are elsewhere. */
+static bool is_ours(const struct ifaddrs *entry) {
+    const struct link *link = (const struct link *)entry;
+    return entry->ifa_name == link->name && entry->ifa_data == &link->counts;
+}
+
+/* The interfaces of the server, in one block; NULL where there are none, or no memory. */
+static struct link *links(void) {
+    char name[IFNAMSIZ];
+    int count = 0;
+    while (interface_name(INTERFACE_FIRST + count, name)) {
+        count++;
+    }
+    struct link *all = count ? calloc((size_t)count, sizeof *all) : NULL;
+    for (int i = 0; all && i < count; i++) {
+        struct link *one = &all[i];
+        interface_name(INTERFACE_FIRST + i, one->name);
+        one->entry = (struct ifaddrs){.ifa_next = i + 1 < count ? &one[1].entry : NULL,
+                                      .ifa_name = one->name,
+                                      .ifa_flags = IFF_UP | IFF_RUNNING | IFF_NOARP,
+                                      .ifa_data = &one->counts};
+    }
+    return all;
+}
+
+/* The place in a list where the interfaces of the server begin, or its end. */
+static struct ifaddrs **place_of_ours(struct ifaddrs **list) {
+    while (*list && !is_ours(*list)) {
+        list = &(*list)->ifa_next;
+    }
+    return list;
+}
+
+EXPORT int getifaddrs(struct ifaddrs **list) {
+    int result = real()->getifaddrs(list);
+    if (!result) {
+        *place_of_ours(list) = (struct ifaddrs *)links();
+    }
+    return result;
+}
+
+EXPORT void freeifaddrs(struct ifaddrs *list) {
+    struct ifaddrs **place = place_of_ours(&list);
+    free(*place);
+    *place = NULL;
+    real()->freeifaddrs(list);
 }

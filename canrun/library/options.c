@@ -95,12 +95,49 @@ static int refuse_level(const char *call, enum wire_protocol protocol) {
     return refuse(call, protocol == WIRE_BCM ? EOPNOTSUPP : EINVAL, "this protocol has no options of this level");
 }
 
+static bool is_of_device(int option) {
+    return option == SO_BINDTODEVICE || option == SO_BINDTOIFINDEX;
+}
+
+/* As in the kernel, a device is kept, and a CAN socket does not mind. */
+static int set_device(int fd, int option, const void *value, socklen_t length) {
+    struct wire_request request = {.kind = WIRE_SET_DEVICE};
+    char name[IFNAMSIZ] = "";
+    if ((int)length < (option == SO_BINDTODEVICE ? 0 : (int)sizeof(int))) {
+        return fail(EINVAL);
+    }
+    if (!(option == SO_BINDTODEVICE ? copy_from(name, value, MIN(length, sizeof name - 1))
+                                    : copy_from(&request.ifindex, value, sizeof(int)))) {
+        return fail(EFAULT);
+    }
+    if (*name && (request.ifindex = index_of_name(name)) < 0) {
+        return -1;
+    }
+    return request.ifindex < 0 ? fail(EINVAL) : ask(fd, "setsockopt", &request, NULL, 0, NULL);
+}
+
+static int get_device(int fd, int option, void *value, socklen_t *length) {
+    struct answer answer = {0};
+    char name[IFNAMSIZ] = "";
+    socklen_t has;
+    if (!copy_from(&has, length, sizeof has)) {
+        return fail(EFAULT);
+    }
+    if (ask(fd, "getsockopt", &(struct wire_request){.kind = WIRE_GET_DEVICE}, NULL, 0, &answer)) {
+        return -1;
+    }
+    if (option == SO_BINDTOIFINDEX) {
+        return copy_value(value, length, &answer.value, sizeof answer.value, false);
+    }
+    if (answer.value && has < sizeof name) {
+        return fail(EINVAL);
+    }
+    socklen_t shown = answer.value && !name_of_index(answer.value, name) ? (socklen_t)strlen(name) + 1 : 0;
+    return copy_value(value, length, name, shown, false);
+}
+
 /* An option of SOL_SOCKET is the kernel's; of some the bridge has to know too. */
 static int set_socket_option(int fd, int option, const void *value, socklen_t length) {
-    char name[IFNAMSIZ] = "";
-    if (option == SO_BINDTODEVICE && copy_from(name, value, MIN(length, sizeof name - 1)) && *name) {
-        return index_of_name(name) < 0 ? -1 : 0; /* As in the kernel, a CAN socket does not mind. */
-    }
     int result = real()->setsockopt(fd, SOL_SOCKET, option, value, length);
     bool is_told = option == SO_RCVBUF || option == SO_RCVBUFFORCE || option == SO_RXQ_OVFL ||
                    option == SO_TIMESTAMPING_OLD || option == SO_TIMESTAMPING_NEW;
@@ -119,6 +156,12 @@ EXPORT int setsockopt(int fd, int level, int option, const void *value, socklen_
     if (!protocol) {
         return real()->setsockopt(fd, level, option, value, length);
     }
+    if (level == SOL_SOCKET && is_of_device(option)) {
+        return set_device(fd, option, value, length);
+    }
+    if (level == SOL_SOCKET && option == SO_PEEK_OFF) {
+        return refuse("setsockopt", EOPNOTSUPP, "a CAN socket has no such option");
+    }
     if (level == SOL_SOCKET) {
         return set_socket_option(fd, option, value, length);
     }
@@ -129,20 +172,38 @@ EXPORT int setsockopt(int fd, int level, int option, const void *value, socklen_
         return refuse("setsockopt", EINVAL, "the value is too long");
     }
     struct iovec data = {(void *)value, length};
-    return ask(fd, "setsockopt", &(struct wire_request){.kind = WIRE_SET, .option = option, .length = length}, &data, 1,
-               NULL);
+    struct wire_request request = {.kind = WIRE_SET, .option = option, .length = length};
+    int result = ask(fd, "setsockopt", &request, &data, 1, NULL);
+    /* Whether there is such an option comes before its value. */
+    request = (struct wire_request){.kind = WIRE_GET, .option = option};
+    return result && errno == EFAULT && !ask(fd, "setsockopt", &request, NULL, 0, NULL) ? fail(EFAULT) : result;
+}
+
+/* Takes the error, and what says that there is one, so that nothing is left to be read. */
+static int take_shown_error(int fd) {
+    int error = take_error(fd);
+    drop_error(fd);
+    return error;
 }
 
 /* What SO_DOMAIN, SO_TYPE, SO_PROTOCOL and SO_ERROR are of a CAN socket; -1 for other options. The kernel's CAN sockets
  * have no protocol there. */
 static int socket_fact(int fd, enum wire_protocol protocol, int option) {
     switch (option) {
-    case SO_ERROR: return take_error(fd);
+    case SO_ERROR: return take_shown_error(fd);
     case SO_DOMAIN: return AF_CAN;
     case SO_TYPE: return protocol == WIRE_RAW ? SOCK_RAW : SOCK_DGRAM;
     case SO_PROTOCOL: return 0;
     default: return -1;
     }
+}
+
+/* Options of SOL_SOCKET that a CAN socket refuses; 0 for others. */
+static int socket_refusal(int option) {
+    return option == SO_PEERNAME     ? ENOTCONN
+           : option == SO_PEEK_OFF   ? EOPNOTSUPP
+           : option == SO_PEERGROUPS ? ENODATA
+                                     : 0;
 }
 
 /* The kernel's rules for how much of a value is returned: a short one is cut, but never a list of filters. */
@@ -153,11 +214,14 @@ static int get_protocol_option(int fd, enum wire_protocol protocol, int option, 
     if (!copy_from(&has, length, sizeof has)) {
         return fail(EFAULT);
     }
+    if ((int)has < 0) {
+        return fail(EINVAL);
+    }
     if (ask(fd, "getsockopt", &(struct wire_request){.kind = WIRE_GET, .option = option}, NULL, 0, &answer)) {
         return -1;
     }
     socklen_t needed = (socklen_t)answer.length;
-    if (protocol == WIRE_RAW && option == CAN_RAW_FILTER && (int)has >= 0 && has < needed) {
+    if (protocol == WIRE_RAW && option == CAN_RAW_FILTER && has < needed) {
         return copy_to(length, &needed, sizeof needed) ? refuse("getsockopt", ERANGE, "the filters need more room")
                                                        : fail(EFAULT);
     }
@@ -170,6 +234,12 @@ EXPORT int getsockopt(int fd, int level, int option, void *restrict value, sockl
     int fact = protocol && level == SOL_SOCKET ? socket_fact(fd, protocol, option) : -1;
     if (protocol && level == SOL_SOCKET && option == SO_PEERCRED) {
         return copy_value(value, length, &nobody, sizeof nobody, false);
+    }
+    if (protocol && level == SOL_SOCKET && socket_refusal(option)) {
+        return refuse("getsockopt", socket_refusal(option), "a CAN socket has no such option");
+    }
+    if (protocol && level == SOL_SOCKET && is_of_device(option)) {
+        return get_device(fd, option, value, length);
     }
     if (!protocol || (level == SOL_SOCKET && fact < 0)) {
         return real()->getsockopt(fd, level, option, value, length);

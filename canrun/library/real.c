@@ -17,7 +17,7 @@ static bool is_debugged;
 __attribute__((constructor)) static void resolve(void) {
     const char *debug = getenv("CANBUSD_RUN_DEBUG");
     is_debugged = debug && *debug && strcmp(debug, "0");
-#define X(name) found.name = (__typeof__(found.name))dlsym(RTLD_NEXT, #name);
+#define X(name) found.name = (__typeof__(found.name))real_dlsym()(RTLD_NEXT, #name);
     REAL_FUNCTIONS(X)
 #undef X
 }
@@ -29,18 +29,27 @@ const struct real *real(void) {
     return &found;
 }
 
-enum wire_protocol protocol_of(int fd) {
+enum wire_protocol protocol_to_send(int fd, bool *is_netlink) {
     struct sockaddr_un name;
     socklen_t length = sizeof name;
     int before = errno;
     long failed = syscall(SYS_getsockname, fd, &name, &length);
     errno = before;
+    *is_netlink = !failed && name.sun_family == AF_NETLINK;
     if (failed || name.sun_family != AF_UNIX ||
         length < offsetof(struct sockaddr_un, sun_path) + 1 + sizeof WIRE_NAME || name.sun_path[0] ||
         memcmp(name.sun_path + 1, WIRE_NAME, sizeof WIRE_NAME - 1)) {
         return 0;
     }
-    return (enum wire_protocol)name.sun_path[sizeof WIRE_NAME];
+    enum wire_protocol protocol = (enum wire_protocol)name.sun_path[sizeof WIRE_NAME];
+    if (protocol == WIRE_ISOTP) {
+        note_isotp(fd);
+    }
+    return protocol;
+}
+
+enum wire_protocol protocol_of(int fd) {
+    return protocol_to_send(fd, &(bool){false});
 }
 
 int fail(int error) {

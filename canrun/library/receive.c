@@ -146,8 +146,7 @@ static int check_isotp(int fd, int flags) {
     return 0;
 }
 
-/* How many bytes of a message found room. */
-static size_t room_of(const struct msghdr *message, size_t length) {
+size_t room_of(const struct msghdr *message, size_t length) {
     size_t room = 0;
     for (size_t i = 0; i < message->msg_iovlen && room < length; i++) {
         room += message->msg_iov[i].iov_len;
@@ -215,18 +214,29 @@ static ssize_t can_recvmsg(int fd, enum wire_protocol protocol, struct msghdr *u
     return protocol == WIRE_ISOTP && flags & MSG_TRUNC ? length : done;
 }
 
+/* Gives the address as far as there is room; as in the kernel that is looked at once a message has been taken. */
+static int give_name(struct sockaddr *from, socklen_t *room, const struct msghdr *message) {
+    socklen_t has;
+    if (!room || !copy_from(&has, room, sizeof has)) {
+        return fail(EFAULT);
+    }
+    if ((int)has < 0) {
+        return fail(EINVAL);
+    }
+    return copy_to(from, message->msg_name, MIN(has, message->msg_namelen)) &&
+                   copy_to(room, &message->msg_namelen, sizeof has)
+               ? 0
+               : fail(EFAULT);
+}
+
 static ssize_t receive(int fd, enum wire_protocol protocol, void *data, size_t length, int flags, struct sockaddr *from,
                        socklen_t *room) {
+    struct sockaddr_can name;
     struct iovec part = {data, length};
-    struct msghdr message = {.msg_iov = &part, .msg_iovlen = 1, .msg_name = from};
-    if (from && (!room || !copy_from(&message.msg_namelen, room, sizeof *room))) {
-        return fail(EFAULT);
-    }
+    struct msghdr message = {
+        .msg_iov = &part, .msg_iovlen = 1, .msg_name = from ? &name : NULL, .msg_namelen = sizeof name};
     ssize_t result = can_recvmsg(fd, protocol, &message, flags);
-    if (result >= 0 && from && !copy_to(room, &message.msg_namelen, sizeof *room)) {
-        return fail(EFAULT);
-    }
-    return result;
+    return result >= 0 && from && give_name(from, room, &message) ? -1 : result;
 }
 
 /* The same as can_recvmsg for a message that the program names. */
@@ -297,6 +307,23 @@ static bool is_over(struct timespec *timeout, const struct timespec *end) {
     return left == 0;
 }
 
+/* When a timeout that begins now is over; false and errno where it is none. */
+static bool read_end(struct timespec *end, const struct timespec *timeout) {
+    struct timespec now;
+    if (!copy_from(end, timeout, sizeof *end)) {
+        fail(EFAULT);
+        return false;
+    }
+    if (end->tv_sec < 0 || end->tv_nsec < 0 || end->tv_nsec >= SECOND) {
+        fail(EINVAL);
+        return false;
+    }
+    clock_gettime(CLOCK_MONOTONIC, &now);
+    end->tv_sec += now.tv_sec;
+    end->tv_nsec += now.tv_nsec;
+    return true;
+}
+
 EXPORT int recvmmsg(int fd, struct mmsghdr *messages, unsigned count, int flags, struct timespec *timeout) {
     enum wire_protocol protocol = protocol_of(fd);
     struct timespec end = {0, 0};
@@ -304,10 +331,8 @@ EXPORT int recvmmsg(int fd, struct mmsghdr *messages, unsigned count, int flags,
     if (!protocol) {
         return real()->recvmmsg(fd, messages, count, flags, timeout);
     }
-    if (timeout) {
-        clock_gettime(CLOCK_MONOTONIC, &end);
-        end.tv_sec += timeout->tv_sec;
-        end.tv_nsec += timeout->tv_nsec;
+    if (timeout && !read_end(&end, timeout)) {
+        return -1;
     }
     while (done < count) {
         ssize_t length = receive_named(fd, protocol, &messages[done].msg_hdr, flags & ~MSG_WAITFORONE);
@@ -325,7 +350,6 @@ EXPORT int recvmmsg(int fd, struct mmsghdr *messages, unsigned count, int flags,
 }
 
 /* What programs call that are built with _FORTIFY_SOURCE. */
-void __chk_fail(void) __attribute__((noreturn));
 EXPORT ssize_t __read_chk(int fd, void *data, size_t length, size_t room);
 EXPORT ssize_t __recv_chk(int fd, void *data, size_t length, size_t room, int flags);
 EXPORT ssize_t __recvfrom_chk(int fd, void *restrict data, size_t length, size_t room, int flags,

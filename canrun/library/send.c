@@ -57,6 +57,17 @@ static void note_error_frame(void) {
     }
 }
 
+/* A write of ISO-TP has failed: where that was by the error of the socket, nobody else hears of it. */
+static void forget_error(int fd) {
+    static const int known[] = {EMSGSIZE, ECOMM, EBADMSG, EILSEQ, ETIMEDOUT};
+    for (size_t i = 0; i < sizeof known / sizeof *known; i++) {
+        if (errno == known[i]) {
+            drop_error(fd);
+            return;
+        }
+    }
+}
+
 static ssize_t ask_to_send(int fd, enum wire_protocol protocol, const struct wire_request *request,
                            const struct iovec *parts, size_t count) {
     struct answer answer = {0};
@@ -70,7 +81,11 @@ static ssize_t ask_to_send(int fd, enum wire_protocol protocol, const struct wir
     struct iovec all[count + FILLERS];
     memcpy(all, parts, count * sizeof *parts);
     size_t more = add_fillers(fd, request->length, all + count);
-    return ask(fd, "write", request, all, count + more, &answer) ? -1 : answer.value;
+    if (ask(fd, "write", request, all, count + more, &answer)) {
+        forget_error(fd);
+        return -1;
+    }
+    return answer.value;
 }
 
 /* The most pieces that go with a request as they are. */
@@ -145,13 +160,21 @@ EXPORT ssize_t sendmsg(int fd, const struct msghdr *message, int flags) {
 
 EXPORT ssize_t sendto(int fd, const void *data, size_t length, int flags, const struct sockaddr *to,
                       socklen_t to_length) {
-    enum wire_protocol protocol = protocol_of(fd);
+    bool is_netlink;
+    enum wire_protocol protocol = protocol_to_send(fd, &is_netlink);
+    if (is_netlink && asks_for_interface(data, length)) {
+        return refuse_question();
+    }
     return protocol ? send_one(fd, protocol, data, length, flags, to, to_length)
                     : real()->sendto(fd, data, length, flags, to, to_length);
 }
 
 EXPORT ssize_t send(int fd, const void *data, size_t length, int flags) {
-    enum wire_protocol protocol = protocol_of(fd);
+    bool is_netlink;
+    enum wire_protocol protocol = protocol_to_send(fd, &is_netlink);
+    if (is_netlink && asks_for_interface(data, length)) {
+        return refuse_question();
+    }
     return protocol ? send_one(fd, protocol, data, length, flags, NULL, 0) : real()->send(fd, data, length, flags);
 }
 
@@ -165,7 +188,12 @@ EXPORT ssize_t writev(int fd, const struct iovec *parts, int count) {
     if (count < 0 || count > PIECES_MOST || !protocol) {
         return real()->writev(fd, parts, count);
     }
-    return send_named(fd, protocol, &(struct msghdr){.msg_iov = (struct iovec *)parts, .msg_iovlen = (size_t)count}, 0);
+    struct iovec copy[count + 1];
+    struct msghdr message = {.msg_iov = copy, .msg_iovlen = (size_t)count};
+    if (!copy_from(copy, parts, (size_t)count * sizeof *copy)) {
+        return fail(EFAULT);
+    }
+    return room_of(&message, 1) ? can_sendmsg(fd, protocol, &message, 0) : 0;
 }
 
 EXPORT int sendmmsg(int fd, struct mmsghdr *messages, unsigned count, int flags) {

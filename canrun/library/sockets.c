@@ -17,7 +17,10 @@ static enum wire_protocol protocol_for(int type, int protocol) {
     static const struct {
         int protocol, type;
         enum wire_protocol wire;
-    } known[] = {{CAN_RAW, SOCK_RAW, WIRE_RAW}, {CAN_BCM, SOCK_DGRAM, WIRE_BCM}, {CAN_ISOTP, SOCK_DGRAM, WIRE_ISOTP}};
+    } known[] = {{CAN_RAW, SOCK_RAW, WIRE_RAW},
+                 {CAN_BCM, SOCK_DGRAM, WIRE_BCM},
+                 {CAN_ISOTP, SOCK_DGRAM, WIRE_ISOTP},
+                 {CAN_J1939, SOCK_DGRAM, 0}};
     if (type < 0 || type > SOCK_PACKET) {
         refuse("socket", EINVAL, "there is no such type of sockets");
         return 0;
@@ -27,12 +30,12 @@ static enum wire_protocol protocol_for(int type, int protocol) {
         return 0;
     }
     for (size_t i = 0; i < sizeof known / sizeof *known; i++) {
-        if (known[i].protocol == protocol) {
-            if (known[i].type == type) {
-                return known[i].wire;
-            }
-            refuse("socket", EPROTOTYPE, "CAN_RAW is SOCK_RAW, CAN_BCM and CAN_ISOTP are SOCK_DGRAM");
+        if (known[i].protocol == protocol && known[i].type != type) {
+            refuse("socket", EPROTOTYPE, "CAN_RAW is SOCK_RAW, the others are SOCK_DGRAM");
             return 0;
+        }
+        if (known[i].protocol == protocol && known[i].wire) {
+            return known[i].wire;
         }
     }
     refuse("socket", EPROTONOSUPPORT, "of the protocols there are CAN_RAW, CAN_BCM and CAN_ISOTP");

@@ -28,6 +28,8 @@ enum wire_kind {
     WIRE_SET,  /* `option` of the protocol's level; the value follows */
     WIRE_GET,  /* the same; the value is the reply's data */
     WIRE_SOCKET_SET, /* `option` of SOL_SOCKET, which the kernel has set, so that the bridge knows of it */
+    WIRE_SET_DEVICE, /* SO_BINDTODEVICE, which the kernel does not keep; the index is `ifindex` */
+    WIRE_GET_DEVICE, /* the same; it is the reply's value */
     WIRE_ADDRESS,    /* the index is the reply's value; of ISO-TP the two identifiers are its data */
     WIRE_ERROR,      /* takes the socket's error, which is the reply's value; 0 where another has taken it */
     WIRE_CLOSE,      /* the socket is closed once nothing more comes by what is no pipe, but one end of a pair; the end

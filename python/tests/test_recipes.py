@@ -1,6 +1,7 @@
 """The recipes: each is a file of tests, and runs as it is printed."""
 
 import importlib.util
+import os
 import re
 import subprocess
 import sys
@@ -39,7 +40,7 @@ def written(installed, tmp_path_factory):
 
 
 def test_all_recipes_are_there():
-    assert len(recipes()) == 12
+    assert len(recipes()) == 13
     for name, code in recipes().items():
         assert f"(#{name})" in RECIPES.read_text(encoding="utf-8")
         assert code.count("\n") <= MOST_LINES, name
@@ -47,6 +48,8 @@ def test_all_recipes_are_there():
 
 @pytest.mark.parametrize("name", recipes())
 def test_a_recipe(written, name):
+    if name == "a-virtual-ecu" and "GUEST" not in os.environ:
+        pytest.skip("GUEST names no folder with vmlinuz and initrd")
     if name in NEEDED:
         pytest.importorskip(NEEDED[name], reason=f"{NEEDED[name]} is not installed; Debian 12 has canmatrix only")
     assert re.search(rf"^PASSED test_{name}\.py::", written, re.M), written

@@ -111,6 +111,35 @@ static void pointers(void) {
     CHECK(close(fd) == 0 && close(writer) == 0);
 }
 
+/* What is looked at first, where several arguments are wrong, or there is nothing to do. */
+static void order_of_arguments(void) {
+    int fd = bound("can1"), writer = bound("can0"), one = 1;
+    struct can_frame frame;
+    struct sockaddr_can from;
+    socklen_t length = (socklen_t)-1;
+    struct mmsghdr message = {.msg_hdr = {.msg_iov = &(struct iovec){&frame, sizeof frame}, .msg_iovlen = 1}};
+    FAILS(recvfrom(fd, &frame, sizeof frame, MSG_DONTWAIT, (struct sockaddr *)&from, NULL), EAGAIN);
+    put(writer, 0x123, 1);
+    CHECK(comes(fd, PATIENCE));
+    FAILS(recvfrom(fd, &frame, sizeof frame, 0, (struct sockaddr *)&from, &length), EINVAL);
+    FAILS(recv(fd, &frame, sizeof frame, MSG_DONTWAIT), EAGAIN);
+    FAILS(recvmmsg(fd, &message, 1, MSG_DONTWAIT, &(struct timespec){0, -1}), EINVAL);
+    FAILS(recvmmsg(fd, &message, 1, MSG_DONTWAIT, &(struct timespec){0, 1000000000}), EINVAL);
+    FAILS(recvmmsg(fd, &message, 1, MSG_DONTWAIT, (struct timespec *)nowhere), EFAULT);
+    CHECK(writev(writer, (struct iovec *)null, 0) == 0);
+    FAILS(setsockopt(fd, SOL_CAN_RAW, 99, nowhere, sizeof one), ENOPROTOOPT);
+    length = sizeof from;
+    FAILS(getsockopt(fd, SOL_SOCKET, SO_PEERNAME, &from, &length), ENOTCONN);
+    FAILS(getsockopt(fd, SOL_SOCKET, SO_PEEK_OFF, &from, &length), EOPNOTSUPP);
+    FAILS(setsockopt(fd, SOL_SOCKET, SO_PEEK_OFF, &one, sizeof one), EOPNOTSUPP);
+    FAILS(ioctl(fd, SIOCATMARK, &one), ENOTTY);
+    one = 1;
+    CHECK(setsockopt(fd, SOL_CAN_RAW, 7, &one, sizeof one) == 0); /* CAN_RAW_XL_FRAMES: FD frames too. */
+    one = 0;
+    CHECK(getsockopt(fd, SOL_CAN_RAW, CAN_RAW_FD_FRAMES, &one, &length) == 0 && one == 1);
+    CHECK(close(fd) == 0 && close(writer) == 0);
+}
+
 /* A filter for 11 bits looks at no others (can_rcv_list_find of net/can/af_can.c). */
 static void filters(void) {
     int fd = bound("can1"), writer = bound("can0");
@@ -228,6 +257,7 @@ int main(void) {
     addresses();
     pieces();
     pointers();
+    order_of_arguments();
     filters();
     errors();
     times();

@@ -1,6 +1,8 @@
 /* CAN_ISOTP: what state a socket is in while a message is sent, and after it has failed: poll, SO_ERROR, the next
  * write, close, signals. */
 #include "isotp.h"
+#include <sys/epoll.h>
+#include <sys/select.h>
 
 static short polled(int fd, short events) {
     struct pollfd one = {fd, events, 0};
@@ -13,6 +15,34 @@ static int error_of(int fd) {
     socklen_t length = sizeof error;
     CHECK(getsockopt(fd, SOL_SOCKET, SO_ERROR, &error, &length) == 0 && length == sizeof error);
     return error;
+}
+
+/* What epoll reports of a socket, whose number the program does not have there. */
+static uint32_t epolled(int fd, uint32_t events) {
+    struct epoll_event event = {.events = events, .data = {.u64 = 1ull << 40}};
+    int epoll = epoll_create1(0);
+    CHECK(epoll >= 0 && epoll_ctl(epoll, EPOLL_CTL_ADD, fd, &event) == 0);
+    int count = epoll_wait(epoll, &event, 1, 0);
+    CHECK(count >= 0 && event.data.u64 == 1ull << 40 && close(epoll) == 0);
+    return count ? event.events : 0;
+}
+
+/* A socket with an error, and without or with a message that came later. */
+static void has_error(int fd, short more) {
+    fd_set readable, writable;
+    FD_ZERO(&readable);
+    FD_ZERO(&writable);
+    FD_SET(fd, &readable);
+    FD_SET(fd, &writable);
+    CHECK(polled(fd, POLLIN | POLLOUT) == (POLLOUT | POLLERR | more));
+    CHECK(polled(fd, POLLIN) == (POLLERR | more) && polled(fd, POLLOUT) == (POLLOUT | POLLERR));
+    CHECK(epolled(fd, EPOLLIN | EPOLLOUT | EPOLLET) == (EPOLLOUT | EPOLLERR | (uint32_t)more));
+    CHECK(epolled(fd, EPOLLIN) == (EPOLLERR | (uint32_t)more));
+    CHECK(select(fd + 1, &readable, &writable, NULL, &(struct timeval){0, 0}) == 2);
+}
+
+static void has_none(int fd) {
+    CHECK(polled(fd, POLLIN | POLLOUT) == POLLOUT && epolled(fd, EPOLLIN | EPOLLOUT) == EPOLLOUT);
 }
 
 static void becomes_writable(int fd) {
@@ -68,6 +98,7 @@ static void fault(const char *control, size_t length, int error) {
             says(control, length);
         }
         becomes_writable(fd);
+        has_error(fd, 0);
         if (how == 0) {
             CHECK(error_of(fd) == error);
         } else if (how == 1) {
@@ -75,6 +106,7 @@ static void fault(const char *control, size_t length, int error) {
         } else {
             FAILS(recv(fd, &(char){0}, 1, 0), error);
         }
+        has_none(fd);
         CHECK(error_of(fd) == 0);
         FAILS(recv(fd, &(char){0}, 1, MSG_DONTWAIT), EAGAIN);
     }
@@ -94,7 +126,9 @@ static void received_fault(void) {
     SAYS("\x22"
          "6789abc");
     CHECK(comes(fd, PATIENCE));
+    has_error(fd, 0);
     CHECK(error_of(fd) == EILSEQ);
+    has_none(fd);
     SAYS("\1a");
     reads(fd, "a", 1);
     SAYS("\x10\x14"

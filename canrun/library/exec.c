@@ -1,0 +1,59 @@
+/* Starting programs: a line of standard error names one whose CAN sockets are the kernel's, as its file shows that it
+ * takes no library. The calls are the C library's own. */
+#define _GNU_SOURCE
+#include "library.h"
+
+#include "../command/program.h"
+
+#include <errno.h>
+#include <spawn.h>
+#include <stdio.h>
+#include <sys/syscall.h>
+
+/* Names the program of this file, which may be one that PATH finds; NULL for none. */
+static void note(const char *file, bool is_searched) {
+    char path[PATH_MAX], line[PATH_MAX + 128];
+    int before = errno;
+    bool is_found = file && (is_searched ? !program_find(file, path) : snprintf(path, PATH_MAX, "%s", file) < PATH_MAX);
+    const char *obstacle = is_found ? program_bypass(path) : NULL;
+    if (obstacle) {
+        int length = snprintf(line, sizeof line, "canbusd-run: note: %s %s, so its CAN sockets are the kernel's\n",
+                              path, obstacle);
+        syscall(SYS_write, STDERR_FILENO, line, MIN((size_t)length, sizeof line - 1));
+    }
+    errno = before;
+}
+
+EXPORT int execve(const char *path, char *const words[], char *const environment[]) {
+    note(path, false);
+    return real()->execve(path, words, environment);
+}
+
+EXPORT int execv(const char *path, char *const words[]) {
+    note(path, false);
+    return real()->execv(path, words);
+}
+
+EXPORT int execvp(const char *file, char *const words[]) {
+    note(file, true);
+    return real()->execvp(file, words);
+}
+
+EXPORT int execvpe(const char *file, char *const words[], char *const environment[]) {
+    note(file, true);
+    return real()->execvpe(file, words, environment);
+}
+
+EXPORT int posix_spawn(pid_t *restrict pid, const char *restrict path, const posix_spawn_file_actions_t *actions,
+                       const posix_spawnattr_t *restrict attributes, char *const words[restrict],
+                       char *const environment[restrict]) {
+    note(path, false);
+    return real()->posix_spawn(pid, path, actions, attributes, words, environment);
+}
+
+EXPORT int posix_spawnp(pid_t *restrict pid, const char *restrict file, const posix_spawn_file_actions_t *actions,
+                        const posix_spawnattr_t *restrict attributes, char *const words[restrict],
+                        char *const environment[restrict]) {
+    note(file, true);
+    return real()->posix_spawnp(pid, file, actions, attributes, words, environment);
+}

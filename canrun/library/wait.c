@@ -1,0 +1,176 @@
+/* Waiting: poll and epoll of a socket of ISO-TP that has an error. Its bridge says so by a message without data, which
+ * the kernel shows as POLLIN; a CAN socket has POLLERR. select shows both alike. In a program without such sockets, and
+ * for all others, there is nothing to do. */
+#define _GNU_SOURCE
+#include "library.h"
+
+#include <errno.h>
+#include <fcntl.h>
+#include <poll.h>
+#include <stdio.h>
+#include <stdlib.h>
+#include <string.h>
+#include <sys/epoll.h>
+#include <sys/ioctl.h>
+#include <sys/syscall.h>
+#include <time.h>
+
+/* Descriptors that were sockets of ISO-TP when they were last used: a hint, as the kernel may have given them away. */
+#define KNOWN_MOST 4096
+#define WORD 64
+static uint64_t known[KNOWN_MOST / WORD];
+static bool has_known;
+
+void note_isotp(int fd) {
+    uint64_t bit = 1ull << fd % WORD;
+    if (fd < KNOWN_MOST && !(__atomic_load_n(&known[fd / WORD], __ATOMIC_RELAXED) & bit)) {
+        __atomic_fetch_or(&known[fd / WORD], bit, __ATOMIC_RELAXED);
+        __atomic_store_n(&has_known, true, __ATOMIC_RELAXED);
+    }
+}
+
+static bool is_known(int fd) {
+    return fd >= 0 && fd < KNOWN_MOST && __atomic_load_n(&known[fd / WORD], __ATOMIC_RELAXED) >> fd % WORD & 1;
+}
+
+bool has_error(int fd) {
+    struct wire_trailer trailer;
+    int before = errno;
+    long length = syscall(SYS_recvfrom, fd, &trailer, sizeof trailer, MSG_PEEK | MSG_DONTWAIT | MSG_TRUNC, NULL, NULL);
+    errno = before;
+    return length == sizeof trailer && trailer.is_error && protocol_of(fd);
+}
+
+void drop_error(int fd) {
+    int before = errno;
+    if (has_error(fd)) {
+        syscall(SYS_recvfrom, fd, NULL, 0L, MSG_DONTWAIT, NULL, NULL);
+    }
+    errno = before;
+}
+
+/* The events of a socket of ISO-TP, for those of the kernel. The bits of poll are those of epoll. */
+static uint32_t events_of(int fd, uint32_t events) {
+    int waiting = 0, before = errno;
+    syscall(SYS_ioctl, fd, FIONREAD, &waiting);
+    errno = before;
+    events |= POLLERR;
+    return waiting > (int)sizeof(struct wire_trailer) ? events : events & ~(uint32_t)(POLLIN | POLLRDNORM);
+}
+
+/* Whether a socket is one to look at: it is ready to be read. */
+static bool shows_error(int fd, uint32_t events) {
+    return is_known(fd) && events & (POLLIN | POLLRDNORM | POLLOUT) && has_error(fd);
+}
+
+static int polled(struct pollfd *fds, nfds_t count, int result) {
+    for (nfds_t i = 0; i < count && result > 0 && __atomic_load_n(&has_known, __ATOMIC_RELAXED); i++) {
+        if (shows_error(fds[i].fd, (uint32_t)fds[i].revents)) {
+            fds[i].revents = (short)events_of(fds[i].fd, (uint32_t)fds[i].revents);
+        }
+    }
+    return result;
+}
+
+EXPORT int poll(struct pollfd *fds, nfds_t count, int timeout) {
+    return polled(fds, count, real()->poll(fds, count, timeout));
+}
+
+EXPORT int ppoll(struct pollfd *fds, nfds_t count, const struct timespec *timeout, const sigset_t *mask) {
+    return polled(fds, count, real()->ppoll(fds, count, timeout, mask));
+}
+
+/* ---- epoll: which descriptor an event is of is known by the kernel alone, which shows it in a file ---- */
+
+static void mark(struct epoll_event *events, int count, int fd, uint64_t data) {
+    for (int i = 0; i < count; i++) {
+        if (events[i].data.u64 == data && events[i].events & (EPOLLIN | EPOLLRDNORM | EPOLLOUT)) {
+            events[i].events = events_of(fd, events[i].events);
+        }
+    }
+}
+
+/* Reads a line of the file, as `tfd: 5 events: 19 data: 7fff0005 pos:0 ..`; false where it is another. */
+static bool read_line(const char *line, int *fd, uint64_t *data) {
+    unsigned long long number;
+    bool is_one = sscanf(line, "tfd: %d events: %*x data: %llx", fd, &number) == 2;
+    *data = is_one ? number : 0;
+    return is_one;
+}
+
+/* Marks the events of those descriptors of this epoll that have an error. */
+static void mark_all(int epoll, struct epoll_event *events, int count) {
+    char text[4096], *line = text, *end;
+    size_t have = 0;
+    snprintf(text, sizeof text, "/proc/self/fdinfo/%d", epoll);
+    int file = (int)syscall(SYS_openat, AT_FDCWD, text, O_RDONLY | O_CLOEXEC, 0);
+    for (long part; file >= 0 && (part = syscall(SYS_read, file, text + have, sizeof text - 1 - have)) > 0;) {
+        have += (size_t)part;
+        text[have] = 0;
+        for (line = text; (end = strchr(line, '\n')); line = end + 1) {
+            int fd;
+            uint64_t data;
+            if (read_line(line, &fd, &data) && is_known(fd) && has_error(fd)) {
+                mark(events, count, fd, data);
+            }
+        }
+        have -= (size_t)(line - text);
+        memmove(text, line, have);
+    }
+    if (file >= 0) {
+        syscall(SYS_close, file);
+    }
+}
+
+static bool has_any_error(void) {
+    for (int word = 0; word < KNOWN_MOST / WORD; word++) {
+        uint64_t bits = __atomic_load_n(&known[word], __ATOMIC_RELAXED);
+        for (; bits; bits &= bits - 1) {
+            if (has_error(word * WORD + __builtin_ctzll(bits))) {
+                return true;
+            }
+        }
+    }
+    return false;
+}
+
+static int epolled(int epoll, struct epoll_event *events, int result) {
+    int before = errno;
+    if (result > 0 && __atomic_load_n(&has_known, __ATOMIC_RELAXED) && has_any_error()) {
+        mark_all(epoll, events, result);
+    }
+    errno = before;
+    return result;
+}
+
+EXPORT int epoll_wait(int epoll, struct epoll_event *events, int most, int timeout) {
+    return epolled(epoll, events, real()->epoll_wait(epoll, events, most, timeout));
+}
+
+EXPORT int epoll_pwait(int epoll, struct epoll_event *events, int most, int timeout, const sigset_t *mask) {
+    return epolled(epoll, events, real()->epoll_pwait(epoll, events, most, timeout, mask));
+}
+
+EXPORT int epoll_pwait2(int epoll, struct epoll_event *events, int most, const struct timespec *timeout,
+                        const sigset_t *mask) {
+    return epolled(epoll, events, real()->epoll_pwait2(epoll, events, most, timeout, mask));
+}
+
+/* What programs call that are built with _FORTIFY_SOURCE. */
+EXPORT int __poll_chk(struct pollfd *fds, nfds_t count, int timeout, size_t room);
+EXPORT int __ppoll_chk(struct pollfd *fds, nfds_t count, const struct timespec *timeout, const sigset_t *mask,
+                       size_t room);
+
+int __poll_chk(struct pollfd *fds, nfds_t count, int timeout, size_t room) {
+    if (room / sizeof *fds < count) {
+        __chk_fail();
+    }
+    return poll(fds, count, timeout);
+}
+
+int __ppoll_chk(struct pollfd *fds, nfds_t count, const struct timespec *timeout, const sigset_t *mask, size_t room) {
+    if (room / sizeof *fds < count) {
+        __chk_fail();
+    }
+    return ppoll(fds, count, timeout, mask);
+}

@@ -1,0 +1,126 @@
+/* Runs all cases, or those of the files that are named, as `probe raw`, or only some, as `probe raw:write_0 raw:order`,
+ * and prints a line for each: its name, and what its calls returned. `probe --list` prints the names. */
+#include "probe.h"
+#include <stdarg.h>
+
+/* Bytes of a line, seconds of a case. */
+enum { LINE = 8000, LONGEST = 20 };
+
+/* The names by which the linker has the ends of a section. */
+extern const struct probe __start_probes[], __stop_probes[];
+
+/* The line of the case, which its process shares with this one. */
+static char *line;
+/* Sockets of this process: what it writes to the first, on each bus, comes to the second after all that cases have
+ * sent. */
+static int writers[2], readers[2];
+#define BARRIER 0x7FE
+
+void say(const char *format, ...) {
+    size_t used = strlen(line);
+    va_list values;
+    va_start(values, format);
+    vsnprintf(line + used, LINE - used, format, values);
+    va_end(values);
+}
+
+void result(long value) {
+    int error = errno;
+    if (value == -1 && error != 0) {
+        say(" %s", strerrorname_np(error));
+    } else {
+        say(" %ld", value);
+    }
+}
+
+static void set_barriers(void) {
+    static const char *const names[2][2] = {{"can0", "can1"}, {"vcan0", "vcan0"}};
+    for (int i = 0; i < 2; i++) {
+        writers[i] = raw(names[i][0]);
+        readers[i] = raw(names[i][1]);
+        FILTER(readers[i], {BARRIER, CAN_SFF_MASK});
+    }
+}
+
+/* Returns once nothing of a case is on its way. */
+static void settle(void) {
+    for (int i = 0; i < 2; i++) {
+        struct can_frame frame;
+        PUT(writers[i], BARRIER);
+        if (read(readers[i], &frame, sizeof frame) != sizeof frame) {
+            say(" no barrier");
+        }
+    }
+}
+
+/* The case in its process, whose sockets are closed one by one, as those of a program that is done with them. */
+static void alone(const struct probe *probe) {
+    timer_t timer;
+    struct sigevent event = {.sigev_notify = SIGEV_SIGNAL, .sigev_signo = SIGKILL};
+    timer_create(CLOCK_MONOTONIC, &event, &timer);
+    timer_settime(timer, 0, &(struct itimerspec){.it_value = {LONGEST, 0}}, NULL);
+    probe->run();
+    for (int fd = readers[1] + 1; fd < 64; fd++) {
+        close(fd);
+    }
+    _exit(0);
+}
+
+static void run(const struct probe *probe, const char *topic) {
+    int status = 0;
+    *line = '\0';
+    pid_t child = fork();
+    if (child == 0) {
+        alone(probe);
+    }
+    waitpid(child, &status, 0);
+    if (WIFSIGNALED(status)) {
+        say(" killed by SIG%s", sigabbrev_np(WTERMSIG(status)));
+    }
+    settle();
+    printf("%s:%s:%s\n", topic, probe->name, line);
+    fflush(stdout);
+}
+
+/* The file of a case, without its folder and ending. */
+static const char *topic_of(const struct probe *probe) {
+    static char topic[32];
+    const char *slash = strrchr(probe->file, '/');
+    snprintf(topic, sizeof topic, "%s", slash ? slash + 1 : probe->file);
+    topic[strcspn(topic, ".")] = '\0';
+    return topic;
+}
+
+/* Whether a word names this topic, or this case of it. */
+static bool is_named(const char *word, const char *topic, const char *name) {
+    size_t length = strlen(topic);
+    return !strncmp(word, topic, length) &&
+           (!word[length] || (word[length] == ':' && !strcmp(word + length + 1, name)));
+}
+
+static bool is_wanted(const struct probe *probe, const char *topic, int count, char **words) {
+    for (int i = 0; i < count; i++) {
+        if (is_named(words[i], topic, probe->name)) {
+            return true;
+        }
+    }
+    return count == 0;
+}
+
+int main(int count, char **words) {
+    bool is_list = count > 1 && !strcmp(words[1], "--list");
+    line = mmap(NULL, LINE, PROT_READ | PROT_WRITE, MAP_SHARED | MAP_ANONYMOUS, -1, 0);
+    nowhere = mmap(NULL, 65536, PROT_NONE, MAP_PRIVATE | MAP_ANONYMOUS, -1, 0);
+    if (!is_list) {
+        set_barriers();
+    }
+    for (const struct probe *probe = __start_probes; probe < __stop_probes; probe++) {
+        const char *topic = topic_of(probe);
+        if (is_list) {
+            printf("%s:%s\n", topic, probe->name);
+        } else if (is_wanted(probe, topic, count - 1, words + 1)) {
+            run(probe, topic);
+        }
+    }
+    return 0;
+}
