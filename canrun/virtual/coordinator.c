@@ -44,7 +44,7 @@ static struct {
     int root_status, status;
     bool has_ended, is_over;
     volatile sig_atomic_t number; /* of a signal that ends the run */
-    uint64_t seen_turns;
+    uint64_t seen_turn;
     int looks;
     double since; /* real time since which nothing has gone on */
     uint64_t run_before;
@@ -117,10 +117,9 @@ static void forget(uint32_t pid) {
     for (uint32_t i = 0; i < run->used; i++) {
         struct slot *slot = &run->slots[i];
         if (slot->pid == pid && slot->state != SLOT_FREE) {
-            bool has_turn = (run->turn & ~DECIDING) == i;
             free_slot(slot);
-            if (has_turn) {
-                run->turn = NOBODY;
+            while (turn_owner() == i) {
+                turn_change(run->turn, NOBODY);
             }
         }
     }
@@ -272,19 +271,20 @@ static bool is_asked(void) {
 
 /* Somebody has the turn: whether it is handed on. It may run for long, but not for ever. */
 static void watch(void) {
-    uint32_t turn = run->turn;
-    if (run->turns != coordinator.seen_turns || turn == NOBODY) {
-        coordinator.seen_turns = run->turns;
+    uint64_t turn = run->turn;
+    uint32_t owner = (uint32_t)turn & NOBODY;
+    if (turn != coordinator.seen_turn || owner == NOBODY) {
+        coordinator.seen_turn = turn;
         coordinator.looks = 0;
         coordinator.since = 0;
         coordinator.run_before = 0;
         return;
     }
-    outside_watch(turn & ~DECIDING, ++coordinator.looks, is_asked);
+    outside_watch(turn, ++coordinator.looks, is_asked);
     if (run->turn != turn || coordinator.looks % RARELY) {
         return;
     }
-    struct slot *slot = &run->slots[turn & ~DECIDING];
+    struct slot *slot = &run->slots[owner];
     uint64_t used = proc_usage(slot->pid, slot->tid).run;
     coordinator.run_before = coordinator.run_before ? coordinator.run_before : used;
     double stall = coordinator.options->stall;
@@ -384,7 +384,7 @@ static void loop(void) {
             coordinator.status = 128 + coordinator.number;
             return;
         }
-        if (run->turn == NOBODY) {
+        if (turn_owner() == NOBODY) {
             patience = decide();
         } else {
             watch();
@@ -496,7 +496,7 @@ static int coordinate(const struct virtual_options *options, const char *file, c
     tree_kill();
     if (getenv("CANBUSD_RUN_DEBUG")) {
         say("%lu moments, %lu turns, %.6f s went by as programs looked at the clock again and again", run->moments,
-            run->turns, (double)run->spun / SECOND);
+            run->turn >> TURN_BITS, (double)run->spun / SECOND);
     }
     return coordinator.status ? coordinator.status : status_of(coordinator.root_status);
 }

@@ -15,6 +15,8 @@
 #include <unistd.h>
 
 #define LIBRARY "libcanbusd-virtual.so"
+/* What a program has loaded once it has loaded what is preloaded. */
+#define C_LIBRARY "/libc.so."
 /* After how many looks it is seen whether a program loads the library at all. */
 #define FOREIGN_LOOKS 4
 /* After how many more looks a thread that has the turn is known to sleep. */
@@ -24,40 +26,42 @@
 
 /* ---- programs that do not load the library ---- */
 
-static bool has_library(uint32_t pid) {
+/* What of these two a process has loaded. */
+static void find_libraries(uint32_t pid, bool *has_ours, bool *has_c) {
     char path[32], line[PATH_MAX + 200];
-    bool has_it = false, has_any = false;
+    *has_ours = *has_c = false;
     snprintf(path, sizeof path, "/proc/%u/maps", pid);
     FILE *maps = fopen(path, "re");
-    while (maps && !has_it && fgets(line, sizeof line, maps)) {
-        has_it = strstr(line, LIBRARY) != NULL;
-        has_any = true;
+    while (maps && fgets(line, sizeof line, maps)) {
+        *has_ours |= strstr(line, LIBRARY) != NULL;
+        *has_c |= strstr(line, C_LIBRARY) != NULL;
     }
     if (maps) {
         fclose(maps);
     }
-    return has_it || !has_any;
 }
 
 /* Why a process is not in virtual time, NULL where it is, or has not begun. */
-static const char *obstacle_of(uint32_t pid, int looks) {
+static const char *obstacle_of(uint32_t pid) {
     char path[32], name[PATH_MAX];
+    bool has_ours, has_c;
     snprintf(path, sizeof path, "/proc/%u/exe", pid);
     ssize_t length = readlink(path, name, sizeof name - 1);
     name[length > 0 ? length : 0] = 0;
     const char *slash = strrchr(name, '/');
-    if (length <= 0 || (slash && !strcmp(slash, "/canbusd-bridge")) || has_library(pid)) {
+    find_libraries(pid, &has_ours, &has_c);
+    if (length <= 0 || (slash && !strcmp(slash, "/canbusd-bridge")) || has_ours) {
         return NULL;
     }
     const char *obstacle = program_obstacle(path);
-    return obstacle ? obstacle : looks > 20 * FOREIGN_LOOKS ? "has lost LD_PRELOAD, as by env -i" : NULL;
+    return obstacle ? obstacle : has_c ? "has lost LD_PRELOAD, as by env -i" : NULL;
 }
 
 static bool find_foreign(struct slot *slot, int looks) {
     if (slot->is_foreign || looks < FOREIGN_LOOKS || looks % FOREIGN_LOOKS) {
         return slot->is_foreign;
     }
-    const char *obstacle = obstacle_of(slot->pid, looks);
+    const char *obstacle = obstacle_of(slot->pid);
     if (obstacle) {
         slot->is_foreign = 1;
         say_once(slot->pid,
@@ -182,24 +186,44 @@ static bool one_pass(uint64_t *times) {
     return true;
 }
 
+/* Whether a thread of the run has a processor or waits for one: also one that ends, or helps to start another. */
+static bool any_runs(void) {
+    static uint32_t pids[TREE_MOST];
+    size_t count = tree_below((uint32_t)getpid(), pids, TREE_MOST);
+    for (size_t i = 0; i < count; i++) {
+        char path[40];
+        bool runs = false;
+        snprintf(path, sizeof path, "/proc/%u/task", pids[i]);
+        DIR *folder = opendir(path);
+        for (struct dirent *entry; folder && !runs && (entry = readdir(folder));) {
+            uint32_t tid = (uint32_t)atoi(entry->d_name);
+            char state = tid ? proc_state(pids[i], tid) : 'X';
+            runs = state == 'R' || state == 'D';
+        }
+        if (folder) {
+            closedir(folder);
+        }
+        if (runs) {
+            return true;
+        }
+    }
+    return false;
+}
+
 bool outside_sleeps(void) {
     uint64_t before, now;
     outside_strangers();
     /* Twice, as one may have woken another that had been looked at. */
-    return one_pass(&before) && one_pass(&now) && before == now;
+    return one_pass(&before) && !any_runs() && one_pass(&now) && before == now;
 }
 
 /* ---- who has the turn, and sleeps ---- */
 
-static void take_back(uint32_t index) {
-    struct slot *slot = &run->slots[index];
-    uint32_t runs = SLOT_RUNS, has = index, outside = SLOT_OUTSIDE;
-    if (!__atomic_compare_exchange_n((uint32_t *)&slot->state, &runs, SLOT_OUTSIDE, 0, __ATOMIC_SEQ_CST,
-                                     __ATOMIC_SEQ_CST)) {
-        return;
-    }
-    if (!__atomic_compare_exchange_n((uint32_t *)&run->turn, &has, NOBODY, 0, __ATOMIC_SEQ_CST, __ATOMIC_SEQ_CST)) {
-        __atomic_compare_exchange_n((uint32_t *)&slot->state, &outside, SLOT_RUNS, 0, __ATOMIC_SEQ_CST,
+static void take_back(uint64_t turn) {
+    struct slot *slot = &run->slots[(uint32_t)turn & NOBODY];
+    uint32_t runs = SLOT_RUNS;
+    if (slot->state == SLOT_RUNS && turn_change(turn, NOBODY)) {
+        __atomic_compare_exchange_n((uint32_t *)&slot->state, &runs, SLOT_OUTSIDE, 0, __ATOMIC_SEQ_CST,
                                     __ATOMIC_SEQ_CST);
     }
 }
@@ -221,20 +245,21 @@ static bool is_asleep_for_long(uint32_t index, char state, uint64_t times) {
     return ++last.looks >= SLEEP_LOOKS;
 }
 
-void outside_watch(uint32_t index, int looks, bool (*is_asked)(void)) {
+void outside_watch(uint64_t turn, int looks, bool (*is_asked)(void)) {
+    uint32_t index = (uint32_t)turn & NOBODY;
     struct slot *slot = &run->slots[index];
-    char state = proc_state(slot->pid, slot->tid);
-    uint64_t before = times_run(slot->pid, slot->tid);
+    uint32_t pid = slot->pid, tid = slot->tid;
+    char state = proc_state(pid, tid);
     if (state == 'Z' || state == 'X') {
-        if (slot->pid != slot->tid || state == 'Z') {
-            free_slot(slot); /* A thread that has ended unseen; of a process its end is seen. */
-            run->turn = NOBODY;
+        /* A thread that has ended unseen; of a process its end is seen. */
+        if ((pid != tid || state == 'Z') && turn_change(turn, NOBODY)) {
+            free_slot(slot);
         }
     } else if (find_foreign(slot, looks)) {
-        take_back(index);
-    } else if (is_asleep_for_long(index, state, before) && !is_asked()) {
+        take_back(turn);
+    } else if (is_asleep_for_long(index, state, times_run(pid, tid)) && !is_asked() && !any_runs()) {
         outside_strangers();
-        take_back(index);
+        take_back(turn);
     }
 }
 

@@ -10,8 +10,8 @@
 #include <string.h>
 #include <time.h>
 
-/* How long the sender of a signal waits for who takes it: at most a second. */
-#define SETTLE_LOOKS 5000
+/* How long the sender of a signal waits for who takes it: at most five seconds. */
+#define SETTLE_LOOKS 25000
 #define SETTLE_PAUSE 200000
 
 static char *put_number(char *at, uint32_t number) {
@@ -85,7 +85,7 @@ static bool is_settled(uint32_t pid) {
     bool is_there = false;
     for (uint32_t i = 0; i < run->used; i++) {
         struct slot *slot = &run->slots[i];
-        if (slot->pid != pid || slot->state == SLOT_FREE || i == (run->turn & ~DECIDING)) {
+        if (slot->pid != pid || slot->state == SLOT_FREE || i == turn_owner()) {
             continue;
         }
         is_there = true;

@@ -23,9 +23,11 @@
 #define SECOND 1000000000ull
 /* CLOCK_MONOTONIC at the start. */
 #define UPTIME (1000 * SECOND)
-/* The turn of nobody is the coordinator's. Who decides whose turn is next marks it by this bit. */
-#define NOBODY 0x7fffffffu
-#define DECIDING 0x80000000u
+/* The turn: the number of the slot that has it, or NOBODY, and then it is the coordinator's; a bit that this one decides
+ * whose turn is next; and above them how often it was handed on, so that no two turns are the same. */
+#define NOBODY 0x7fffffu
+#define DECIDING 0x800000u
+#define TURN_BITS 24
 
 enum state {
     SLOT_FREE,
@@ -84,14 +86,14 @@ struct run {
     int32_t coordinator;
     uint32_t has_ended;
     _Atomic uint64_t now __attribute__((aligned(64)));
-    _Atomic uint32_t turn;
+    _Atomic uint64_t turn;
     _Atomic uint32_t used; /* slots that were ever used */
     _Atomic uint32_t pause;
     _Atomic uint32_t births; /* a word to wait on for one that is born */
     _Atomic uint64_t waits, tickets;
-    _Atomic uint64_t turns, moments; /* how often the turn was handed on, and the clock went on */
-    _Atomic uint64_t spun;           /* nanoseconds that went by as threads looked at the clock again and again */
-    _Atomic uint32_t ports[PORTS];   /* TCP ports that programs of the run listen at */
+    _Atomic uint64_t moments;      /* how often the clock went on */
+    _Atomic uint64_t spun;         /* nanoseconds that went by as threads looked at the clock again and again */
+    _Atomic uint32_t ports[PORTS]; /* TCP ports that programs of the run listen at */
     struct slot slots[SLOTS];
     struct alarm alarms[ALARMS];
 };

@@ -82,7 +82,7 @@ static uint32_t find_slot(void) {
     for (uint32_t i = 0; i < run->used; i++) {
         struct slot *slot = &run->slots[i];
         bool is_old = slot->pid == pid && slot->tid && slot->state != SLOT_FREE && slot->state != SLOT_BORN;
-        bool has_it = i == (run->turn & ~DECIDING);
+        bool has_it = i == turn_owner();
         if (is_old && (found == NOBODY || has_it)) {
             found = i;
         }

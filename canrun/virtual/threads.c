@@ -46,11 +46,12 @@ static void thread_ends(void *count) {
     if (!slot) {
         return;
     }
-    regain_turn();
     my.is_deciding++;
+    do {
+        regain_turn();
+    } while (!begin_deciding());
     wake(key_of((void *)(uintptr_t)pthread_self(), OF_END), INT_MAX);
     free_slot(slot);
-    run->turn = my.index | DECIDING;
     uint32_t next = next_turn(false);
     my.slot = NULL;
     hand_turn(next);

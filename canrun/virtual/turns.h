@@ -63,7 +63,16 @@ void wake_descriptors(uint32_t pid);
 /* A moment from now, and the moment at which a clock shows this. */
 uint64_t after(uint64_t nanoseconds);
 
-/* Who can go on next: the number of its slot, or NOBODY and run->pause. Only for who has the turn. */
+/* Whose turn it is, or NOBODY. */
+uint32_t turn_owner(void);
+
+/* Changes the turn from `turn`, as it was read, to that of another, or marks it by DECIDING; false where it is over. */
+bool turn_change(uint64_t turn, uint32_t to);
+
+/* Begins to decide whose turn is next, for who has it; false where it was taken back. */
+bool begin_deciding(void);
+
+/* Who can go on next: the number of its slot, or NOBODY and run->pause. Only for who decides. */
 uint32_t next_turn(bool ignores_outside);
 void hand_turn(uint32_t index);
 
