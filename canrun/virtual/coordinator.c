@@ -106,13 +106,6 @@ static void admit(void) {
     close(fd);
 }
 
-static uint32_t parent_of(uint32_t pid) {
-    char text[512];
-    proc_read(pid, 0, "stat", text, sizeof text);
-    char *at = strrchr(text, ')');
-    return at && at[1] ? (uint32_t)atoi(at + 4) : 0;
-}
-
 static void forget(uint32_t pid) {
     for (uint32_t i = 0; i < run->used; i++) {
         struct slot *slot = &run->slots[i];
@@ -141,7 +134,7 @@ static void reap(void) {
 
 /* A process has ended: its parent gets to know it before anybody goes on. */
 static void process_ended(uint32_t pid, int fd) {
-    uint32_t parent = parent_of(pid);
+    uint32_t parent = proc_parent(pid);
     close(fd);
     if (parent && parent != (uint32_t)getpid()) {
         settle(parent);
@@ -159,11 +152,6 @@ static void process_ended(uint32_t pid, int fd) {
 }
 
 /* ---- deciding ---- */
-
-static void give_up(void) {
-    coordinator.status = STATUS_STUCK;
-    coordinator.is_over = true;
-}
 
 static bool is_stalled(void) {
     double now = real_now();
@@ -206,9 +194,9 @@ static void send_alarms(void) {
 }
 
 static void end_by_until(void) {
-    say("the time is over (--until)");
     run->now = run->until;
     run->until = NEVER;
+    say("the time is over (--until)");
     kill(coordinator.root, SIGTERM);
     settle((uint32_t)coordinator.root);
 }
@@ -221,9 +209,8 @@ static int wait_idle(void) {
     }
     epoll_ctl(coordinator.own, EPOLL_CTL_MOD, run_epoll, &event);
     if (is_stalled()) {
-        say("all wait, and nobody for a moment: for one another, or for what is outside of the run:");
+        fail("all wait, and nobody for a moment: for one another, or for what is outside of the run:");
         say_waits();
-        give_up();
     }
     return 50;
 }
@@ -256,9 +243,8 @@ static int decide(void) {
             coordinator.since = 0;
         }
         if (is_stalled()) {
-            say("who is waited for does not go on for %.0f s:", coordinator.options->stall);
+            fail("who is waited for does not go on for %.0f s:", coordinator.options->stall);
             say_waits();
-            give_up();
         }
         return SOON_MS;
     }
@@ -289,10 +275,9 @@ static void watch(void) {
     coordinator.run_before = coordinator.run_before ? coordinator.run_before : used;
     double stall = coordinator.options->stall;
     if (stall > 0 && (double)(used - coordinator.run_before) > stall * SECOND) {
-        say("%s has run for %.0f s without waiting; if it looks for what another thread does, that one gets no turn "
-            "(--stall S for more)",
-            who(slot->pid, slot->tid), stall);
-        give_up();
+        fail("%s has run for %.0f s without waiting; if it looks for what another thread does, that one gets no turn "
+             "(--stall S for more)",
+             who(slot->pid, slot->tid), stall);
     }
 }
 
@@ -377,11 +362,11 @@ static void end_rest(void) {
 
 static void loop(void) {
     int patience = 0;
-    while (!coordinator.is_over) {
+    while (!coordinator.is_over || run->has_failed) {
         double ended = coordinator.has_ended ? coordinator.since : 0;
         handle_events(patience);
-        if (coordinator.number) {
-            coordinator.status = 128 + coordinator.number;
+        if (coordinator.number || run->has_failed) {
+            coordinator.status = run->has_failed ? STATUS_STUCK : 128 + coordinator.number;
             return;
         }
         if (turn_owner() == NOBODY) {

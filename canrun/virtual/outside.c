@@ -65,7 +65,7 @@ static bool find_foreign(struct slot *slot, int looks) {
     if (obstacle) {
         slot->is_foreign = 1;
         say_once(slot->pid,
-                 "%s %s, so it sees the real time; the clock of the run stands still while it runs or sleeps",
+                 "%s %s, so it sees the real time; the clock of the run stands still while it runs",
                  who(slot->pid, 0), obstacle);
     }
     return slot->is_foreign;
@@ -107,6 +107,13 @@ static bool is_timed(const struct called *called) {
     case SYS_pselect6: return a[4] != 0;
     case SYS_futex: return ((a[1] & 127) == 0 || (a[1] & 127) == 9) && a[3] != 0;
     case SYS_rt_sigtimedwait: return a[2] != 0;
+    case SYS_mq_timedsend:
+    case SYS_mq_timedreceive:
+    case SYS_recvmmsg:
+    case SYS_io_getevents: return a[4] != 0;
+    case SYS_semtimedop:
+    case SYS_epoll_pwait2: return a[3] != 0;
+    case SYS_io_uring_enter: return true; /* What it waits for is not known. */
     default: return false;
     }
 }
@@ -140,8 +147,8 @@ static bool sleeps(uint32_t pid, uint32_t tid) {
         return false;
     }
     if (state == 'S' && called.is_known && is_timed(&called)) {
-        say_once(pid, "%s waits in real time (system call %ld); the clock of the run stands still meanwhile",
-                 who(pid, tid), called.number);
+        fail("%s waits by the real clock, in system call %ld, which virtual time does not see%s", who(pid, tid),
+             called.number, obstacle_of(pid) ? ": it does not load the library" : "");
         return false;
     }
     return state == 'S';
@@ -294,7 +301,7 @@ void outside_births(int looks) {
         char state = proc_state(slot->pid, 0);
         if (state == 'X' || state == 'Z' || (slot->parent == STRANGER && has_begun(slot->pid))) {
             free_slot(slot);
-        } else if (find_foreign(slot, looks)) {
+        } else if (state == 'T' || find_foreign(slot, looks)) {
             slot->tid = slot->pid;
             slot->state = SLOT_OUTSIDE;
         }

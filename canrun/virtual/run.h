@@ -18,7 +18,7 @@
 #define RUN_MAGIC 0x3276646273756e63ull
 #define SLOTS 2048
 #define ALARMS 256
-#define PORTS 256
+#define PORTS 65536
 #define NEVER UINT64_MAX
 #define SECOND 1000000000ull
 /* CLOCK_MONOTONIC at the start. */
@@ -85,15 +85,16 @@ struct run {
     uint64_t jitter;       /* nanoseconds that a timed wait is longer at most */
     int32_t coordinator;
     uint32_t has_ended;
+    _Atomic uint32_t has_failed; /* a line has said why the run can't go on */
     _Atomic uint64_t now __attribute__((aligned(64)));
     _Atomic uint64_t turn;
     _Atomic uint32_t used; /* slots that were ever used */
     _Atomic uint32_t pause;
     _Atomic uint32_t births; /* a word to wait on for one that is born */
     _Atomic uint64_t waits, tickets;
-    _Atomic uint64_t moments;      /* how often the clock went on */
-    _Atomic uint64_t spun;         /* nanoseconds that went by as threads looked at the clock again and again */
-    _Atomic uint32_t ports[PORTS]; /* TCP ports that programs of the run listen at */
+    _Atomic uint64_t moments;         /* how often the clock went on */
+    _Atomic uint64_t spun;            /* nanoseconds that went by as threads looked at the clock again and again */
+    _Atomic uint8_t ports[PORTS / 8]; /* a bit for each TCP port that a program of the run has listened at */
     struct slot slots[SLOTS];
     struct alarm alarms[ALARMS];
 };
