@@ -226,11 +226,12 @@ bool outside_sleeps(void) {
 
 /* ---- who has the turn, and sleeps ---- */
 
-static void take_back(uint64_t turn) {
+/* One that is stopped may not have begun its turn. */
+static void take_back(uint64_t turn, bool is_stopped) {
     struct slot *slot = &run->slots[(uint32_t)turn & NOBODY];
-    uint32_t runs = SLOT_RUNS;
-    if (slot->state == SLOT_RUNS && turn_change(turn, NOBODY)) {
-        __atomic_compare_exchange_n((uint32_t *)&slot->state, &runs, SLOT_OUTSIDE, 0, __ATOMIC_SEQ_CST,
+    uint32_t state = slot->state;
+    if ((state == SLOT_RUNS || is_stopped) && turn_change(turn, NOBODY)) {
+        __atomic_compare_exchange_n((uint32_t *)&slot->state, &state, SLOT_OUTSIDE, 0, __ATOMIC_SEQ_CST,
                                     __ATOMIC_SEQ_CST);
     }
 }
@@ -263,10 +264,10 @@ void outside_watch(uint64_t turn, int looks, bool (*is_asked)(void)) {
             free_slot(slot);
         }
     } else if (find_foreign(slot, looks)) {
-        take_back(turn);
+        take_back(turn, false);
     } else if (is_asleep_for_long(index, state, times_run(pid, tid)) && !is_asked() && !any_runs()) {
         outside_strangers();
-        take_back(turn);
+        take_back(turn, state == 'T' || state == 't');
     }
 }
 
