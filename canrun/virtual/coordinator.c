@@ -5,6 +5,7 @@
 #include "messages.h"
 #include "outside.h"
 #include "proc.h"
+#include "rights.h"
 #include "tree.h"
 #include "turns.h"
 
@@ -76,22 +77,10 @@ static void admit(void) {
     int fd = accept4(coordinator.listening, NULL, NULL, SOCK_CLOEXEC);
     struct ucred peer = {0};
     socklen_t length = sizeof peer;
-    char byte = 0;
-    struct iovec part = {&byte, 1};
-    union {
-        char room[CMSG_SPACE(sizeof(int))];
-        struct cmsghdr align;
-    } control = {.room = {0}};
-    struct msghdr message = {
-        .msg_iov = &part, .msg_iovlen = 1, .msg_control = &control, .msg_controllen = sizeof control};
-    struct cmsghdr *rights = CMSG_FIRSTHDR(&message);
+    struct rights rights;
     if (fd < 0) {
         return;
     }
-    rights->cmsg_level = SOL_SOCKET;
-    rights->cmsg_type = SCM_RIGHTS;
-    rights->cmsg_len = CMSG_LEN(sizeof(int));
-    memcpy(CMSG_DATA(rights), &run_epoll, sizeof(int));
     if (!getsockopt(fd, SOL_SOCKET, SO_PEERCRED, &peer, &length) && peer.pid > 0) {
         bool is_known = false;
         for (uint32_t i = 0; i < run->used; i++) {
@@ -102,7 +91,7 @@ static void admit(void) {
             watch_process((uint32_t)peer.pid);
         }
     }
-    sendmsg(fd, &message, MSG_NOSIGNAL);
+    sendmsg(fd, rights_message(&rights, run_epoll), MSG_NOSIGNAL);
     close(fd);
 }
 
@@ -159,6 +148,11 @@ static bool is_stalled(void) {
         coordinator.since = now;
     }
     return coordinator.options->stall > 0 && now - coordinator.since > coordinator.options->stall;
+}
+
+static void fail_stalled(void) {
+    fail("who is waited for does not go on for %.0f s:", coordinator.options->stall);
+    say_waits();
 }
 
 static void send_alarm(struct alarm *alarm) {
@@ -243,8 +237,7 @@ static int decide(void) {
             coordinator.since = 0;
         }
         if (is_stalled()) {
-            fail("who is waited for does not go on for %.0f s:", coordinator.options->stall);
-            say_waits();
+            fail_stalled();
         }
         return SOON_MS;
     }
@@ -278,6 +271,8 @@ static void watch(void) {
         fail("%s has run for %.0f s without waiting; if it looks for what another thread does, that one gets no turn "
              "(--stall S for more)",
              who(slot->pid, slot->tid), stall);
+    } else if (is_stalled() && !outside_any_runs()) {
+        fail_stalled();
     }
 }
 

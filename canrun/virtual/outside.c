@@ -193,24 +193,27 @@ static bool one_pass(uint64_t *times) {
     return true;
 }
 
-/* Whether a thread of the run has a processor or waits for one: also one that ends, or helps to start another. */
-static bool any_runs(void) {
+static bool process_runs(uint32_t pid) {
+    char path[40];
+    bool runs = false;
+    snprintf(path, sizeof path, "/proc/%u/task", pid);
+    DIR *folder = opendir(path);
+    for (struct dirent *entry; folder && !runs && (entry = readdir(folder));) {
+        uint32_t tid = (uint32_t)atoi(entry->d_name);
+        char state = tid ? proc_state(pid, tid) : 'X';
+        runs = state == 'R' || state == 'D';
+    }
+    if (folder) {
+        closedir(folder);
+    }
+    return runs;
+}
+
+bool outside_any_runs(void) {
     static uint32_t pids[TREE_MOST];
     size_t count = tree_below((uint32_t)getpid(), pids, TREE_MOST);
     for (size_t i = 0; i < count; i++) {
-        char path[40];
-        bool runs = false;
-        snprintf(path, sizeof path, "/proc/%u/task", pids[i]);
-        DIR *folder = opendir(path);
-        for (struct dirent *entry; folder && !runs && (entry = readdir(folder));) {
-            uint32_t tid = (uint32_t)atoi(entry->d_name);
-            char state = tid ? proc_state(pids[i], tid) : 'X';
-            runs = state == 'R' || state == 'D';
-        }
-        if (folder) {
-            closedir(folder);
-        }
-        if (runs) {
+        if (process_runs(pids[i])) {
             return true;
         }
     }
@@ -221,7 +224,7 @@ bool outside_sleeps(void) {
     uint64_t before, now;
     outside_strangers();
     /* Twice, as one may have woken another that had been looked at. */
-    return one_pass(&before) && !any_runs() && one_pass(&now) && before == now;
+    return one_pass(&before) && !outside_any_runs() && one_pass(&now) && before == now;
 }
 
 /* ---- who has the turn, and sleeps ---- */
@@ -265,7 +268,7 @@ void outside_watch(uint64_t turn, int looks, bool (*is_asked)(void)) {
         }
     } else if (find_foreign(slot, looks)) {
         take_back(turn, false);
-    } else if (is_asleep_for_long(index, state, times_run(pid, tid)) && !is_asked() && !any_runs()) {
+    } else if (is_asleep_for_long(index, state, times_run(pid, tid)) && !is_asked() && !outside_any_runs()) {
         outside_strangers();
         take_back(turn, state == 'T' || state == 't');
     }

@@ -12,6 +12,9 @@ void outside_watch(uint64_t turn, int looks, bool (*is_asked)(void));
 /* Whether all that are outside sleep, and none by a clock that goes on. */
 bool outside_sleeps(void);
 
+/* Whether a thread of the run has a processor or waits for one: also one that ends, or helps to start another. */
+bool outside_any_runs(void);
+
 /* Whether one that is outside, or has not begun, has a processor or waits for one. */
 bool outside_runs(void);
 
