@@ -64,8 +64,7 @@ static bool find_foreign(struct slot *slot, int looks) {
     const char *obstacle = obstacle_of(slot->pid);
     if (obstacle) {
         slot->is_foreign = 1;
-        say_once(slot->pid,
-                 "%s %s, so it sees the real time; the clock of the run stands still while it runs",
+        say_once(slot->pid, "%s %s, so it sees the real time; the clock of the run stands still while it runs",
                  who(slot->pid, 0), obstacle);
     }
     return slot->is_foreign;
@@ -147,8 +146,9 @@ static bool sleeps(uint32_t pid, uint32_t tid) {
         return false;
     }
     if (state == 'S' && called.is_known && is_timed(&called)) {
-        fail("%s waits by the real clock, in system call %ld, which virtual time does not see%s", who(pid, tid),
-             called.number, obstacle_of(pid) ? ": it does not load the library" : "");
+        const char *obstacle = obstacle_of(pid);
+        fail("%s waits by the real clock, in system call %ld, which virtual time does not see%s%s", who(pid, tid),
+             called.number, obstacle ? ": it " : "", obstacle ? obstacle : "");
         return false;
     }
     return state == 'S';

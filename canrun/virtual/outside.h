@@ -5,8 +5,8 @@
 #include <stdbool.h>
 #include <stdint.h>
 
-/* Looks at who has this turn and has not handed it on for so many looks; takes it back where that thread sleeps and none
- * of the run is to wake it, but not where it may wait for the coordinator, which `is_asked`. */
+/* Looks at who has this turn and has not handed it on for so many looks; takes it back where that thread sleeps and
+ * none of the run is to wake it, but not where it may wait for the coordinator, which `is_asked`. */
 void outside_watch(uint64_t turn, int looks, bool (*is_asked)(void));
 
 /* Whether all that are outside sleep, and none by a clock that goes on. */

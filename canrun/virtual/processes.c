@@ -233,11 +233,11 @@ EXPORT void closefrom(int first) {
 __attribute__((noreturn)) static void fail_outside(const char *what) {
     struct timespec second = {1, 0};
     char line[400];
-    int length = snprintf(line, sizeof line,
-                          "canbusd-run: virtual time: at %.6f s %s (thread %ld of process %ld) connects to %s, which is "
-                          "no program of this run; start it inside of the run\n",
-                          (double)run->now / SECOND, program_invocation_short_name, RAW(SYS_gettid, 0),
-                          RAW(SYS_getpid, 0), what);
+    int length = snprintf(
+        line, sizeof line,
+        "canbusd-run: virtual time: at %.6f s %s (thread %ld of process %ld) connects to %s, which is "
+        "no program of this run; start it inside of the run\n",
+        (double)run->now / SECOND, program_invocation_short_name, RAW(SYS_gettid, 0), RAW(SYS_getpid, 0), what);
     RAW(SYS_write, 2, line, length);
     run->has_failed = 1;
     for (;;) {
@@ -277,7 +277,8 @@ EXPORT int listen(int fd, int backlog) {
     return (int)answer(result);
 }
 
-/* Fails where the other end of a connection is outside of the run; what looks up names of users and hosts may be there. */
+/* Fails where the other end of a connection is outside of the run; what looks up names of users and hosts may be there.
+ */
 static void check_peer(int fd, const struct sockaddr *to) {
     char text[160];
     int type = 0;

@@ -23,8 +23,8 @@
 #define SECOND 1000000000ull
 /* CLOCK_MONOTONIC at the start. */
 #define UPTIME (1000 * SECOND)
-/* The turn: the number of the slot that has it, or NOBODY, and then it is the coordinator's; a bit that this one decides
- * whose turn is next; and above them how often it was handed on, so that no two turns are the same. */
+/* The turn: the number of the slot that has it, or NOBODY, and then it is the coordinator's; a bit that this one
+ * decides whose turn is next; and above them how often it was handed on, so that no two turns are the same. */
 #define NOBODY 0x7fffffu
 #define DECIDING 0x800000u
 #define TURN_BITS 24

@@ -52,8 +52,8 @@ static void watch(int fd) {
     while (poll(&polled, 1, 3000) > 0 && read(fd, &message, sizeof message) > 0) {
         struct timespec t;
         clock_gettime(CLOCK_MONOTONIC, &t);
-        printf("%ld.%06ld %s %d\n", t.tv_sec, t.tv_nsec / 1000, message.head.opcode == RX_TIMEOUT ? "timeout" : "changed",
-               message.frame.data[0]);
+        printf("%ld.%06ld %s %d\n", t.tv_sec, t.tv_nsec / 1000,
+               message.head.opcode == RX_TIMEOUT ? "timeout" : "changed", message.frame.data[0]);
     }
 }
 

@@ -1,5 +1,5 @@
-/* cyclic NAME ID MICROSECONDS COUNT [DATA]: sends frames at exact moments, from the next whole second on. They have these
- * data, in hexadecimal digits, or their number in two bytes. */
+/* cyclic NAME ID MICROSECONDS COUNT [DATA]: sends frames at exact moments, from the next whole second on. They have
+ * these data, in hexadecimal digits, or their number in two bytes. */
 #include "node.h"
 
 static void read_data(struct can_frame *frame, const char *digits) {

@@ -7,7 +7,7 @@ export CANBUSD_ADDRESS="$OUT/socket"
 start() {
     mkfifo "$OUT/stdin"
     "$CANBUSD" serve --until-eof --bitrate 500000 --out "$OUT" --listen "$CANBUSD_ADDRESS" "$@" \
-        <"$OUT/stdin" >"$OUT/socket.server" 2>"$OUT/errors" &
+        <"$OUT/stdin" >"$OUT/address" 2>"$OUT/errors" &
     server=$!
     exec 9>"$OUT/stdin"
     sleep 0.1
