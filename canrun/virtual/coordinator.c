@@ -35,6 +35,8 @@
 #define END_MS 2000
 /* Looks between two at how long a thread has run, and seconds between two at how busy the processor is. */
 #define RARELY 50
+/* Nanoseconds of a processor after which a thread that has the turn computes for long. */
+#define LONG_RUN 1000000000
 #define PROCESSOR_SECONDS 0.25
 #define PROCESSES 4096
 
@@ -267,6 +269,9 @@ static void watch(void) {
     uint64_t used = proc_usage(slot->pid, slot->tid).run;
     coordinator.run_before = coordinator.run_before ? coordinator.run_before : used;
     double stall = coordinator.options->stall;
+    if (used - coordinator.run_before > LONG_RUN) {
+        outside_share(turn);
+    }
     if (stall > 0 && (double)(used - coordinator.run_before) > stall * SECOND) {
         fail("%s has run for %.0f s without waiting; if it looks for what another thread does, that one gets no turn "
              "(--stall S for more)",

@@ -73,7 +73,7 @@ const char *who(uint32_t pid, uint32_t tid) {
 
 void say_waits(void) {
     static const char *const kinds[] = {"a moment",      "a descriptor", "a lock, condition or semaphore",
-                                        "a child's end", "a signal",     "a thread's end"};
+                                        "a child's end", "a signal",     "the interpreter"};
     int listed = 0;
     for (uint32_t i = 0; i < run->used; i++) {
         struct slot *slot = &run->slots[i];

@@ -274,6 +274,25 @@ void outside_watch(uint64_t turn, int looks, bool (*is_asked)(void)) {
     }
 }
 
+void outside_share(uint64_t turn) {
+    struct slot *slot = &run->slots[(uint32_t)turn & NOBODY];
+    uint32_t runs = SLOT_RUNS;
+    for (uint32_t i = 0; i < run->used; i++) {
+        struct slot *other = &run->slots[i];
+        bool waits = other->state == SLOT_WAITS && (other->flags || other->kind == KIND_INTERPRETER);
+        if (other == slot || other->pid != slot->pid || !(waits || other->state == SLOT_READY)) {
+            continue;
+        }
+        if (turn_change(turn, i)) {
+            __atomic_compare_exchange_n((uint32_t *)&slot->state, &runs, SLOT_READY, 0, __ATOMIC_SEQ_CST,
+                                        __ATOMIC_SEQ_CST);
+            other->flags |= other->flags ? 0 : IS_OVER;
+            wake_owner(i);
+        }
+        return;
+    }
+}
+
 /* Whether a process has a slot that it knows of. */
 static bool has_begun(uint32_t pid) {
     for (uint32_t i = 0; i < run->used; i++) {

@@ -9,6 +9,10 @@
  * none of the run is to wake it, but not where it may wait for the coordinator, which `is_asked`. */
 void outside_watch(uint64_t turn, int looks, bool (*is_asked)(void));
 
+/* Who has this turn computes for long, or looks for what another thread of its process is to do: one that can go on has
+ * the turn, or one that waits for the interpreter of Python, so that it asks for it. */
+void outside_share(uint64_t turn);
+
 /* Whether all that are outside sleep, and none by a clock that goes on. */
 bool outside_sleeps(void);
 

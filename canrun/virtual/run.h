@@ -39,11 +39,11 @@ enum state {
     SLOT_TAKEN,   /* being filled */
 };
 
-/* What has come for one that waits; none of these: its moment. */
-enum { HAS_EVENT = 1, IS_WOKEN = 2, IS_INTERRUPTED = 4 };
+/* What has come for one that waits; none of these, or IS_OVER: its moment. */
+enum { HAS_EVENT = 1, IS_WOKEN = 2, IS_INTERRUPTED = 4, IS_OVER = 8 };
 
 /* What a thread waits for, for messages. */
-enum kind { KIND_MOMENT, KIND_DESCRIPTOR, KIND_LOCK, KIND_CHILD, KIND_SIGNAL, KIND_THREAD };
+enum kind { KIND_MOMENT, KIND_DESCRIPTOR, KIND_LOCK, KIND_CHILD, KIND_SIGNAL, KIND_INTERPRETER };
 
 struct slot {
     _Atomic uint32_t go; /* the word that it sleeps on: how often it was given the turn */

@@ -226,13 +226,17 @@ bool begin_deciding(void) {
     return ((uint32_t)turn & NOBODY) == my.index && turn_change(turn, my.index | DECIDING);
 }
 
+void wake_owner(uint32_t index) {
+    run->slots[index].go++;
+    RAW(SYS_futex, &run->slots[index].go, FUTEX_WAKE, 1);
+}
+
 void hand_turn(uint32_t index) {
     turn_change(run->turn, index);
     if (index == NOBODY) {
         ring();
     } else {
-        run->slots[index].go++;
-        RAW(SYS_futex, &run->slots[index].go, FUTEX_WAKE, 1);
+        wake_owner(index);
     }
 }
 

@@ -76,6 +76,9 @@ bool begin_deciding(void);
 uint32_t next_turn(bool ignores_outside);
 void hand_turn(uint32_t index);
 
+/* Wakes the thread whose turn it is now. */
+void wake_owner(uint32_t index);
+
 /* Has the coordinator look whose turn it is, where it is nobody's. */
 void ring(void);
 
