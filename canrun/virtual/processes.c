@@ -39,6 +39,7 @@ EXPORT pid_t fork(void) {
     pid_t pid = real();
     if (pid == 0) {
         my = (struct my){.index = index, .has_talked = my.has_talked};
+        descriptors_forget();
         register_process();
         begin_slot(index);
     } else if (pid < 0) {

@@ -11,9 +11,6 @@
 extern struct run *run;
 extern int run_epoll;
 
-/* Descriptors that a thread has in the epoll, also between two waits. */
-#define WATCHED 4
-
 /* What a thread of a program knows of itself. */
 struct my {
     struct slot *slot;
@@ -24,8 +21,6 @@ struct my {
     uint32_t looks;
     uint64_t looked_at, step;
     bool has_talked;
-    uint32_t watched_next;
-    int watched[WATCHED]; /* 0: none; a descriptor 0 is put there for each wait */
 };
 extern __thread struct my my __attribute__((tls_model("initial-exec")));
 
