@@ -1,9 +1,12 @@
 """Virtual time, `canbusd-run --virtual`: the waits of unchanged programs, the same bytes each run, what is said and left."""
 
+import contextlib
 import os
 import random
 import re
+import shutil
 import signal
+import socket
 import subprocess
 import sys
 import time
@@ -14,36 +17,20 @@ from running import FLAGS, command, needs, needs_gcc
 from serving import ROOT, come_true, program
 
 SOURCES = os.path.join(ROOT, "tests", "virtual_c")
+CASES = os.path.join(ROOT, "tests", "virtual_cases")
 #: How often a case is run in the suite.
 RUNS = 5
 
-#: A server with a bit rate, candump, and two nodes, all as they are: $1 is the folder, $2 how many frames each node sends.
-SCENARIO = """
-set -e
-mkdir "$1"; export CANBUSD_ADDRESS="$1/socket"
-mkfifo "$1/stdin"
-"$CANBUSD" serve --until-eof --bitrate 500000 --out "$1" --listen "$CANBUSD_ADDRESS" can0,can1,can2 < "$1/stdin" \\
-    > "$1/server" & server=$!
-exec 9> "$1/stdin"
-sleep 0.1
-"$RUN" candump -ta can2 > "$1/candump" 9>&- & dump=$!
-sleep 0.1
-"$RUN" "$NODES/respond" can1 100 200 "$2" 9>&- &
-sleep 0.1
-"$RUN" "$NODES/cyclic" can0 100 10000 "$2" 9>&-
-sleep 0.1
-kill $dump
-sleep 0.1
-exec 9>&-
-wait $server
-"""
+has_can = subprocess.run([sys.executable, "-c", "import can"], check=False, capture_output=True).returncode == 0
+needs_can = pytest.mark.skipif(not has_can, reason="no python-can")
+needs_tools = needs("candump", "cangen", "canplayer")
 
 
 @pytest.fixture(scope="module")
 def nodes(tmp_path_factory):
     """The folder of the C programs."""
     folder = tmp_path_factory.mktemp("nodes")
-    for name in ("cyclic", "respond", "waits"):
+    for name in ("bcm", "cyclic", "isotp", "race", "respond", "unseen", "waits"):
         source = os.path.join(SOURCES, f"{name}.c")
         subprocess.run(["gcc", *FLAGS, "-o", str(folder / name), source], check=True)
     return folder
@@ -55,12 +42,31 @@ def virtual(*words, options=(), patience=300, **how):
     return subprocess.run(line, capture_output=True, text=True, timeout=patience, check=False, **how)
 
 
-def scenario(folder, nodes, frames, options=()):
-    """Runs the scenario; what it left, by the names of its files."""
-    env = {**os.environ, "RUN": command(), "CANBUSD": program(), "NODES": str(nodes)}
-    ended = virtual("bash", "-c", SCENARIO, "sh", folder, frames, options=options, env=env)
-    assert (ended.returncode, ended.stderr) == (0, ""), ended
-    return {name: (folder / name).read_bytes() for name in ("can0.log", "can0.rec", "candump")}
+def files_below(folder):
+    """What the files of a folder have, by their names."""
+    return {
+        str(path.relative_to(folder)): path.read_bytes()
+        for path in sorted(folder.rglob("*"))
+        if path.is_file() and path.name != "address"
+    }
+
+
+def case(name, folder, nodes, options=(), **settings):
+    """Runs a case of tests/virtual_cases; what it wrote, and the files that it left."""
+    env = {
+        **os.environ,
+        "RUN": command(),
+        "CANBUSD": program(),
+        "NODES": str(nodes),
+        "CASES": CASES,
+        "OUT": str(folder),
+    }
+    env.update(PYTHON=sys.executable, PYTHONPATH=os.path.join(ROOT, "python", "src"), PYTHONDONTWRITEBYTECODE="1")
+    env.pop("PYTEST_ADDOPTS", None)
+    script = os.path.join(CASES, f"{name}.sh")
+    ended = virtual("bash", script, options=options, env={**env, "KIND": "", **settings})
+    assert ended.returncode == 0, ended
+    return {"stdout": ended.stdout, "stderr": ended.stderr, **files_below(folder)}
 
 
 @needs_gcc
@@ -80,28 +86,109 @@ def test_waits(nodes):
 
 
 @needs_gcc
-@needs("candump")
+@needs_tools
 def test_moments(tmp_path, nodes):
     """a frame ends where its bits end after the moment at which it was sent: 63 to 67 bits of 2 us, by ISO 11898-1"""
-    left = scenario(tmp_path / "run", nodes, 50)
+    left = case("nodes", tmp_path / "run", nodes, FRAMES="50")
     sent = re.findall(r"\((\d+)\.(\d{6})\) +can2 +100 ", left["candump"].decode())
     assert len(sent) == 50
     for number, (_, micro) in enumerate(sent):
         assert 126 <= int(micro) - number * 10000 <= 134, (number, micro)
 
 
+def davis(rounds):
+    """The lines of a bench in which three nodes send as the case does, from the same second on."""
+    sends = [(k * 540, 1, "001 7 55 55 55 55 55 55 05") for k in range(7 * rounds)]
+    for node, text in ((2, "002 7 55 55 55 55 55 55 03"), (3, "003 7 55 55 55 55 55 55 7C")):
+        sends += [(k * 756, node, text) for k in range(5 * rounds)]
+    lines = [f"session {node}" for node in (1, 2, 3)] + [
+        f"feed {node} < open can{node - 1} >< rawmode >" for node in (1, 2, 3)
+    ]
+    lines.append("at 1767225601.000000")
+    for micro, node, text in sorted(sends):
+        lines += [f"run {1767225601 + micro // 1000000}.{micro % 1000000:06d}", f"feed {node} < send {text} >"]
+    return "\n".join(lines + ["run 1767225603.000000", ""])
+
+
 @needs_gcc
-@needs("candump")
-@pytest.mark.parametrize("runs", [RUNS, pytest.param(100, marks=pytest.mark.slow)])
-def test_same_bytes(tmp_path, nodes, runs):
-    """log, record and the output of candump are the same each time; another seed has runs of its own"""
-    first = scenario(tmp_path / "0", nodes, 20)
+def test_response_times(tmp_path, nodes):
+    """three unchanged programs leave the log of a bench with the same sends, byte for byte"""
+    left = case("davis", tmp_path / "run", nodes, ROUNDS="100")
+    words = [program(), "bench", "--bitrate", "500000", "--log", str(tmp_path / "log"), "can0,can1,can2"]
+    subprocess.run(words, input=davis(100), text=True, stdout=subprocess.DEVNULL, check=True)
+    assert left["can0.log"] == (tmp_path / "log").read_bytes()
+    assert left["can0.log"].count(b"\n") == 1700
+
+
+@needs_gcc
+@needs_tools
+def test_isotp(tmp_path, nodes):
+    """ISO-TP: a message whose receiver is gone fails after N_Bs of 1 s, exactly"""
+    sent = case("isotp", tmp_path / "run", nodes)["sent"].decode().splitlines()
+    assert [line.split(": ")[1].split()[0] for line in sent] == ["60", "4000", "-1"]
+    assert sent[2].endswith("write of 60 after 1.000000 s: -1 Communication error on send")
+
+
+SAME = [
+    *(("nodes", ""), ("tools", ""), ("isotp", ""), ("bcm", ""), ("davis", ""), ("bus_off", "auto")),
+    *(pytest.param(*words, marks=needs_can) for words in (("bus_off", "program"), ("pytest", ""))),
+    *(pytest.param("python", kind, marks=needs_can) for kind in ("socketcan", "canbusd")),
+]
+
+
+def all_same(name, kind, folder, nodes, runs):
+    """Runs a case so often, and compares what each run left with that of the first."""
+    first = case(name, folder / "0", nodes, KIND=kind)
     for number in range(1, runs):
-        assert scenario(tmp_path / str(number), nodes, 20) == first, number
+        left = case(name, folder / str(number), nodes, KIND=kind)
+        differ = [key for key in {*first, *left} if first.get(key) != left.get(key)]
+        assert not differ, f"run {number}: {differ}"
+        shutil.rmtree(folder / str(number))
+
+
+@needs_gcc
+@needs_tools
+@pytest.mark.parametrize("name, kind", SAME)
+@pytest.mark.parametrize("runs", [RUNS, pytest.param(100, marks=pytest.mark.slow)])
+def test_same_bytes(tmp_path, nodes, name, kind, runs):
+    """logs, records and all outputs are the same each time"""
+    all_same(name, kind, tmp_path, nodes, runs)
+
+
+@pytest.mark.slow
+@needs_gcc
+@needs_tools
+@pytest.mark.parametrize("name, kind", SAME)
+def test_same_bytes_beside_others(tmp_path, nodes, name, kind):
+    """the same beside four processes that burn the processors"""
+    burners = [subprocess.Popen(["nice", "-n", "19", "sh", "-c", "while :; do :; done"]) for _ in range(4)]
+    try:
+        all_same(name, kind, tmp_path, nodes, 100)
+    finally:
+        for burner in burners:
+            burner.kill()
+            burner.wait()
+
+
+@needs_gcc
+@needs_tools
+def test_seeds(tmp_path, nodes):
+    """another seed has runs of its own, which are the same each time"""
     options = ("--seed", "5", "--jitter", "300")
-    seeded = scenario(tmp_path / "a", nodes, 20, options)
-    assert seeded == scenario(tmp_path / "b", nodes, 20, options)
-    assert seeded != first
+    left = [
+        case("nodes", tmp_path / name, nodes, words, FRAMES="20") for name, words in zip("abc", (options, options, ()))
+    ]
+    assert left[0] == left[1] != left[2]
+
+
+@needs_gcc
+def test_race(nodes):
+    """a race that the usual order never shows is found by a seed, and repeated by it"""
+    assert virtual(nodes / "race").stdout == "all are unique\n"
+    found = [virtual(nodes / "race", options=("--seed", str(seed), "--jitter", "500")).stdout for seed in range(12)]
+    assert 1 <= sum("given out twice" in text for text in found) <= 11, found
+    again = [virtual(nodes / "race", options=("--seed", str(seed), "--jitter", "500")).stdout for seed in range(12)]
+    assert again == found
 
 
 def test_shell():
@@ -119,24 +206,74 @@ def test_until():
     assert ended.returncode == 128 + signal.SIGTERM and "--until" in ended.stderr
 
 
-def test_all_wait():
+def test_all_wait(tmp_path):
     """where all wait and nobody for a moment the run ends with status 125, and says who waits for what"""
-    ended = virtual("sh", "-c", "mkfifo $0; cat $0", "/tmp/canbusd-virtual-%d" % os.getpid(), options=("--stall", "2"))
-    os.unlink("/tmp/canbusd-virtual-%d" % os.getpid())
+    ended = virtual("sh", "-c", "mkfifo $0; cat $0", tmp_path / "pipe", options=("--stall", "2"))
     assert ended.returncode == 125 and "all wait, and nobody for a moment" in ended.stderr
     assert re.search(r"sh \(process \d+\) waits for a child's end", ended.stderr), ended.stderr
 
 
+def test_stopped():
+    """a program that is stopped does not hold up the others, and goes on where it was"""
+    for text, seconds in (("sleep 5 & sleep 1", 11), ("sleep 5 &", 15)):
+        script = f"{text}; kill -STOP $!".replace("&;", "&") + "; sleep 10; kill -CONT $!; wait; date +%s"
+        ended = virtual("sh", "-c", script)
+        assert (ended.returncode, ended.stdout) == (0, f"{1767225600 + seconds}\n"), ended
+
+
+def test_lock_of_a_file(tmp_path):
+    """a wait that the library does not see, but that another program ends, takes the time that it has to"""
+    text = '(flock 8; sleep 5) 8>"$0" & sleep 1; flock "$0" date +%s; wait'
+    ended = virtual("sh", "-c", text, tmp_path / "lock")
+    assert (ended.returncode, ended.stdout, ended.stderr) == (0, "1767225605\n", ""), ended
+
+
+def fails(ended, pattern):
+    """Whether a run has ended with status 125 and a line that names program and reason."""
+    assert ended.returncode == 125 and re.search(pattern, ended.stderr), ended
+
+
+@needs_gcc
+def test_unseen(nodes):
+    """a wait by the real clock and a thread that spins end the run; SO_SNDTIMEO works, io_uring is as on an old kernel"""
+    fails(virtual(nodes / "unseen", "nanosleep"), r"unseen \(process \d+\) waits by the real clock, in system call 35,")
+    fails(
+        virtual(nodes / "unseen", "spin", options=("--stall", "1")), r"unseen \(process \d+\) has run for 1 s without"
+    )
+    late = virtual(nodes / "unseen", "sndtimeo")
+    assert (late.returncode, late.stdout) == (0, "-1 EAGAIN 20000\n"), late
+    assert virtual(nodes / "unseen", "io_uring").returncode == 0
+
+
+def test_server_outside():
+    """a connection to what is no program of the run ends it"""
+    with socket.create_server(("127.0.0.1", 0)) as server:
+        port = server.getsockname()[1]
+        text = f"import socket; socket.create_connection(('127.0.0.1', {port}))"
+        ended = virtual(sys.executable, "-c", text)
+    fails(
+        ended, rf"python.* \(thread \d+ of process \d+\) connects to TCP port {port}, which is no program of this run"
+    )
+    inside = "import socket; s = socket.create_server(('127.0.0.1', 0)); socket.create_connection(s.getsockname())"
+    assert virtual(sys.executable, "-c", inside).returncode == 0
+
+
 @needs_gcc
 def test_static(tmp_path):
-    """a program without the library is named, with the reason"""
-    (tmp_path / "static.c").write_text("#include <unistd.h>\nint main(void) { return sleep(2) != 0; }\n")
+    """a program without the library is named, with the reason; its wait ends the run"""
+    (tmp_path / "static.c").write_text(
+        "#include <unistd.h>\nint main(int n, char **w) { return w && n > 1 && sleep(2); }\n"
+    )
     path = str(tmp_path / "static")
     if subprocess.run(["gcc", "-static", "-o", path, path + ".c"], check=False, capture_output=True).returncode:
         pytest.skip("no static C library")
-    ended = virtual(path)
-    assert ended.returncode == 0 and "is linked statically" in ended.stderr
-    assert "waits in real time" in ended.stderr
+    assert virtual(path).returncode == 0
+    fails(
+        virtual(path, "wait"),
+        r"static \(process \d+\) waits by the real clock, in system call \d+, .* it is linked statically",
+    )
+    lost = virtual("env", "-i", "/bin/sleep", "1")
+    fails(lost, r"sleep \(process \d+\) waits by the real clock, in system call \d+, .* it has lost LD_PRELOAD")
 
 
 @pytest.mark.parametrize(
@@ -156,17 +293,6 @@ def test_wrong_options(words, fault):
     assert ended.returncode == 125 and fault in ended.stderr and ended.stderr.count("\n") == 1
 
 
-def below(pid):
-    """The numbers of all processes below this one."""
-    found, rest = [], [pid]
-    while rest:
-        with open(f"/proc/{rest[0]}/task/{rest[0]}/children", encoding="ascii") as file:
-            children = [int(word) for word in file.read().split()]
-        rest = rest[1:] + children
-        found += children
-    return found
-
-
 def runs(pid):
     """Whether a process has not ended."""
     try:
@@ -176,19 +302,44 @@ def runs(pid):
         return False
 
 
-@pytest.mark.parametrize("times", [6, pytest.param(200, marks=pytest.mark.slow)])
+def of_run(mark):
+    """The processes that have this in their environment, as all of a run have."""
+    found = []
+    for pid in filter(str.isdigit, os.listdir("/proc")):
+        with contextlib.suppress(OSError):
+            with open(f"/proc/{pid}/environ", "rb") as file:
+                if mark in file.read() and runs(pid):
+                    found.append(int(pid))
+    return found
+
+
+#: Programs that fork, have a session of their own, ignore signals, become daemons, crash, are stopped, and execute others.
+MANY = """
+setsid sleep 1e6 &
+(trap '' TERM HUP; while :; do sleep 1; done) &
+sh -c 'kill -STOP $$' &
+(setsid sh -c 'sleep 1e6 & exec sleep 1e6' & ) &
+sh -c 'kill -SEGV $$' 2>/dev/null &
+(while :; do (sleep 0.01; exec true); done) &
+sleep 1e6 &
+wait
+"""
+
+
+@pytest.mark.parametrize("times", [10, pytest.param(200, marks=pytest.mark.slow)])
 def test_killed(times):
-    """SIGKILL of what was started, or of its coordinator, leaves nothing: also what forks, is stopped or has a session"""
-    text = "setsid sleep 1e6 & (trap '' TERM HUP; while :; do sleep 1; done) & sh -c 'kill -STOP $$' & sleep 1e6 & wait"
+    """SIGKILL of what was started, or of its coordinator, at any moment leaves no process a second later"""
     chance = random.Random(1)
     for number in range(times):
-        with subprocess.Popen([command(), "--virtual", "--", "bash", "-c", text], stderr=subprocess.DEVNULL) as child:
+        mark = f"CANBUSD_TEST_KILLED={os.getpid()}.{times}.{number}"
+        name, value = mark.split("=")
+        words = [command(), "--virtual", "--", "bash", "-c", MANY]
+        with subprocess.Popen(words, stderr=subprocess.DEVNULL, env={**os.environ, name: value}) as child:
             time.sleep(chance.uniform(0, 0.6))
-            known = below(child.pid)
-            os.kill(known[0] if number % 2 and known else child.pid, signal.SIGKILL)
-            known += below(child.pid) if runs(child.pid) else []
+            coordinators = open(f"/proc/{child.pid}/task/{child.pid}/children", encoding="ascii").read().split()
+            os.kill(int(coordinators[0]) if number % 2 and coordinators else child.pid, signal.SIGKILL)
             child.wait()
-            assert come_true(lambda: not any(map(runs, known))), [pid for pid in known if runs(pid)]
+        assert come_true(lambda: not of_run(mark.encode() + b"\0"), 5), (number, of_run(mark.encode() + b"\0"))
 
 
 PYTEST = """
@@ -215,9 +366,7 @@ def test_fault():
 """
 
 
-@pytest.mark.skipif(
-    subprocess.run([sys.executable, "-c", "import can"], check=False).returncode, reason="no python-can"
-)
+@needs_can
 def test_pytest(tmp_path):
     """pytest starts itself anew; a test that fails says how it is repeated, and one that is for it fails without it"""
     (tmp_path / "test_it.py").write_text(PYTEST, encoding="utf-8")

@@ -56,6 +56,8 @@ void looked(void);
 int poll_until(struct pollfd *fds, nfds_t count, uint64_t deadline);
 /* Whether a call on a descriptor that blocks can be made; false and errno where its timeout, or a signal, has come. */
 bool await_ready(int fd, short events, int flags);
+/* The child of a fork has nothing in the epoll. */
+void descriptors_forget(void);
 /* Whether a wait that a signal has ended is to be begun anew. */
 bool is_restarted(uint32_t flags);
 

@@ -5,6 +5,7 @@
 #include "messages.h"
 #include "outside.h"
 #include "proc.h"
+#include "rights.h"
 #include "tree.h"
 #include "turns.h"
 
@@ -34,6 +35,8 @@
 #define END_MS 2000
 /* Looks between two at how long a thread has run, and seconds between two at how busy the processor is. */
 #define RARELY 50
+/* Nanoseconds of a processor after which a thread that has the turn computes for long. */
+#define LONG_RUN 1000000000
 #define PROCESSOR_SECONDS 0.25
 #define PROCESSES 4096
 
@@ -44,7 +47,7 @@ static struct {
     int root_status, status;
     bool has_ended, is_over;
     volatile sig_atomic_t number; /* of a signal that ends the run */
-    uint64_t seen_turns;
+    uint64_t seen_turn;
     int looks;
     double since; /* real time since which nothing has gone on */
     uint64_t run_before;
@@ -76,22 +79,10 @@ static void admit(void) {
     int fd = accept4(coordinator.listening, NULL, NULL, SOCK_CLOEXEC);
     struct ucred peer = {0};
     socklen_t length = sizeof peer;
-    char byte = 0;
-    struct iovec part = {&byte, 1};
-    union {
-        char room[CMSG_SPACE(sizeof(int))];
-        struct cmsghdr align;
-    } control = {.room = {0}};
-    struct msghdr message = {
-        .msg_iov = &part, .msg_iovlen = 1, .msg_control = &control, .msg_controllen = sizeof control};
-    struct cmsghdr *rights = CMSG_FIRSTHDR(&message);
+    struct rights rights;
     if (fd < 0) {
         return;
     }
-    rights->cmsg_level = SOL_SOCKET;
-    rights->cmsg_type = SCM_RIGHTS;
-    rights->cmsg_len = CMSG_LEN(sizeof(int));
-    memcpy(CMSG_DATA(rights), &run_epoll, sizeof(int));
     if (!getsockopt(fd, SOL_SOCKET, SO_PEERCRED, &peer, &length) && peer.pid > 0) {
         bool is_known = false;
         for (uint32_t i = 0; i < run->used; i++) {
@@ -102,25 +93,17 @@ static void admit(void) {
             watch_process((uint32_t)peer.pid);
         }
     }
-    sendmsg(fd, &message, MSG_NOSIGNAL);
+    sendmsg(fd, rights_message(&rights, run_epoll), MSG_NOSIGNAL);
     close(fd);
-}
-
-static uint32_t parent_of(uint32_t pid) {
-    char text[512];
-    proc_read(pid, 0, "stat", text, sizeof text);
-    char *at = strrchr(text, ')');
-    return at && at[1] ? (uint32_t)atoi(at + 4) : 0;
 }
 
 static void forget(uint32_t pid) {
     for (uint32_t i = 0; i < run->used; i++) {
         struct slot *slot = &run->slots[i];
         if (slot->pid == pid && slot->state != SLOT_FREE) {
-            bool has_turn = (run->turn & ~DECIDING) == i;
             free_slot(slot);
-            if (has_turn) {
-                run->turn = NOBODY;
+            while (turn_owner() == i) {
+                turn_change(run->turn, NOBODY);
             }
         }
     }
@@ -142,7 +125,7 @@ static void reap(void) {
 
 /* A process has ended: its parent gets to know it before anybody goes on. */
 static void process_ended(uint32_t pid, int fd) {
-    uint32_t parent = parent_of(pid);
+    uint32_t parent = proc_parent(pid);
     close(fd);
     if (parent && parent != (uint32_t)getpid()) {
         settle(parent);
@@ -161,17 +144,17 @@ static void process_ended(uint32_t pid, int fd) {
 
 /* ---- deciding ---- */
 
-static void give_up(void) {
-    coordinator.status = STATUS_STUCK;
-    coordinator.is_over = true;
-}
-
 static bool is_stalled(void) {
     double now = real_now();
     if (!coordinator.since) {
         coordinator.since = now;
     }
     return coordinator.options->stall > 0 && now - coordinator.since > coordinator.options->stall;
+}
+
+static void fail_stalled(void) {
+    fail("who is waited for does not go on for %.0f s:", coordinator.options->stall);
+    say_waits();
 }
 
 static void send_alarm(struct alarm *alarm) {
@@ -207,9 +190,9 @@ static void send_alarms(void) {
 }
 
 static void end_by_until(void) {
-    say("the time is over (--until)");
     run->now = run->until;
     run->until = NEVER;
+    say("the time is over (--until)");
     kill(coordinator.root, SIGTERM);
     settle((uint32_t)coordinator.root);
 }
@@ -222,9 +205,8 @@ static int wait_idle(void) {
     }
     epoll_ctl(coordinator.own, EPOLL_CTL_MOD, run_epoll, &event);
     if (is_stalled()) {
-        say("all wait, and nobody for a moment: for one another, or for what is outside of the run:");
+        fail("all wait, and nobody for a moment: for one another, or for what is outside of the run:");
         say_waits();
-        give_up();
     }
     return 50;
 }
@@ -257,9 +239,7 @@ static int decide(void) {
             coordinator.since = 0;
         }
         if (is_stalled()) {
-            say("who is waited for does not go on for %.0f s:", coordinator.options->stall);
-            say_waits();
-            give_up();
+            fail_stalled();
         }
         return SOON_MS;
     }
@@ -272,27 +252,32 @@ static bool is_asked(void) {
 
 /* Somebody has the turn: whether it is handed on. It may run for long, but not for ever. */
 static void watch(void) {
-    uint32_t turn = run->turn;
-    if (run->turns != coordinator.seen_turns || turn == NOBODY) {
-        coordinator.seen_turns = run->turns;
+    uint64_t turn = run->turn;
+    uint32_t owner = (uint32_t)turn & NOBODY;
+    if (turn != coordinator.seen_turn || owner == NOBODY) {
+        coordinator.seen_turn = turn;
         coordinator.looks = 0;
         coordinator.since = 0;
         coordinator.run_before = 0;
         return;
     }
-    outside_watch(turn & ~DECIDING, ++coordinator.looks, is_asked);
+    outside_watch(turn, ++coordinator.looks, is_asked);
     if (run->turn != turn || coordinator.looks % RARELY) {
         return;
     }
-    struct slot *slot = &run->slots[turn & ~DECIDING];
+    struct slot *slot = &run->slots[owner];
     uint64_t used = proc_usage(slot->pid, slot->tid).run;
     coordinator.run_before = coordinator.run_before ? coordinator.run_before : used;
     double stall = coordinator.options->stall;
+    if (used - coordinator.run_before > LONG_RUN) {
+        outside_share(turn);
+    }
     if (stall > 0 && (double)(used - coordinator.run_before) > stall * SECOND) {
-        say("%s has run for %.0f s without waiting; if it looks for what another thread does, that one gets no turn "
-            "(--stall S for more)",
-            who(slot->pid, slot->tid), stall);
-        give_up();
+        fail("%s has run for %.0f s without waiting; if it looks for what another thread does, that one gets no turn "
+             "(--stall S for more)",
+             who(slot->pid, slot->tid), stall);
+    } else if (is_stalled() && !outside_any_runs()) {
+        fail_stalled();
     }
 }
 
@@ -377,14 +362,14 @@ static void end_rest(void) {
 
 static void loop(void) {
     int patience = 0;
-    while (!coordinator.is_over) {
+    while (!coordinator.is_over || run->has_failed) {
         double ended = coordinator.has_ended ? coordinator.since : 0;
         handle_events(patience);
-        if (coordinator.number) {
-            coordinator.status = 128 + coordinator.number;
+        if (coordinator.number || run->has_failed) {
+            coordinator.status = run->has_failed ? STATUS_STUCK : 128 + coordinator.number;
             return;
         }
-        if (run->turn == NOBODY) {
+        if (turn_owner() == NOBODY) {
             patience = decide();
         } else {
             watch();
@@ -496,7 +481,7 @@ static int coordinate(const struct virtual_options *options, const char *file, c
     tree_kill();
     if (getenv("CANBUSD_RUN_DEBUG")) {
         say("%lu moments, %lu turns, %.6f s went by as programs looked at the clock again and again", run->moments,
-            run->turns, (double)run->spun / SECOND);
+            run->turn >> TURN_BITS, (double)run->spun / SECOND);
     }
     return coordinator.status ? coordinator.status : status_of(coordinator.root_status);
 }

@@ -13,6 +13,8 @@
 #include <unistd.h>
 
 #define POLL_MOST 1024
+/* Of a wait for so many descriptors they stay in the epoll for the next. */
+#define FEW 16
 
 #ifdef FOR_BRIDGE
 /* A bridge has no timers and no handlers. */
@@ -39,48 +41,58 @@ static long control(int operation, int fd, short events) {
     return result;
 }
 
-/* Whether this thread has it in the epoll since an earlier wait; then it is for these events now. */
-static bool watch_again(int fd, short events) {
-    for (int i = 0; i < WATCHED; i++) {
-        if (my.watched[i] == fd && fd) {
-            if (!control(EPOLL_CTL_MOD, fd, events)) {
-                return true;
-            }
-            my.watched[i] = 0; /* It was closed meanwhile. */
-        }
-    }
-    return false;
+/* Of each descriptor of this process the thread, by the number of its slot and one, for which it stays in the epoll.
+ * What is closed leaves the epoll by itself; a number that is used anew is put there again. */
+#define STAYING 1024
+static uint16_t keepers[STAYING];
+
+void descriptors_forget(void) {
+    memset(keepers, 0, sizeof keepers);
 }
 
-/* Leaves it in the epoll for later waits, in place of another. */
-static bool keep_watched(int fd) {
-    int *place = &my.watched[my.watched_next++ % WATCHED];
-    if (!fd) {
-        return false;
+/* Whether it is in the epoll for a thread of this process that does not wait for it now. */
+static bool is_idle(int fd) {
+    const struct slot *slot = &run->slots[(keepers[fd] - 1) % SLOTS];
+    return keepers[fd] && (keepers[fd] - 1U == my.index || slot->state != SLOT_WAITS || slot->kind != KIND_DESCRIPTOR);
+}
+
+/* Leaves it in the epoll for this thread and these events, also after the wait; false where that can't be. */
+static bool watch_staying(int fd, short events) {
+    bool is_in = keepers[fd] == my.index + 1 && !control(EPOLL_CTL_MOD, fd, events);
+    if (!is_in) {
+        long result = control(EPOLL_CTL_ADD, fd, events);
+        is_in = result == 0 || (result == -EEXIST && is_idle(fd) && !control(EPOLL_CTL_MOD, fd, events));
     }
-    if (*place) {
-        RAW(SYS_epoll_ctl, run_epoll, EPOLL_CTL_DEL, *place, NULL);
-    }
-    *place = fd;
-    return true;
+    keepers[fd] = is_in ? (uint16_t)(my.index + 1) : keepers[fd];
+    return is_in;
 }
 
 /* Registers a descriptor for one event. Returns the one that is to be taken out after the wait: itself, another number
- * where a second thread waits for the same, or -1 where it stays. */
+ * where a second thread waits for the same, or -1 where it stays, or is always ready. */
 static int watch(int fd, short events, bool may_stay) {
-    if (may_stay && watch_again(fd, events)) {
+    if (may_stay && fd < STAYING && watch_staying(fd, events)) {
         return -1;
     }
     long result = control(EPOLL_CTL_ADD, fd, events);
-    if (result == -EEXIST) {
-        int other = (int)RAW(SYS_fcntl, fd, F_DUPFD_CLOEXEC, 512 + my.index);
-        if (other >= 0 && control(EPOLL_CTL_ADD, other, events)) {
-            RAW(SYS_close, other);
-            return -1;
-        }
-        return other < 0 ? -1 : other;
+    if (result != -EEXIST) {
+        return result ? -1 : fd;
     }
-    return result || (may_stay && keep_watched(fd)) ? -1 : fd;
+    int other = (int)RAW(SYS_fcntl, fd, F_DUPFD_CLOEXEC, 512 + my.index);
+    other = other < 0 ? (int)RAW(SYS_fcntl, fd, F_DUPFD_CLOEXEC, 0) : other;
+    if (other >= 0 && control(EPOLL_CTL_ADD, other, events)) {
+        RAW(SYS_close, other);
+        return -1;
+    }
+    return other;
+}
+
+/* What is waited for of a descriptor that may be there several times. */
+static short events_of(const struct pollfd *fds, nfds_t count, int fd) {
+    short events = 0;
+    for (nfds_t i = 0; i < count; i++) {
+        events |= fds[i].fd == fd ? fds[i].events : 0;
+    }
+    return events;
 }
 
 static void unwatch(int fd, int watched) {
@@ -100,7 +112,9 @@ static uint32_t wait_for(const struct pollfd *fds, nfds_t count, uint64_t deadli
     regain_turn();
     my_slot()->generation++;
     for (nfds_t i = 0; i < count; i++) {
-        watched[i] = fds[i].fd < 0 ? -1 : watch(fds[i].fd, fds[i].events, count <= WATCHED);
+        bool may_stay = count <= FEW;
+        short events = may_stay ? events_of(fds, count, fds[i].fd) : fds[i].events;
+        watched[i] = fds[i].fd < 0 ? -1 : watch(fds[i].fd, events, may_stay);
     }
     uint32_t flags = wait_turn(deadline < timers ? deadline : timers, 0, KIND_DESCRIPTOR);
     for (nfds_t i = 0; i < count; i++) {

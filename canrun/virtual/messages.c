@@ -24,7 +24,18 @@ void say(const char *format, ...) {
     va_end(list);
 }
 
-bool say_once(uint32_t pid, const char *format, ...) {
+void fail(const char *format, ...) {
+    va_list list;
+    if (run->has_failed) {
+        return;
+    }
+    va_start(list, format);
+    put(format, list);
+    va_end(list);
+    run->has_failed = 1;
+}
+
+void say_once(uint32_t pid, const char *format, ...) {
     static struct {
         uint32_t pid;
         const char *format;
@@ -33,7 +44,7 @@ bool say_once(uint32_t pid, const char *format, ...) {
     va_list list;
     for (int i = 0; i < count; i++) {
         if (told[i].pid == pid && told[i].format == format) {
-            return false;
+            return;
         }
     }
     if (count < TOLD) {
@@ -43,7 +54,6 @@ bool say_once(uint32_t pid, const char *format, ...) {
     va_start(list, format);
     put(format, list);
     va_end(list);
-    return true;
 }
 
 const char *who(uint32_t pid, uint32_t tid) {
@@ -63,7 +73,7 @@ const char *who(uint32_t pid, uint32_t tid) {
 
 void say_waits(void) {
     static const char *const kinds[] = {"a moment",      "a descriptor", "a lock, condition or semaphore",
-                                        "a child's end", "a signal",     "a thread's end"};
+                                        "a child's end", "a signal",     "the interpreter"};
     int listed = 0;
     for (uint32_t i = 0; i < run->used; i++) {
         struct slot *slot = &run->slots[i];

@@ -10,8 +10,11 @@
 /* A line, with the moment of the run. */
 void say(const char *format, ...) __attribute__((format(printf, 1, 2)));
 
-/* The same once for each thing that it is about. Returns whether it was said now. */
-bool say_once(uint32_t pid, const char *format, ...) __attribute__((format(printf, 2, 3)));
+/* The same once for each thing that it is about. */
+void say_once(uint32_t pid, const char *format, ...) __attribute__((format(printf, 2, 3)));
+
+/* The same, and the run ends with status 125. */
+void fail(const char *format, ...) __attribute__((format(printf, 1, 2)));
 
 /* Who a thread is: its name, process and thread. */
 const char *who(uint32_t pid, uint32_t tid);

@@ -15,6 +15,8 @@
 #include <unistd.h>
 
 #define LIBRARY "libcanbusd-virtual.so"
+/* What a program has loaded once it has loaded what is preloaded. */
+#define C_LIBRARY "/libc.so."
 /* After how many looks it is seen whether a program loads the library at all. */
 #define FOREIGN_LOOKS 4
 /* After how many more looks a thread that has the turn is known to sleep. */
@@ -24,44 +26,45 @@
 
 /* ---- programs that do not load the library ---- */
 
-static bool has_library(uint32_t pid) {
+/* What of these two a process has loaded. */
+static void find_libraries(uint32_t pid, bool *has_ours, bool *has_c) {
     char path[32], line[PATH_MAX + 200];
-    bool has_it = false, has_any = false;
+    *has_ours = *has_c = false;
     snprintf(path, sizeof path, "/proc/%u/maps", pid);
     FILE *maps = fopen(path, "re");
-    while (maps && !has_it && fgets(line, sizeof line, maps)) {
-        has_it = strstr(line, LIBRARY) != NULL;
-        has_any = true;
+    while (maps && fgets(line, sizeof line, maps)) {
+        *has_ours |= strstr(line, LIBRARY) != NULL;
+        *has_c |= strstr(line, C_LIBRARY) != NULL;
     }
     if (maps) {
         fclose(maps);
     }
-    return has_it || !has_any;
 }
 
 /* Why a process is not in virtual time, NULL where it is, or has not begun. */
-static const char *obstacle_of(uint32_t pid, int looks) {
+static const char *obstacle_of(uint32_t pid) {
     char path[32], name[PATH_MAX];
+    bool has_ours, has_c;
     snprintf(path, sizeof path, "/proc/%u/exe", pid);
     ssize_t length = readlink(path, name, sizeof name - 1);
     name[length > 0 ? length : 0] = 0;
     const char *slash = strrchr(name, '/');
-    if (length <= 0 || (slash && !strcmp(slash, "/canbusd-bridge")) || has_library(pid)) {
+    find_libraries(pid, &has_ours, &has_c);
+    if (length <= 0 || (slash && !strcmp(slash, "/canbusd-bridge")) || has_ours) {
         return NULL;
     }
     const char *obstacle = program_obstacle(path);
-    return obstacle ? obstacle : looks > 20 * FOREIGN_LOOKS ? "has lost LD_PRELOAD, as by env -i" : NULL;
+    return obstacle ? obstacle : has_c ? "has lost LD_PRELOAD, as by env -i" : NULL;
 }
 
 static bool find_foreign(struct slot *slot, int looks) {
     if (slot->is_foreign || looks < FOREIGN_LOOKS || looks % FOREIGN_LOOKS) {
         return slot->is_foreign;
     }
-    const char *obstacle = obstacle_of(slot->pid, looks);
+    const char *obstacle = obstacle_of(slot->pid);
     if (obstacle) {
         slot->is_foreign = 1;
-        say_once(slot->pid,
-                 "%s %s, so it sees the real time; the clock of the run stands still while it runs or sleeps",
+        say_once(slot->pid, "%s %s, so it sees the real time; the clock of the run stands still while it runs",
                  who(slot->pid, 0), obstacle);
     }
     return slot->is_foreign;
@@ -103,6 +106,13 @@ static bool is_timed(const struct called *called) {
     case SYS_pselect6: return a[4] != 0;
     case SYS_futex: return ((a[1] & 127) == 0 || (a[1] & 127) == 9) && a[3] != 0;
     case SYS_rt_sigtimedwait: return a[2] != 0;
+    case SYS_mq_timedsend:
+    case SYS_mq_timedreceive:
+    case SYS_recvmmsg:
+    case SYS_io_getevents: return a[4] != 0;
+    case SYS_semtimedop:
+    case SYS_epoll_pwait2: return a[3] != 0;
+    case SYS_io_uring_enter: return true; /* What it waits for is not known. */
     default: return false;
     }
 }
@@ -136,8 +146,9 @@ static bool sleeps(uint32_t pid, uint32_t tid) {
         return false;
     }
     if (state == 'S' && called.is_known && is_timed(&called)) {
-        say_once(pid, "%s waits in real time (system call %ld); the clock of the run stands still meanwhile",
-                 who(pid, tid), called.number);
+        const char *obstacle = obstacle_of(pid);
+        fail("%s waits by the real clock, in system call %ld, which virtual time does not see%s%s", who(pid, tid),
+             called.number, obstacle ? ": it " : "", obstacle ? obstacle : "");
         return false;
     }
     return state == 'S';
@@ -182,24 +193,48 @@ static bool one_pass(uint64_t *times) {
     return true;
 }
 
+static bool process_runs(uint32_t pid) {
+    char path[40];
+    bool runs = false;
+    snprintf(path, sizeof path, "/proc/%u/task", pid);
+    DIR *folder = opendir(path);
+    for (struct dirent *entry; folder && !runs && (entry = readdir(folder));) {
+        uint32_t tid = (uint32_t)atoi(entry->d_name);
+        char state = tid ? proc_state(pid, tid) : 'X';
+        runs = state == 'R' || state == 'D';
+    }
+    if (folder) {
+        closedir(folder);
+    }
+    return runs;
+}
+
+bool outside_any_runs(void) {
+    static uint32_t pids[TREE_MOST];
+    size_t count = tree_below((uint32_t)getpid(), pids, TREE_MOST);
+    for (size_t i = 0; i < count; i++) {
+        if (process_runs(pids[i])) {
+            return true;
+        }
+    }
+    return false;
+}
+
 bool outside_sleeps(void) {
     uint64_t before, now;
     outside_strangers();
     /* Twice, as one may have woken another that had been looked at. */
-    return one_pass(&before) && one_pass(&now) && before == now;
+    return one_pass(&before) && !outside_any_runs() && one_pass(&now) && before == now;
 }
 
 /* ---- who has the turn, and sleeps ---- */
 
-static void take_back(uint32_t index) {
-    struct slot *slot = &run->slots[index];
-    uint32_t runs = SLOT_RUNS, has = index, outside = SLOT_OUTSIDE;
-    if (!__atomic_compare_exchange_n((uint32_t *)&slot->state, &runs, SLOT_OUTSIDE, 0, __ATOMIC_SEQ_CST,
-                                     __ATOMIC_SEQ_CST)) {
-        return;
-    }
-    if (!__atomic_compare_exchange_n((uint32_t *)&run->turn, &has, NOBODY, 0, __ATOMIC_SEQ_CST, __ATOMIC_SEQ_CST)) {
-        __atomic_compare_exchange_n((uint32_t *)&slot->state, &outside, SLOT_RUNS, 0, __ATOMIC_SEQ_CST,
+/* One that is stopped may not have begun its turn. */
+static void take_back(uint64_t turn, bool is_stopped) {
+    struct slot *slot = &run->slots[(uint32_t)turn & NOBODY];
+    uint32_t state = slot->state;
+    if ((state == SLOT_RUNS || is_stopped) && turn_change(turn, NOBODY)) {
+        __atomic_compare_exchange_n((uint32_t *)&slot->state, &state, SLOT_OUTSIDE, 0, __ATOMIC_SEQ_CST,
                                     __ATOMIC_SEQ_CST);
     }
 }
@@ -221,20 +256,40 @@ static bool is_asleep_for_long(uint32_t index, char state, uint64_t times) {
     return ++last.looks >= SLEEP_LOOKS;
 }
 
-void outside_watch(uint32_t index, int looks, bool (*is_asked)(void)) {
+void outside_watch(uint64_t turn, int looks, bool (*is_asked)(void)) {
+    uint32_t index = (uint32_t)turn & NOBODY;
     struct slot *slot = &run->slots[index];
-    char state = proc_state(slot->pid, slot->tid);
-    uint64_t before = times_run(slot->pid, slot->tid);
+    uint32_t pid = slot->pid, tid = slot->tid;
+    char state = proc_state(pid, tid);
     if (state == 'Z' || state == 'X') {
-        if (slot->pid != slot->tid || state == 'Z') {
-            free_slot(slot); /* A thread that has ended unseen; of a process its end is seen. */
-            run->turn = NOBODY;
+        /* A thread that has ended unseen; of a process its end is seen. */
+        if ((pid != tid || state == 'Z') && turn_change(turn, NOBODY)) {
+            free_slot(slot);
         }
     } else if (find_foreign(slot, looks)) {
-        take_back(index);
-    } else if (is_asleep_for_long(index, state, before) && !is_asked()) {
+        take_back(turn, false);
+    } else if (is_asleep_for_long(index, state, times_run(pid, tid)) && !is_asked() && !outside_any_runs()) {
         outside_strangers();
-        take_back(index);
+        take_back(turn, state == 'T' || state == 't');
+    }
+}
+
+void outside_share(uint64_t turn) {
+    struct slot *slot = &run->slots[(uint32_t)turn & NOBODY];
+    uint32_t runs = SLOT_RUNS;
+    for (uint32_t i = 0; i < run->used; i++) {
+        struct slot *other = &run->slots[i];
+        bool waits = other->state == SLOT_WAITS && (other->flags || other->kind == KIND_INTERPRETER);
+        if (other == slot || other->pid != slot->pid || !(waits || other->state == SLOT_READY)) {
+            continue;
+        }
+        if (turn_change(turn, i)) {
+            __atomic_compare_exchange_n((uint32_t *)&slot->state, &runs, SLOT_READY, 0, __ATOMIC_SEQ_CST,
+                                        __ATOMIC_SEQ_CST);
+            other->flags |= other->flags ? 0 : IS_OVER;
+            wake_owner(i);
+        }
+        return;
     }
 }
 
@@ -269,7 +324,7 @@ void outside_births(int looks) {
         char state = proc_state(slot->pid, 0);
         if (state == 'X' || state == 'Z' || (slot->parent == STRANGER && has_begun(slot->pid))) {
             free_slot(slot);
-        } else if (find_foreign(slot, looks)) {
+        } else if (state == 'T' || find_foreign(slot, looks)) {
             slot->tid = slot->pid;
             slot->state = SLOT_OUTSIDE;
         }

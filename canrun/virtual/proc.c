@@ -10,8 +10,8 @@
 #include <string.h>
 #include <time.h>
 
-/* How long the sender of a signal waits for who takes it: at most a second. */
-#define SETTLE_LOOKS 5000
+/* How long the sender of a signal waits for who takes it, in seconds, and between two looks, in nanoseconds. */
+#define SETTLE_SECONDS 5
 #define SETTLE_PAUSE 200000
 
 static char *put_number(char *at, uint32_t number) {
@@ -55,6 +55,13 @@ char proc_state(uint32_t pid, uint32_t tid) {
     return at && at[1] && at[2] ? at[2] : 'X';
 }
 
+uint32_t proc_parent(uint32_t pid) {
+    char text[512];
+    proc_read(pid, 0, "stat", text, sizeof text);
+    char *at = strrchr(text, ')');
+    return at && at[1] ? (uint32_t)atoi(at + 4) : 0;
+}
+
 struct usage proc_usage(uint32_t pid, uint32_t tid) {
     char text[100], *at = text;
     struct usage usage = {0, 0, 0};
@@ -85,12 +92,13 @@ static bool is_settled(uint32_t pid) {
     bool is_there = false;
     for (uint32_t i = 0; i < run->used; i++) {
         struct slot *slot = &run->slots[i];
-        if (slot->pid != pid || slot->state == SLOT_FREE || i == (run->turn & ~DECIDING)) {
+        if (slot->pid != pid || slot->state == SLOT_FREE || i == turn_owner()) {
             continue;
         }
-        is_there = true;
         char state = proc_state(pid, slot->tid);
-        if (slot->tid && (state == 'R' || state == 'X' || state == 'Z')) {
+        bool has_ended = state == 'X' || state == 'Z';
+        is_there |= !has_ended;
+        if (slot->tid && (state == 'R' || (has_ended && my.slot))) {
             return false; /* Who has ended is there until the coordinator has seen it. */
         }
     }
@@ -98,15 +106,18 @@ static bool is_settled(uint32_t pid) {
 }
 
 void settle(uint32_t pid) {
-    struct timespec pause = {0, SETTLE_PAUSE};
+    struct timespec pause = {0, SETTLE_PAUSE}, begun, now;
     uint32_t before = my.slot ? my.slot->state : 0;
     if (my.slot) {
         my.slot->state = SLOT_TAKEN; /* The turn of one that waits for this is not taken back. */
     }
-    for (int i = 0; i < SETTLE_LOOKS && !is_settled(pid); i++) {
+    RAW(SYS_clock_gettime, CLOCK_MONOTONIC, &begun);
+    now = begun;
+    for (int i = 0; !is_settled(pid) && now.tv_sec - begun.tv_sec <= SETTLE_SECONDS; i++) {
         RAW(SYS_sched_yield, 0);
         if (i > 3) {
             RAW(SYS_nanosleep, &pause, NULL);
+            RAW(SYS_clock_gettime, CLOCK_MONOTONIC, &now);
         }
     }
     if (my.slot) {

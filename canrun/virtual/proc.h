@@ -12,6 +12,9 @@ size_t proc_read(uint32_t pid, uint32_t tid, const char *name, char *text, size_
 /* The letter of its state as proc(5) has it; X where it has ended. */
 char proc_state(uint32_t pid, uint32_t tid);
 
+/* The parent of a process; 0 where there is no such process. */
+uint32_t proc_parent(uint32_t pid);
+
 /* How long a thread has run and has waited for a processor, in nanoseconds, and how often it was given one. */
 struct usage {
     uint64_t run, waited, times;

@@ -1,6 +1,7 @@
 /* Processes: fork and its kin, waits for children, and descriptors of the run that programs may not close. */
 #define _GNU_SOURCE
 #include "calls.h"
+#include "proc.h"
 
 #include <arpa/inet.h>
 #include <fcntl.h>
@@ -38,6 +39,7 @@ EXPORT pid_t fork(void) {
     pid_t pid = real();
     if (pid == 0) {
         my = (struct my){.index = index, .has_talked = my.has_talked};
+        descriptors_forget();
         register_process();
         begin_slot(index);
     } else if (pid < 0) {
@@ -224,35 +226,39 @@ EXPORT void closefrom(int first) {
 
 /* ---- servers that are no part of the run ---- */
 
-static void say_outside(const char *what) {
-    static _Atomic bool is_said;
+#define NAME_SERVICES "/run/systemd/"
+/* How many processes there may be between one of the run and its coordinator. */
+#define DEEPEST 1000
+
+/* The run ends: for that server time goes on as ever. */
+__attribute__((noreturn)) static void fail_outside(const char *what) {
+    struct timespec second = {1, 0};
     char line[400];
-    if (!is_said) {
-        is_said = true;
-        int length = snprintf(line, sizeof line,
-                              "canbusd-run: virtual time: %s, process %ld, connects to %s, which is no program of this "
-                              "run: for that one time goes on as ever; start it inside of the run\n",
-                              program_invocation_short_name, RAW(SYS_getpid, 0), what);
-        RAW(SYS_write, 2, line, length);
+    int length = snprintf(
+        line, sizeof line,
+        "canbusd-run: virtual time: at %.6f s %s (thread %ld of process %ld) connects to %s, which is "
+        "no program of this run; start it inside of the run\n",
+        (double)run->now / SECOND, program_invocation_short_name, RAW(SYS_gettid, 0), RAW(SYS_getpid, 0), what);
+    RAW(SYS_write, 2, line, length);
+    run->has_failed = 1;
+    for (;;) {
+        RAW(SYS_kill, run->coordinator, SIGURG);
+        RAW(SYS_nanosleep, &second, NULL);
     }
 }
 
+/* All of a run are below its coordinator. Of one that has ended it is not known. */
 static bool is_of_run(uint32_t pid) {
-    for (uint32_t i = 0; i < run->used; i++) {
-        if (run->slots[i].pid == pid && run->slots[i].state != SLOT_FREE) {
+    for (int i = 0; i < DEEPEST && pid > 1; i++, pid = proc_parent(pid)) {
+        if (pid == (uint32_t)run->coordinator) {
             return true;
         }
     }
-    return false;
+    return pid == 0;
 }
 
 static bool has_port(uint32_t port) {
-    for (int i = 0; i < PORTS; i++) {
-        if (run->ports[i] == port) {
-            return true;
-        }
-    }
-    return false;
+    return run->ports[port / 8] >> port % 8 & 1;
 }
 
 static uint32_t port_of(const struct sockaddr *address) {
@@ -267,15 +273,13 @@ EXPORT int listen(int fd, int backlog) {
     long result = RAW(SYS_listen, fd, backlog);
     if (run && !result && !RAW(SYS_getsockname, fd, &address, &length)) {
         uint32_t port = port_of((struct sockaddr *)&address);
-        for (int i = 0; port && i < PORTS && !has_port(port); i++) {
-            uint32_t none = 0;
-            __atomic_compare_exchange_n((uint32_t *)&run->ports[i], &none, port, 0, __ATOMIC_SEQ_CST, __ATOMIC_SEQ_CST);
-        }
+        run->ports[port / 8] |= (uint8_t)(1 << port % 8);
     }
     return (int)answer(result);
 }
 
-/* Says where the other end of a connection is outside of the run. */
+/* Fails where the other end of a connection is outside of the run; what looks up names of users and hosts may be there.
+ */
 static void check_peer(int fd, const struct sockaddr *to) {
     char text[160];
     int type = 0;
@@ -289,13 +293,14 @@ static void check_peer(int fd, const struct sockaddr *to) {
     if (to->sa_family == AF_UNIX) {
         const struct sockaddr_un *path = (const struct sockaddr_un *)to;
         bool is_known = !RAW(SYS_getsockopt, fd, SOL_SOCKET, SO_PEERCRED, &peer, &length);
-        if (is_known && peer.pid > 0 && !is_of_run((uint32_t)peer.pid)) {
+        bool is_of_names = !strncmp(path->sun_path, NAME_SERVICES, sizeof NAME_SERVICES - 1);
+        if (is_known && !is_of_names && peer.pid > 0 && !is_of_run((uint32_t)peer.pid)) {
             snprintf(text, sizeof text, "%s of process %d", path->sun_path[0] ? path->sun_path : "a socket", peer.pid);
-            say_outside(text);
+            fail_outside(text);
         }
     } else if (port && !has_port(port)) {
         snprintf(text, sizeof text, "TCP port %u", port);
-        say_outside(text);
+        fail_outside(text);
     }
 }
 

@@ -18,14 +18,16 @@
 #define RUN_MAGIC 0x3276646273756e63ull
 #define SLOTS 2048
 #define ALARMS 256
-#define PORTS 256
+#define PORTS 65536
 #define NEVER UINT64_MAX
 #define SECOND 1000000000ull
 /* CLOCK_MONOTONIC at the start. */
 #define UPTIME (1000 * SECOND)
-/* The turn of nobody is the coordinator's. Who decides whose turn is next marks it by this bit. */
-#define NOBODY 0x7fffffffu
-#define DECIDING 0x80000000u
+/* The turn: the number of the slot that has it, or NOBODY, and then it is the coordinator's; a bit that this one
+ * decides whose turn is next; and above them how often it was handed on, so that no two turns are the same. */
+#define NOBODY 0x7fffffu
+#define DECIDING 0x800000u
+#define TURN_BITS 24
 
 enum state {
     SLOT_FREE,
@@ -37,11 +39,11 @@ enum state {
     SLOT_TAKEN,   /* being filled */
 };
 
-/* What has come for one that waits; none of these: its moment. */
-enum { HAS_EVENT = 1, IS_WOKEN = 2, IS_INTERRUPTED = 4 };
+/* What has come for one that waits; none of these, or IS_OVER: its moment. */
+enum { HAS_EVENT = 1, IS_WOKEN = 2, IS_INTERRUPTED = 4, IS_OVER = 8 };
 
 /* What a thread waits for, for messages. */
-enum kind { KIND_MOMENT, KIND_DESCRIPTOR, KIND_LOCK, KIND_CHILD, KIND_SIGNAL, KIND_THREAD };
+enum kind { KIND_MOMENT, KIND_DESCRIPTOR, KIND_LOCK, KIND_CHILD, KIND_SIGNAL, KIND_INTERPRETER };
 
 struct slot {
     _Atomic uint32_t go; /* the word that it sleeps on: how often it was given the turn */
@@ -83,15 +85,16 @@ struct run {
     uint64_t jitter;       /* nanoseconds that a timed wait is longer at most */
     int32_t coordinator;
     uint32_t has_ended;
+    _Atomic uint32_t has_failed; /* a line has said why the run can't go on */
     _Atomic uint64_t now __attribute__((aligned(64)));
-    _Atomic uint32_t turn;
+    _Atomic uint64_t turn;
     _Atomic uint32_t used; /* slots that were ever used */
     _Atomic uint32_t pause;
     _Atomic uint32_t births; /* a word to wait on for one that is born */
     _Atomic uint64_t waits, tickets;
-    _Atomic uint64_t turns, moments; /* how often the turn was handed on, and the clock went on */
-    _Atomic uint64_t spun;           /* nanoseconds that went by as threads looked at the clock again and again */
-    _Atomic uint32_t ports[PORTS];   /* TCP ports that programs of the run listen at */
+    _Atomic uint64_t moments;         /* how often the clock went on */
+    _Atomic uint64_t spun;            /* nanoseconds that went by as threads looked at the clock again and again */
+    _Atomic uint8_t ports[PORTS / 8]; /* a bit for each TCP port that a program of the run has listened at */
     struct slot slots[SLOTS];
     struct alarm alarms[ALARMS];
 };

@@ -1,6 +1,7 @@
 /* A program, or a bridge, becomes part of the run. */
 #define _GNU_SOURCE
 #include "calls.h"
+#include "rights.h"
 
 #include <fcntl.h>
 #include <limits.h>
@@ -17,23 +18,14 @@
 
 /* The coordinator, which sees who asks by the connection, sends the epoll. */
 static int take_epoll(int fd) {
-    char byte = 0;
-    struct iovec part = {&byte, 1};
-    union {
-        char room[CMSG_SPACE(sizeof(int))];
-        struct cmsghdr align;
-    } control = {.room = {0}};
-    struct msghdr message = {
-        .msg_iov = &part, .msg_iovlen = 1, .msg_control = &control, .msg_controllen = sizeof control};
-    struct cmsghdr *rights;
-    int epoll;
-    while (RAW(SYS_recvmsg, fd, &message, MSG_CMSG_CLOEXEC) == -EINTR) {
+    struct rights rights;
+    struct msghdr *message = rights_message(&rights, -1);
+    while (RAW(SYS_recvmsg, fd, message, MSG_CMSG_CLOEXEC) == -EINTR) {
     }
-    rights = CMSG_FIRSTHDR(&message);
-    if (!rights || rights->cmsg_type != SCM_RIGHTS) {
+    int epoll = rights_descriptor(&rights);
+    if (epoll < 0) {
         return -1;
     }
-    memcpy(&epoll, CMSG_DATA(rights), sizeof epoll);
     int high = (int)RAW(SYS_fcntl, epoll, F_DUPFD_CLOEXEC, HIGH_DESCRIPTOR);
     if (high >= 0) {
         RAW(SYS_close, epoll);
@@ -82,7 +74,7 @@ static uint32_t find_slot(void) {
     for (uint32_t i = 0; i < run->used; i++) {
         struct slot *slot = &run->slots[i];
         bool is_old = slot->pid == pid && slot->tid && slot->state != SLOT_FREE && slot->state != SLOT_BORN;
-        bool has_it = i == (run->turn & ~DECIDING);
+        bool has_it = i == turn_owner();
         if (is_old && (found == NOBODY || has_it)) {
             found = i;
         }

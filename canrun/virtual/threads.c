@@ -11,6 +11,18 @@
 /* Salts of keys: a condition variable may be where a mutex was. */
 enum { OF_MUTEX = 1, OF_CONDITION, OF_SEMAPHORE, OF_LOCK, OF_END };
 
+/* CPython's wait for its interpreter: it asks who has it to let it go where that has not come after 5 ms, for which the
+ * coordinator sees where that one computes. */
+#define SWITCH_INTERVAL 5000000
+
+static enum kind kind_of_wait(uint64_t deadline) {
+    static int is_python = -1;
+    if (is_python < 0) {
+        is_python = dlsym(RTLD_DEFAULT, "PyEval_RestoreThread") != NULL;
+    }
+    return is_python && deadline - run->now == SWITCH_INTERVAL ? KIND_INTERPRETER : KIND_LOCK;
+}
+
 /* Waits for a key; 0, or ETIMEDOUT. */
 static int wait_for_key(uint64_t key, uint64_t deadline) {
     if (deadline <= run->now) {
@@ -18,11 +30,11 @@ static int wait_for_key(uint64_t key, uint64_t deadline) {
         yield_turn();
         return ETIMEDOUT;
     }
-    uint32_t flags = wait_turn(deadline, key, KIND_LOCK);
+    uint32_t flags = wait_turn(deadline, key, kind_of_wait(deadline));
     if (flags & IS_INTERRUPTED) {
         pthread_testcancel();
     }
-    return !flags && run->now >= deadline ? ETIMEDOUT : 0;
+    return flags == IS_OVER || (!flags && run->now >= deadline) ? ETIMEDOUT : 0;
 }
 
 /* ---- a thread begins, and ends ---- */
@@ -46,11 +58,12 @@ static void thread_ends(void *count) {
     if (!slot) {
         return;
     }
-    regain_turn();
     my.is_deciding++;
+    do {
+        regain_turn();
+    } while (!begin_deciding());
     wake(key_of((void *)(uintptr_t)pthread_self(), OF_END), INT_MAX);
     free_slot(slot);
-    run->turn = my.index | DECIDING;
     uint32_t next = next_turn(false);
     my.slot = NULL;
     hand_turn(next);

@@ -111,7 +111,7 @@ static void collect_events(void) {
 
 struct look {
     uint32_t best;
-    bool has_birth, has_outside;
+    bool has_outside;
     uint64_t next;
 };
 
@@ -126,7 +126,6 @@ static struct look look_round(void) {
     for (uint32_t i = 0; i < run->used; i++) {
         struct slot *slot = &run->slots[i], *best = &run->slots[look.best % SLOTS];
         uint32_t state = slot->state;
-        look.has_birth |= state == SLOT_BORN;
         look.has_outside |= state == SLOT_OUTSIDE;
         if (!can_go_on(slot, now)) {
             if (state == SLOT_WAITS && slot->deadline < look.next) {
@@ -164,35 +163,34 @@ static bool go_on(uint64_t next) {
     return true;
 }
 
-static bool wait_for_birth(void) {
-    struct timespec patience = {0, BIRTH_NANOSECONDS};
-    for (int i = 0; i < 2; i++) {
-        uint32_t seen = run->births;
-        bool has_birth = false;
-        for (uint32_t k = 0; k < run->used; k++) {
-            has_birth |= run->slots[k].state == SLOT_BORN;
-        }
-        if (!has_birth) {
+static bool has_birth(void) {
+    for (uint32_t i = 0; i < run->used; i++) {
+        if (run->slots[i].state == SLOT_BORN) {
             return true;
-        }
-        if (!i) {
-            RAW(SYS_futex, &run->births, FUTEX_WAIT, seen, &patience);
         }
     }
     return false;
 }
 
+/* Who is born has to have begun before anybody goes on, since the order is that of all who can. */
+static bool wait_for_births(void) {
+    struct timespec patience = {0, BIRTH_NANOSECONDS};
+    for (uint32_t seen = run->births; has_birth(); seen = run->births) {
+        if (RAW(SYS_futex, &run->births, FUTEX_WAIT, seen, &patience) == -ETIMEDOUT) {
+            return !has_birth();
+        }
+    }
+    return true;
+}
+
 uint32_t next_turn(bool ignores_outside) {
+    if (!wait_for_births()) {
+        run->pause = PAUSE_BIRTH;
+        return NOBODY;
+    }
     collect_events();
     for (;;) {
         struct look look = look_round();
-        if (look.has_birth) {
-            if (wait_for_birth()) {
-                continue;
-            }
-            run->pause = PAUSE_BIRTH;
-            return NOBODY;
-        }
         if (look.best != NOBODY) {
             return look.best;
         }
@@ -208,25 +206,42 @@ uint32_t next_turn(bool ignores_outside) {
 
 /* ---- turns ---- */
 
+uint32_t turn_owner(void) {
+    return (uint32_t)run->turn & NOBODY;
+}
+
+bool turn_change(uint64_t turn, uint32_t to) {
+    uint64_t next = ((turn >> TURN_BITS) + !(to & DECIDING)) << TURN_BITS | to;
+    return __atomic_compare_exchange_n((uint64_t *)&run->turn, &turn, next, 0, __ATOMIC_SEQ_CST, __ATOMIC_SEQ_CST);
+}
+
 void ring(void) {
-    if (run->turn == NOBODY) {
+    if (turn_owner() == NOBODY) {
         RAW(SYS_kill, run->coordinator, SIGURG);
     }
 }
 
+bool begin_deciding(void) {
+    uint64_t turn = run->turn;
+    return ((uint32_t)turn & NOBODY) == my.index && turn_change(turn, my.index | DECIDING);
+}
+
+void wake_owner(uint32_t index) {
+    run->slots[index].go++;
+    RAW(SYS_futex, &run->slots[index].go, FUTEX_WAKE, 1);
+}
+
 void hand_turn(uint32_t index) {
-    run->turns++;
-    run->turn = index;
+    turn_change(run->turn, index);
     if (index == NOBODY) {
         ring();
     } else {
-        run->slots[index].go++;
-        RAW(SYS_futex, &run->slots[index].go, FUTEX_WAKE, 1);
+        wake_owner(index);
     }
 }
 
 bool has_turn(void) {
-    return (run->turn & ~DECIDING) == my.index && my.slot;
+    return my.slot && turn_owner() == my.index;
 }
 
 static void check_coordinator(void) {
@@ -255,13 +270,11 @@ void await_turn(void) {
 
 /* Hands the turn on, and waits for the next one; the slot says what for. */
 static void give_turn(void) {
-    uint32_t mine = my.index;
     my.is_deciding++;
-    if (__atomic_compare_exchange_n((uint32_t *)&run->turn, &mine, my.index | DECIDING, 0, __ATOMIC_SEQ_CST,
-                                    __ATOMIC_SEQ_CST)) {
+    if (begin_deciding()) {
         uint32_t next = next_turn(false);
         if (next == my.index) {
-            run->turn = next;
+            turn_change(run->turn, next);
         } else {
             hand_turn(next);
         }

@@ -11,9 +11,6 @@
 extern struct run *run;
 extern int run_epoll;
 
-/* Descriptors that a thread has in the epoll, also between two waits. */
-#define WATCHED 4
-
 /* What a thread of a program knows of itself. */
 struct my {
     struct slot *slot;
@@ -24,8 +21,6 @@ struct my {
     uint32_t looks;
     uint64_t looked_at, step;
     bool has_talked;
-    uint32_t watched_next;
-    int watched[WATCHED]; /* 0: none; a descriptor 0 is put there for each wait */
 };
 extern __thread struct my my __attribute__((tls_model("initial-exec")));
 
@@ -63,9 +58,21 @@ void wake_descriptors(uint32_t pid);
 /* A moment from now, and the moment at which a clock shows this. */
 uint64_t after(uint64_t nanoseconds);
 
-/* Who can go on next: the number of its slot, or NOBODY and run->pause. Only for who has the turn. */
+/* Whose turn it is, or NOBODY. */
+uint32_t turn_owner(void);
+
+/* Changes the turn from `turn`, as it was read, to that of another, or marks it by DECIDING; false where it is over. */
+bool turn_change(uint64_t turn, uint32_t to);
+
+/* Begins to decide whose turn is next, for who has it; false where it was taken back. */
+bool begin_deciding(void);
+
+/* Who can go on next: the number of its slot, or NOBODY and run->pause. Only for who decides. */
 uint32_t next_turn(bool ignores_outside);
 void hand_turn(uint32_t index);
+
+/* Wakes the thread whose turn it is now. */
+void wake_owner(uint32_t index);
 
 /* Has the coordinator look whose turn it is, where it is nobody's. */
 void ring(void);

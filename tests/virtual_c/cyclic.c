@@ -1,23 +1,35 @@
-/* cyclic NAME ID MICROSECONDS COUNT: sends frames of two bytes at exact moments, from the next whole second on. */
+/* cyclic NAME ID MICROSECONDS COUNT [DATA]: sends frames at exact moments, from the next whole second on. They have
+ * these data, in hexadecimal digits, or their number in two bytes. */
 #include "node.h"
+
+static void read_data(struct can_frame *frame, const char *digits) {
+    for (frame->can_dlc = 0; frame->can_dlc < 8 && digits[0] && digits[1]; digits += 2) {
+        char byte[3] = {digits[0], digits[1], 0};
+        frame->data[frame->can_dlc++] = (unsigned char)strtoul(byte, NULL, 16);
+    }
+}
 
 int main(int count, char **words) {
     struct can_frame frame = {.can_dlc = 2};
     struct timespec moment;
-    if (count != 5) {
+    if (count < 5 || count > 6) {
         return 2;
     }
-    int fd = open_can(words[1]);
+    int fd = open_can(words[1]), has_data = count == 6;
     frame.can_id = (canid_t)strtoul(words[2], NULL, 16);
+    if (has_data) {
+        read_data(&frame, words[5]);
+    }
     clock_gettime(CLOCK_REALTIME, &moment);
     moment = (struct timespec){moment.tv_sec + 1, 0};
     for (long k = 0; k < atol(words[4]); k++, moment = later(moment, atol(words[3]) * 1000)) {
         clock_nanosleep(CLOCK_REALTIME, TIMER_ABSTIME, &moment, NULL);
-        frame.data[0] = (unsigned char)(k >> 8);
-        frame.data[1] = (unsigned char)k;
+        if (!has_data) {
+            frame.data[0] = (unsigned char)(k >> 8);
+            frame.data[1] = (unsigned char)k;
+        }
         if (write(fd, &frame, sizeof frame) < 0) {
-            perror("write");
-            return 1;
+            printf("%ld.%06ld %s\n", moment.tv_sec, moment.tv_nsec / 1000, strerror(errno));
         }
     }
     return 0;

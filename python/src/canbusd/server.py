@@ -32,6 +32,7 @@ from canbusd.programs import Program, RunsPrograms
 from canbusd.record import Attempt, Record, read_record
 from canbusd.rules import Rule, check_rules, deciders
 from canbusd.signals import Database, load_database
+from canbusd.virtual import note_rate
 
 if TYPE_CHECKING:
     from can.message import Message
@@ -100,6 +101,7 @@ class Server(Expectations, SimulatesNodes, RunsPrograms, ProgramRun):
         numbers.update(auto_restart=auto_restart, pace_ms=pace_ms, write_bytes=write_bytes)
         options += option_words(ack, report, txqueue=txqueue, rxqueue=rxqueue, **numbers)
         options += rate_words(bitrate, dbitrate)
+        note_rate(bitrate, pace_ms)
         named = observe.split(",") if isinstance(observe, str) and observe else observe
         self.database = load_database(database) if isinstance(database, (str, os.PathLike)) else database
         super().__init__(out)

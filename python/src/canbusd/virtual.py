@@ -3,6 +3,7 @@
 import os
 import shlex
 import sys
+import warnings
 from collections.abc import Sequence
 from typing import Optional
 
@@ -15,6 +16,13 @@ SETTING, OPTIONS = "CANBUSD_RUN_VIRTUAL", "CANBUSD_RUN_OPTIONS"
 def is_virtual() -> bool:
     """Returns whether this program runs in virtual time, as of ``canbusd-run --virtual`` or ``--canbusd-virtual``."""
     return bool(os.environ.get(SETTING))
+
+
+def note_rate(bitrate: Optional[int], pace_ms: int) -> None:
+    """Warns once for each place where a server of virtual time has no bit rate."""
+    if is_virtual() and bitrate is None:
+        text = f"in virtual time frames take no time without bitrate=; each comes {pace_ms} ms after the last (pace_ms)"
+        warnings.warn(text, stacklevel=3)
 
 
 def virtual_words(words: Sequence[str], seed: Optional[int] = None, jitter: Optional[int] = None) -> list[str]:

@@ -1,0 +1,60 @@
+#!/usr/bin/env python3
+"""How fast virtual time is: an idle hour, two nodes at 10 ms with candump, ten nodes at 10 ms.
+
+    benches/virtual.py [SECONDS]    so many seconds of bus time (20), from which the rest is computed
+
+CANBUSD and CANBUSD_RUN name the programs. A turn is one handing on to a thread; time of a processor is that of all programs
+of the run, the server's too."""
+
+import os
+import re
+import resource
+import subprocess
+import sys
+import tempfile
+
+ROOT = os.path.dirname(os.path.dirname(os.path.abspath(__file__)))
+CASES = os.path.join(ROOT, "tests", "virtual_cases")
+RUN = os.environ.get("CANBUSD_RUN") or os.path.join(ROOT, "canbusd-run")
+SERVER = '. "$CASES/server.sh"; start --record none can0,can1,can2,can3,can4,can5,can6,can7,can8,can9; '
+DUMP = 'aside candump -ta can9 >"$OUT/candump"; dump=$!; '
+IDLE = SERVER + DUMP + "sleep $((FRAMES / 100)); kill $dump; stop"
+TWO = (
+    SERVER
+    + DUMP
+    + ('aside "$NODES/respond" can1 100 200 $FRAMES; inside "$NODES/cyclic" can0 100 10000 $FRAMES; kill $dump; stop')
+)
+TEN = SERVER + (
+    'for k in 1 2 3 4 5 6 7 8 9; do aside "$NODES/cyclic" can$k 10$k 10000 $FRAMES; done; '
+    'inside "$NODES/cyclic" can0 100 10000 $FRAMES; stop'
+)
+
+
+def measure(name, script, seconds, frames, whole, folder):
+    """Runs a script of so many seconds and frames; prints its cost, and that of the `whole`, in seconds of bus time."""
+    env = {**os.environ, "RUN": RUN, "CASES": CASES, "NODES": folder, "FRAMES": str(seconds * 100)}
+    env.setdefault("CANBUSD", os.path.join(ROOT, "dist", "canbusd"))
+    env.update(OUT=os.path.join(folder, name.split()[0]), CANBUSD_RUN_DEBUG="1")
+    before = resource.getrusage(resource.RUSAGE_CHILDREN)
+    words = [RUN, "--virtual", "--", "bash", "-c", script]
+    ended = subprocess.run(words, env=env, stderr=subprocess.PIPE, text=True, check=True)
+    after = resource.getrusage(resource.RUSAGE_CHILDREN)
+    used = after.ru_utime + after.ru_stime - before.ru_utime - before.ru_stime
+    turns = int(re.search(r"(\d+) turns", ended.stderr).group(1))
+    rate = f"{turns / frames:.1f} turns a frame, {used / turns * 1e6:.1f} us a turn, " if frames else ""
+    print(f"{name}: {rate}{used * whole / seconds:.1f} s of a processor for {whole} s of bus time", flush=True)
+
+
+def main():
+    seconds = int(sys.argv[1]) if len(sys.argv) > 1 else 20
+    with tempfile.TemporaryDirectory() as folder:
+        for node in ("cyclic", "respond"):
+            source = os.path.join(ROOT, "tests", "virtual_c", f"{node}.c")
+            subprocess.run(["gcc", "-O1", "-o", os.path.join(folder, node), source], check=True)
+        measure("idle, with candump", IDLE, 3600, 0, 3600, folder)
+        measure("two nodes and candump", TWO, seconds, 200 * seconds, 600, folder)
+        measure("ten nodes", TEN, seconds, 1000 * seconds, 3600, folder)
+
+
+if __name__ == "__main__":
+    main()

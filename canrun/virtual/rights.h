@@ -1,0 +1,42 @@
+/* A message of one byte with a descriptor, by which the coordinator hands out the epoll of the run. */
+#ifndef RIGHTS_H
+#define RIGHTS_H
+
+#include <sys/socket.h>
+
+struct rights {
+    char byte;
+    struct iovec part;
+    union {
+        char room[CMSG_SPACE(sizeof(int))];
+        struct cmsghdr align;
+    } control;
+    struct msghdr message;
+};
+
+/* Lays the message out; it has this descriptor, or with -1 only room for one. */
+static inline struct msghdr *rights_message(struct rights *rights, int fd) {
+    *rights = (struct rights){.part = {&rights->byte, 1}};
+    rights->message = (struct msghdr){.msg_iov = &rights->part,
+                                      .msg_iovlen = 1,
+                                      .msg_control = &rights->control,
+                                      .msg_controllen = sizeof rights->control};
+    if (fd >= 0) {
+        struct cmsghdr *head = CMSG_FIRSTHDR(&rights->message);
+        *head = (struct cmsghdr){.cmsg_level = SOL_SOCKET, .cmsg_type = SCM_RIGHTS, .cmsg_len = CMSG_LEN(sizeof(int))};
+        __builtin_memcpy(CMSG_DATA(head), &fd, sizeof fd);
+    }
+    return &rights->message;
+}
+
+/* The descriptor that came with a message, or -1. */
+static inline int rights_descriptor(const struct rights *rights) {
+    const struct cmsghdr *head = CMSG_FIRSTHDR(&rights->message);
+    int fd = -1;
+    if (head && head->cmsg_type == SCM_RIGHTS) {
+        __builtin_memcpy(&fd, CMSG_DATA(head), sizeof fd);
+    }
+    return fd;
+}
+
+#endif

@@ -1,0 +1,44 @@
+/* race: two threads of a node take an identifier for a request each 10 ms, and one forgets the lock. The identifiers
+ * are unique as long as no thread waits between the look and the step; it prints the first that was given out twice. */
+#define _GNU_SOURCE
+#include <pthread.h>
+#include <stdio.h>
+#include <stdlib.h>
+#include <unistd.h>
+
+#define ROUNDS 50
+
+static int next, seen[4 * ROUNDS];
+
+static int take(void) {
+    int mine = next;
+    usleep(20); /* as of a log file, or a send */
+    next = mine + 1;
+    return mine;
+}
+
+static void *ask(void *offset) {
+    usleep(*(useconds_t *)offset);
+    for (int k = 0; k < ROUNDS; k++) {
+        usleep(10000);
+        int mine = take();
+        if (seen[mine]++) {
+            printf("request %d was given out twice\n", mine);
+            exit(1);
+        }
+    }
+    return NULL;
+}
+
+int main(void) {
+    useconds_t offsets[2] = {0, 2000};
+    pthread_t threads[2];
+    for (int i = 0; i < 2; i++) {
+        pthread_create(&threads[i], NULL, ask, &offsets[i]);
+    }
+    for (int i = 0; i < 2; i++) {
+        pthread_join(threads[i], NULL);
+    }
+    puts("all are unique");
+    return 0;
+}

@@ -1,0 +1,8 @@
+# The broadcast manager: one socket sends cyclically, another has a timeout and a throttle.
+. "$CASES/server.sh"
+start can0,can1
+aside "$NODES/bcm" can1 watch >"$OUT/watched"; watch=$!
+sleep 0.1
+inside "$NODES/bcm" can0 send >"$OUT/sent"
+wait $watch
+stop

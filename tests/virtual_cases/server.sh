@@ -1,0 +1,30 @@
+# Sourced by the cases: a server with a bit rate, whose files and those of the case are in the folder OUT.
+set -e
+mkdir "$OUT"
+export CANBUSD_ADDRESS="$OUT/socket"
+
+# start OPTION.. BUS..: its standard input stays open until `stop`.
+start() {
+    mkfifo "$OUT/stdin"
+    "$CANBUSD" serve --until-eof --bitrate 500000 --out "$OUT" --listen "$CANBUSD_ADDRESS" "$@" \
+        <"$OUT/stdin" >"$OUT/address" 2>"$OUT/errors" &
+    server=$!
+    exec 9>"$OUT/stdin"
+    sleep 0.1
+}
+
+# inside PROGRAM .. and aside PROGRAM .., which does not wait for it: with CAN sockets of the server.
+inside() {
+    "$RUN" "$@" 9>&-
+}
+
+aside() {
+    "$RUN" "$@" 9>&- &
+}
+
+stop() {
+    sleep 0.1
+    exec 9>&-
+    wait "$server"
+    rm -f "$OUT/stdin" "$CANBUSD_ADDRESS"*
+}
