@@ -1,4 +1,4 @@
-use Rattle.std.proofs.Common.{◌≡◌, ◌∷◌, ◌++◌, ◌∙◌, ℕ, suc, List, [], Bool, false, Result, Ok, Err, IfErr, IsTrue, OnOk, ap, drop, length, refl, subst, sym, take}
+use Rattle.std.proofs.Common.{◌≡◌, ◌∷◌, ◌++◌, ◌∙◌, ℕ, suc, List, [], Bool, false, true, Result, Ok, Err, IfErr, IsTrue, OnOk, ap, drop, length, refl, rules, subst, sym, take}
 use Rattle.std.specs.List.{AllZip}
 use Rattle.std.proofs.KnownBytes.{Appends-trans}
 use Rattle.std.proofs.Math.Seq.{take-append_seam}
@@ -30,7 +30,7 @@ written xs ys n is = ap (λ (k : ℕ). take k (xs ++ drop (length xs) ys)) (sym 
 
 pub returns-clause-served : goal.returns-clause-served
 returns-clause-served g c = λ quiet.
-    let both = c.if-has_reported.result-false quiet in
+    let both : (c.has_reported.result ≡ false) × (c.finish_all-are_there.result ≡ true) = search (rules, quiet) in
     let kept = contents-default File in
     let o = c.args.self.now.options.now in
     let old = c.in_ok-settled.files in
