@@ -43,4 +43,4 @@ def test_virtual_ecu():
     """a guest of QEMU with its own driver"""
     if not shutil.which("qemu-system-x86_64") or "CANBUSD_KERNEL" not in os.environ:
         pytest.skip("no qemu-system-x86_64, or CANBUSD_KERNEL names no kernel (examples/virtual_ecu/guest)")
-    assert passed("examples/virtual_ecu", 900) == 4
+    assert passed("examples/virtual_ecu", 900) >= 4
