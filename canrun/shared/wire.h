@@ -16,8 +16,8 @@
 #define WIRE_NAME "canbusd-can/"
 enum wire_protocol { WIRE_RAW = 'r', WIRE_BCM = 'b', WIRE_ISOTP = 'i' };
 
-/* The longest message, either way: one of the broadcast manager with its head and 256 FD frames. */
-#define WIRE_LARGEST 20000
+/* The longest message, either way: one of ISO-TP. */
+#define WIRE_LARGEST 66000
 /* The most data of a reply: 512 filters. */
 #define WIRE_REPLY 4096
 
