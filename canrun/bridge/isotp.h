@@ -6,8 +6,8 @@
 
 #include <linux/can/isotp.h>
 
-/* The longest message, as the kernel has it by default. */
-#define ISOTP_LONGEST 8300
+/* The longest message, as the kernel has it. */
+#define ISOTP_LONGEST 66000
 /* How many seconds the other end may be silent, and a frame may take until it was on the bus. */
 #define ISOTP_TIMEOUT 1
 #define ISOTP_ECHO_TIMEOUT 2

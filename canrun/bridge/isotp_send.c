@@ -130,7 +130,7 @@ int isotp_send_start(const char *data, size_t length) {
     unsigned address = isotp_address_size(), escape = isotp.link.tx_dl > CAN_MAX_DLEN;
     size_t single = isotp.link.tx_dl - 1 - address - escape;
     if (!length || length > ISOTP_LONGEST) {
-        return refused(EINVAL, "a message has 1 to 8300 bytes");
+        return refused(EINVAL, "a message has 1 to 66000 bytes");
     }
     if (isotp.options.flags & CAN_ISOTP_SF_BROADCAST && length > single) {
         return refused(EINVAL, "to all, a message has one frame");

@@ -69,8 +69,8 @@ static bool is_busy(uint64_t closed) {
 
 /* Whether a signal has ended the close that waited: as in the kernel, the message is given up. */
 static bool close_is_over(void) {
-    struct pollfd polled = {request_closer(), 0, 0};
-    return polled.fd >= 0 && poll(&polled, 1, 0) > 0 && polled.revents & POLLHUP;
+    struct pollfd polled = {request_closer(), POLLIN, 0};
+    return polled.fd >= 0 && poll(&polled, 1, 0) > 0;
 }
 
 /* Until the socket is closed, and what was accepted is sent. Once the server is gone the socket has an error, and is

@@ -87,6 +87,9 @@ void raw_setup(struct session *session, char *text, size_t size) {
     if (wanted.filters != given->filters) {
         length += filter_command(text, size, wanted.filters == NO_FILTERS);
     }
+    wanted.loopback = !!wanted.loopback;
+    wanted.receive_own = !!wanted.receive_own;
+    wanted.fd_frames = !!wanted.fd_frames;
     wanted.join = wanted.join && !filters_here;
     const struct {
         const char *command;
@@ -153,9 +156,9 @@ int raw_set(int option, const void *value, size_t length) {
         return refused(EINVAL, "the value has the wrong length");
     }
     memcpy(&number, value, sizeof number);
-    number = option == CAN_RAW_ERR_FILTER ? number & CAN_ERR_MASK : number != 0;
+    number &= option == CAN_RAW_ERR_FILTER ? CAN_ERR_MASK : ~0u;
     memcpy(place, &number, sizeof number);
-    options.fd_frames |= options.xl_frames;
+    options.fd_frames = options.xl_frames ? options.xl_frames : options.fd_frames;
     return sessions_apply();
 }
 

@@ -96,6 +96,7 @@ int request_closer(void) {
 static int begin_close(int pair) {
     struct pollfd polled = {pair, POLLIN, 0};
     if (isotp_is_busy() && poll(&polled, 1, PATIENCE * 1000) > 0 && program_is_gone() && closer < 0) {
+        recv(pair, &(char){0}, 1, MSG_DONTWAIT);
         closer = pair;
     } else {
         close(pair);

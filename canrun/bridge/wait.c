@@ -23,7 +23,8 @@ bool wait_for_input(int64_t nanoseconds, bool takes_requests) {
     int news = takes_requests && protocol == WIRE_ISOTP ? request_news() : -1;
     bool is_kept = news >= 0 && request_is_kept();
     /* A socket whose other end is closed is ready for ever, though nobody asks. */
-    polled[0] = (struct pollfd){takes_requests || !program_is_gone() ? PROGRAM : request_closer(), events, 0};
+    bool is_closing = !takes_requests && program_is_gone();
+    polled[0] = (struct pollfd){is_closing ? request_closer() : PROGRAM, is_closing ? POLLIN : events, 0};
     polled[0].events &= (short)(news >= 0 ? ~POLLIN : ~0);
     polled[1] = (struct pollfd){news, POLLIN, 0};
     for (int i = 0; i < session_count; i++) {

@@ -5,8 +5,22 @@
 #include <errno.h>
 #include <poll.h>
 #include <sys/syscall.h>
+#include <time.h>
 
-/* The bridge has the other end of the pair; when it ends, or does not wait, so does the wait. A signal ends it too. */
+static void put_byte(int fd) {
+    syscall(SYS_sendto, fd, "", 1L, MSG_NOSIGNAL, NULL, 0L);
+}
+
+/* Waits for the end of the bridge, which has the other end of the pair, or until it does not wait. A signal ends that:
+ * the message is given up, and nothing of it comes once that is done. */
+static void await_end(int fd) {
+    struct pollfd polled = {fd, POLLIN, 0};
+    if (syscall(SYS_ppoll, &polled, 1L, NULL, NULL, 0L) < 0) {
+        put_byte(fd);
+        syscall(SYS_ppoll, &polled, 1L, &(struct timespec){1, 0}, NULL, 0L);
+    }
+}
+
 static int close_patiently(int fd) {
     int pair[2], before = errno;
     struct wire_request request = {.kind = WIRE_CLOSE};
@@ -17,10 +31,9 @@ static int close_patiently(int fd) {
     syscall(SYS_close, pair[1]);
     int result = real()->close(fd);
     /* Now the bridge sees whether that was the last copy. */
-    syscall(SYS_shutdown, pair[0], SHUT_WR);
+    put_byte(pair[0]);
     if (!error) {
-        struct pollfd polled = {pair[0], POLLIN, 0};
-        syscall(SYS_ppoll, &polled, 1L, NULL, NULL, 0L);
+        await_end(pair[0]);
     }
     syscall(SYS_close, pair[0]);
     errno = before;

@@ -22,7 +22,7 @@ static int bind_can(const char *call, int fd, enum wire_protocol protocol, const
     if (!copy_from(&can, address, MIN(length, sizeof can))) {
         return fail(EFAULT);
     }
-    if (can.can_family != AF_CAN) {
+    if (can.can_family != AF_CAN && protocol != WIRE_BCM) {
         return refuse(call, EINVAL, "the address is not of AF_CAN");
     }
     struct wire_request request = {.kind = WIRE_BIND, .ifindex = can.can_ifindex};
@@ -48,8 +48,16 @@ EXPORT int connect(int fd, const struct sockaddr *address, socklen_t length) {
     if (!protocol) {
         return real()->connect(fd, address, length);
     }
-    return protocol == WIRE_BCM ? bind_can("connect", fd, protocol, address, length)
-                                : refuse("connect", EOPNOTSUPP, "CAN_RAW and CAN_ISOTP have bind in its place");
+    if (protocol == WIRE_BCM) {
+        return bind_can("connect", fd, protocol, address, length);
+    }
+    struct sockaddr_storage copy;
+    if (length > sizeof copy) {
+        return fail(EINVAL);
+    }
+    return copy_from(&copy, address, length)
+               ? refuse("connect", EOPNOTSUPP, "CAN_RAW and CAN_ISOTP have bind in its place")
+               : fail(EFAULT);
 }
 
 /* Copies a value into the room that the program gives, and says how long it is: as it is, or as much as was copied. */

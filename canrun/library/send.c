@@ -140,6 +140,10 @@ static ssize_t send_named(int fd, enum wire_protocol protocol, const struct msgh
     if ((int)message.msg_namelen < 0) {
         return fail(EINVAL);
     }
+    char control[sizeof(struct cmsghdr)];
+    if (!copy_from(control, message.msg_control, MIN(message.msg_controllen, sizeof control))) {
+        return fail(EFAULT);
+    }
     return can_sendmsg(fd, protocol, &message, flags);
 }
 

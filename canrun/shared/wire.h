@@ -16,8 +16,8 @@
 #define WIRE_NAME "canbusd-can/"
 enum wire_protocol { WIRE_RAW = 'r', WIRE_BCM = 'b', WIRE_ISOTP = 'i' };
 
-/* The longest message, either way: one of the broadcast manager with its head and 256 FD frames. */
-#define WIRE_LARGEST 20000
+/* The longest message, either way: one of ISO-TP. */
+#define WIRE_LARGEST 66000
 /* The most data of a reply: 512 filters. */
 #define WIRE_REPLY 4096
 
@@ -32,8 +32,8 @@ enum wire_kind {
     WIRE_GET_DEVICE, /* the same; it is the reply's value */
     WIRE_ADDRESS,    /* the index is the reply's value; of ISO-TP the two identifiers are its data */
     WIRE_ERROR,      /* takes the socket's error, which is the reply's value; 0 where another has taken it */
-    WIRE_CLOSE,      /* the socket is closed once nothing more comes by what is no pipe, but one end of a pair; the end
-                      * of a message is waited for until nothing more comes by the other */
+    WIRE_CLOSE,      /* the socket is closed once a byte comes by what is no pipe, but one end of a pair; the end of a
+                      * message is waited for until another comes, or the other end is gone */
     WIRE_CANCEL, /* a signal ends the wait of the request whose pipe this is the read end of; the reply is its own */
 };
 #define WIRE_BOUND (-1)
