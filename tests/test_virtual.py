@@ -363,6 +363,11 @@ def test_heartbeats(canbusd):
 def test_fault():
     time.sleep(1000)
     assert False
+
+def test_no_rate():
+    for _ in range(2):
+        with package.Server("can0"):
+            pass
 """
 
 
@@ -374,7 +379,8 @@ def test_pytest(tmp_path):
     env = {**os.environ, "CANBUSD_RUN": command(), "CANBUSD": program(), "PYTHONPATH": os.path.join(ROOT, "python/src")}
     how = {"cwd": tmp_path, "env": env, "stdout": subprocess.PIPE, "text": True, "check": False}
     ended = subprocess.run([*line, "--canbusd-virtual", "--canbusd-seed", "3"], **how)
-    assert "1 failed, 1 passed" in ended.stdout, ended.stdout
+    assert "1 failed, 2 passed" in ended.stdout, ended.stdout
+    assert ended.stdout.count("UserWarning: in virtual time the frames of a server without bitrate= take no time") == 1
     assert "repeat: canbusd-run --virtual --seed 3 --jitter 0 python3 -m pytest test_it.py::test_fault" in ended.stdout
     real = subprocess.run([*line, "-k", "heartbeats"], **how)
     assert real.returncode == 1 and "this test is for virtual time" in real.stdout, real.stdout

@@ -26,16 +26,19 @@
 
 /* ---- programs that do not load the library ---- */
 
-/* What of these two a process has loaded. */
+/* What of these two a process has loaded. Of one that ends the list may be cut; the stack comes after the libraries. */
 static void find_libraries(uint32_t pid, bool *has_ours, bool *has_c) {
     char path[32], line[PATH_MAX + 200];
+    bool is_whole = false;
     *has_ours = *has_c = false;
     snprintf(path, sizeof path, "/proc/%u/maps", pid);
     FILE *maps = fopen(path, "re");
     while (maps && fgets(line, sizeof line, maps)) {
         *has_ours |= strstr(line, LIBRARY) != NULL;
         *has_c |= strstr(line, C_LIBRARY) != NULL;
+        is_whole |= strstr(line, "[stack]") != NULL;
     }
+    *has_c &= is_whole;
     if (maps) {
         fclose(maps);
     }

@@ -101,7 +101,7 @@ class Server(Expectations, SimulatesNodes, RunsPrograms, ProgramRun):
         numbers.update(auto_restart=auto_restart, pace_ms=pace_ms, write_bytes=write_bytes)
         options += option_words(ack, report, txqueue=txqueue, rxqueue=rxqueue, **numbers)
         options += rate_words(bitrate, dbitrate)
-        note_rate(bitrate, pace_ms)
+        note_rate(bitrate)
         named = observe.split(",") if isinstance(observe, str) and observe else observe
         self.database = load_database(database) if isinstance(database, (str, os.PathLike)) else database
         super().__init__(out)

@@ -1,5 +1,6 @@
 """Virtual time: whether this program runs in it, and how pytest starts itself anew there."""
 
+import functools
 import os
 import shlex
 import sys
@@ -18,11 +19,16 @@ def is_virtual() -> bool:
     return bool(os.environ.get(SETTING))
 
 
-def note_rate(bitrate: Optional[int], pace_ms: int) -> None:
-    """Warns once for each place where a server of virtual time has no bit rate."""
+@functools.lru_cache(maxsize=None)
+def _warn_of_no_rate() -> None:
+    text = "in virtual time the frames of a server without bitrate= take no time, and each comes pace_ms after the last"
+    warnings.warn(text, stacklevel=4)
+
+
+def note_rate(bitrate: Optional[int]) -> None:
+    """Warns, once, of a server in virtual time that has no bit rate."""
     if is_virtual() and bitrate is None:
-        text = f"in virtual time frames take no time without bitrate=; each comes {pace_ms} ms after the last (pace_ms)"
-        warnings.warn(text, stacklevel=3)
+        _warn_of_no_rate()
 
 
 def virtual_words(words: Sequence[str], seed: Optional[int] = None, jitter: Optional[int] = None) -> list[str]:
