@@ -1,8 +1,10 @@
-/* close: that of a socket of ISO-TP waits for the end of the message that is being sent, as in the kernel. */
+/* close, dup2 and dup3: whoever closes a socket of ISO-TP waits for the end of the message that is being sent, as in
+ * the kernel. */
 #define _GNU_SOURCE
 #include "library.h"
 
 #include <errno.h>
+#include <fcntl.h>
 #include <poll.h>
 #include <sys/syscall.h>
 #include <time.h>
@@ -40,6 +42,32 @@ static int close_patiently(int fd) {
     return result;
 }
 
+static bool is_patient(int fd) {
+    return fd >= 0 && protocol_of(fd) == WIRE_ISOTP;
+}
+
 EXPORT int close(int fd) {
-    return fd >= 0 && protocol_of(fd) == WIRE_ISOTP ? close_patiently(fd) : real()->close(fd);
+    return is_patient(fd) ? close_patiently(fd) : real()->close(fd);
+}
+
+/* A copy of the socket that a call takes the place of; it is closed after the call. -1 for none. */
+static int copy_of_replaced(int from, int to) {
+    return from != to && is_patient(to) ? fcntl(to, F_DUPFD_CLOEXEC, 0) : -1;
+}
+
+static int replaced(int copy, int result) {
+    if (copy >= 0) {
+        close_patiently(copy);
+    }
+    return result;
+}
+
+EXPORT int dup2(int from, int to) {
+    int copy = copy_of_replaced(from, to);
+    return replaced(copy, real()->dup2(from, to));
+}
+
+EXPORT int dup3(int from, int to, int flags) {
+    int copy = copy_of_replaced(from, to);
+    return replaced(copy, real()->dup3(from, to, flags));
 }

@@ -55,6 +55,8 @@
     X(posix_spawn)        \
     X(posix_spawnp)       \
     X(close)              \
+    X(dup2)               \
+    X(dup3)               \
     X(read)               \
     X(readv)              \
     X(recv)               \
