@@ -557,7 +557,7 @@ def test_folder_of_a_server(tmp_path):
     """one that takes no files is refused before the server listens; files of an earlier run stay until new ones are whole"""
     none = os.path.join(tmp_path, "none")
     words = [program(), "serve", "--listen", "127.0.0.1:0", "--until-eof", "--out"]
-    said = f"canbusd: cannot open {none}\n  {none}/can0.rec: No such file or directory (os error 2)\n"
+    said = f"canbusd: cannot open {none}\n  {none}/can0.rec.new: No such file or directory (os error 2)\n"
     assert call(*words, none, "can0") == (1, "", said)
     os.mkdir(none)
     for name in ("can0.log", "can0.rec"):
