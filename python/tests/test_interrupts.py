@@ -83,11 +83,12 @@ def test_an_interrupt_leaves_the_bus_in_step(call, reader):
     assert (done.returncode, done.stdout, done.stderr) == (0, "in step\n", "")
 
 
-# A Ctrl-C comes while the folder of a run that nobody has any more is removed.
+# A Ctrl-C comes while the folder of a run that nobody has any more is removed. A shell's job in the background ignores it.
 FINALIZED = """
 import os, shutil, signal, time
 from canbusd import Bench
 
+signal.signal(signal.SIGINT, signal.default_int_handler)
 remove = shutil.rmtree
 
 def interrupted(*words, **more):
