@@ -345,9 +345,12 @@ def test_isotp_stmin(is_busy):
         ending.close()
         server.end()
         with open(server.path("ecu.log"), encoding="utf-8") as log:
-            ends = [float(end) for end in re.findall(r"^\((\d+\.\d+)\) ecu 123#2", log.read(), re.M)]
-        # 2.2 ms are less than any of these frames takes at 50 kbit/s: 111 bits.
-        assert len(ends) == 8 and min(after - end for end, after in zip(ends, ends[1:])) >= 0.0122, ends
+            frames = re.findall(r"^\((\d+\.\d+)\) ecu 123#(2\w+)", log.read(), re.M)
+        ends = [float(end) for end, _ in frames]
+        # A frame has 44 bits and its data, without bits that are stuffed: the last one has 6 bytes, the others have 8.
+        least = [0.010 + (44 + 4 * len(data)) / 50_000 for _, data in frames]
+        gaps = [after - end for end, after in zip(ends, ends[1:])]
+        assert len(ends) == 8 and all(gap >= short - 1e-6 for gap, short in zip(gaps, least[1:])), (gaps, least)
         record = server.path("ecu.rec")
         with open(record, encoding="utf-8") as entries:
             assert is_busy or "no buffers" not in entries.read()
