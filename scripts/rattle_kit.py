@@ -90,9 +90,13 @@ class Kept:
 def lanes(wanted: Optional[int] = None) -> int:
     """Returns how many checks run side by side: one for each processor, as far as the memory that is free goes."""
     processors = wanted or len(os.sched_getaffinity(0))
+    return max(1, min(processors, free_memory() // CHECK_MEMORY))
+
+
+def free_memory() -> int:
+    """Returns the memory that is free, in bytes."""
     with open("/proc/meminfo", encoding="ascii") as file:
-        free = {line.split(":")[0]: int(line.split()[1]) << 10 for line in file}["MemAvailable"]
-    return max(1, min(processors, free // CHECK_MEMORY))
+        return {line.split(":")[0]: int(line.split()[1]) << 10 for line in file}["MemAvailable"]
 
 
 def in_lanes(work: Callable[[str], Tuple[int, int]], names: Sequence[str], count: int) -> Tuple[int, int]:

@@ -39,6 +39,21 @@ pub fn any(number: u8) -> u8 {
 }
 """
 
+UPPER = """\
+//! A crate above it.
+#![tactic(auto)]
+
+ghost use Rattle.std.specs.Prelude.{◌≡◌, ◌<◌, ◌+◌};
+
+/// Returns the number after the next one.
+pub fn second_after(number: u8) -> u8
+    requires { number < 254 }
+    ensures { result ≡ number + 2 }
+{
+    toy::next(toy::next(number))
+}
+"""
+
 # An edit's pairs, and what has to be said of it.
 EDITS = {
     "refused": ("old:     number + 1\nnew:     number", "refused: next: "),
@@ -58,18 +73,23 @@ EDITS = {
 }
 
 
-@pytest.fixture(scope="module")
-def tried(tmp_path_factory):
-    """What the script says of each edit of a crate, and its last line."""
+def make_repository(top):
+    """Makes a repository with the crate and the scripts, and returns its place."""
     if shutil.which("rt") is None:
         pytest.skip("there is no rt: the Rattle kit is not public")
-    top = tmp_path_factory.mktemp("edits")
     for folder in ("scripts", "crates/toy/src", "crates/toy/wrong"):
         (top / folder).mkdir(parents=True)
     for name in SCRIPTS:
         shutil.copy(os.path.join(ROOT, "scripts", name), top / "scripts")
     (top / "crates.txt").write_text("toy:\n", encoding="utf-8")
     (top / "crates/toy/src/lib.rt").write_text(CRATE, encoding="utf-8")
+    return top
+
+
+@pytest.fixture(scope="module")
+def tried(tmp_path_factory):
+    """What the script says of each edit of a crate, and its last line."""
+    top = make_repository(tmp_path_factory.mktemp("edits"))
     for name, (pairs, _) in EDITS.items():
         (top / f"crates/toy/wrong/{name}.edit").write_text(f"file: src/lib.rt\n{pairs}\n", encoding="utf-8")
     environment = {**os.environ, "CANBUSD_KEPT": str(top / "kept")}
@@ -115,3 +135,39 @@ def test_a_crate_without_edits_is_named(tried):
     _, top = tried
     done = subprocess.run([top / "scripts/edits", "none"], stderr=subprocess.PIPE, text=True, timeout=60)
     assert done.returncode == 2 and "there is no folder crates/none/wrong" in done.stderr
+
+
+@pytest.fixture
+def upper(tmp_path):
+    """A repository with a crate above the first one, which is not built, and an edit of that crate."""
+    top = make_repository(tmp_path / "repository")
+    (top / "crates.txt").write_text("toy:\nupper: toy\n", encoding="utf-8")
+    for folder in ("src", "wrong"):
+        (top / "crates/upper" / folder).mkdir(parents=True)
+    (top / "crates/upper/src/lib.rt").write_text(UPPER, encoding="utf-8")
+    edit = "file: src/lib.rt\nold:     toy::next(toy::next(number))\nnew:     toy::next(number)\n"
+    (top / "crates/upper/wrong/one_step.edit").write_text(edit, encoding="utf-8")
+    return top
+
+
+def test_edits_wait_for_what_is_built_beside_them(upper, tmp_path):
+    """without the library of the crate below them none could be judged"""
+    log = tmp_path / "log"
+    log.write_text("rt: toys proved\n", encoding="utf-8")
+    environment = {**os.environ, "CANBUSD_KEPT": str(tmp_path / "kept")}
+    words = [upper / "scripts/edits", "--follow", log, "upper"]
+    with subprocess.Popen(words, env=environment, stdout=subprocess.PIPE, stderr=subprocess.STDOUT, text=True) as child:
+        subprocess.run(["rt", "lib"], cwd=upper / "crates/toy", stdout=subprocess.DEVNULL, timeout=900, check=True)
+        with open(log, "a", encoding="utf-8") as file:
+            file.write("rt: toy proved\n")
+        said = child.communicate(timeout=900)[0]
+    assert said.startswith("upper/one_step: refused: second_after: ") and said.endswith("\n1 passed, 0 failed\n")
+
+
+def test_edits_do_not_wait_for_a_run_that_has_ended(upper, tmp_path):
+    log = tmp_path / "log"
+    log.write_text("rt: toy NOT PROVED\n0 passed, 2 failed\n", encoding="utf-8")
+    environment = {**os.environ, "CANBUSD_KEPT": str(tmp_path / "kept")}
+    words = [upper / "scripts/edits", "--follow", log, "upper"]
+    done = subprocess.run(words, env=environment, stdout=subprocess.PIPE, text=True, timeout=60)
+    assert done.stdout.startswith("upper/one_step: NOT JUDGED: toy is not built: ") and done.returncode == 1
