@@ -218,6 +218,19 @@ def test_more_frames_than_a_socket_holds_are_seen(tmp_path):
         assert server.expect(id=11_999 % 256, data=(11_999).to_bytes(2, "big"), within=WAIT)
 
 
+def test_what_nobody_expects_is_kept_piece_by_piece(monkeypatch):
+    # What is kept as it came is 7 frames; the rest goes on in pieces of 2, and the order is that of the bus.
+    monkeypatch.setattr("canbusd._observer.MOST_UNREAD", 7)
+    monkeypatch.setattr("canbusd._observer.SOME", 2)
+    with Server("can0,can1", txqueue=100) as server, server.bus("can0") as can0:
+        can0.send_many([message(number) for number in range(100)])
+        received = server._observing().received
+        server.wait_for(lambda: received.arrived == 93, timeout=WAIT)
+        for number in range(100):
+            server.expect(id=number, within=WAIT)
+        assert received.arrived == 100
+
+
 def test_frames_that_were_dropped_are_no_frames_that_did_not_come(monkeypatch):
     with Server("can0,can1", pace_ms=0, rxqueue=1) as server, server.bus("can0") as can0:
         stats = server._observing().session("can1").stats

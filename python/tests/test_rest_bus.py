@@ -1,5 +1,6 @@
 """The rest bus: what the other nodes of rest.dbc send, with bytes worked out by hand, on a bench and by a server."""
 
+import gc
 import signal
 import subprocess
 import sys
@@ -10,6 +11,7 @@ import pytest
 from can.exceptions import CanOperationError
 from conftest import WAIT
 
+from canbusd._punctual import INTERVAL, Punctuality
 from canbusd._schedule import Schedule, phases
 from canbusd.bench import Bench, Refused
 from canbusd.faults import Faults
@@ -508,6 +510,25 @@ def test_phases_keep_messages_apart():
     assert phases([1000]) in ([0], [500])
     few = phases([10_000, 10_000, 10_000])
     assert min(abs(one - other) for one in few for other in few if one != other) >= 2000
+
+
+def test_threads_take_turns_sooner_beside_a_rest_bus(car):
+    before, frozen = sys.getswitchinterval(), gc.get_freeze_count()
+    with live(car), live(car):
+        assert sys.getswitchinterval() == pytest.approx(INTERVAL) and gc.get_freeze_count() > frozen
+    assert (sys.getswitchinterval(), gc.get_freeze_count()) == (pytest.approx(before), frozen)
+
+
+def test_what_somebody_else_has_frozen_stays():
+    punctuality = Punctuality()
+    gc.freeze()
+    try:
+        frozen = gc.get_freeze_count()
+        punctuality.begin()
+        punctuality.end()
+        assert gc.get_freeze_count() == frozen > 0
+    finally:
+        gc.unfreeze()
 
 
 def test_counts():

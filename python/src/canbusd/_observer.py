@@ -24,8 +24,9 @@ T = TypeVar("T")
 MOST_OBSERVED = 8
 # Up to how many of them have a session from the start, which receives their states at least. A server has 64 sessions.
 MOST_WITH_STATES = 16
-# How many frames a session keeps as they came, where nobody expects anything.
-MOST_UNREAD = 20_000
+# How many frames a session keeps as they came, where nobody expects anything; what is more is handed on, so many at once,
+# and other threads, such as that of a rest bus, run for these seconds after each.
+MOST_UNREAD, SOME, BREATH = 20_000, 16, 0.0001
 
 
 def observed_by_default(buses: Sequence[Sequence[str]]) -> list[str]:
@@ -301,7 +302,17 @@ class Observer:
     def _read_along(self) -> None:
         """Reads what has come, unless somebody waits for it: it is looked at once somebody does, or it is much."""
         with self._lock:
-            if not self._waiting:
-                unread = [session.read() for session in self._sessions.values()]
-                if max(unread) > MOST_UNREAD:
-                    self._gather()
+            if self._waiting:
+                return
+            for session in self._sessions.values():
+                session.read()
+        while self._hand_some_on():
+            time.sleep(BREATH)
+
+    def _hand_some_on(self) -> bool:
+        """Hands on some of the oldest frames of each session that has too many, and returns whether there was one."""
+        with self._lock:
+            full = [session for session in self._sessions.values() if session.unread > MOST_UNREAD]
+            for session in full:
+                session.hand_on_read(self.received.add, min(SOME, session.unread - MOST_UNREAD))
+            return bool(full)

@@ -36,11 +36,15 @@ class ObservingSession(RawSession):
         #: The state of the interface at first, and its error counts.
         self.first = self._parsed(self._queried[0], counters_of)
 
-    def read(self) -> int:
-        """Reads what has come, without waiting; returns how many frames are not handed on."""
+    @property
+    def unread(self) -> int:
+        """How many frames were read, and are not handed on."""
+        return len(self._texts)
+
+    def read(self) -> None:
+        """Reads what has come, without waiting."""
         # An exception of a signal's handler loses none: each is kept as it is returned.
         self._texts.extend(iter(lambda: self.frame(0), None))
-        return len(self._texts)
 
     def hand_on(self, add: Callable[[str, str], None]) -> None:
         """Hands on what has come, as messages of the protocol, without waiting; what came before the end of the session too."""
@@ -49,7 +53,11 @@ class ObservingSession(RawSession):
         except Exception:
             if not self._texts:
                 raise
-        while self._texts:
+        self.hand_on_read(add, self.unread)
+
+    def hand_on_read(self, add: Callable[[str, str], None], count: int) -> None:
+        """Hands on so many of those that were read, the oldest."""
+        for _ in range(count):
             add(self.channel, self._texts[0])
             self._texts.popleft()
             self.taken += 1

@@ -5,7 +5,7 @@ its moment, its text and its number at its sender, and stands at its moment. So 
 session was read first.
 """
 
-from bisect import bisect_left
+from bisect import bisect_left, bisect_right
 from collections import deque
 from collections.abc import Iterator, Sequence
 from itertools import islice
@@ -119,9 +119,7 @@ class SeenBus:
         return None
 
     def _insert(self, seen: Seen) -> Seen:
-        place = len(self.frames)
-        while place and self._moments[place - 1] > seen.moment:
-            place -= 1
+        place = bisect_right(self._moments, seen.moment)
         self.frames.insert(place, seen)
         self._moments.insert(place, seen.moment)
         if len(self.frames) > MOST_KEPT:

@@ -8,6 +8,7 @@ from typing import Optional
 
 from can.exceptions import CanError
 
+from canbusd._punctual import PUNCTUALITY
 from canbusd._raw_session import refusal
 from canbusd._schedule import MICROS
 from canbusd.bus import CanbusdBus
@@ -15,6 +16,7 @@ from canbusd.commands import NOTHING
 from canbusd.frames import Frame, command_of
 from canbusd.rest_bus import PASSING, RestBus, RestMessage
 from canbusd.signals import Database
+from canbusd.virtual import is_virtual
 
 LOG = logging.getLogger("can.canbusd")
 #: Seconds in which a function of on_send has to return, at the end.
@@ -39,6 +41,9 @@ class LiveRestBus(RestBus):
         self._is_over = is_over
         self._fault: Optional[BaseException] = None
         self._silent: set[str] = set()
+        # In virtual time nothing is late.
+        self._needs_punctuality = not is_virtual()
+        self._is_punctual = False
         has_fd = any(message.format.is_fd for message in self.messages)
         self._buses: dict[str, CanbusdBus] = {}
         try:
@@ -54,6 +59,9 @@ class LiveRestBus(RestBus):
         with self._lock:
             super().start(name)
             if not self._thread.ident:
+                if self._needs_punctuality:
+                    PUNCTUALITY.begin()
+                    self._is_punctual = True
                 self._thread.start()
 
     def close(self) -> None:
@@ -61,6 +69,9 @@ class LiveRestBus(RestBus):
         with self._news:
             self._is_closed = True
             self._news.notify()
+            was_punctual, self._is_punctual = self._is_punctual, False
+        if was_punctual:
+            PUNCTUALITY.end()
         if self._thread.is_alive() and self._thread is not threading.current_thread():
             self._thread.join(END)
         self._shut()

@@ -82,17 +82,21 @@ class RestMessage:
         self._values: dict[str, Value] = {}
         self._frame = frame_of(message, message.encode({}))
         self._function: Optional[Callable[[Outgoing], None]] = None
+        self._tick: Callable[[int], None] = functools.partial(self._send_due, 0)
         # The number of the run, by which what was due in an earlier one is known; and of the table of each signal.
         self._run, self._tables = 0, dict[str, int]()
-        self._sent = 0
+        self._sent = self._accepted = self._refused = self._skipped = 0
         #: What the file says of it.
         self.format = message
         #: The interface by which it is sent.
         self.interface = interface
         #: Whether it is sent by its cycle time.
         self.is_running = False
-        #: What became of its frames.
-        self.counts = Counts()
+
+    @property
+    def counts(self) -> Counts:
+        """What became of its frames."""
+        return Counts(self._accepted, self._refused, self._skipped)
 
     def __getitem__(self, signal: str) -> Value:
         return self._values.get(signal, self.format.signal(signal).start)
@@ -136,8 +140,8 @@ class RestMessage:
         with self._rest.changing() as schedule:
             if self._cycle and not self.is_running:
                 self.is_running = True
-                due = self._rest.now() + self._phase
-                schedule.add(due, self.format.identifier, functools.partial(self._tick, self._run))
+                call = self._tick = functools.partial(self._send_due, self._run)
+                schedule.add(self._rest.now() + self._phase, self.format.identifier, call)
 
     def stop(self) -> None:
         """Sends it no more by its cycle time. What a transmit queue has still goes out."""
@@ -147,7 +151,10 @@ class RestMessage:
 
     def count(self, answer: str) -> None:
         """Counts a frame by the answer to it: nothing where it was accepted, else the text of the refusal."""
-        self.counts = self.counts.plus(Counts(refused=1) if answer else Counts(accepted=1))
+        if answer:
+            self._refused += 1
+        else:
+            self._accepted += 1
 
     def _check(self, signal: str, value: Value) -> None:
         """DatabaseError where the signal can't have this value."""
@@ -157,16 +164,14 @@ class RestMessage:
         if self._tables[signal] == run:
             self.set({signal: value})
 
-    def _tick(self, run: int, due: int) -> None:
+    def _send_due(self, run: int, due: int) -> None:
         """Sends the frame that is due, and has the next one sent a cycle later."""
         if run != self._run:
             return
         missed = max(0, self._rest.now() - due) // self._cycle
-        self.counts = self.counts.plus(Counts(skipped=missed))
-        with self._rest.changing() as schedule:
-            next_due = due + (missed + 1) * self._cycle
-            schedule.add(next_due, self.format.identifier, functools.partial(self._tick, run))
-            self._rest.collect(self, self._next())
+        self._skipped += missed
+        self._rest.repeat(due + (missed + 1) * self._cycle, self.format.identifier, self._tick)
+        self._rest.collect(self, self._next())
 
     def _next(self) -> Frame:
         """The frame that is sent next."""
@@ -351,6 +356,10 @@ class RestBus:
     def send_now(self, message: RestMessage, frame: Frame) -> None:
         """Sends a frame that is not by a cycle; a refusal is raised."""
         raise NotImplementedError
+
+    def repeat(self, due: int, order: int, call: Callable[[int], None]) -> None:
+        """Has this called when it is due, as one that is due now asks for: nobody has to be woken."""
+        self._schedule.add(due, order, call)
 
     def collect(self, message: RestMessage, frame: Frame) -> None:
         """Takes a frame that is due; those of one moment go out together."""
