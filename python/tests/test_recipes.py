@@ -1,30 +1,31 @@
-"""The recipes: each is a file of tests, and runs as it is printed."""
+"""The recipes: each is a file of tests in examples/recipes, which runs as it is, and has its place in the document."""
 
+import ast
 import importlib.util
 import os
 import re
+import shutil
 import subprocess
 import sys
 from pathlib import Path
 
 import pytest
 
-RECIPES = Path(__file__).resolve().parents[2] / "docs" / "RECIPES.md"
+TOP = Path(__file__).resolve().parents[2]
+RECIPES, DOCUMENT = TOP / "examples" / "recipes", TOP / "docs" / "RECIPES.md"
 MOST_LINES = 25
-NEEDED = {"udsoncan": "udsoncan", "a-rest-bus": "canmatrix"}
+NEEDED = {"udsoncan": "udsoncan", "a_rest_bus": "canmatrix"}
 
 
 def recipes():
-    """The code of each recipe, by the anchor of its heading."""
-    sections = re.split("^## ", RECIPES.read_text(encoding="utf-8"), flags=re.M)[1:]
-    blocks = [re.findall(r"^```python\n(.*?)^```$", section, re.M | re.S) for section in sections]
-    return {section.split("\n")[0].lower().replace(" ", "-"): code for section, (code,) in zip(sections, blocks)}
+    """The file of each recipe, by its name."""
+    return {path.stem[len("test_") :]: path for path in sorted(RECIPES.glob("test_*.py"))}
 
 
 def run(installed, folder, names, *words, **environment):
-    """Runs recipes, each a file; what pytest wrote."""
+    """Runs copies of recipes; what pytest wrote."""
     for name in names:
-        (folder / f"test_{name}.py").write_text(recipes()[name])
+        shutil.copy(recipes()[name], folder)
     done = subprocess.run(
         [sys.executable, "-m", "pytest", "-rA", "-p", "no:cacheprovider", f"--basetemp={folder}/runs", *words],
         cwd=folder, env={**installed, **environment}, capture_output=True, text=True, timeout=300, check=False,
@@ -41,14 +42,18 @@ def written(installed, tmp_path_factory):
 
 def test_all_recipes_are_there():
     assert len(recipes()) == 13
-    for name, code in recipes().items():
-        assert f"(#{name})" in RECIPES.read_text(encoding="utf-8")
-        assert code.count("\n") <= MOST_LINES, name
+    named = re.findall(r"\]\(\.\./examples/recipes/test_(\w+)\.py\)", DOCUMENT.read_text(encoding="utf-8"))
+    assert sorted(named) == sorted(recipes())
+    for name, path in recipes().items():
+        text = path.read_text(encoding="utf-8")
+        assert ast.get_docstring(ast.parse(text)), name
+        code = text.splitlines()[ast.parse(text).body[1].lineno - 1 :]
+        assert len(code) <= MOST_LINES, name
 
 
 @pytest.mark.parametrize("name", recipes())
 def test_a_recipe(written, name):
-    if name == "a-virtual-ecu" and "GUEST" not in os.environ:
+    if name == "a_virtual_ecu" and "GUEST" not in os.environ:
         pytest.skip("GUEST names no folder with vmlinuz and initrd")
     if name in NEEDED:
         pytest.importorskip(NEEDED[name], reason=f"{NEEDED[name]} is not installed; Debian 12 has canmatrix only")
@@ -58,8 +63,8 @@ def test_a_recipe(written, name):
 
 def test_side_by_side(installed, tmp_path):
     pytest.importorskip("xdist", reason="no pytest-xdist (python3-pytest-xdist)")
-    assert "4 passed" in run(installed, tmp_path, ["tests-side-by-side"], "-n", "2")
+    assert "4 passed" in run(installed, tmp_path, ["tests_side_by_side"], "-n", "2")
 
 
 def test_a_fleet(installed, tmp_path):
-    assert "1 passed" in run(installed, tmp_path, ["a-fleet-of-runs"], RUN="1")
+    assert "1 passed" in run(installed, tmp_path, ["a_fleet_of_runs"], RUN="1")

@@ -1,0 +1,26 @@
+"""asyncio.
+
+A bus has a file descriptor, so python-can's `Notifier` needs no thread. The reader is awaited.
+"""
+
+import asyncio
+import can
+import pytest
+
+@pytest.mark.canbusd("ecu,tester")
+def test_an_answer(canbusd):
+    async def ask(ecu, tester):
+        loop, reader = asyncio.get_running_loop(), can.AsyncBufferedReader()
+        answer = can.Message(arbitration_id=0x101, is_extended_id=False)
+        notifiers = [
+            can.Notifier(ecu, [lambda _: ecu.send(answer)], loop=loop),
+            can.Notifier(tester, [reader], loop=loop),
+        ]
+        tester.send(can.Message(arbitration_id=0x100, is_extended_id=False))
+        received = await asyncio.wait_for(reader.get_message(), 5)
+        for notifier in notifiers:
+            notifier.stop()
+        return received.arbitration_id
+
+    with canbusd.bus("ecu") as ecu, canbusd.bus("tester") as tester:
+        assert asyncio.run(ask(ecu, tester)) == 0x101
