@@ -27,14 +27,18 @@
 #include <time.h>
 #include <unistd.h>
 
-/* Milliseconds between two looks at who has the turn, and while births or others outside are waited for. */
+/* Milliseconds between two looks at who has the turn, and while births or others outside are waited for. Where the turn
+ * went on at each of so many looks, or is of one that runs, these are twice as far apart, up to the longest; where it
+ * stays with one that sleeps they are as near as at first. */
 #define WATCH_MS 4
+#define LONGEST_WATCH_MS 32
+#define STEADY_LOOKS 8
 #define SOON_MS 1
 #define STATUS_STUCK 125
 /* Milliseconds that programs have to end once PROGRAM has. */
 #define END_MS 2000
 /* Looks between two at how long a thread has run, and seconds between two at how busy the processor is. */
-#define RARELY 50
+#define RARELY 12
 /* Nanoseconds of a processor after which a thread that has the turn computes for long. */
 #define LONG_RUN 1000000000
 #define PROCESSOR_SECONDS 0.25
@@ -48,7 +52,7 @@ static struct {
     bool has_ended, is_over;
     volatile sig_atomic_t number; /* of a signal that ends the run */
     uint64_t seen_turn;
-    int looks;
+    int looks, steady_looks;
     double since; /* real time since which nothing has gone on */
     uint64_t run_before;
 } coordinator = {.root_status = -1};
@@ -250,6 +254,16 @@ static bool is_asked(void) {
     return poll(&polled, 1, 0) > 0;
 }
 
+/* How long it is until the next look, in milliseconds. */
+static int watch_pause(void) {
+    int pause = WATCH_MS << coordinator.steady_looks / STEADY_LOOKS;
+    return pause < LONGEST_WATCH_MS ? pause : LONGEST_WATCH_MS;
+}
+
+static void note_steady(bool is_steady) {
+    coordinator.steady_looks = is_steady ? coordinator.steady_looks + (watch_pause() < LONGEST_WATCH_MS) : 0;
+}
+
 /* Somebody has the turn: whether it is handed on. It may run for long, but not for ever. */
 static void watch(void) {
     uint64_t turn = run->turn;
@@ -259,9 +273,10 @@ static void watch(void) {
         coordinator.looks = 0;
         coordinator.since = 0;
         coordinator.run_before = 0;
+        note_steady(true);
         return;
     }
-    outside_watch(turn, ++coordinator.looks, is_asked);
+    note_steady(!outside_watch(turn, ++coordinator.looks, is_asked));
     if (run->turn != turn || coordinator.looks % RARELY) {
         return;
     }
@@ -373,7 +388,7 @@ static void loop(void) {
             patience = decide();
         } else {
             watch();
-            patience = WATCH_MS;
+            patience = watch_pause();
         }
         find_processor();
         coordinator.since = ended ? ended : coordinator.since;

@@ -259,7 +259,7 @@ static bool is_asleep_for_long(uint32_t index, char state, uint64_t times) {
     return ++last.looks >= SLEEP_LOOKS;
 }
 
-void outside_watch(uint64_t turn, int looks, bool (*is_asked)(void)) {
+bool outside_watch(uint64_t turn, int looks, bool (*is_asked)(void)) {
     uint32_t index = (uint32_t)turn & NOBODY;
     struct slot *slot = &run->slots[index];
     uint32_t pid = slot->pid, tid = slot->tid;
@@ -275,6 +275,7 @@ void outside_watch(uint64_t turn, int looks, bool (*is_asked)(void)) {
         outside_strangers();
         take_back(turn, state == 'T' || state == 't');
     }
+    return state != 'R';
 }
 
 void outside_share(uint64_t turn) {

@@ -6,8 +6,9 @@
 #include <stdint.h>
 
 /* Looks at who has this turn and has not handed it on for so many looks; takes it back where that thread sleeps and
- * none of the run is to wake it, but not where it may wait for the coordinator, which `is_asked`. */
-void outside_watch(uint64_t turn, int looks, bool (*is_asked)(void));
+ * none of the run is to wake it, but not where it may wait for the coordinator, which `is_asked`. Returns whether it
+ * did not run. */
+bool outside_watch(uint64_t turn, int looks, bool (*is_asked)(void));
 
 /* Who has this turn computes for long, or looks for what another thread of its process is to do: one that can go on has
  * the turn, or one that waits for the interpreter of Python, so that it asks for it. */
