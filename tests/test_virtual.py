@@ -235,14 +235,45 @@ def fails(ended, pattern):
 
 @needs_gcc
 def test_unseen(nodes):
-    """a wait by the real clock and a thread that spins end the run; SO_SNDTIMEO works, io_uring is as on an old kernel"""
-    fails(virtual(nodes / "unseen", "nanosleep"), r"unseen \(process \d+\) waits by the real clock, in system call 35,")
+    """a wait by the real clock and a thread that spins end the run; SO_SNDTIMEO works, io_uring is refused in one line"""
+    for word, number in (("nanosleep", 35), ("futex", 202)):
+        ended = virtual(nodes / "unseen", word)
+        fails(ended, rf"unseen \(process \d+\) waits by the real clock, in system call {number},")
     fails(
         virtual(nodes / "unseen", "spin", options=("--stall", "1")), r"unseen \(process \d+\) has run for 1 s without"
     )
     late = virtual(nodes / "unseen", "sndtimeo")
     assert (late.returncode, late.stdout) == (0, "-1 EAGAIN 20000\n"), late
-    assert virtual(nodes / "unseen", "io_uring").returncode == 0
+    refused = virtual(nodes / "unseen", "io_uring")
+    assert refused.returncode == 0, refused
+    assert re.search(r"unseen \(process \d+\) is refused io_uring", refused.stderr) and refused.stderr.count("\n") == 1
+
+
+def static_unseen(folder):
+    """Builds unseen.c without the C library's dynamic form, as programs of Go are; its path."""
+    path = str(folder / "unseen")
+    words = ["gcc", *FLAGS, "-static", "-o", path, os.path.join(SOURCES, "unseen.c")]
+    if subprocess.run(words, check=False, capture_output=True).returncode:
+        pytest.skip("no static C library")
+    return path
+
+
+@needs_gcc
+def test_calls_of_go(tmp_path):
+    """a program that makes its calls by itself, as those of Go, is named, with the reason, and its wait ends the run"""
+    ended = virtual(static_unseen(tmp_path), "futex")
+    fails(ended, r"unseen \(process \d+\) is linked statically, so it sees the real time")
+    fails(ended, r"unseen \(process \d+\) waits by the real clock, in system call 202, .* it is linked statically")
+
+
+@needs_gcc
+@pytest.mark.parametrize("is_static", [False, True])
+def test_io_uring_by_instruction(tmp_path, nodes, is_static):
+    """a wait for a ring that was set up past the C library ends the run"""
+    ended = virtual(static_unseen(tmp_path) if is_static else nodes / "unseen", "io_uring_enter")
+    if ended.returncode == 77:
+        pytest.skip("no io_uring")
+    fails(ended, r"unseen \(process \d+\) waits by the real clock, in system call 426,")
 
 
 def test_server_outside():

@@ -6,6 +6,7 @@
 #include <linux/futex.h>
 #include <sched.h>
 #include <stdarg.h>
+#include <stdio.h>
 #include <sys/socket.h>
 #include <sys/time.h>
 #include <sys/wait.h>
@@ -35,7 +36,7 @@ static long wait_on_word(long word, int operation, long expected, const struct t
     return flags & IS_WOKEN ? 0 : flags & IS_INTERRUPTED ? -EINTR : flags ? 0 : -ETIMEDOUT;
 }
 
-/* Those that wait in this library, and those that the C library has in the kernel. */
+/* Those that wait in this library. */
 static long wake_word(long word, int operation, long most) {
     uint64_t key = key_of_word(word, operation);
     long woken = 0;
@@ -104,6 +105,21 @@ static long call(long number, const long of[6]) {
     }
 }
 
+/* What io_uring does waits unseen, so it is refused as by a kernel that has none; said once. */
+static long refuse_io_uring(void) {
+    static _Atomic bool is_said;
+    char line[200];
+    int length =
+        snprintf(line, sizeof line,
+                 "canbusd-run: virtual time: %s (process %ld) is refused io_uring, as by a kernel without it\n",
+                 program_invocation_short_name, RAW(SYS_getpid, 0));
+    if (!is_said) {
+        is_said = true;
+        RAW(SYS_write, 2, line, length < (int)sizeof line ? length : (int)sizeof line - 1);
+    }
+    return errno = ENOSYS, -1;
+}
+
 EXPORT long syscall(long number, ...) {
     va_list list;
     long of[6];
@@ -112,7 +128,7 @@ EXPORT long syscall(long number, ...) {
         of[i] = va_arg(list, long);
     }
     va_end(list);
-    return run && number != SYS_io_uring_setup ? call(number, of)
-           : run                               ? (errno = ENOSYS, -1)
-                                               : answer(raw_call(number, of[0], of[1], of[2], of[3], of[4], of[5]));
+    return !run                           ? answer(raw_call(number, of[0], of[1], of[2], of[3], of[4], of[5]))
+           : number == SYS_io_uring_setup ? refuse_io_uring()
+                                          : call(number, of);
 }

@@ -1,7 +1,9 @@
-/* unseen nanosleep | spin | sndtimeo | io_uring: waits that the library does not see, or that have an end of their own.
- */
+/* unseen nanosleep | futex | io_uring_enter | spin | sndtimeo | io_uring: waits that the library does not see, or that
+ * have an end of their own. The first three are made as a program of Go makes its calls, without the C library. */
 #define _GNU_SOURCE
 #include <errno.h>
+#include <linux/futex.h>
+#include <linux/io_uring.h>
 #include <stdio.h>
 #include <string.h>
 #include <sys/socket.h>
@@ -11,10 +13,30 @@
 #include <unistd.h>
 
 /* A system call that does not go by the C library. */
-static long call(long number, const void *first) {
+static long call(long number, long a, long b, long c, long d) {
     long result;
-    __asm__ volatile("syscall" : "=a"(result) : "a"(number), "D"(first), "S"(0L) : "rcx", "r11", "memory");
+    register long r10 __asm__("r10") = d;
+    register long r8 __asm__("r8") = 0;
+    __asm__ volatile("syscall"
+                     : "=a"(result)
+                     : "a"(number), "D"(a), "S"(b), "d"(c), "r"(r10), "r"(r8)
+                     : "rcx", "r11", "memory");
     return result;
+}
+
+/* Looks at the clock, and sleeps on a word for a second, as the scheduler of Go does. */
+static int sleep_on_word(void) {
+    static int word;
+    struct timespec now, second = {1, 0};
+    call(SYS_clock_gettime, CLOCK_MONOTONIC, (long)&now, 0, 0);
+    return call(SYS_futex, (long)&word, FUTEX_WAIT | FUTEX_PRIVATE_FLAG, 0, (long)&second) == -ETIMEDOUT ? 0 : 1;
+}
+
+/* Waits for what a ring without any request completes. */
+static int wait_for_ring(void) {
+    struct io_uring_params parameters = {0};
+    long fd = call(SYS_io_uring_setup, 8, (long)&parameters, 0, 0);
+    return fd < 0 ? 77 : (int)call(SYS_io_uring_enter, fd, 0, 1, IORING_ENTER_GETEVENTS);
 }
 
 /* A send into a full socket whose SO_SNDTIMEO is 20 ms; prints how long it took. */
@@ -38,7 +60,13 @@ int main(int count, char **words) {
     static volatile int never;
     const char *word = count == 2 ? words[1] : "";
     if (!strcmp(word, "nanosleep")) {
-        return (int)call(SYS_nanosleep, &(struct timespec){1, 0});
+        return (int)call(SYS_nanosleep, (long)&(struct timespec){1, 0}, 0, 0, 0);
+    }
+    if (!strcmp(word, "futex")) {
+        return sleep_on_word();
+    }
+    if (!strcmp(word, "io_uring_enter")) {
+        return wait_for_ring();
     }
     if (!strcmp(word, "spin")) {
         while (!never) {
