@@ -157,6 +157,13 @@ def test_waiting_signal():
         server.end()
 
 
+def test_deaf_thread(build):
+    """with --wait a thread that no signal reaches waits for a second, so that the program ends by its handler"""
+    with serving("--pace", "60000", "--txqueue", "1", "can0,can1") as server:
+        build.passes(server, "deaf", options=["--wait"])
+        server.end()
+
+
 def test_busoff(build):
     """error message frames, ENETDOWN, and the restart"""
     with serving("--pace", "1", "--auto-restart", "300", ATTACK) as server:

@@ -44,4 +44,4 @@ def test_virtual_ecu():
     """a guest of QEMU with its own driver"""
     if not shutil.which("qemu-system-x86_64") or "CANBUSD_KERNEL" not in os.environ:
         pytest.skip("no qemu-system-x86_64, or CANBUSD_KERNEL names no kernel (examples/virtual_ecu/guest)")
-    assert "4 passed" in run_example("examples/virtual_ecu", patience=900)
+    assert "5 passed" in run_example("examples/virtual_ecu", patience=900)

@@ -438,20 +438,21 @@ static int read_task(const struct bcm_head *head, int index, bool is_rx) {
     return 0;
 }
 
-static int send_once(const struct bcm_head *head, const char *data, size_t length, int index, int reply_to) {
+static int send_once(const struct bcm_head *head, const char *data, size_t length, int index,
+                     const struct later *later) {
     struct canfd_frame frame = {0};
     if (head->nframes != 1 || length != frame_size(head->flags)) {
         return refused(EINVAL, "TX_SEND sends one frame");
     }
     memcpy(&frame, data, length);
-    struct later later = {request_done, reply_to, (int)(HEAD + length)};
     struct session *to = index ? sessions_for(index) : NULL;
-    return to ? raw_send(to, &frame, head->flags & CAN_FD_FRAME, raw_waits() ? &later : NULL)
+    return to ? raw_send(to, &frame, head->flags & CAN_FD_FRAME, raw_waits() ? later : NULL)
               : refused(ENODEV, "to send, a task needs an interface");
 }
 
-int bcm_write(int index, const char *data, size_t length, int reply_to, int *taken) {
+int bcm_write(const struct wire_request *request, const char *data, size_t length, int reply_to, int *taken) {
     struct bcm_head head;
+    struct later later = request_later(reply_to, (int)length, request->number);
     if (!is_bound) {
         return refused(ENOTCONN, "connect comes first");
     }
@@ -461,7 +462,7 @@ int bcm_write(int index, const char *data, size_t length, int reply_to, int *tak
     memcpy(&head, data, HEAD);
     data += HEAD;
     length -= HEAD;
-    index = bound_index ? bound_index : index == WIRE_BOUND ? 0 : index;
+    int index = bound_index ? bound_index : request->ifindex == WIRE_BOUND ? 0 : request->ifindex;
     bool has_frames = head.opcode == TX_SETUP || (head.opcode == RX_SETUP && !(head.flags & RX_FILTER_ID));
     if (length % frame_size(head.flags) || (has_frames && head.nframes > length / frame_size(head.flags))) {
         return refused(EINVAL, "frames are missing, or of the wrong size");
@@ -474,7 +475,7 @@ int bcm_write(int index, const char *data, size_t length, int reply_to, int *tak
     case RX_DELETE: return delete_task(&head, index, true);
     case TX_READ: return read_task(&head, index, false);
     case RX_READ: return read_task(&head, index, true);
-    case TX_SEND: return send_once(&head, data, length, index, reply_to);
+    case TX_SEND: return send_once(&head, data, length, index, &later);
     default: return refused(EINVAL, "the broadcast manager has no such message");
     }
 }

@@ -89,6 +89,7 @@ struct session {
     bool has_counts; /* while a frame waits for room: how many have left the queue, and when that is looked at again */
     uint64_t gone, look_at;
     int64_t pause;
+    bool is_stuck;                  /* a short wait for room was in vain, and no frame was accepted since */
     uint64_t sent_end;              /* above each number that a frame of this session has got */
     uint8_t sent[NUMBERS_KEPT / 8]; /* a bit for each of the last numbers below that: whether one has got it */
 };
@@ -128,6 +129,7 @@ bool session_read(struct session *session, bool waits);
 struct later {
     void (*done)(const struct later *later, int error);
     int reply_to, value;
+    uint64_t until; /* the moment of the clock at which the wait is in vain; 0: it has no end */
 };
 #define NOBODY (-1)
 
@@ -243,7 +245,7 @@ int raw_get(int option, void *room, uint32_t *length);
 
 /* Sends the frame that a program has written; `reply_to` is NOBODY of a write that waits for no verdict. Returns an
  * errno, 0, or SENT_LATER. */
-int raw_write(int index, const void *data, size_t length, int reply_to);
+int raw_write(int index, const void *data, size_t length, int reply_to, enum wire_wait wait);
 
 /* Whether these data are an error message frame. */
 bool raw_is_error(const void *data);
@@ -269,7 +271,7 @@ void raw_want_own(void);
 
 /* Carries out what a program writes; `taken` is what its write returns. Returns an errno, 0, or SENT_LATER where the
  * reply is given later, by this pipe. */
-int bcm_write(int index, const char *data, size_t length, int reply_to, int *taken);
+int bcm_write(const struct wire_request *request, const char *data, size_t length, int reply_to, int *taken);
 void bcm_receive(const struct item *item, int index);
 /* Does what is due; returns how many nanoseconds there are until the next is, or -1. */
 int64_t bcm_due(void);
@@ -297,8 +299,9 @@ bool isotp_is_busy(void);
 /* Gives the reply to a request whose error, or value, is this. */
 void request_reply(int to, int error, int value);
 
-/* The same for a write that has waited. */
+/* The same for a write that has waited; and what that waits for. */
 void request_done(const struct later *later, int error);
+struct later request_later(int to, int value, enum wire_wait wait);
 
 /* Whether these are ends of one pipe. */
 bool is_same_pipe(int one, int other);

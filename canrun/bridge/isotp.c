@@ -77,7 +77,7 @@ bool isotp_is_well_padded(const struct canfd_frame *frame, unsigned from) {
 int isotp_put(const struct canfd_frame *frame, void (*done)(const struct later *later, int error)) {
     struct session *to = sessions_for(bound_index);
     struct canfd_frame sent = *frame;
-    struct later later = {done, NOBODY, 0};
+    struct later later = {.done = done, .reply_to = NOBODY};
     sent.flags = isotp.link.tx_flags;
     return to ? raw_send(to, &sent, isotp.link.mtu == CANFD_MTU, raw_waits() ? &later : NULL) : ENXIO;
 }

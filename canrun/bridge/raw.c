@@ -208,10 +208,10 @@ bool raw_is_error(const void *data) {
     return identifier & CAN_ERR_FLAG;
 }
 
-int raw_write(int index, const void *data, size_t length, int reply_to) {
+int raw_write(int index, const void *data, size_t length, int reply_to, enum wire_wait wait) {
     struct canfd_frame frame = {0};
     bool is_fd = length == CANFD_MTU;
-    struct later later = {reply_to == NOBODY ? NULL : request_done, reply_to, (int)length};
+    struct later later = request_later(reply_to, (int)length, wait);
     struct session *to = sessions_for(index == WIRE_BOUND ? bound_index : index);
     if (!to) {
         return ENXIO;

@@ -10,6 +10,9 @@
 #include <sys/stat.h>
 #include <unistd.h>
 
+/* Nanoseconds that a write of a thread waits in which no signal ends the wait. */
+#define SHORT_WAIT SECOND
+
 struct reply {
     struct wire_reply head;
     char data[WIRE_REPLY];
@@ -55,6 +58,13 @@ void request_done(const struct later *later, int error) {
     request_reply(later->reply_to, error, later->value);
 }
 
+struct later request_later(int to, int value, enum wire_wait wait) {
+    return (struct later){.done = to == NOBODY ? NULL : request_done,
+                          .reply_to = to,
+                          .value = value,
+                          .until = wait == WIRE_SHORT_WAIT ? clock_now() + SHORT_WAIT : 0};
+}
+
 bool is_same_pipe(int one, int other) {
     struct stat first, second;
     return !fstat(one, &first) && !fstat(other, &second) && first.st_ino == second.st_ino &&
@@ -75,12 +85,12 @@ static int send_message(const struct wire_request *request, const char *data, si
                         struct reply *reply) {
     reply->head.value = (int)length;
     switch (protocol) {
-    case WIRE_BCM: return bcm_write(request->ifindex, data, length, to, &reply->head.value);
-    case WIRE_ISOTP: return isotp_write(data, length, request->number, to);
+    case WIRE_BCM: return bcm_write(request, data, length, to, &reply->head.value);
+    case WIRE_ISOTP: return isotp_write(data, length, request->number == WIRE_NO_WAIT, to);
     default:
         /* A byte of data has the library say that this frame goes nowhere. */
         reply->head.length = length >= CAN_MTU && raw_is_error(data);
-        return raw_write(request->ifindex, data, length, to);
+        return raw_write(request->ifindex, data, length, to, request->number);
     }
 }
 
@@ -201,7 +211,7 @@ bool request_serve(void) {
     struct cmsghdr *rights = CMSG_FIRSTHDR(&message);
     if (!rights) {
         if (protocol == WIRE_RAW) {
-            raw_write(WIRE_BOUND, data, (size_t)length, NOBODY);
+            raw_write(WIRE_BOUND, data, (size_t)length, NOBODY, WIRE_WAIT);
         }
         return true;
     }

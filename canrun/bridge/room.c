@@ -45,10 +45,16 @@ static void begin_looking(struct session *session) {
     session->look_at = clock_now();
 }
 
+static int send_now(struct session *to, const struct canfd_frame *frame, bool is_fd) {
+    int error = session_send(to, frame, is_fd);
+    to->is_stuck &= error != 0;
+    return error;
+}
+
 int room_send(struct session *to, const struct canfd_frame *frame, bool is_fd, const struct later *later) {
     bool has_turn = first_at(to->index) == count;
-    int error = has_turn ? session_send(to, frame, is_fd) : ENOBUFS;
-    if (error != ENOBUFS || !later) {
+    int error = has_turn ? send_now(to, frame, is_fd) : ENOBUFS;
+    if (error != ENOBUFS || !later || (later->until && to->is_stuck)) {
         return error;
     }
     if (count == WAITERS) {
@@ -96,7 +102,7 @@ static void look(struct session *session) {
         if (!has && !error) {
             return;
         }
-        int sent = error ? error : session_send(session, &waiters[at].frame, waiters[at].is_fd);
+        int sent = error ? error : send_now(session, &waiters[at].frame, waiters[at].is_fd);
         if (sent == ENOBUFS) {
             begin_looking(session);
             return;
@@ -105,9 +111,25 @@ static void look(struct session *session) {
     }
 }
 
+/* Ends the waits that are in vain; returns how many nanoseconds there are until the next is, or -1. */
+static int64_t end_vain(void) {
+    uint64_t now = count ? clock_now() : 0, until = UINT64_MAX;
+    for (unsigned at = 0; at < count;) {
+        uint64_t own = waiters[at].later.until;
+        if (own && own <= now) {
+            sessions_for(waiters[at].index)->is_stuck = true;
+            finish(at, refused(ENOBUFS, "no room for a second, in a thread whose waits no signal ends"));
+            continue;
+        }
+        until = own ? MIN(until, own) : until;
+        at++;
+    }
+    return until == UINT64_MAX ? -1 : (int64_t)(until - now);
+}
+
 int64_t room_due(void) {
+    int64_t next = end_vain();
     uint64_t now = count ? clock_now() : 0;
-    int64_t next = -1;
     for (int i = 0; i < session_count; i++) {
         if (first_at(sessions[i]->index) == count) {
             continue;

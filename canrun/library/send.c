@@ -5,12 +5,30 @@
 #include <errno.h>
 #include <fcntl.h>
 #include <linux/can.h>
+#include <signal.h>
+#include <stdlib.h>
 #include <string.h>
 #include <sys/syscall.h>
 
-/* Whether a write may not wait. Only ISO-TP's ever does for long, so that others need not ask. */
-static bool is_nonblocking(int fd, enum wire_protocol protocol, int flags) {
-    return protocol == WIRE_ISOTP && (flags & MSG_DONTWAIT || fcntl(fd, F_GETFL) & O_NONBLOCK);
+/* Whether writes wait for room, as with --wait. */
+static bool waits_for_room;
+
+__attribute__((constructor)) static void read_setting(void) {
+    waits_for_room = getenv("CANBUSD_RUN_WAIT");
+}
+
+/* Whether SIGTERM does not reach this thread. */
+static bool is_deaf(void) {
+    sigset_t mask;
+    return !pthread_sigmask(SIG_BLOCK, NULL, &mask) && sigismember(&mask, SIGTERM) == 1;
+}
+
+/* How long a write may wait. Where none waits for room, only those of ISO-TP need to ask. */
+static enum wire_wait wait_of(int fd, enum wire_protocol protocol, int flags) {
+    if (protocol == WIRE_ISOTP) {
+        return flags & MSG_DONTWAIT || fcntl(fd, F_GETFL) & O_NONBLOCK ? WIRE_NO_WAIT : WIRE_WAIT;
+    }
+    return waits_for_room && is_deaf() ? WIRE_SHORT_WAIT : WIRE_WAIT;
 }
 
 /* The index of the interface that a message is sent to by its address, or an errno below 0. */
@@ -107,7 +125,7 @@ static ssize_t send_joined(int fd, enum wire_protocol protocol, const struct wir
 /* Sends a message; the pieces may be no memory of the program's, but what names them is. */
 static ssize_t can_sendmsg(int fd, enum wire_protocol protocol, const struct msghdr *message, int flags) {
     struct wire_request request = {
-        .kind = WIRE_SEND, .ifindex = WIRE_BOUND, .number = is_nonblocking(fd, protocol, flags)};
+        .kind = WIRE_SEND, .ifindex = WIRE_BOUND, .number = wait_of(fd, protocol, flags)};
     size_t length = 0;
     for (size_t i = 0; i < message->msg_iovlen; i++) {
         length += message->msg_iov[i].iov_len;

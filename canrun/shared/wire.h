@@ -38,11 +38,14 @@ enum wire_kind {
 };
 #define WIRE_BOUND (-1)
 
+/* How long a write may wait; a short wait is that of a thread in which no signal ends one. */
+enum wire_wait { WIRE_WAIT, WIRE_NO_WAIT, WIRE_SHORT_WAIT };
+
 struct wire_request {
     uint32_t kind;
     int32_t ifindex;
     int32_t option;
-    int32_t number;        /* the first number of a value of SOL_SOCKET; of WIRE_SEND, whether the write may not wait */
+    int32_t number;        /* the first number of a value of SOL_SOCKET; of WIRE_SEND, an enum wire_wait */
     uint32_t rx_id, tx_id; /* WIRE_BIND of ISO-TP */
     uint32_t length;       /* of the data; a message of ISO-TP is followed by what only takes room */
 };

@@ -58,9 +58,8 @@ def ask(tester, value):
     tester.send(can.Message(arbitration_id=0x100, data=[value], is_extended_id=False))
 
 
-@pytest.mark.xfail(strict=False, reason="QEMU's main thread gets the signal, and the write of another goes on waiting")
 def test_sigterm_where_nobody_acknowledges(machine, tmp_path):
-    """The second heartbeat waits for room, and with it the machine; without `wait` it ends."""
+    """The second heartbeat waits for room, and with it the machine, for a second."""
     with Server("ecu", ack="peers", txqueue=1, out=tmp_path) as server:
         guest = server.start(machine, wait=True)
         guest.expect("heartbeat 2", within=START)
