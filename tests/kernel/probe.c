@@ -42,8 +42,18 @@ static void set_barriers(void) {
     }
 }
 
-/* Returns once nothing of a case is on its way. */
+enum { SHORTEST_QUIET = 50, LONGEST_QUIET = 2000 };
+int quiet = SHORTEST_QUIET;
+
+static long milliseconds(void) {
+    struct timespec now;
+    clock_gettime(CLOCK_MONOTONIC, &now);
+    return now.tv_sec * 1000 + now.tv_nsec / 1000000;
+}
+
+/* Returns once nothing of a case is on its way. How long that takes says how slow the machine is. */
 static void settle(void) {
+    long begun = milliseconds();
     for (int i = 0; i < 2; i++) {
         struct can_frame frame;
         PUT(writers[i], BARRIER);
@@ -51,6 +61,9 @@ static void settle(void) {
             say(" no barrier");
         }
     }
+    long slow = 20 * (milliseconds() - begun);
+    slow = slow < quiet / 2 ? quiet / 2 : slow;
+    quiet = (int)(slow < SHORTEST_QUIET ? SHORTEST_QUIET : slow > LONGEST_QUIET ? LONGEST_QUIET : slow);
 }
 
 /* The case in its process, whose sockets are closed one by one, as those of a program that is done with them. */

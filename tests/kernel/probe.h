@@ -109,6 +109,8 @@ void several_of(int fd, unsigned number);
 /* Half of what is there from here can be used. */
 char *halfway(size_t bytes);
 
+/* Milliseconds in which nothing comes that should not: the more, the slower the machine is. */
+extern int quiet;
 /* Reads this many frames, each of which may take its time, and whatever comes besides soon after. */
 void take(int fd, int expected);
 /* Reads frames up to one with this identifier. */

@@ -2,9 +2,8 @@
 #include "probe.h"
 #include <sys/stat.h>
 
-/* Milliseconds in which what has to come comes, and in which nothing comes that should not; and the most of what
- * follows. */
-enum { PATIENCE = 5000, QUIET = 50, MOST = 40 };
+/* Milliseconds in which what has to come comes, and the most of what follows. */
+enum { PATIENCE = 5000, MOST = 40 };
 
 static bool comes(int fd, short wanted, int milliseconds) {
     return poll(&(struct pollfd){fd, wanted, 0}, 1, milliseconds) > 0;
@@ -50,7 +49,7 @@ static canid_t take_one(int fd) {
 
 void take(int fd, int expected) {
     int number = 0;
-    while (number < expected + MOST && comes(fd, POLLIN, number < expected ? PATIENCE : QUIET)) {
+    while (number < expected + MOST && comes(fd, POLLIN, number < expected ? PATIENCE : quiet)) {
         take_one(fd);
         number++;
     }
@@ -78,7 +77,7 @@ void take_to(int fd, canid_t id) {
 
 void look(int fd) {
     unsigned char got[CANFD_MTU] = {0};
-    if (!comes(fd, POLLIN, QUIET * 2)) {
+    if (!comes(fd, POLLIN, quiet * 2)) {
         say(" -");
         return;
     }
@@ -229,7 +228,7 @@ void watch(int fd, unsigned wanted) {
 
 void watched(void) {
     struct epoll_event got = {.events = 0};
-    DO(epoll_wait(watcher, &got, 1, QUIET * 2));
+    DO(epoll_wait(watcher, &got, 1, quiet * 2));
     show_events((short)got.events);
 }
 
