@@ -3,13 +3,14 @@
 
     benches/run_speed.py --program dist/canbusd --run dist/canbusd-run
 
-Latency: from the write of a frame in one process to its read in another, the median and the 99th percentile; of several
-runs the best median. Frames a second: `cangen -g 0 -p 10` to `candump`, which has to get all of them once and in order;
-of several runs the best.
+Latency: from the write of a frame in one process to its read in another, the median and the 99th percentile. Frames a
+second: `cangen -g 0 -p 10` to `candump`, which has to get all of them once and in order. Each is the median of five runs;
+those of several canbusd-run (`--run` again) take turns, so that a machine that does other work is as fast to all.
 """
 
 import argparse
 import os
+import statistics
 import subprocess
 import tempfile
 import time
@@ -61,25 +62,34 @@ class Setting:
         self.server.wait(60)
 
 
+def measure(options, listen):
+    """For each canbusd-run the latencies, each with its 99th percentile, and the rates."""
+    results = [([], [], []) for _ in options.run]
+    for _ in range(RUNS):
+        for run, (latencies, worst, rates) in zip(options.run, results):
+            setting = Setting(options.program, run, listen)
+            source = os.path.join(HERE, "run_latency.c")
+            subprocess.run(["gcc", "-O2", "-o", os.path.join(setting.folder, "run_latency"), source], check=True)
+            for found, number in zip((latencies, worst), setting.latency(5000)):
+                found.append(number)
+            rates.append(setting.rate(options.frames))
+            setting.end()
+    return results
+
+
 def main():
     parser = argparse.ArgumentParser(description=__doc__, formatter_class=argparse.RawDescriptionHelpFormatter)
     parser.add_argument("--program", default=os.path.join(HERE, "..", "dist", "canbusd"), help="the server")
-    parser.add_argument("--run", default=os.path.join(HERE, "..", "dist", "canbusd-run"), help="canbusd-run")
+    parser.add_argument("--run", action="append", help="a canbusd-run (default: that of dist/)")
     parser.add_argument("--frames", type=int, default=50_000, metavar="N", help="frames of a run (default 50000)")
     options = parser.parse_args()
-    print("| Server at | Latency, median / 99% | Frames/s |")
-    print("|---|---|---|")
+    options.run = options.run or [os.path.join(HERE, "..", "dist", "canbusd-run")]
+    print("| Server at | canbusd-run | Latency, median / 99% | Frames/s |")
+    print("|---|---|---|---|")
     for name, listen in (("a Unix path", "./speed.socket"), ("TCP", "127.0.0.1:0")):
-        latencies, rates = [], []
-        for _ in range(RUNS):
-            setting = Setting(options.program, options.run, listen)
-            source = os.path.join(HERE, "run_latency.c")
-            subprocess.run(["gcc", "-O2", "-o", os.path.join(setting.folder, "run_latency"), source], check=True)
-            latencies.append(setting.latency(5000))
-            rates.append(setting.rate(options.frames))
-            setting.end()
-        median, worst = min(latencies)
-        print(f"| {name} | {median:.0f} / {worst:.0f} µs | {max(rates):,.0f} |", flush=True)
+        for run, found in zip(options.run, measure(options, listen)):
+            median, worst, rate = map(statistics.median, found)
+            print(f"| {name} | {run} | {median:.0f} / {worst:.0f} µs | {rate:,.0f} |", flush=True)
 
 
 if __name__ == "__main__":
