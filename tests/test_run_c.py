@@ -45,6 +45,7 @@ PLAIN = (
     "devices",
     "rows",
     "handles",
+    "quick",
 )
 
 

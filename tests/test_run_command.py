@@ -570,16 +570,35 @@ with socket.socket(29, 3, 1) as s:
         )
 
 
-def test_server_stops():
+def stop(server):
+    """Stops a server, and returns once it has."""
+    os.killpg(server.child.pid, signal.SIGSTOP)
+    assert come_true(lambda: all(state == "T" for _, state, _ in threads_of(pid for pid, _ in server.processes())))
+
+
+def call_of(pid):
+    """The number of the call of the kernel in which a process waits, or `running`."""
+    with open(f"/proc/{pid}/syscall", encoding="utf-8") as file:
+        return file.read().split()[0]
+
+
+#: So many writes of a process to a socket that those after them are quick.
+QUICK = 8
+
+
+@pytest.mark.parametrize("before", [0, QUICK])
+def test_server_stops(before):
     """a server that is stopped for longer than a write waits: the writes fail, however many at once, and all goes on when
-    it continues"""
+    it continues; by pipes, and as quick writes"""
     text = """
 import errno, socket, struct, sys, threading, time
 s = socket.socket(29, 3, 1)
 s.bind(("can0",))
+frame = struct.pack("=IB3x8s", 0x123, 1, b"1")
+for _ in range(int(sys.argv[1])):
+    s.send(frame)
 print("ready", flush=True)
 sys.stdin.readline()
-frame = struct.pack("=IB3x8s", 0x123, 1, b"1")
 def write():
     begun = time.monotonic()
     try:
@@ -595,13 +614,12 @@ for writer in writers:
 s.send(frame)
 print("sent", flush=True)
 """
-    with serving("can0,can1") as server, started(
-        server, "/usr/bin/python3", "-c", text, stdin=subprocess.PIPE
+    with serving("can0,can1") as server, contextlib.closing(plain(server, "can1")) as reader, started(
+        server, "/usr/bin/python3", "-c", text, str(before), stdin=subprocess.PIPE
     ) as child:
-        reader = plain(server, "can1")
         assert line_of(child.stdout) == "ready\n"
-        os.killpg(server.child.pid, signal.SIGSTOP)
-        assert come_true(lambda: all(state == "T" for _, state, _ in threads_of(pid for pid, _ in server.processes())))
+        assert [reader.frame() for _ in range(before)] == [("123", b"1")] * before
+        stop(server)
         child.stdin.write("\n")
         child.stdin.flush()
         assert [line_of(child.stdout) for _ in range(3)] == ["ETIMEDOUT True\n"] * 3
@@ -611,7 +629,38 @@ print("sent", flush=True)
         child.stdin.flush()
         assert line_of(child.stdout) == "sent\n"
         assert reader.frame() == ("123", b"1")
-        reader.close()
+
+
+@pytest.mark.parametrize("before", [0, QUICK])
+def test_bridge_is_killed(before):
+    """a write whose bridge is killed meanwhile ends: ENXIO"""
+    text = """
+import errno, socket, struct, sys
+s = socket.socket(29, 3, 1)
+s.bind(("can0",))
+frame = struct.pack("=IB3x8s", 0x123, 1, b"1")
+for _ in range(int(sys.argv[1])):
+    s.send(frame)
+print("ready", flush=True)
+sys.stdin.readline()
+try:
+    s.send(frame)
+except OSError as fault:
+    print(errno.errorcode[fault.errno], flush=True)
+"""
+    with serving(*FAST, "can0,can1") as server, started(
+        server, "/usr/bin/python3", "-c", text, str(before), stdin=subprocess.PIPE
+    ) as child:
+        assert line_of(child.stdout) == "ready\n"
+        (bridge,) = bridges(environment(server)["CANBUSD_ADDRESS"])
+        stop(server)
+        child.stdin.write("\n")
+        child.stdin.flush()
+        # In a write it waits for the server in recv, which is recvfrom, and not in ppoll.
+        assert come_true(lambda: call_of(bridge) == "45")
+        os.kill(bridge, signal.SIGKILL)
+        assert line_of(child.stdout) == "ENXIO\n"
+        os.killpg(server.child.pid, signal.SIGCONT)
 
 
 def test_no_descriptors():

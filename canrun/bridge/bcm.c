@@ -452,7 +452,7 @@ static int send_once(const struct bcm_head *head, const char *data, size_t lengt
 
 int bcm_write(const struct wire_request *request, const char *data, size_t length, int reply_to, int *taken) {
     struct bcm_head head;
-    struct later later = request_later(reply_to, (int)length, request->number);
+    struct later later = request_later(request, reply_to, (int)length);
     if (!is_bound) {
         return refused(ENOTCONN, "connect comes first");
     }

@@ -36,6 +36,8 @@ struct item {
 
 /* The protocol of the socket. */
 extern enum wire_protocol protocol;
+/* The name of the program's end. */
+extern char program_name[WIRE_NAME_ROOM];
 
 /* Hands what a session has received to the protocol. */
 void item_received(const struct item *item, int index);
@@ -129,13 +131,17 @@ bool session_read(struct session *session, bool waits);
 struct later {
     void (*done)(const struct later *later, int error);
     int reply_to, value;
-    uint64_t until; /* the moment of the clock at which the wait is in vain; 0: it has no end */
+    uint64_t until;  /* the moment of the clock at which the wait is in vain; 0: it has no end */
+    bool is_refused; /* there was no room just now */
 };
 #define NOBODY (-1)
 
 /* Sends a frame. Returns an errno, or 0; SENT_LATER where the queue is full, and there is something to do later. */
 #define SENT_LATER (-1)
 int room_send(struct session *to, const struct canfd_frame *frame, bool is_fd, const struct later *later);
+
+/* Looks at the queue of this interface, which had no room: what leaves it from now on makes some. */
+void room_look(int index);
 
 /* Does what is due; returns how many nanoseconds there are until the next is, or -1. */
 int64_t room_due(void);
@@ -243,9 +249,8 @@ int error_take(void);
 int raw_set(int option, const void *value, size_t length);
 int raw_get(int option, void *room, uint32_t *length);
 
-/* Sends the frame that a program has written; `reply_to` is NOBODY of a write that waits for no verdict. Returns an
- * errno, 0, or SENT_LATER. */
-int raw_write(int index, const void *data, size_t length, int reply_to, enum wire_wait wait);
+/* Sends the frame that a program has written, as room_send does. */
+int raw_write(int index, const void *data, size_t length, const struct later *later);
 
 /* Whether these data are an error message frame. */
 bool raw_is_error(const void *data);
@@ -266,6 +271,14 @@ int raw_want(const struct can_filter *filters, size_t count);
 
 void raw_want_fd(bool has_fd);
 void raw_want_own(void);
+
+/* ---- quick.c: replies in memory ---- */
+
+/* Sends the descriptor of the memory by this end of a pair; returns SENT_LATER. */
+int quick_share(int to);
+
+/* Carries out a quick write; false where the data are none. */
+bool quick_serve(const char *data, size_t length);
 
 /* ---- bcm.c: CAN_BCM ---- */
 
@@ -299,9 +312,9 @@ bool isotp_is_busy(void);
 /* Gives the reply to a request whose error, or value, is this. */
 void request_reply(int to, int error, int value);
 
-/* The same for a write that has waited; and what that waits for. */
+/* The same for a write that has waited; and how that waits. */
 void request_done(const struct later *later, int error);
-struct later request_later(int to, int value, enum wire_wait wait);
+struct later request_later(const struct wire_request *request, int to, int value);
 
 /* Whether these are ends of one pipe. */
 bool is_same_pipe(int one, int other);

@@ -11,6 +11,7 @@
 #include <unistd.h>
 
 enum wire_protocol protocol;
+char program_name[WIRE_NAME_ROOM];
 const char *refusal = "";
 
 int refused(int error, const char *why) {
@@ -102,6 +103,8 @@ int main(void) {
         return write(STDERR_FILENO, text, sizeof text - 1) < 0 ? 1 : 125;
     }
     protocol = (enum wire_protocol)name.sun_path[sizeof WIRE_NAME];
+    length -= (socklen_t)offsetof(struct sockaddr_un, sun_path) + 1;
+    memcpy(program_name, name.sun_path + 1, MIN(length, sizeof program_name - 1));
     leave_program();
     if (protocol == WIRE_BCM) {
         raw_want(NULL, 0);

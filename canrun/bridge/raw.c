@@ -208,10 +208,9 @@ bool raw_is_error(const void *data) {
     return identifier & CAN_ERR_FLAG;
 }
 
-int raw_write(int index, const void *data, size_t length, int reply_to, enum wire_wait wait) {
+int raw_write(int index, const void *data, size_t length, const struct later *later) {
     struct canfd_frame frame = {0};
     bool is_fd = length == CANFD_MTU;
-    struct later later = request_later(reply_to, (int)length, wait);
     struct session *to = sessions_for(index == WIRE_BOUND ? bound_index : index);
     if (!to) {
         return ENXIO;
@@ -220,7 +219,7 @@ int raw_write(int index, const void *data, size_t length, int reply_to, enum wir
         return refused(EINVAL, is_fd ? "CAN_RAW_FD_FRAMES is off" : "a frame has 16 bytes, or 72");
     }
     memcpy(&frame, data, length);
-    return raw_send(to, &frame, is_fd, raw_waits() || !later.done ? &later : NULL);
+    return raw_send(to, &frame, is_fd, later);
 }
 
 /* The rule of linux/can.h, for filters that the server has no room for. */

@@ -58,11 +58,12 @@ void request_done(const struct later *later, int error) {
     request_reply(later->reply_to, error, later->value);
 }
 
-struct later request_later(int to, int value, enum wire_wait wait) {
-    return (struct later){.done = to == NOBODY ? NULL : request_done,
+struct later request_later(const struct wire_request *request, int to, int value) {
+    return (struct later){.done = request_done,
                           .reply_to = to,
                           .value = value,
-                          .until = wait == WIRE_SHORT_WAIT ? clock_now() + SHORT_WAIT : 0};
+                          .until = request->number == WIRE_SHORT_WAIT ? clock_now() + SHORT_WAIT : 0,
+                          .is_refused = request->option};
 }
 
 bool is_same_pipe(int one, int other) {
@@ -83,6 +84,7 @@ static int cancel(int asks) {
 
 static int send_message(const struct wire_request *request, const char *data, size_t length, int to,
                         struct reply *reply) {
+    struct later later = request_later(request, to, (int)length);
     reply->head.value = (int)length;
     switch (protocol) {
     case WIRE_BCM: return bcm_write(request, data, length, to, &reply->head.value);
@@ -90,7 +92,7 @@ static int send_message(const struct wire_request *request, const char *data, si
     default:
         /* A byte of data has the library say that this frame goes nowhere. */
         reply->head.length = length >= CAN_MTU && raw_is_error(data);
-        return raw_write(request->ifindex, data, length, to, request->number);
+        return raw_write(request->ifindex, data, length, raw_waits() ? &later : NULL);
     }
 }
 
@@ -157,6 +159,7 @@ static int carry_out(const struct wire_request *request, const char *data, size_
     case WIRE_ERROR: reply->head.value = error_take(); return 0;
     case WIRE_CLOSE: return begin_close(to);
     case WIRE_CANCEL: return cancel(to);
+    case WIRE_SHARE: return quick_share(to);
     default: return refused(EINVAL, "library and bridge are not of the same version");
     }
 }
@@ -210,8 +213,8 @@ bool request_serve(void) {
     length = MIN(length, (ssize_t)sizeof data);
     struct cmsghdr *rights = CMSG_FIRSTHDR(&message);
     if (!rights) {
-        if (protocol == WIRE_RAW) {
-            raw_write(WIRE_BOUND, data, (size_t)length, NOBODY, WIRE_WAIT);
+        if (protocol == WIRE_RAW && !quick_serve(data, (size_t)length)) {
+            raw_write(WIRE_BOUND, data, (size_t)length, &(struct later){.reply_to = NOBODY});
         }
         return true;
     }

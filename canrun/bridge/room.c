@@ -53,14 +53,14 @@ static int send_now(struct session *to, const struct canfd_frame *frame, bool is
 
 int room_send(struct session *to, const struct canfd_frame *frame, bool is_fd, const struct later *later) {
     bool has_turn = first_at(to->index) == count;
-    int error = has_turn ? send_now(to, frame, is_fd) : ENOBUFS;
+    int error = has_turn && !(later && later->is_refused) ? send_now(to, frame, is_fd) : ENOBUFS;
     if (error != ENOBUFS || !later || (later->until && to->is_stuck)) {
         return error;
     }
     if (count == WAITERS) {
         return refused(ENOBUFS, "too many frames wait for room");
     }
-    if (has_turn) {
+    if (has_turn && !later->is_refused) {
         begin_looking(to);
     }
     waiters[count++] = (struct waiter){to->index, is_fd, *frame, *later};
@@ -79,6 +79,14 @@ static int has_room(struct session *session, bool *has) {
     session->has_counts = true;
     session->gone = gone;
     return 0;
+}
+
+void room_look(int index) {
+    struct session *session = sessions_for(index);
+    if (session && first_at(index) == count) {
+        begin_looking(session);
+        has_room(session, &(bool){false});
+    }
 }
 
 /* Whether a write that waits has ended: its process was killed. */

@@ -11,6 +11,11 @@
 
 static const char GONE[] = "the server is gone";
 
+int refuse_unsent(const char *what, int error) {
+    return error == EPIPE || error == ECONNRESET ? refuse(what, ENXIO, GONE)
+                                                 : refuse(what, error, "the request did not reach the bridge");
+}
+
 int put_request(int fd, int with, const struct wire_request *request, const struct iovec *data, size_t pieces) {
     struct iovec parts[1 + pieces];
     union {
@@ -93,14 +98,7 @@ int ask(int fd, const char *what, const struct wire_request *request, const stru
     while ((error = put_request(fd, ends[1], request, data, pieces)) == EINTR && !asked.may_end) {
     }
     syscall(SYS_close, ends[1]);
-    int result = 0;
-    if (error == EPIPE || error == ECONNRESET) {
-        result = refuse(what, ENXIO, GONE);
-    } else if (error) {
-        result = refuse(what, error, "the request did not reach the bridge");
-    } else {
-        result = get_reply(&asked, answer);
-    }
+    int result = error ? refuse_unsent(what, error) : get_reply(&asked, answer);
     error = result ? errno : before;
     syscall(SYS_close, ends[0]);
     errno = error;

@@ -82,11 +82,17 @@ const struct real *real(void);
 /* dlsym of the C library, in place of that of this one. */
 void *(*real_dlsym(void))(void *restrict, const char *restrict);
 
-/* The protocol of a CAN socket; 0 for any other descriptor. It leaves errno as it was. */
-enum wire_protocol protocol_of(int fd);
+/* What a descriptor is: the protocol of a CAN socket and its name, which no other one has; or 0, and whether it is a
+ * socket of netlink. */
+struct kind {
+    enum wire_protocol protocol;
+    bool is_netlink;
+    char name[WIRE_NAME_ROOM];
+};
 
-/* The same; for another descriptor `is_netlink` says whether it is a socket of netlink. */
-enum wire_protocol protocol_to_send(int fd, bool *is_netlink);
+/* They leave errno as it was. */
+struct kind kind_of(int fd);
+enum wire_protocol protocol_of(int fd);
 
 /* Sets errno, and returns -1. */
 int fail(int error);
@@ -118,6 +124,15 @@ int ask(int fd, const char *what, const struct wire_request *request, const stru
 
 /* Sends a request with a descriptor, and waits for no reply. Returns an errno, or 0. */
 int put_request(int fd, int with, const struct wire_request *request, const struct iovec *data, size_t pieces);
+
+/* What a call is that had this errno when it sent a request: -1, and errno. */
+int refuse_unsent(const char *what, int error);
+
+/* Asks the bridge of a socket of CAN_RAW for a quick write, and returns what became of it: it was done; it was refused,
+ * and errno says why; it is to wait for room; or none can be had, and it is to be asked for by a pipe, too. */
+enum quick { QUICK_DONE, QUICK_REFUSED, QUICK_NO_ROOM, QUICK_NONE };
+enum quick ask_quickly(int fd, const struct kind *kind, const struct wire_request *request, const struct iovec *data,
+                       size_t pieces, struct answer *answer);
 
 /* Takes the error that a socket has by itself, as SO_ERROR does; 0 where it has none. It leaves errno as it was. */
 int take_error(int fd);

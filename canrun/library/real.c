@@ -29,27 +29,29 @@ const struct real *real(void) {
     return &found;
 }
 
-enum wire_protocol protocol_to_send(int fd, bool *is_netlink) {
+struct kind kind_of(int fd) {
+    const socklen_t head = offsetof(struct sockaddr_un, sun_path) + 1;
+    struct kind kind = {0};
     struct sockaddr_un name;
     socklen_t length = sizeof name;
     int before = errno;
     long failed = syscall(SYS_getsockname, fd, &name, &length);
     errno = before;
-    *is_netlink = !failed && name.sun_family == AF_NETLINK;
-    if (failed || name.sun_family != AF_UNIX ||
-        length < offsetof(struct sockaddr_un, sun_path) + 1 + sizeof WIRE_NAME || name.sun_path[0] ||
-        memcmp(name.sun_path + 1, WIRE_NAME, sizeof WIRE_NAME - 1)) {
-        return 0;
+    kind.is_netlink = !failed && name.sun_family == AF_NETLINK;
+    if (failed || name.sun_family != AF_UNIX || length < head + sizeof WIRE_NAME || length >= head + sizeof kind.name ||
+        name.sun_path[0] || memcmp(name.sun_path + 1, WIRE_NAME, sizeof WIRE_NAME - 1)) {
+        return kind;
     }
-    enum wire_protocol protocol = (enum wire_protocol)name.sun_path[sizeof WIRE_NAME];
-    if (protocol == WIRE_ISOTP) {
+    memcpy(kind.name, name.sun_path + 1, length - head);
+    kind.protocol = (enum wire_protocol)name.sun_path[sizeof WIRE_NAME];
+    if (kind.protocol == WIRE_ISOTP) {
         note_isotp(fd);
     }
-    return protocol;
+    return kind;
 }
 
 enum wire_protocol protocol_of(int fd) {
-    return protocol_to_send(fd, &(bool){false});
+    return kind_of(fd).protocol;
 }
 
 int fail(int error) {

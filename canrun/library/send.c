@@ -86,16 +86,8 @@ static void forget_error(int fd) {
     }
 }
 
-static ssize_t ask_to_send(int fd, enum wire_protocol protocol, const struct wire_request *request,
-                           const struct iovec *parts, size_t count) {
+static ssize_t send_message(int fd, const struct wire_request *request, const struct iovec *parts, size_t count) {
     struct answer answer = {0};
-    if (protocol != WIRE_ISOTP) {
-        int result = ask(fd, "write", request, parts, count, &answer);
-        if (!result && answer.length) {
-            note_error_frame();
-        }
-        return result ? -1 : answer.value;
-    }
     struct iovec all[count + FILLERS];
     memcpy(all, parts, count * sizeof *parts);
     size_t more = add_fillers(fd, request->length, all + count);
@@ -106,11 +98,28 @@ static ssize_t ask_to_send(int fd, enum wire_protocol protocol, const struct wir
     return answer.value;
 }
 
+static ssize_t ask_to_send(int fd, const struct kind *kind, struct wire_request *request, const struct iovec *parts,
+                           size_t count) {
+    struct answer answer = {0};
+    if (kind->protocol == WIRE_ISOTP) {
+        return send_message(fd, request, parts, count);
+    }
+    enum quick quick = kind->protocol == WIRE_RAW ? ask_quickly(fd, kind, request, parts, count, &answer) : QUICK_NONE;
+    request->option = quick == QUICK_NO_ROOM;
+    if (quick == QUICK_REFUSED || (quick != QUICK_DONE && ask(fd, "write", request, parts, count, &answer))) {
+        return -1;
+    }
+    if (answer.length) {
+        note_error_frame();
+    }
+    return answer.value;
+}
+
 /* The most pieces that go with a request as they are. */
 #define PIECES 64
 
 /* Joins pieces that are too many for one call of the kernel with the request. */
-static ssize_t send_joined(int fd, enum wire_protocol protocol, const struct wire_request *request,
+static ssize_t send_joined(int fd, const struct kind *kind, struct wire_request *request,
                            const struct msghdr *message) {
     char whole[request->length + 1];
     size_t length = 0;
@@ -119,13 +128,13 @@ static ssize_t send_joined(int fd, enum wire_protocol protocol, const struct wir
             return fail(EFAULT);
         }
     }
-    return ask_to_send(fd, protocol, request, &(struct iovec){whole, length}, 1);
+    return ask_to_send(fd, kind, request, &(struct iovec){whole, length}, 1);
 }
 
 /* Sends a message; the pieces may be no memory of the program's, but what names them is. */
-static ssize_t can_sendmsg(int fd, enum wire_protocol protocol, const struct msghdr *message, int flags) {
+static ssize_t can_sendmsg(int fd, const struct kind *kind, const struct msghdr *message, int flags) {
     struct wire_request request = {
-        .kind = WIRE_SEND, .ifindex = WIRE_BOUND, .number = wait_of(fd, protocol, flags)};
+        .kind = WIRE_SEND, .ifindex = WIRE_BOUND, .number = wait_of(fd, kind->protocol, flags)};
     size_t length = 0;
     for (size_t i = 0; i < message->msg_iovlen; i++) {
         length += message->msg_iov[i].iov_len;
@@ -134,15 +143,15 @@ static ssize_t can_sendmsg(int fd, enum wire_protocol protocol, const struct msg
         }
     }
     request.length = (uint32_t)length;
-    if (message->msg_name && protocol != WIRE_ISOTP && address_index(message, &request.ifindex)) {
+    if (message->msg_name && kind->protocol != WIRE_ISOTP && address_index(message, &request.ifindex)) {
         return -1;
     }
-    return message->msg_iovlen > PIECES ? send_joined(fd, protocol, &request, message)
-                                        : ask_to_send(fd, protocol, &request, message->msg_iov, message->msg_iovlen);
+    return message->msg_iovlen > PIECES ? send_joined(fd, kind, &request, message)
+                                        : ask_to_send(fd, kind, &request, message->msg_iov, message->msg_iovlen);
 }
 
 /* The same for a message that the program names. */
-static ssize_t send_named(int fd, enum wire_protocol protocol, const struct msghdr *named, int flags) {
+static ssize_t send_named(int fd, const struct kind *kind, const struct msghdr *named, int flags) {
     struct msghdr message;
     if (!copy_from(&message, named, sizeof message)) {
         return fail(EFAULT);
@@ -162,52 +171,50 @@ static ssize_t send_named(int fd, enum wire_protocol protocol, const struct msgh
     if (!copy_from(control, message.msg_control, MIN(message.msg_controllen, sizeof control))) {
         return fail(EFAULT);
     }
-    return can_sendmsg(fd, protocol, &message, flags);
+    return can_sendmsg(fd, kind, &message, flags);
 }
 
-static ssize_t send_one(int fd, enum wire_protocol protocol, const void *data, size_t length, int flags,
+static ssize_t send_one(int fd, const struct kind *kind, const void *data, size_t length, int flags,
                         const struct sockaddr *to, socklen_t to_length) {
     struct iovec part = {(void *)data, length};
     struct msghdr message = {.msg_iov = &part, .msg_iovlen = 1, .msg_name = (void *)to, .msg_namelen = to_length};
     if (to && to_length > sizeof(struct sockaddr_storage)) {
         return fail(EINVAL);
     }
-    return can_sendmsg(fd, protocol, &message, flags);
+    return can_sendmsg(fd, kind, &message, flags);
 }
 
 EXPORT ssize_t sendmsg(int fd, const struct msghdr *message, int flags) {
-    enum wire_protocol protocol = protocol_of(fd);
-    return protocol ? send_named(fd, protocol, message, flags) : real()->sendmsg(fd, message, flags);
+    struct kind kind = kind_of(fd);
+    return kind.protocol ? send_named(fd, &kind, message, flags) : real()->sendmsg(fd, message, flags);
 }
 
 EXPORT ssize_t sendto(int fd, const void *data, size_t length, int flags, const struct sockaddr *to,
                       socklen_t to_length) {
-    bool is_netlink;
-    enum wire_protocol protocol = protocol_to_send(fd, &is_netlink);
-    if (is_netlink && asks_for_interface(data, length)) {
+    struct kind kind = kind_of(fd);
+    if (kind.is_netlink && asks_for_interface(data, length)) {
         return refuse_question();
     }
-    return protocol ? send_one(fd, protocol, data, length, flags, to, to_length)
-                    : real()->sendto(fd, data, length, flags, to, to_length);
+    return kind.protocol ? send_one(fd, &kind, data, length, flags, to, to_length)
+                         : real()->sendto(fd, data, length, flags, to, to_length);
 }
 
 EXPORT ssize_t send(int fd, const void *data, size_t length, int flags) {
-    bool is_netlink;
-    enum wire_protocol protocol = protocol_to_send(fd, &is_netlink);
-    if (is_netlink && asks_for_interface(data, length)) {
+    struct kind kind = kind_of(fd);
+    if (kind.is_netlink && asks_for_interface(data, length)) {
         return refuse_question();
     }
-    return protocol ? send_one(fd, protocol, data, length, flags, NULL, 0) : real()->send(fd, data, length, flags);
+    return kind.protocol ? send_one(fd, &kind, data, length, flags, NULL, 0) : real()->send(fd, data, length, flags);
 }
 
 EXPORT ssize_t write(int fd, const void *data, size_t length) {
-    enum wire_protocol protocol = protocol_of(fd);
-    return protocol ? send_one(fd, protocol, data, length, 0, NULL, 0) : real()->write(fd, data, length);
+    struct kind kind = kind_of(fd);
+    return kind.protocol ? send_one(fd, &kind, data, length, 0, NULL, 0) : real()->write(fd, data, length);
 }
 
 EXPORT ssize_t writev(int fd, const struct iovec *parts, int count) {
-    enum wire_protocol protocol = protocol_of(fd);
-    if (count < 0 || count > PIECES_MOST || !protocol) {
+    struct kind kind = kind_of(fd);
+    if (count < 0 || count > PIECES_MOST || !kind.protocol) {
         return real()->writev(fd, parts, count);
     }
     struct iovec copy[count + 1];
@@ -215,17 +222,17 @@ EXPORT ssize_t writev(int fd, const struct iovec *parts, int count) {
     if (!copy_from(copy, parts, (size_t)count * sizeof *copy)) {
         return fail(EFAULT);
     }
-    return room_of(&message, 1) ? can_sendmsg(fd, protocol, &message, 0) : 0;
+    return room_of(&message, 1) ? can_sendmsg(fd, &kind, &message, 0) : 0;
 }
 
 EXPORT int sendmmsg(int fd, struct mmsghdr *messages, unsigned count, int flags) {
-    enum wire_protocol protocol = protocol_of(fd);
+    struct kind kind = kind_of(fd);
     unsigned done = 0;
-    if (!protocol) {
+    if (!kind.protocol) {
         return real()->sendmmsg(fd, messages, count, flags);
     }
     for (; done < count; done++) {
-        ssize_t length = send_named(fd, protocol, &messages[done].msg_hdr, flags);
+        ssize_t length = send_named(fd, &kind, &messages[done].msg_hdr, flags);
         unsigned sent = (unsigned)length;
         if (length < 0) {
             return done ? (int)done : -1;

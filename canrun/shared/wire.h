@@ -4,7 +4,8 @@
  * how the library knows a CAN socket.
  *
  * Library to bridge: a request and its data, with the write end of a pipe (SCM_RIGHTS) that takes the one reply. What
- * comes without a pipe is the frame of a write that did not go through the library, and gets no reply.
+ * comes without a pipe is a quick write, whose reply comes in memory that library and bridge share; or the frame of a
+ * write that did not go through the library, and gets no reply.
  *
  * Bridge to library: a frame and a trailer, so that a read that does not go through the library gets a whole frame too,
  * as one of its size cuts the trailer off; or the same trailer and a message of the broadcast manager or of ISO-TP. */
@@ -14,6 +15,8 @@
 #include <stdint.h>
 
 #define WIRE_NAME "canbusd-can/"
+/* The room for a name, with the 0 after it. */
+#define WIRE_NAME_ROOM 64
 enum wire_protocol { WIRE_RAW = 'r', WIRE_BCM = 'b', WIRE_ISOTP = 'i' };
 
 /* The longest message, either way: one of ISO-TP. */
@@ -35,6 +38,7 @@ enum wire_kind {
     WIRE_CLOSE,      /* the socket is closed once a byte comes by what is no pipe, but one end of a pair; the end of a
                       * message is waited for until another comes, or the other end is gone */
     WIRE_CANCEL, /* a signal ends the wait of the request whose pipe this is the read end of; the reply is its own */
+    WIRE_SHARE,  /* the memory of quick writes comes by what is no pipe, but one end of a pair (SCM_RIGHTS) */
 };
 #define WIRE_BOUND (-1)
 
@@ -44,7 +48,7 @@ enum wire_wait { WIRE_WAIT, WIRE_NO_WAIT, WIRE_SHORT_WAIT };
 struct wire_request {
     uint32_t kind;
     int32_t ifindex;
-    int32_t option;
+    int32_t option;        /* of WIRE_SEND, whether a quick write of this frame has found no room */
     int32_t number;        /* the first number of a value of SOL_SOCKET; of WIRE_SEND, an enum wire_wait */
     uint32_t rx_id, tx_id; /* WIRE_BIND of ISO-TP */
     uint32_t length;       /* of the data; a message of ISO-TP is followed by what only takes room */
@@ -54,6 +58,31 @@ struct wire_reply {
     int32_t error; /* an errno, and then the data are a text; or 0 */
     int32_t value;
     uint32_t length; /* of the data that follow, at most WIRE_REPLY */
+};
+
+/* A quick write, which is followed by the frame. Other data don't begin with the key. */
+struct wire_quick {
+    uint64_t key;
+    int32_t ifindex;
+    uint32_t place; /* of the reply */
+};
+
+/* Where the reply of one quick write comes; `state`, an enum wire_state, is a futex. */
+struct wire_place {
+    uint32_t state;
+    struct wire_reply reply; /* without data; its error may be WIRE_NO_ROOM */
+    char text[240];          /* why there is an error */
+};
+enum wire_state { PLACE_FREE, PLACE_ASKED, PLACE_REPLIED };
+/* There is no room, and the write is to wait for it: it is asked for again, by a pipe. */
+#define WIRE_NO_ROOM (-1)
+
+/* What they share: one for each socket. */
+#define WIRE_PLACES 15
+struct wire_memory {
+    uint64_t key;
+    char name[WIRE_NAME_ROOM]; /* of the socket */
+    struct wire_place places[WIRE_PLACES];
 };
 
 struct wire_trailer {

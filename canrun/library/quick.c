@@ -1,0 +1,241 @@
+/* Quick writes of CAN_RAW: the reply comes in memory that the bridge shares, and costs a third of what a pipe does.
+ *
+ * The memory is that of the socket with this name, whatever becomes of descriptors: so nothing has to be seen of close,
+ * dup, fork and SCM_RIGHTS. A process asks for it once it has written some frames to a socket, and keeps it for a few
+ * sockets, as a cache does. In virtual time replies come by pipes, whose waits the run sees. */
+#define _GNU_SOURCE
+#include "library.h"
+
+#include <errno.h>
+#include <fcntl.h>
+#include <linux/can.h>
+#include <linux/futex.h>
+#include <poll.h>
+#include <pthread.h>
+#include <stdlib.h>
+#include <string.h>
+#include <sys/mman.h>
+#include <sys/syscall.h>
+#include <time.h>
+
+/* A socket has one of these: one of the few that follow the sum of its name. */
+#define KNOWN 16
+#define FEW 4
+/* The write of a process to a socket at which it asks for the memory. */
+#define ASKING 4
+/* Nobody can use it now: it becomes that of another socket. */
+#define IS_CHANGING (1u << 31)
+
+static struct known {
+    uint32_t users; /* how many threads use it */
+    uint32_t writes;
+    char name[WIRE_NAME_ROOM];
+    struct wire_memory *memory;
+} known[KNOWN];
+static bool is_off;
+
+/* Other threads are not in the child of a fork. */
+static void forget_users(void) {
+    for (size_t i = 0; i < KNOWN; i++) {
+        if (known[i].users & IS_CHANGING) {
+            known[i] = (struct known){0};
+        }
+        known[i].users = 0;
+    }
+}
+
+__attribute__((constructor)) static void start(void) {
+    is_off = getenv("CANBUSD_RUN_VIRTUAL") || pthread_atfork(NULL, NULL, forget_users);
+}
+
+static void leave(struct known *one) {
+    __atomic_fetch_sub(&one->users, 1, __ATOMIC_RELEASE);
+}
+
+/* Makes it that of this socket, where no thread uses it. */
+static void change(struct known *one, const char *name) {
+    uint32_t users = 0;
+    if (!__atomic_compare_exchange_n(&one->users, &users, IS_CHANGING, false, __ATOMIC_ACQUIRE, __ATOMIC_RELAXED)) {
+        return;
+    }
+    if (one->memory) {
+        syscall(SYS_munmap, one->memory, sizeof *one->memory);
+    }
+    one->memory = NULL;
+    one->writes = 0;
+    memcpy(one->name, name, sizeof one->name);
+    __atomic_fetch_sub(&one->users, IS_CHANGING, __ATOMIC_RELEASE);
+}
+
+/* That of the socket with this name, which is used from now on; NULL where there is none yet. */
+static struct known *enter(const char *name) {
+    static uint32_t turn;
+    uint32_t sum = 0;
+    for (size_t i = 0; i < WIRE_NAME_ROOM && name[i]; i++) {
+        sum = sum * 31 + (unsigned char)name[i];
+    }
+    for (uint32_t i = 0; i < FEW; i++) {
+        struct known *one = &known[(sum + i) % KNOWN];
+        bool is_changing = __atomic_fetch_add(&one->users, 1, __ATOMIC_ACQUIRE) & IS_CHANGING;
+        if (!is_changing && !memcmp(one->name, name, sizeof one->name)) {
+            return one;
+        }
+        leave(one);
+    }
+    change(&known[(sum + __atomic_fetch_add(&turn, 1, __ATOMIC_RELAXED) % FEW) % KNOWN], name);
+    return NULL;
+}
+
+/* ---- getting the memory ---- */
+
+/* The descriptor that comes by this end of a pair; -1 where none does. */
+static int receive_descriptor(int from) {
+    union {
+        char room[CMSG_SPACE(sizeof(int))];
+        struct cmsghdr align;
+    } control;
+    char byte;
+    struct iovec part = {&byte, 1};
+    struct msghdr message = {
+        .msg_iov = &part, .msg_iovlen = 1, .msg_control = &control, .msg_controllen = sizeof control};
+    long length;
+    while ((length = syscall(SYS_recvmsg, from, &message, MSG_CMSG_CLOEXEC)) < 0 && errno == EINTR) {
+    }
+    struct cmsghdr *rights = length > 0 ? CMSG_FIRSTHDR(&message) : NULL;
+    int fd = -1;
+    if (rights) {
+        memcpy(&fd, CMSG_DATA(rights), sizeof fd);
+    }
+    return fd;
+}
+
+static int ask_for_descriptor(int fd) {
+    int pair[2], shared = -1;
+    if (syscall(SYS_socketpair, AF_UNIX, SOCK_STREAM | SOCK_CLOEXEC, 0, pair)) {
+        return -1;
+    }
+    int error = put_request(fd, pair[1], &(struct wire_request){.kind = WIRE_SHARE}, NULL, 0);
+    syscall(SYS_close, pair[1]);
+    shared = error ? -1 : receive_descriptor(pair[0]);
+    syscall(SYS_close, pair[0]);
+    return shared;
+}
+
+/* The descriptor may be another socket's by now. */
+static struct wire_memory *map(int fd, const char *name) {
+    int before = errno, shared = ask_for_descriptor(fd);
+    struct wire_memory *memory = MAP_FAILED;
+    if (shared >= 0) {
+        memory = mmap(NULL, sizeof *memory, PROT_READ | PROT_WRITE, MAP_SHARED, shared, 0);
+        syscall(SYS_close, shared);
+    }
+    errno = before;
+    if (memory != MAP_FAILED && memcmp(memory->name, name, sizeof memory->name)) {
+        munmap(memory, sizeof *memory);
+        memory = MAP_FAILED;
+    }
+    return memory == MAP_FAILED ? NULL : memory;
+}
+
+static struct wire_memory *memory_of(struct known *one, int fd) {
+    if (__atomic_load_n(&one->writes, __ATOMIC_RELAXED) < ASKING &&
+        __atomic_add_fetch(&one->writes, 1, __ATOMIC_RELAXED) == ASKING) {
+        __atomic_store_n(&one->memory, map(fd, one->name), __ATOMIC_RELEASE);
+    }
+    return __atomic_load_n(&one->memory, __ATOMIC_ACQUIRE);
+}
+
+/* ---- a write ---- */
+
+static struct wire_place *take_place(struct wire_memory *memory) {
+    for (uint32_t i = 0; i < WIRE_PLACES; i++) {
+        uint32_t state = PLACE_FREE;
+        if (__atomic_compare_exchange_n(&memory->places[i].state, &state, PLACE_ASKED, false, __ATOMIC_ACQUIRE,
+                                        __ATOMIC_RELAXED)) {
+            return &memory->places[i];
+        }
+    }
+    return NULL;
+}
+
+static void free_place(struct wire_place *place) {
+    __atomic_store_n(&place->state, PLACE_FREE, __ATOMIC_RELEASE);
+}
+
+static int put_quick(int fd, const struct wire_quick *quick, const struct iovec *data, size_t pieces) {
+    struct iovec parts[1 + pieces];
+    struct msghdr message = {.msg_iov = parts, .msg_iovlen = 1 + pieces};
+    parts[0] = (struct iovec){(void *)quick, sizeof *quick};
+    memcpy(parts + 1, data, pieces * sizeof *data);
+    return syscall(SYS_sendmsg, fd, &message, MSG_NOSIGNAL) >= 0 ? 0 : errno;
+}
+
+/* Whether no reply will come: the bridge is gone, or the descriptor was another socket's when the request was sent. */
+static bool is_lost(int fd, const char *name) {
+    struct pollfd polled = {fd, 0, 0};
+    return memcmp(kind_of(fd).name, name, WIRE_NAME_ROOM) ||
+           (syscall(SYS_ppoll, &polled, 1L, &(struct timespec){0, 0}, NULL, 0L) > 0 && polled.revents & POLLHUP);
+}
+
+/* Waits for the reply. No signal ends that: the verdict comes soon. */
+static bool await_reply(int fd, const char *name, struct wire_place *place) {
+    const struct timespec look = {1, 0};
+    while (__atomic_load_n(&place->state, __ATOMIC_ACQUIRE) == PLACE_ASKED) {
+        long result = syscall(SYS_futex, &place->state, FUTEX_WAIT, PLACE_ASKED, &look, NULL, 0);
+        if (result < 0 && errno == ETIMEDOUT && is_lost(fd, name) &&
+            __atomic_load_n(&place->state, __ATOMIC_ACQUIRE) == PLACE_ASKED) {
+            return false;
+        }
+    }
+    return true;
+}
+
+static enum quick get_reply(const struct wire_place *place, struct answer *answer) {
+    if (place->reply.error == WIRE_NO_ROOM) {
+        return QUICK_NO_ROOM;
+    }
+    if (place->reply.error) {
+        refuse("write", place->reply.error, place->text);
+        return QUICK_REFUSED;
+    }
+    answer->value = place->reply.value;
+    answer->length = place->reply.length;
+    return QUICK_DONE;
+}
+
+static enum quick write_by(struct wire_memory *memory, int fd, const struct kind *kind,
+                           const struct wire_request *request, const struct iovec *data, size_t pieces,
+                           struct answer *answer) {
+    struct wire_place *place = take_place(memory);
+    int before = errno;
+    if (!place) {
+        return QUICK_NONE;
+    }
+    struct wire_quick quick = {memory->key, request->ifindex, (uint32_t)(place - memory->places)};
+    int error = put_quick(fd, &quick, data, pieces);
+    if (error) {
+        free_place(place);
+        refuse_unsent("write", error);
+        return QUICK_REFUSED;
+    }
+    if (!await_reply(fd, kind->name, place)) {
+        refuse_unsent("write", EPIPE);
+        return QUICK_REFUSED; /* The place stays taken, as a reply may come even so. */
+    }
+    errno = before;
+    enum quick result = get_reply(place, answer);
+    free_place(place);
+    return result;
+}
+
+enum quick ask_quickly(int fd, const struct kind *kind, const struct wire_request *request, const struct iovec *data,
+                       size_t pieces, struct answer *answer) {
+    struct known *one = is_off || request->length > CANFD_MTU ? NULL : enter(kind->name);
+    if (!one) {
+        return QUICK_NONE;
+    }
+    struct wire_memory *memory = memory_of(one, fd);
+    enum quick result = memory ? write_by(memory, fd, kind, request, data, pieces, answer) : QUICK_NONE;
+    leave(one);
+    return result;
+}
