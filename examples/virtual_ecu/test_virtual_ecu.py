@@ -32,7 +32,7 @@ def machine(tmp_path_factory):
     (kernel,) = Path(os.environ["CANBUSD_KERNEL"], "boot").glob("vmlinuz-*")
     words = "qemu-system-x86_64 -m 256 -nographic -no-reboot -net none".split()
     words += "-object can-bus,id=b -object can-host-socketcan,id=h,if=ecu,canbus=b -device kvaser_pci,canbus=b".split()
-    return [*words, "-kernel", kernel, "-initrd", initrd, "-append", "console=ttyS0 quiet"]
+    return [*words, "-kernel", kernel, "-initrd", initrd, "-append", "console=ttyS0 quiet no_timer_check"]
 
 
 @pytest.fixture(scope="module")
