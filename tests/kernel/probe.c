@@ -42,7 +42,8 @@ static void set_barriers(void) {
     }
 }
 
-enum { SHORTEST_QUIET = 50, LONGEST_QUIET = 2000 };
+/* The longest is far below the second in which ISO-TP waits for a frame. */
+enum { SHORTEST_QUIET = 50, LONGEST_QUIET = 200 };
 int quiet = SHORTEST_QUIET;
 
 static long milliseconds(void) {
