@@ -1,71 +1,76 @@
 """What the page of a run has of time on the wire: columns beside those of its steps, where its bus has bit rates."""
 
+import itertools
 import operator
+from array import array
 from collections.abc import Callable, Iterable, Sequence
-from typing import Any
+from typing import TYPE_CHECKING, Any
 
-from canbusd._slots import Slot, nanos_of, slots_of
-from canbusd._wire import Bits, Rates, Times
-from canbusd.replay import Replay, Step
+from canbusd._slots import Slot, slots_of
+from canbusd._steps import DONE, RESTART
+from canbusd._wire import Rates
+from canbusd.replay import Replay
+
+if TYPE_CHECKING:
+    from canbusd.report import Timeline
 
 Column = list[Any]
-#: How many idle attempts in a row it is, shown before this step; for 0 the step itself.
-Row = tuple[int, Step]
-# Of what tries no frame.
-NONE = Times(0, 0, Bits(0))
 
 
 def wire_of(
-    run: Replay,
-    rows: Sequence[Row],
-    places: Sequence[int],
-    rates: Rates,
-    column: Callable[[str, Iterable[float]], Column],
+    run: Replay, timeline: "Timeline", rates: Rates, column: Callable[[str, Iterable[float]], Column]
 ) -> dict[str, Any]:
-    """Returns the bit rates, and columns that `column` makes; `places` are those of the steps among the rows."""
-    slots = {places[slot.step]: slot for slot in slots_of(run, rates)}
-    begins = begins_of(rows, slots)
-    end = max([begins[-1], *(slot.over for slot in slots.values())]) if rows else 0
-    start = begins[0] if rows else 0
-    times = [slots[place].times if place in slots else NONE for place in range(len(rows))]
+    """Returns the bit rates, and columns by the rows of the time line, which `column` makes."""
+    slots = slots_of(run, rates)
+    over = max((slot.over for slot in slots), default=0)
+    begins = begins_of(run, timeline, slots, over)
+    start, end = (begins[0], max(begins[-1], over)) if begins else (0, 0)
+    # How many bits the frame has at each bit rate, and how long it and the attempt take, in nanoseconds.
+    nominal, fast, frame, busy = (array(code, bytes(len(run.steps) * array(code).itemsize)) for code in "HHII")
+    for slot in slots:
+        times = slot.times
+        nominal[slot.step], fast[slot.step] = times.bits
+        frame[slot.step], busy[slot.step] = times.frame, times.attempt
     return {
         "bitrate": rates.bitrate,
         "dbitrate": rates.dbitrate,
         # In nanoseconds: how long after the one before, which is shorter than since the first.
-        "begin": [*column("d", map(operator.sub, begins, [start, *begins])), "rising"],
+        "begin": [*column("d", map(operator.sub, begins, itertools.chain([start], begins))), "rising"],
         "end": end - start,
-        # How many bits the frame has at each bit rate, and how long it and the attempt take, in nanoseconds.
-        "nominal": column("H", (each.bits.nominal for each in times)),
-        "fast": column("H", (each.bits.fast for each in times)),
-        "frame": column("I", (each.frame for each in times)),
-        "busy": column("I", (each.attempt for each in times)),
-        "since": column("I", since_of(rows)),
+        "nominal": column("H", timeline.rows(nominal)),
+        "fast": column("H", timeline.rows(fast)),
+        "frame": column("I", timeline.rows(frame)),
+        "busy": column("I", timeline.rows(busy)),
+        "since": column("I", timeline.rows(since_of(run, timeline.places))),
     }
 
 
-def begins_of(rows: Sequence[Row], slots: dict[int, Slot]) -> list[int]:
-    """When each row begins, and none before the one before it: idle attempts where the step after them does."""
-    begins: list[int] = []
-    for place, (idle, _) in enumerate(rows):
-        own = place + 1 if idle else place
-        if own == len(rows):
-            begin = max((slot.over for slot in slots.values()), default=0)
-        else:
-            begin = slots[own].begin if own in slots else nanos_of(rows[own][1].moment)
-        begins.append(max(begin, begins[-1]) if begins else begin)
-    return begins
+def begins_of(run: Replay, timeline: "Timeline", slots: Sequence[Slot], over: int) -> list[int]:
+    """When each row begins, and none before the one before it: idle attempts where the step after them does.
+
+    Those after the last step begin when all attempts are over.
+    """
+    by_step = [1000 * micros for micros in run.steps.moments]
+    for slot in slots:
+        by_step[slot.step] = slot.begin
+    # After the last step.
+    by_step.append(over)
+    return list(itertools.accumulate(map(by_step.__getitem__, timeline.own), max))
 
 
-def since_of(rows: Sequence[Row]) -> list[int]:
+def since_of(run: Replay, places: Sequence[int]) -> "array[int]":
     """How many rows before each attempt its frame first took part in arbitration."""
+    steps, since = run.steps, array("I")
     firsts: dict[int, int] = {}
-    since = [0] * len(rows)
-    for place, (idle, step) in enumerate(rows):
-        if idle or step.kind == "restart":
+    for place, kind, iface, met, first, off in zip(
+        places, steps.kinds, steps.ifaces, steps.met, steps.met_from, steps.off
+    ):
+        if kind == RESTART:
+            since.append(0)
             continue
-        for iface, _ in step.contenders:
-            firsts.setdefault(iface, place)
-        since[place] = place - firsts[step.iface]
-        if step.kind == "done" or step.off:
-            del firsts[step.iface]
+        for one in steps.met_ifaces[first : first + met] if met else (iface,):
+            firsts.setdefault(one, place)
+        since.append(place - firsts[iface])
+        if kind == DONE or off:
+            del firsts[iface]
     return since

@@ -8,13 +8,14 @@ the rounding leaves open does not add up, and attempts overlap only where they d
 from collections.abc import Iterable, Sequence
 from typing import NamedTuple
 
+from canbusd._steps import KINDS, RESTART, moment_of
 from canbusd._wire import Rates, Times, Wire
 from canbusd.replay import Replay
 
 # How much later than its moment a frame ends at most, in nanoseconds.
 MOST_LATER = 999
-# The last moment that there is, at which a bus's time stops.
-LAST_MOMENT = "9999999999.999999"
+# The last moment that there is, at which a bus's time stops, in microseconds.
+LAST_MOMENT = 9999999999999999
 
 
 class Slot(NamedTuple):
@@ -50,20 +51,18 @@ def slots_of(run: Replay, rates: Rates) -> list[Slot]:
     """Returns the slots of the attempts that tried a frame."""
     wire = Wire(rates)
     slots: list[Slot] = []
-    for place, step in enumerate(run.steps):
-        if step.kind == "restart":
+    steps = run.steps
+    texts, verdicts = steps.texts.all, steps.verdict_texts.all
+    columns = zip(steps.kinds, steps.frames, steps.verdicts, steps.moments)
+    for place, (kind, frame, verdict, moment) in enumerate(columns):
+        if kind == RESTART:
             continue
-        times = wire.times(step.text, step.kind, step.verdict)
-        begin = nanos_of(step.moment) - times.frame
-        over = slots[-1].over if slots and step.moment != LAST_MOMENT else begin
+        times = wire.times(texts[frame], KINDS[kind], verdicts[verdict])
+        begin = moment * 1000 - times.frame
+        over = slots[-1].over if slots and moment != LAST_MOMENT else begin
         overlap = max(over - (begin + MOST_LATER), 0)
         slots.append(Slot(place, begin if overlap else max(begin, over), times, overlap))
     return slots
-
-
-def nanos_of(moment: str) -> int:
-    """Returns the moment of a record in nanoseconds."""
-    return int(moment.replace(".", "")) * 1000
 
 
 def load_of(slots: Sequence[Slot]) -> Load:
@@ -79,9 +78,9 @@ def overlaps_of(run: Replay, slots: Iterable[Slot]) -> list[str]:
     lines = []
     for slot in slots:
         if slot.overlap:
-            step = run.steps[slot.step]
-            early = f"{slot.overlap / 1000:,.3f} microseconds before attempt {step.attempt - 1} is over"
-            lines.append(f"attempt {step.attempt} at {step.moment} begins {early}")
+            attempt, moment = run.steps.attempts[slot.step], moment_of(run.steps.moments[slot.step])
+            early = f"{slot.overlap / 1000:,.3f} microseconds before attempt {attempt - 1} is over"
+            lines.append(f"attempt {attempt} at {moment} begins {early}")
     return lines
 
 

@@ -39,7 +39,7 @@ def story(record: Record, most: int = MOST_EVENTS) -> list[str]:
     if len(events) > most:
         lines.append(f"  .. {len(events) - most} events before")
     for event in events[-most:]:
-        attempt = f"attempt {replay.steps[event.step].attempt}" if event.step >= 0 else "start"
+        attempt = f"attempt {replay.steps.attempts[event.step]}" if event.step >= 0 else "start"
         lines.append(f"  {attempt}: {event.words}")
     return lines
 

@@ -1,6 +1,6 @@
 """Two runs beside each other: where they first differ, and the columns by which the page of one shows the other."""
 
-from collections.abc import Callable, Iterable
+from collections.abc import Callable, Iterable, Sequence
 from typing import Any, NamedTuple, Optional
 
 from canbusd._text import times
@@ -78,7 +78,7 @@ def beside(one: Record, other: Record) -> list[str]:
 
 
 def columns_of(
-    one: Record, other: Record, title: str, kinds: list[str], column: Callable[[str, Iterable[float]], Column]
+    one: Record, other: Record, title: str, kinds: Sequence[str], column: Callable[[str, Iterable[float]], Column]
 ) -> dict[str, Any]:
     """Returns what the page of a run has of another one: names, texts, and a number of each for an attempt."""
     attempts, found = tried(other), first_difference(one, other)

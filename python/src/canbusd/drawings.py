@@ -1,9 +1,11 @@
 """Draws what happened in a record as plain text of at most 120 columns: error counters, and arbitration bit by bit."""
 
+import bisect
 from collections.abc import Iterator, Sequence
 
+from canbusd._steps import Step, WireFrame
 from canbusd.record import Record
-from canbusd.replay import OFF, PASSIVE, WARNING, WireFrame, Step
+from canbusd.replay import OFF, PASSIVE, WARNING
 
 # With what is at the left and the right of them, 120 columns.
 MOST_COLUMNS = 96
@@ -13,10 +15,11 @@ LIMITS = [(OFF, "bus off"), (PASSIVE, "error passive"), (WARNING, "error warning
 
 def counters(record: Record, first: int, last: int) -> Iterator[str]:
     """Yields the lines that draw both error counters of each interface, over the attempts from `first` to `last`."""
-    run = record.replay
-    steps = [step for step in run.steps if first <= step.attempt <= last]
-    before = run.steps.index(steps[0]) if steps else 0
-    rows = [run.steps[before - 1].counts if before else [(0, 0)] * len(run.ifaces), *(step.counts for step in steps)]
+    run, steps = record.replay, record.replay.steps
+    begin, end = bisect.bisect_left(steps.attempts, first), bisect.bisect_right(steps.attempts, last)
+    counts = steps.count_lists.all
+    rows = [counts[steps.counts[begin - 1]] if 0 < begin < end else ((0, 0),) * len(run.ifaces)]
+    rows += [counts[place] for place in steps.counts[begin:end]]
     each = -(-len(rows) // MOST_COLUMNS)
     shared = f"; a column is the highest of {each}" if each > 1 else ""
     for number, name in enumerate(record.names):
@@ -42,9 +45,10 @@ def row_of(columns: list[tuple[int, int]], floor: int, scale: int) -> str:
 
 def arbitration(record: Record, first: int, last: int) -> Iterator[str]:
     """Yields the lines that draw the bits of each attempt in which more than one interface took part."""
-    names = record.names
-    for step in record.replay.steps:
-        if len(step.contenders) > 1 and first <= step.attempt <= last:
+    names, steps = record.names, record.replay.steps
+    for place, met in enumerate(steps.met):
+        if met and first <= steps.attempts[place] <= last:
+            step = steps[place]
             yield f"attempt {step.attempt}: {names[step.iface]} wins with {step.text}, {step.kind}"
             yield from contenders_of(step, names)
 

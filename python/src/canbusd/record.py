@@ -13,10 +13,11 @@ from dataclasses import dataclass
 from typing import Optional, Union
 
 from canbusd._record_text import BadRecord, RecordText, parse_text
+from canbusd._steps import FATES, KINDS, RESTART, moment_of, numbers_in
 from canbusd._text import NAME, times
 from canbusd.frames import Frame
 from canbusd.log import log_beside, names_in_log
-from canbusd.replay import Replay, Step
+from canbusd.replay import Replay
 
 __all__ = ["Attempt", "BadRecord", "Item", "Record", "audit", "fault_named", "parse_record", "read_record"]
 
@@ -82,49 +83,53 @@ class Record(RecordText):
 
     def attempts_from(self, first: int) -> list[Attempt]:
         """Returns the attempts of the steps of the replay from this number on, which is the first of an entry."""
-        steps = self.replay.steps[first:]
+        steps = self.replay.steps
         restarts: dict[int, list[int]] = {}
-        for step in steps:
-            if step.kind == "restart":
-                restarts.setdefault(step.entry, []).append(step.iface)
+        for place in steps.places_of(RESTART, first):
+            restarts.setdefault(steps.entries[place], []).append(steps.ifaces[place])
         attempts: list[Attempt] = []
-        seen: set[int] = set()
-        for step in steps:
-            again = restarts.get(step.entry, [])
-            if step.kind != "restart":
-                attempts.append(self.attempt_of(step, again))
-            elif step.entry not in seen and self.lines[step.entry].startswith("attempt "):
-                fault = fault_named(self.lines[step.entry].split(" ")[2], self.names)
-                attempts.append(Attempt(float(step.moment), "", 0, "", "idle", fault, (), (), self.named(again)))
-            seen.add(step.entry)
+        last = -1
+        for place in range(first, len(steps)):
+            entry = steps.entries[place]
+            again = restarts.get(entry, ()) if restarts else ()
+            if steps.kinds[place] != RESTART:
+                attempts.append(self.attempt_at(place, again))
+            elif entry != last and self.lines[entry].startswith("attempt "):
+                moment = float(moment_of(steps.moments[place]))
+                fault = fault_named(self.lines[entry].split(" ")[2], self.names)
+                attempts.append(Attempt(moment, "", 0, "", "idle", fault, (), (), self.named(again)))
+            last = entry
         return attempts
 
-    def attempt_of(self, step: Step, restarted: Sequence[int] = ()) -> Attempt:
-        """Returns the attempt that a step of the replay is, with the interfaces that were restarted in its end."""
+    def attempt_at(self, place: int, restarted: Sequence[int] = ()) -> Attempt:
+        """Returns the attempt that is this step of the replay, with the interfaces that were restarted in its end."""
+        steps = self.replay.steps
         return Attempt(
-            float(step.moment),
-            self.names[step.iface],
-            step.number,
-            step.text,
-            step.kind,
-            fault_named(step.verdict, self.names),
-            self.named(step.accepted),
-            self.named(step.off),
+            float(moment_of(steps.moments[place])),
+            self.names[steps.ifaces[place]],
+            steps.numbers[place],
+            steps.text(place),
+            KINDS[steps.kinds[place]],
+            fault_named(steps.verdict(place), self.names),
+            self.named(numbers_in(steps.accepted[place])),
+            self.named(numbers_in(steps.off[place])),
             self.named(restarted),
         )
 
     @property
     def items(self) -> list[Item]:
         """What each socket received or lost, in the order in which the interfaces handed it out."""
+        run, items, texts = self.replay, self.replay.items, self.replay.texts.all
+        steps = run.steps
         return [
             Item(
-                self.names[item.socket.iface],
-                item.socket.number,
-                self.names[item.sender],
-                Frame.parse(item.text, float(item.moment)),
-                item.fate,
+                self.names[run.sockets[socket].iface],
+                socket,
+                self.names[run.sockets[socket].iface if error else steps.ifaces[step]],
+                Frame.parse(texts[error or steps.frames[step]], float(moment_of(steps.moments[step]))),
+                FATES[fate],
             )
-            for item in self.replay.items
+            for socket, step, error, fate in zip(items.sockets, items.steps, items.errors, items.fates)
         ]
 
     def named(self, numbers: Sequence[int]) -> tuple[str, ...]:

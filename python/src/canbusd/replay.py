@@ -5,15 +5,26 @@ program is not asked, and nothing of it is used: each reply in the record is com
 so a replay to the end of a record is an audit. What only shows a run, such as names and attempts, is in canbusd.record.
 """
 
-import functools
-import sys
 from collections import deque
 from collections.abc import Sequence
-from dataclasses import dataclass
 from typing import Optional
 
 from canbusd._record_text import BadRecord, RecordText
-from canbusd.frames import EXTENDED, REMOTE, error_frame, is_fd, passes_filters
+from canbusd._steps import (
+    DROPPED,
+    TAKEN,
+    UNREAD,
+    WAITING,
+    Counts,
+    Items,
+    Places,
+    Step,
+    Steps,
+    WireFrame,
+    members,
+    moment_of,
+)
+from canbusd.frames import error_frame, passes_filters
 
 OFF, PASSIVE, WARNING = 256, 128, 96
 MOST_SOCKETS = 64
@@ -24,66 +35,22 @@ AT_THE_HIT = {"stuff": (0x04, 0x0A), "crc": (0x00, 0x08), "form": (0x02, 0x1B)}
 # A change of state's byte 1, by the severity of a side: active, warning, passive.
 TRANSMIT_CODES, RECEIVE_CODES = (0x40, 0x08, 0x20), (0x40, 0x04, 0x10)
 
-Counts = tuple[int, int]
-
 
 def severity(count: int) -> int:
     """How bad a count is: 0 active, 1 warning, 2 passive, 3 off."""
     return (count >= WARNING) + (count >= PASSIVE) + (count >= OFF)
 
 
-class WireFrame:
-    """A data, remote or FD frame as the record spells it, with what arbitration and filters look at."""
-
-    __slots__ = ("text", "word", "bits", "is_fd")
-
-    def __init__(self, text: str) -> None:
-        identifier, payload = text.split("#", 1)
-        remote = payload.startswith("R")
-        self.text = text
-        self.is_fd = is_fd(text)
-        self.word = int(identifier, 16) | (EXTENDED if len(identifier) == 8 else 0) | (REMOTE if remote else 0)
-        self.bits = arbitration_bits(identifier, "1" if remote else "0")
-
-
-@functools.lru_cache(maxsize=4096)
-def arbitration_bits(identifier: str, rtr: str) -> str:
-    """The bits that arbitration compares (Bosch CAN 2.0), with blanks between fields, at the same places in all frames.
-
-    An FD frame has those of a data frame.
-    """
-    number = int(identifier, 16)
-    if len(identifier) == 3:
-        return f"{number:011b} {rtr}0"
-    bits = f"{number:029b}"
-    return f"{bits[:11]} 11 {bits[11:]} {rtr}"
-
-
-class Delivery:
-    """What an interface handed to a socket: a frame, and what became of it."""
-
-    __slots__ = ("socket", "step", "text", "sender", "number", "moment", "fate", "taken_after")
-
-    def __init__(self, socket: "Socket", step: int, text: str, sender: int, number: Optional[int], moment: str) -> None:
-        self.socket, self.step, self.text = socket, step, text
-        # Its number at its sender; None for an error message frame.
-        self.sender, self.number, self.moment = sender, number, moment
-        # waiting, taken, unread (at the close) or dropped.
-        self.fate = "waiting"
-        # The last step before it was taken or its socket closed.
-        self.taken_after: Optional[int] = None
-
-
 class Socket:
     """A raw socket: its filters, its options, and what waits in it."""
 
-    def __init__(self, number: int, iface: int, capacity: int, opened_after: int) -> None:
+    def __init__(self, number: int, iface: int, capacity: int) -> None:
         self.number, self.iface, self.capacity = number, iface, capacity
-        self.opened_after = opened_after
         self.closed_after: Optional[int] = None
         self.filters = [(0, 0)]
         self.options = {"loopback": 1, "recvown": 0, "join": 0, "errmask": 0, "fd": 0}
-        self.queue: deque[Delivery] = deque()
+        # The places of the items that wait.
+        self.queue: deque[int] = deque()
         self.queued = self.dropped = self.taken = 0
 
     def passes(self, frame: WireFrame) -> bool:
@@ -91,15 +58,6 @@ class Socket:
         if frame.is_fd and not self.options["fd"]:
             return False
         return passes_filters(frame.word, self.filters, bool(self.options["join"]))
-
-    def put(self, item: Delivery) -> None:
-        """Queues an item, or drops it where there is no room."""
-        if len(self.queue) == self.capacity:
-            item.fate = "dropped"
-            self.dropped += 1
-        else:
-            self.queue.append(item)
-            self.queued += 1
 
 
 class Pending:
@@ -148,54 +106,6 @@ class Interface:
         self.rec = 127 if self.rec > 127 else max(self.rec - 1, 0)
 
 
-@dataclass
-class Step:
-    """A tried attempt or a restart. Interfaces are numbers here.
-
-    An attempt that restarts interfaces is followed by a step for each, with the same entry.
-    """
-
-    __slots__ = (
-        "kind",
-        "entry",
-        "moment",
-        "iface",
-        "attempt",
-        "number",
-        "text",
-        "verdict",
-        "accepted",
-        "off",
-        "hit",
-        "contenders",
-        "counts",
-        "waiting",
-        "idle",
-    )
-    #: done, lastbit, destroyed, noack or restart.
-    kind: str
-    entry: int
-    moment: str
-    #: The winner, or who was restarted.
-    iface: int
-    #: Its number among the attempts; of a restart that of the next attempt.
-    attempt: int
-    number: int
-    text: str
-    verdict: str
-    accepted: Sequence[int]
-    off: Sequence[int]
-    hit: Sequence[int]
-    #: The frame of each interface that takes part.
-    contenders: list[tuple[int, WireFrame]]
-    #: After the step: transmit and receive count of each interface.
-    counts: list[Counts]
-    #: Before the step: how many frames wait at each interface.
-    waiting: Sequence[int]
-    #: How many attempts were idle since the step before. One that restarts interfaces counts for the first of them.
-    idle: int
-
-
 class Replay:
     """The replay of a record: its steps, its items, and its interfaces and sockets as they are in the end."""
 
@@ -203,21 +113,21 @@ class Replay:
         self.record = record
         self.ifaces = [Interface() for _ in range(record.ifaces)]
         self.sockets: list[Socket] = []
-        self.steps: list[Step] = []
-        self.items: list[Delivery] = []
+        #: Frames of steps and error message frames, by their places; the first is no frame.
+        self.texts = Places("")
+        self.steps, self.items = Steps(self.texts), Items()
         self.open_sockets: list[list[Socket]] = [[] for _ in self.ifaces]
         self.frames: dict[str, WireFrame] = {}
-        # What many steps have is kept once: a run may have a million of them.
-        self.lists: dict[tuple[int, ...], tuple[int, ...]] = {}
         #: What bus off took out of a transmit queue, by the step.
         self.lost: dict[int, list[Pending]] = {}
-        self.counts: list[Counts] = [(0, 0)] * record.ifaces
+        #: The last steps before sends were refused, by the interface and the reply, `no-buffers` or `bus-off`.
+        self.refused: dict[tuple[int, str], list[int]] = {}
+        self.counts: tuple[Counts, ...] = ((0, 0),) * record.ifaces
         self.attempts = self.idle = 0
         # The numbers of the last step, and of the one that was begun last.
         self.last, self.begun = -1, 0
         # How many attempts were idle since the last step.
         self.idle_since = 0
-        self.moment = ""
         # How many entries were replayed.
         self.entries = 0
         self.go_on()
@@ -246,11 +156,6 @@ class Replay:
             return socket if socket.closed_after is None else None
         return None
 
-    def once(self, numbers: Sequence[int]) -> tuple[int, ...]:
-        """These numbers, as one tuple for all places where they are."""
-        found = tuple(numbers)
-        return self.lists.setdefault(found, found)
-
     # Calls of sockets: each returns the words of its reply.
 
     def on_open(self, _entry: int, iface: str, capacity: str) -> list[str]:
@@ -261,7 +166,7 @@ class Replay:
             return ["bad-capacity"]
         if sum(map(len, self.open_sockets)) == MOST_SOCKETS:
             return ["too-many-sockets"]
-        socket = Socket(len(self.sockets), int(iface), int(capacity), self.last)
+        socket = Socket(len(self.sockets), int(iface), int(capacity))
         self.sockets.append(socket)
         self.open_sockets[int(iface)].append(socket)
         return ["socket", str(socket.number)]
@@ -272,7 +177,7 @@ class Replay:
         if socket is None:
             return ["no-socket"]
         for item in socket.queue:
-            item.fate, item.taken_after = "unread", self.last
+            self.items.end(item, UNREAD, len(self.steps))
         unread = len(socket.queue)
         socket.queue.clear()
         socket.closed_after = self.last
@@ -305,13 +210,18 @@ class Replay:
         if frame.is_fd and not socket.options["fd"]:
             return ["fd-off"]
         if iface.is_off():
-            return ["bus-off"]
+            return self.refuse(socket.iface, "bus-off")
         if len(iface.waiting) == self.record.tx_capacity:
             iface.refused += 1
-            return ["no-buffers"]
+            return self.refuse(socket.iface, "no-buffers")
         iface.waiting.append(Pending(iface.sent, frame, socket, socket.options["loopback"]))
         iface.sent += 1
         return ["number", str(iface.sent - 1)]
+
+    def refuse(self, number: int, reply: str) -> list[str]:
+        """Keeps that a send was refused."""
+        self.refused.setdefault((number, reply), []).append(self.last)
+        return [reply]
 
     def on_receive(self, _entry: int, number: str) -> list[str]:
         """A socket takes its oldest item."""
@@ -320,12 +230,14 @@ class Replay:
             return ["no-socket"]
         if not socket.queue:
             return ["none"]
-        item = socket.queue.popleft()
-        item.fate, item.taken_after = "taken", self.last
+        item, steps = socket.queue.popleft(), self.steps
+        self.items.end(item, TAKEN, len(steps))
         socket.taken += 1
-        if item.number is None:
-            return ["error", str(item.sender), item.text, item.moment]
-        return ["data", str(item.sender), str(item.number), item.text, item.moment]
+        step, error = self.items.steps[item], self.items.errors[item]
+        moment = moment_of(steps.moments[step])
+        if error:
+            return ["error", str(socket.iface), self.texts.all[error], moment]
+        return ["data", str(steps.ifaces[step]), str(steps.numbers[step]), steps.text(step), moment]
 
     def on_restart(self, entry: int, number: str, moment: str) -> list[str]:
         """An interface is restarted by hand."""
@@ -376,7 +288,7 @@ class Replay:
         sent = self.ifaces[winner].waiting[0]
         step = self.begin("", entry, moment, winner)
         step.number, step.text, step.contenders = sent.number, sent.frame.text, contenders
-        step.verdict = sys.intern(verdict)
+        step.verdict = verdict
         before = self.counts
         receivers = [i for i, iface in enumerate(self.ifaces) if i != winner and not iface.is_off()]
         self.judge(step, receivers)
@@ -414,7 +326,7 @@ class Replay:
             winner.tec += 0 if winner.is_passive() else 8
         else:
             step.kind = "lastbit" if verdict[0] == "lastbit" else "done"
-            step.accepted = good_ones = self.once(unhurt)
+            step.accepted = good_ones = unhurt
             winner.tec = winner.tec + 8 if step.kind == "lastbit" else max(winner.tec - 1, 0)
         for i in wrong_ones:
             self.ifaces[i].receive_error()
@@ -440,7 +352,7 @@ class Replay:
         for number in sorted([*step.accepted, *looped]):
             for socket in self.open_sockets[number]:
                 if socket.passes(sent.frame) and (socket is not sent.socket or socket.options["recvown"]):
-                    self.put(Delivery(socket, self.begun, step.text, step.iface, step.number, step.moment))
+                    self.put(socket)
 
     def post_fault(self, step: Step, number: int, is_receiver: bool) -> None:
         """An error message frame for the fault that an interface saw in the attempt, where faults are reported."""
@@ -477,28 +389,30 @@ class Replay:
 
     def post_error(self, number: int, error_class: int, data: Sequence[int]) -> None:
         """Puts an error message frame to the sockets that ask for its class."""
-        text = None
         for socket in self.open_sockets[number]:
             if socket.options["errmask"] & error_class:
-                text = text or error_frame(error_class, data)
-                self.put(Delivery(socket, self.begun, text, number, None, self.moment))
+                self.put(socket, self.texts[error_frame(error_class, data)])
 
-    def put(self, item: Delivery) -> None:
-        """Keeps an item, and puts it to its socket."""
-        self.items.append(item)
-        item.socket.put(item)
+    def put(self, socket: Socket, error: int = 0) -> None:
+        """Puts an error message frame, or without one the frame of the step, to a socket, which drops it for want of room."""
+        has_room = len(socket.queue) < socket.capacity
+        item = self.items.add(socket.number, self.begun, error, WAITING if has_room else DROPPED)
+        if has_room:
+            socket.queue.append(item)
+            socket.queued += 1
+        else:
+            socket.dropped += 1
 
     def begin(self, kind: str, entry: int, moment: str, iface: int) -> Step:
         """A new step."""
-        self.moment = moment
         self.begun = self.last + 1
-        waiting = self.once([len(one.waiting) for one in self.ifaces])
+        waiting = [len(one.waiting) for one in self.ifaces]
         idle, self.idle_since = self.idle_since, 0
-        return Step(kind, entry, moment, iface, self.attempts, 0, "", "", (), (), (), [], [], waiting, idle)
+        return Step(kind, entry, moment, iface, self.attempts, 0, "", "", (), (), (), [], (), waiting, idle)
 
     def count_errors(self) -> bool:
-        """Takes the error counts of the interfaces; whether one has changed. Steps that change none share a list."""
-        counts = [(iface.tec, iface.rec) for iface in self.ifaces]
+        """Takes the error counts of the interfaces; whether one has changed."""
+        counts = tuple((iface.tec, iface.rec) for iface in self.ifaces)
         if counts == self.counts:
             return False
         self.counts = counts
@@ -507,7 +421,7 @@ class Replay:
     def end(self, step: Step) -> None:
         """Keeps a step that has happened."""
         step.counts = self.counts
-        self.steps.append(step)
+        self.steps.add(step)
         self.last = self.begun
         self.attempts += step.kind != "restart"
 
@@ -519,4 +433,4 @@ def wrong(entry: int, message: str) -> BadRecord:
 
 def spelled_set(numbers: Sequence[int]) -> str:
     """A set of interfaces as a record spells it."""
-    return f"{sum(1 << number for number in numbers):04X}"
+    return f"{members(numbers):04X}"

@@ -12,6 +12,7 @@ for each; without them neither.
 
 import base64
 import functools
+import itertools
 import json
 import operator
 import os
@@ -23,18 +24,15 @@ from collections.abc import Iterable, Sequence
 from typing import Any, NamedTuple, Optional
 
 from canbusd import comparison
-from canbusd.frames import Frame, meaning
+from canbusd.frames import Frame, is_error, meaning
 from canbusd.record import Record
 from canbusd._protocol import STATES
 from canbusd._report_wire import wire_of
+from canbusd._steps import IDLE, KINDS, RESTART, Items, Places, WireFrame
 from canbusd._wire import Rates
-from canbusd.replay import Delivery, Replay, Socket, Step
+from canbusd.replay import Replay, Socket
 from canbusd.signals import Database
-from canbusd.story import Event, events_of, facts_of, heading_of, refused_sends, verdict_words
-
-# By their numbers on the page.
-KINDS = ["done", "lastbit", "destroyed", "noack", "restart", "idle"]
-FATES = ["taken", "waiting", "unread", "dropped"]
+from canbusd.story import Event, events_of, facts_of, heading_of, verdict_words
 
 # The scripts of a page, in their order, before the last one, which begins.
 SCRIPTS = ("core", "lanes", "lists", "run", "strips", "signals", "chosen", "run_signals", "identifiers", "tables")
@@ -60,152 +58,148 @@ class Block:
 
     def column(self, code: str, numbers: Iterable[float]) -> Column:
         """Adds a column, and returns its type, its place and its length."""
-        column = array(code, numbers)
+        column: array[Any] = array(code, numbers)
         if sys.byteorder == "big":
             column.byteswap()
-        data = column.tobytes()
         place = self.size
-        self.parts.append(data + bytes(-len(data) % 8))
+        self.parts.append(column.tobytes() + bytes(-len(column) * column.itemsize % 8))
         self.size += len(self.parts[-1])
         return [code, place, len(column)]
 
     def rising(self, numbers: Sequence[int]) -> Column:
         """Adds a column of numbers that never fall, as their differences."""
-        return [*self.column("I", map(operator.sub, numbers, [0, *numbers])), "rising"]
+        return [*self.column("I", map(operator.sub, numbers, itertools.chain([0], numbers))), "rising"]
 
     def packed(self, header: Json) -> str:
         """Returns the header and the columns: compressed, in base64."""
         text = json.dumps(header, separators=(",", ":")).encode()
         text += b" " * (-(len(text) + 8) % 8)
-        whole = zlib.compress(b"".join([struct.pack("<II", len(text), 0), text, *self.parts]), 6)
-        return base64.b64encode(whole).decode()
-
-
-class Texts:
-    """Each text once, by its place."""
-
-    def __init__(self) -> None:
-        self.places: dict[str, int] = {}
-
-    def place(self, text: str) -> int:
-        """Returns the place of a text."""
-        return self.places.setdefault(text, len(self.places))
-
-    def all(self) -> list[str]:
-        """Returns the texts by their places."""
-        return list(self.places)
-
-
-def members(numbers: Iterable[int]) -> int:
-    """A set of interfaces, bit i for interface i."""
-    return sum(1 << number for number in numbers)
+        packer = zlib.compressobj(6)
+        whole = [packer.compress(part) for part in (struct.pack("<II", len(text), 0), text, *self.parts)]
+        return base64.b64encode(b"".join([*whole, packer.flush()])).decode()
 
 
 class Timeline:
-    """The steps of a run with its idle attempts between them, in columns."""
+    """The steps of a run with its idle attempts between them, in columns: a row for each step, and for those in a row."""
 
-    def __init__(self, run: Replay, rules: Sequence[str]) -> None:
-        self.ifaces = len(run.ifaces)
-        # How many idle attempts in a row it is, shown as one step; for 0 the step itself. Those go with the step after
-        # them.
-        self.rows: list[tuple[int, Step]] = []
-        # Of each row the verdict, and after a line feed the rule that gave it where it is known.
-        self.faults: list[str] = []
-        # Where each step of the run is among the rows.
-        self.places: list[int] = []
-        for step in run.steps:
-            if step.idle:
-                self.rows.append((step.idle, step))
-                self.faults.append("")
-            self.places.append(len(self.rows))
-            self.rows.append((0, step))
-            is_ruled = step.kind != "restart" and step.attempt < len(rules)
-            rule = rules[step.attempt] if is_ruled else ""
-            self.faults.append(f"{step.verdict}\n{rule}" if rule else step.verdict)
-        if run.idle_since:
-            self.rows.append((run.idle_since, run.steps[-1] if run.steps else blank_step(self.ifaces)))
-            self.faults.append("")
-        self.kinds = bytes(KINDS.index("idle" if idle else step.kind) for idle, step in self.rows)
-        self.counts = self.counts_of()
-        self.waiting = [[0 if idle else step.waiting[i] for idle, step in self.rows] for i in range(self.ifaces)]
+    def __init__(self, run: Replay) -> None:
+        self.steps, self.ifaces = run.steps, len(run.ifaces)
+        #: Where each step is among the rows.
+        self.places: Sequence[int] = range(len(self.steps))
+        #: The step of each row; of idle attempts the one after them, at the end the number of steps.
+        self.own: Sequence[int] = self.places
+        # The rows of idle attempts, and how many they are.
+        self.idle: list[tuple[int, int]] = []
+        if run.idle:
+            self._place_idle(run.idle_since)
 
-    def counts_of(self) -> list[tuple[list[int], list[int]]]:
-        """Transmit and receive counts of each interface after each row."""
-        now = [(0, 0)] * self.ifaces
-        whole = []
-        for idle, step in self.rows:
-            now = now if idle else step.counts
-            whole.append(now)
-        return [([row[i][0] for row in whole], [row[i][1] for row in whole]) for i in range(self.ifaces)]
+    def _place_idle(self, idle_since: int) -> None:
+        """Puts a row before each step that has idle attempts before it, and after the last one for those of the end."""
+        self.places, self.own = places, own = array("I"), array("I")
+        for number, idle in enumerate(itertools.chain(self.steps.idle, [idle_since])):
+            if idle:
+                self.idle.append((len(own), idle))
+                own.append(number)
+            if number < len(self.steps):
+                places.append(len(own))
+                own.append(number)
 
-    def steps(self, block: Block, texts: Texts, verdicts: Texts) -> Json:
+    def shown(self, column: "array[int]") -> "array[int]":
+        """Returns a column of the steps by rows. Idle attempts have the number of the step after them, else of the last."""
+        if not self.idle:
+            return column
+        padded = column + (column[-1:] or array(column.typecode, [0]))
+        return array(column.typecode, map(padded.__getitem__, self.own))
+
+    def rows(self, column: "array[int]", idle: int = 0) -> "array[int]":
+        """Returns a column of the steps by rows, where idle attempts have this number."""
+        found = self.shown(column)
+        for row, _ in self.idle:
+            found[row] = idle
+        return found
+
+    def numbers(self) -> "array[int]":
+        """The number of each row's frame; how many idle attempts there were."""
+        found = self.shown(self.steps.numbers)
+        for row, many in self.idle:
+            found[row] = many
+        return found
+
+    def counts(self) -> "array[int]":
+        """The places of the counts after each row; after idle attempts they are as before."""
+        found = self.shown(self.steps.counts)
+        for row, _ in self.idle:
+            found[row] = found[row - 1] if row else self.steps.count_lists[((0, 0),) * self.ifaces]
+        return found
+
+    def faults(self, rules: Sequence[str]) -> tuple["array[int]", list[str]]:
+        """The verdict of each row, and the texts of those; after a line feed with the rule that gave it where it is known."""
+        steps = self.steps
+        if not rules:
+            return self.rows(steps.verdicts), steps.verdict_texts.all
+        texts: Places[str] = Places()
+        ruled = array("I")
+        for kind, attempt, verdict in zip(steps.kinds, steps.attempts, steps.verdicts):
+            rule = rules[attempt] if kind != RESTART and attempt < len(rules) else ""
+            text = steps.verdict_texts.all[verdict]
+            ruled.append(texts[f"{text}\n{rule}" if rule else text])
+        return self.rows(ruled), texts.all
+
+    def columns(self, block: Block, faults: "array[int]") -> Json:
         """The columns of the rows; those of an idle one say only how many attempts it was."""
-        rows = self.rows
-        tried = [None if idle else step for idle, step in rows]
-        entries = [step.entry for _, step in rows]
+        steps, moments = self.steps, self.shown(self.steps.moments)
         return {
-            "kind": block.column("B", self.kinds),
-            "entry": block.rising(list(accumulated_most(entries))),
-            "iface": block.column("B", (step.iface if step else 0 for step in tried)),
-            "number": block.column("I", (idle or step.number for idle, step in rows)),
-            "frame": block.column("I", (texts.place(step.text) if step else 0 for step in tried)),
-            "verdict": block.column(
-                "I", (verdicts.place(fault) if step else 0 for fault, step in zip(self.faults, tried))
-            ),
-            "accepted": block.column("H", (members(step.accepted) if step else 0 for step in tried)),
-            "hit": block.column("H", (members(step.hit) if step else 0 for step in tried)),
-            "off": block.column("H", (members(step.off) if step else 0 for step in tried)),
-            "seconds": block.column("d", (float(step.moment.split(".")[0]) for _, step in rows)),
-            "micros": block.column("I", (int(step.moment.split(".")[1]) for _, step in rows)),
+            "kind": block.column("B", self.rows(steps.kinds, IDLE)),
+            "entry": block.rising(self.shown(steps.entries)),
+            "iface": block.column("B", self.rows(steps.ifaces)),
+            "number": block.column("I", self.numbers()),
+            "frame": block.column("I", self.rows(steps.frames)),
+            "verdict": block.column("I", faults),
+            "accepted": block.column("H", self.rows(steps.accepted)),
+            "hit": block.column("H", self.rows(steps.hit)),
+            "off": block.column("H", self.rows(steps.off)),
+            "seconds": block.column("d", (moment // 1000000 for moment in moments)),
+            "micros": block.column("I", (moment % 1000000 for moment in moments)),
             # How many took part where it was more than one.
-            "met": block.column("B", (taking_part(step) if step else 0 for step in tried)),
+            "met": block.column("B", self.rows(steps.met)),
         }
 
-    def contenders(self, block: Block, texts: Texts) -> Json:
+    def contenders(self, block: Block) -> Json:
         """Who took part in arbitration, where it was more than one."""
-        met = [one for idle, step in self.rows if not idle and taking_part(step) for one in step.contenders]
         return {
-            "ifaces": block.column("B", (number for number, _ in met)),
-            "frames": block.column("I", (texts.place(frame.text) for _, frame in met)),
+            "ifaces": block.column("B", self.steps.met_ifaces),
+            "frames": block.column("I", self.steps.met_frames),
         }
 
     def lines(self, block: Block) -> Json:
         """The counts and the waiting frames of each interface, by rows."""
+        steps, ifaces, counts = self.steps, range(self.ifaces), self.counts()
+        waiting = self.rows(steps.waiting, steps.waiting_lists[(0,) * self.ifaces])
+        tec, rec = ([[one[i][side] for one in steps.count_lists.all] for i in ifaces] for side in (0, 1))
+        queues = [[one[i] for one in steps.waiting_lists.all] for i in ifaces]
         return {
-            "tec": [block.column("H", tec) for tec, _ in self.counts],
-            "rec": [block.column("H", rec) for _, rec in self.counts],
-            "waiting": [block.column("H", waiting) for waiting in self.waiting],
+            name: [block.column("H", looked_up(each, places)) for each in lists]
+            for name, lists, places in (("tec", tec, counts), ("rec", rec, counts), ("waiting", queues, waiting))
         }
 
 
-def blank_step(ifaces: int) -> Step:
-    """What idle attempts are shown with in a run that tried nothing."""
-    return Step("idle", 0, "0.000000", 0, 0, 0, "", "", [], [], [], [], [(0, 0)] * ifaces, [0] * ifaces, 0)
+def looked_up(values: Sequence[int], places: "array[int]") -> "array[int]":
+    """The values of these places."""
+    if len({*values}) == 1:
+        return array("H", values[:1]) * len(places)
+    return array("H", map(values.__getitem__, places))
 
 
-def accumulated_most(numbers: Iterable[int]) -> Iterable[int]:
-    """Each number, or a greater one before it."""
-    most = 0
-    for number in numbers:
-        most = max(most, number)
-        yield most
-
-
-def taking_part(step: Step) -> int:
-    """How many frames met in arbitration; 0 for one."""
-    return len(step.contenders) if len(step.contenders) > 1 else 0
-
-
-def items_of(items: Sequence[Delivery], places: Sequence[int], block: Block, texts: Texts) -> Json:
-    """The items: their sender and number are those of their step, unless they are error message frames."""
-    steps = [places[item.step] for item in items]
-    gone = [0 if item.taken_after is None or item.taken_after < 0 else places[item.taken_after] + 1 for item in items]
+def items_of(items: Items, most: int, places: Sequence[int], block: Block) -> Json:
+    """The first items: their sender and number are those of their step, unless they are error message frames."""
+    steps = array("I", map(places.__getitem__, items.steps[:most]))
+    gone = (places[end - 1] + 1 if end else 0 for end in items.ends[:most])
     return {
-        "socket": block.column("I", (item.socket.number for item in items)),
+        "socket": block.column("I", items.sockets[:most]),
         "step": block.rising(steps),
         # 0 for the frame of the step, else the place of an error message frame.
-        "error": block.column("I", (0 if item.number is not None else texts.place(item.text) for item in items)),
-        "fate": block.column("B", (FATES.index(item.fate) for item in items)),
+        "error": block.column("I", items.errors[:most]),
+        "fate": block.column("B", items.fates[:most]),
         # How many steps later it was no longer in its queue.
         "later": block.column("I", (max(0, after - step) for step, after in zip(steps, gone))),
     }
@@ -213,8 +207,8 @@ def items_of(items: Sequence[Delivery], places: Sequence[int], block: Block, tex
 
 def bits_of(run: Replay) -> dict[str, str]:
     """The arbitration bits of frames that met others, by the part of their text that says which."""
-    met = {frame.text: frame.bits for step in run.steps if taking_part(step) for _, frame in step.contenders}
-    return {arbitrating(text): bits for text, bits in met.items()}
+    met = (WireFrame(run.texts.all[place]) for place in {*run.steps.met_frames})
+    return {arbitrating(frame.text): frame.bits for frame in met}
 
 
 def arbitrating(text: str) -> str:
@@ -225,7 +219,6 @@ def arbitrating(text: str) -> str:
 
 def ifaces_of(run: Replay) -> list[Json]:
     """The interfaces at the end of the run, with the sends that were refused: since the queue was full, or it off."""
-    refused = refused_sends(run)
     return [
         {
             "sent": one.sent,
@@ -233,7 +226,7 @@ def ifaces_of(run: Replay) -> list[Json]:
             "waiting": len(one.waiting),
             "lost": one.lost,
             "full": one.refused,
-            "off": len(refused.get((number, "bus-off"), [])),
+            "off": len(run.refused.get((number, "bus-off"), [])),
             "tec": one.tec,
             "rec": one.rec,
             "state": STATES[one.state()],
@@ -274,10 +267,10 @@ def event_of(event: Event, places: Sequence[int]) -> Column:
     return [places[event.step] if event.step >= 0 and places else 0, event.kind, event.iface, event.words]
 
 
-def lost_frames(run: Replay, places: Sequence[int], texts: Texts) -> Json:
+def lost_frames(run: Replay, places: Sequence[int]) -> Json:
     """The number and text of each frame that bus off took out of a transmit queue, by the place of the step."""
     return {
-        str(places[step]): [[sent.number, texts.place(sent.frame.text)] for sent in lost]
+        str(places[step]): [[sent.number, run.texts[sent.frame.text]] for sent in lost]
         for step, lost in run.lost.items()
     }
 
@@ -305,41 +298,40 @@ def data_of(
     pair: Optional[Pair] = None,
 ) -> str:
     """The data of a page, as its script reads it."""
-    block, texts, verdicts = Block(), Texts(), Texts()
-    # Place 0 is no error message frame.
-    texts.place("")
-    timeline, events = Timeline(run, rules), events_of(run, names)
+    block, timeline, events = Block(), Timeline(run), events_of(run, names)
+    places, texts = timeline.places, run.texts.all
     heading, first = heading_of(run, names, events)
+    faults, verdicts = timeline.faults(rules)
     header = {
         "title": title,
         "heading": heading,
-        "first": timeline.places[first] if timeline.places else 0,
+        "first": places[first] if places else 0,
         "facts": facts_of(run),
         "names": list(names),
-        "steps": timeline.steps(block, texts, verdicts),
-        "contenders": timeline.contenders(block, texts),
+        "steps": timeline.columns(block, faults),
+        "contenders": timeline.contenders(block),
         **timeline.lines(block),
-        "items": items_of(run.items[:most_items], timeline.places, block, texts),
+        "items": items_of(run.items, most_items, places, block),
         "itemsInAll": len(run.items),
-        "events": [event_of(event, timeline.places) for event in events],
-        "lost": lost_frames(run, timeline.places, texts),
+        "events": [event_of(event, places) for event in events],
+        "lost": lost_frames(run, places),
         "ifaces": ifaces_of(run),
         "sockets": [socket_of(socket) for socket in run.sockets],
         "socket": fullest_socket(run),
         "bits": bits_of(run),
-        "texts": texts.all(),
-        "meanings": {place: meaning(text) for place, text in enumerate(texts.all()) if text and meaning(text)},
-        **decoded_of(texts.all(), database),
-        "verdicts": [fault_of(fault, names) for fault in verdicts.all()],
+        "texts": texts,
+        "meanings": {place: meaning(text) for place, text in enumerate(texts) if text and is_error(text)},
+        **decoded_of(texts, database),
+        "verdicts": [fault_of(fault, names) for fault in verdicts],
     }
     if rates is not None:
-        header["wire"] = wire_of(run, timeline.rows, timeline.places, rates, block.column)
+        header["wire"] = wire_of(run, timeline, rates, block.column)
     if pair is not None:
         header["heading"] = comparison.heading(pair.one, pair.other)
         other = comparison.columns_of(pair.one, pair.other, pair.title, KINDS, block.column)
-        numbers = [step.attempt if step.kind != "restart" else -1 for step in run.steps]
-        if other["difference"] in numbers:
-            header["first"] = timeline.places[numbers.index(other["difference"])]
+        step = run.steps.place_of(other["difference"])
+        if step is not None:
+            header["first"] = places[step]
         header["other"] = other
     return block.packed(header)
 

@@ -1,20 +1,18 @@
 """A run in words: its heading, its facts, and the events that a reader looks for."""
 
-import bisect
-import re
 from collections import Counter
 from collections.abc import Iterable, Iterator, Sequence
 from typing import NamedTuple
 
 from canbusd._protocol import STATES
 from canbusd._text import times
+from canbusd._steps import DONE, DROPPED, KINDS, LASTBIT, NOACK, RESTART, Step, Steps, micros_of, numbers_in
 from canbusd.record import members_of
-from canbusd.replay import Replay, Step, severity
+from canbusd.replay import Replay, severity
 
 OUTCOMES = {"done": "done", "lastbit": "failed in the last bit", "destroyed": "destroyed", "noack": "not acknowledged"}
 # Refusals and drops of one place are one event where no more steps than these are between them.
 GAP = 8
-REFUSED = re.compile("send ([0-9]+) .* = (no-buffers|bus-off)")
 REASONS = {"no-buffers": "its transmit queue was full", "bus-off": "it was bus off"}
 
 
@@ -40,21 +38,24 @@ def events_of(run: Replay, names: Sequence[str]) -> list[Event]:
 
 def changes_of(run: Replay, names: Sequence[str]) -> Iterator[Event]:
     """Changes of state, frames lost by bus off, and restarts."""
-    before = [(0, 0)] * len(names)
-    climbs = [Climb() for _ in names]
+    steps, climbs = run.steps, [Climb() for _ in names]
+    before = steps.count_lists[((0, 0),) * len(run.ifaces)]
+    lists = steps.count_lists.all
+    states = [[severity(max(counts)) for counts in one] for one in lists]
     # The step in which each interface last went bus off.
     went: dict[int, Step] = {}
-    for number, step in enumerate(run.steps):
-        if step.kind == "restart":
-            back = f"{names[step.iface]} is back on the bus, with both counts 0"
-            yield Event(number, "restart", step.iface, back + outage_of(went[step.iface], step))
-        elif step.counts != before:
-            climbs[step.iface].add(step, before[step.iface][0])
-            for i, (old, new) in enumerate(zip(before, step.counts)):
-                if severity(max(old)) != severity(max(new)):
-                    went[i] = step
-                    yield from change_of(number, step, i, names, climbs[i])
-        before = step.counts
+    for number, (kind, iface, now) in enumerate(zip(steps.kinds, steps.ifaces, steps.counts)):
+        if kind == RESTART:
+            back = f"{names[iface]} is back on the bus, with both counts 0"
+            yield Event(number, "restart", iface, back + outage_of(went[iface], steps[number]))
+        elif now != before:
+            climbs[iface].add(steps, number, lists[before][iface][0])
+            if states[now] != states[before]:
+                for i, (old, new) in enumerate(zip(states[before], states[now])):
+                    if old != new:
+                        went[i] = steps[number]
+                        yield from change_of(number, went[i], i, names, climbs[i])
+        before = now
 
 
 def outage_of(went: Step, back: Step) -> str:
@@ -64,11 +65,6 @@ def outage_of(went: Step, back: Step) -> str:
     last = back.attempt - 1
     attempts = f"attempts {went.attempt:,} to {last:,}" if last > went.attempt else "and no frame was tried"
     return f"; it was off{duration}, {attempts}"
-
-
-def micros_of(moment: str) -> int:
-    """The microseconds of a moment of a record."""
-    return int(moment.replace(".", ""))
 
 
 def duration_words(micros: int) -> str:
@@ -88,14 +84,15 @@ class Climb:
         self.first = self.attempts = 0
         self.faults: Counter[str] = Counter()
 
-    def add(self, step: Step, tec: int) -> None:
-        """Adds an attempt of the interface, before which its transmit count was `tec`."""
+    def add(self, steps: Steps, number: int, tec: int) -> None:
+        """Adds an attempt of the interface, the step of this number, before which its transmit count was `tec`."""
         if not tec:
-            self.first, self.attempts = step.attempt, 0
+            self.first, self.attempts = steps.attempts[number], 0
             self.faults.clear()
         self.attempts += 1
-        if step.kind != "done":
-            self.faults[step.kind if step.kind == "noack" else step.verdict] += 1
+        kind = steps.kinds[number]
+        if kind != DONE:
+            self.faults[KINDS[kind] if kind == NOACK else steps.verdict(number)] += 1
 
     def words(self, names: Sequence[str]) -> str:
         """`32 of its 33 attempts since attempt 1,000 failed: global bit 31, last bit 1`."""
@@ -128,56 +125,48 @@ def change_of(number: int, step: Step, i: int, names: Sequence[str], climb: Clim
 
 def second_copies(run: Replay, names: Sequence[str]) -> Iterator[Event]:
     """Attempts by which a receiver accepted a frame that it had already: after a fault in the last bit."""
-    had: dict[int, tuple[int, dict[int, int]]] = {}
-    for number, step in enumerate(run.steps):
-        frame, copies = had.get(step.iface, (-1, {}))
-        if step.kind not in ("done", "lastbit") or not step.accepted:
+    steps = run.steps
+    if LASTBIT not in steps.kinds:
+        return
+    # Of each interface the last frame that has to be sent again, and how many copies receivers have.
+    had: dict[int, tuple[int, Counter[int]]] = {}
+    for number, (kind, iface, accepted) in enumerate(zip(steps.kinds, steps.ifaces, steps.accepted)):
+        if not accepted or (iface not in had and kind != LASTBIT):
             continue
-        if frame != step.number:
-            copies = {}
-        again = [i for i in step.accepted if i in copies]
-        for i in step.accepted:
-            copies[i] = copies.get(i, 0) + 1
+        frame, copies = had.get(iface, (-1, Counter()))
+        if frame != steps.numbers[number]:
+            copies = Counter()
+        again = [i for i in numbers_in(accepted) if copies[i]]
+        copies.update(numbers_in(accepted))
         if again:
             most = max(copies[i] for i in again)
             who = joined([names[i] for i in again])
-            yield Event(number, "second copy", step.iface, f"{who} accepted {step.text} again: copy {most}")
-        had[step.iface] = (step.number, copies)
+            yield Event(number, "second copy", iface, f"{who} accepted {steps.text(number)} again: copy {most}")
+        if kind == LASTBIT:
+            had[iface] = steps.numbers[number], copies
+        else:
+            del had[iface]
 
 
 def refusals_of(run: Replay, names: Sequence[str]) -> Iterator[Event]:
     """Sends that were refused because a queue was full or an interface off."""
-    for (iface, reason), steps in refused_sends(run).items():
+    for (iface, reason), steps in run.refused.items():
         for first, count in groups(steps):
             yield Event(first, "refused", iface, f"{names[iface]} refused {times(count, 'send')}: {REASONS[reason]}")
-
-
-def refused_sends(run: Replay) -> dict[tuple[int, str], list[int]]:
-    """The steps after which sends were refused, by the interface and the reply."""
-    entries = [step.entry for step in run.steps]
-    places: dict[tuple[int, str], list[int]] = {}
-    for number, line in enumerate(run.record.lines):
-        if line.endswith((" = no-buffers", " = bus-off")):
-            words = REFUSED.fullmatch(line)
-            if words:
-                key = run.sockets[int(words[1])].iface, words[2]
-                places.setdefault(key, []).append(bisect.bisect_left(entries, number) - 1)
-    return places
 
 
 def drops_of(run: Replay, names: Sequence[str]) -> Iterator[Event]:
     """Items that found no room in the receive queue of a socket."""
     places: dict[int, list[int]] = {}
-    for item in run.items:
-        if item.fate == "dropped":
-            places.setdefault(item.socket.number, []).append(item.step)
+    if DROPPED in run.items.fates:
+        for socket, step, fate in zip(run.items.sockets, run.items.steps, run.items.fates):
+            if fate == DROPPED:
+                places.setdefault(socket, []).append(step)
     for number, steps in places.items():
-        socket = run.sockets[number]
+        iface = run.sockets[number].iface
         for first, count in groups(steps):
-            words = (
-                f"socket {number} on {names[socket.iface]} dropped {times(count, 'item')}: its receive queue was full"
-            )
-            yield Event(first, "dropped", socket.iface, words)
+            words = f"socket {number} on {names[iface]} dropped {times(count, 'item')}: its receive queue was full"
+            yield Event(first, "dropped", iface, words)
 
 
 def groups(steps: Iterable[int]) -> Iterator[tuple[int, int]]:
@@ -203,10 +192,7 @@ def verdict_words(verdict: str, names: Sequence[str]) -> str:
 
 def counts_by_kind(run: Replay) -> dict[str, int]:
     """How many steps of each kind there are."""
-    counts = dict.fromkeys([*OUTCOMES, "restart"], 0)
-    for step in run.steps:
-        counts[step.kind] += 1
-    return counts
+    return {kind: run.steps.kinds.count(number) for number, kind in enumerate(KINDS)}
 
 
 def facts_of(run: Replay) -> str:
@@ -217,7 +203,7 @@ def facts_of(run: Replay) -> str:
     facts += [times(run.idle, "idle attempt")] if run.idle else []
     facts += [times(counts["restart"], "restart")] if counts["restart"] else []
     end = ", which is cut off" if run.record.is_cut else ""
-    return ". ".join([*facts, f"{times(len(run.record.lines), 'entry', 'entries')} in the record{end}."])
+    return ". ".join([*facts, f"{times(run.entries, 'entry', 'entries')} in the record{end}."])
 
 
 def heading_of(run: Replay, names: Sequence[str], events: Sequence[Event]) -> tuple[str, int]:
@@ -239,13 +225,14 @@ def worst_of(run: Replay, names: Sequence[str], events: Sequence[Event]) -> tupl
         return joined(each) if len(offs) <= 3 else many, firsts["bus off"].step
     if "passive" in firsts:
         first = firsts["passive"]
-        attempt = f"{run.steps[first.step].attempt:,}"
+        attempt = f"{run.steps.attempts[first.step]:,}"
         return f"{names[first.iface]} became error passive in attempt {attempt}", first.step
     if "dropped" in firsts:
         dropped = sum(socket.dropped for socket in run.sockets)
         return f"{times(dropped, 'item')} dropped, since receive queues were full", firsts["dropped"].step
-    failed = [number for number, step in enumerate(run.steps) if step.kind not in ("done", "restart")]
+    kinds = run.steps.kinds
+    failed = len(kinds) - kinds.count(DONE) - kinds.count(RESTART)
     if failed:
-        return f"{len(failed):,} failed", failed[0]
+        return f"{failed:,} failed", next(k for k, kind in enumerate(kinds) if kind not in (DONE, RESTART))
     refused = sum(iface.refused for iface in run.ifaces)
     return f"all done, {times(refused, 'send')} refused" if refused else "all done", 0

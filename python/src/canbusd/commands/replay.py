@@ -8,6 +8,7 @@ from collections.abc import Iterator, Sequence
 
 from canbusd._command import add_record, replayed
 from canbusd._slots import Load, load_of, load_words, overlaps_of, slots_of
+from canbusd._steps import RESTART
 from canbusd.commands import add_rates, rates_of
 from canbusd.record import Attempt, Record, verdict_of
 
@@ -86,9 +87,9 @@ def objects_of(record: Record) -> Iterator[dict[str, object]]:
     for attempt in record.attempts:
         number = None if attempt.outcome == "idle" else next(numbers)
         yield {"type": "attempt", "attempt": number, **vars(attempt)}
-    for item, delivery in zip(record.items, record.replay.items):
-        step = record.replay.steps[delivery.step]
-        number = None if step.kind == "restart" else step.attempt
+    steps = record.replay.steps
+    for item, step in zip(record.items, record.replay.items.steps):
+        number = None if steps.kinds[step] == RESTART else steps.attempts[step]
         moment, frame = item.frame.timestamp, str(item.frame)
         yield {"type": "item", "attempt": number, "timestamp": moment, **vars(item), "frame": frame}
 
@@ -96,13 +97,13 @@ def objects_of(record: Record) -> Iterator[dict[str, object]]:
 def lines_of(record: Record) -> Iterator[str]:
     """Yields a line for each step, with the state of who sent or came back where that changed."""
     names = record.names
-    for step in record.replay.steps:
+    for place, step in enumerate(record.replay.steps):
         counts = step.counts[step.iface]
         after = f"counts {counts[0]}/{counts[1]}"
         if step.kind == "restart":
             yield f"({step.moment}) {names[step.iface]} restarted, {after}"
         else:
-            yield f"({step.moment}) {names[step.iface]} {step.text} {words_of(record.attempt_of(step))}, {after}"
+            yield f"({step.moment}) {names[step.iface]} {step.text} {words_of(record.attempt_at(place))}, {after}"
 
 
 def words_of(attempt: Attempt) -> str:

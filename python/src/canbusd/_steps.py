@@ -1,0 +1,268 @@
+"""The steps of a run and the items of its sockets, in columns of numbers: a run may have a million of each."""
+
+import bisect
+import functools
+from array import array
+from collections.abc import Sequence
+from dataclasses import dataclass
+from typing import Optional, TypeVar, Union, overload
+
+from canbusd.frames import EXTENDED, REMOTE, is_fd
+
+#: What a step is, by its number in the column and on a page; the last is only on pages.
+KINDS = ("done", "lastbit", "destroyed", "noack", "restart", "idle")
+DONE, LASTBIT, DESTROYED, NOACK, RESTART, IDLE = range(6)
+#: What became of an item, by its number; `waiting` is at the end of the run, `unread` at the close of its socket.
+FATES = ("taken", "waiting", "unread", "dropped")
+TAKEN, WAITING, UNREAD, DROPPED = range(4)
+
+T = TypeVar("T")
+#: The transmit and receive error count of an interface.
+Counts = tuple[int, int]
+
+
+class Places(dict[T, int]):
+    """Each value once, with its place; one that is not there yet gets the next."""
+
+    def __init__(self, *values: T) -> None:
+        super().__init__(zip(values, range(len(values))))
+        #: The values by their places.
+        self.all = list(values)
+
+    def __missing__(self, value: T) -> int:
+        place = self[value] = len(self.all)
+        self.all.append(value)
+        return place
+
+
+class WireFrame:
+    """A data, remote or FD frame as the record spells it, with what arbitration and filters look at."""
+
+    __slots__ = ("text", "word", "bits", "is_fd")
+
+    def __init__(self, text: str) -> None:
+        identifier, payload = text.split("#", 1)
+        remote = payload.startswith("R")
+        self.text = text
+        self.is_fd = is_fd(text)
+        self.word = int(identifier, 16) | (EXTENDED if len(identifier) == 8 else 0) | (REMOTE if remote else 0)
+        self.bits = arbitration_bits(identifier, "1" if remote else "0")
+
+
+@functools.lru_cache(maxsize=4096)
+def arbitration_bits(identifier: str, rtr: str) -> str:
+    """The bits that arbitration compares (Bosch CAN 2.0), with blanks between fields, at the same places in all frames.
+
+    An FD frame has those of a data frame.
+    """
+    number = int(identifier, 16)
+    if len(identifier) == 3:
+        return f"{number:011b} {rtr}0"
+    bits = f"{number:029b}"
+    return f"{bits[:11]} 11 {bits[11:]} {rtr}"
+
+
+@dataclass
+class Step:
+    """A tried attempt or a restart. Interfaces are numbers here.
+
+    An attempt that restarts interfaces is followed by a step for each, with the same entry.
+    """
+
+    __slots__ = (
+        "kind",
+        "entry",
+        "moment",
+        "iface",
+        "attempt",
+        "number",
+        "text",
+        "verdict",
+        "accepted",
+        "off",
+        "hit",
+        "contenders",
+        "counts",
+        "waiting",
+        "idle",
+    )
+    #: done, lastbit, destroyed, noack or restart.
+    kind: str
+    entry: int
+    moment: str
+    #: The winner, or who was restarted.
+    iface: int
+    #: Its number among the attempts; of a restart that of the next attempt.
+    attempt: int
+    number: int
+    text: str
+    verdict: str
+    accepted: Sequence[int]
+    off: Sequence[int]
+    hit: Sequence[int]
+    #: The frame of each interface that takes part.
+    contenders: list[tuple[int, WireFrame]]
+    #: After the step: transmit and receive count of each interface.
+    counts: Sequence[Counts]
+    #: Before the step: how many frames wait at each interface.
+    waiting: Sequence[int]
+    #: How many attempts were idle since the step before. One that restarts interfaces counts for the first of them.
+    idle: int
+
+
+class Steps(Sequence[Step]):
+    """The steps of a run. A column has a number for each; a step is made of them when it is asked for."""
+
+    def __init__(self, texts: Places[str]) -> None:
+        # Frames, verdicts, counts and waiting frames have their places in the columns.
+        self.texts = texts
+        self.verdict_texts: Places[str] = Places()
+        self.count_lists: Places[tuple[Counts, ...]] = Places()
+        self.waiting_lists: Places[tuple[int, ...]] = Places()
+        self.kinds, self.ifaces, self.entries = array("B"), array("B"), array("I")
+        #: In microseconds.
+        self.moments = array("Q")
+        self.attempts, self.numbers, self.idle = array("I"), array("I"), array("I")
+        self.frames, self.verdicts, self.counts, self.waiting = array("I"), array("I"), array("I"), array("I")
+        #: Sets of interfaces, bit i for interface i.
+        self.accepted, self.off, self.hit = array("H"), array("H"), array("H")
+        #: How many took part, where it was more than one, else 0; of these the interfaces and frames, from a place on.
+        self.met, self.met_from = array("B"), array("I")
+        self.met_ifaces, self.met_frames = array("B"), array("I")
+
+    def __len__(self) -> int:
+        return len(self.kinds)
+
+    def add(self, step: Step) -> None:
+        """Adds a step."""
+        self.kinds.append(KINDS.index(step.kind))
+        self.ifaces.append(step.iface)
+        self.entries.append(step.entry)
+        self.moments.append(micros_of(step.moment))
+        self.attempts.append(step.attempt)
+        self.numbers.append(step.number)
+        self.idle.append(step.idle)
+        self.frames.append(self.texts[step.text])
+        self.verdicts.append(self.verdict_texts[step.verdict])
+        self.counts.append(self.count_lists[tuple(step.counts)])
+        self.waiting.append(self.waiting_lists[tuple(step.waiting)])
+        for column, ifaces in ((self.accepted, step.accepted), (self.off, step.off), (self.hit, step.hit)):
+            column.append(members(ifaces))
+        met = step.contenders if len(step.contenders) > 1 else []
+        self.met.append(len(met))
+        self.met_from.append(len(self.met_ifaces))
+        for iface, frame in met:
+            self.met_ifaces.append(iface)
+            self.met_frames.append(self.texts[frame.text])
+
+    @overload
+    def __getitem__(self, place: int) -> Step:
+        ...
+
+    @overload
+    def __getitem__(self, place: slice) -> list[Step]:
+        ...
+
+    def __getitem__(self, place: Union[int, slice]) -> Union[Step, list[Step]]:
+        chosen = range(len(self))[place]
+        return self._step(chosen) if isinstance(chosen, int) else list(map(self._step, chosen))
+
+    def _step(self, place: int) -> Step:
+        return Step(
+            KINDS[self.kinds[place]],
+            self.entries[place],
+            moment_of(self.moments[place]),
+            self.ifaces[place],
+            self.attempts[place],
+            self.numbers[place],
+            self.text(place),
+            self.verdict(place),
+            numbers_in(self.accepted[place]),
+            numbers_in(self.off[place]),
+            numbers_in(self.hit[place]),
+            self.contenders(place),
+            self.count_lists.all[self.counts[place]],
+            self.waiting_lists.all[self.waiting[place]],
+            self.idle[place],
+        )
+
+    def place_of(self, attempt: Optional[int]) -> Optional[int]:
+        """Returns where the attempt of this number is among the steps, if it is there."""
+        if attempt is None:
+            return None
+        # A restart has the number of the attempt after it.
+        place = bisect.bisect_right(self.attempts, attempt) - 1
+        return place if place >= 0 and self.attempts[place] == attempt and self.kinds[place] != RESTART else None
+
+    def places_of(self, kind: int, first: int = 0) -> list[int]:
+        """Returns which of the steps from the first one on are of this kind."""
+        if kind not in self.kinds:
+            return []
+        return [place for place in range(first, len(self)) if self.kinds[place] == kind]
+
+    def text(self, place: int) -> str:
+        """Returns the frame of a step; the empty text of a restart."""
+        return self.texts.all[self.frames[place]]
+
+    def verdict(self, place: int) -> str:
+        """Returns the verdict of a step; the empty text of a restart."""
+        return self.verdict_texts.all[self.verdicts[place]]
+
+    def contenders(self, place: int) -> list[tuple[int, WireFrame]]:
+        """Returns who took part in a step, with their frames."""
+        first, texts = self.met_from[place], self.texts.all
+        met = range(first, first + self.met[place])
+        if met:
+            return [(self.met_ifaces[k], WireFrame(texts[self.met_frames[k]])) for k in met]
+        return [] if self.kinds[place] == RESTART else [(self.ifaces[place], WireFrame(self.text(place)))]
+
+
+class Items:
+    """What interfaces handed to sockets, in this order, in columns."""
+
+    def __init__(self) -> None:
+        #: The number of the socket, and the step in which it got the item.
+        self.sockets, self.steps = array("I"), array("I")
+        #: The place of an error message frame among the texts; 0 where the item is the frame of its step.
+        self.errors = array("I")
+        self.fates = array("B")
+        #: The number of steps before it was taken or its socket closed; 0 where it was neither.
+        self.ends = array("I")
+
+    def __len__(self) -> int:
+        return len(self.sockets)
+
+    def add(self, socket: int, step: int, error: int, fate: int) -> int:
+        """Adds an item, and returns its place."""
+        self.sockets.append(socket)
+        self.steps.append(step)
+        self.errors.append(error)
+        self.fates.append(fate)
+        self.ends.append(0)
+        return len(self.ends) - 1
+
+    def end(self, place: int, fate: int, steps: int) -> None:
+        """An item leaves its queue after so many steps."""
+        self.fates[place] = fate
+        self.ends[place] = steps
+
+
+def micros_of(moment: str) -> int:
+    """Returns the microseconds of a moment of a record."""
+    return int(moment.replace(".", ""))
+
+
+def moment_of(micros: int) -> str:
+    """Returns the moment as a record spells it."""
+    return f"{micros // 1000000}.{micros % 1000000:06}"
+
+
+def members(numbers: Sequence[int]) -> int:
+    """Returns a set of interfaces, bit i for interface i."""
+    return sum(1 << number for number in numbers) if numbers else 0
+
+
+@functools.lru_cache(maxsize=1024)
+def numbers_in(members: int) -> tuple[int, ...]:
+    """Returns the interfaces of a set."""
+    return tuple(number for number in range(16) if members >> number & 1)
