@@ -35,6 +35,8 @@ NUMBER = "(0|[1-9][0-9]*)"
 BUS = f"bus {NUMBER} (always|peers) ({SET}) {NUMBER} {NUMBER}"
 
 
+# About how many bytes are read at once.
+BLOCK = 1 << 20
 # How many entries a record has at most that is written at the end of its run, and one that is written while it runs.
 MOST_ENTRIES, MOST_LIVE_ENTRIES = 1 << 24, (1 << 32) - 2
 
@@ -130,13 +132,24 @@ def parse_text(data: bytes, cut: bool = False) -> RecordText:
 
     With `cut` the text may end before its line `end`; what follows its last LF is not looked at then.
     """
-    whole, lf, torn = data.rpartition(b"\n")
-    reader = TextReader()
-    text = decoded(whole + lf)
+    reader, end = TextReader(), data.rfind(b"\n") + 1
+    # That a byte is none of a text goes before what its lines are.
+    for block in blocks_of(data, end):
+        decoded(block)
     if not cut:
-        decoded(torn)
-    reader.take(text.split("\n")[:-1])
-    return reader.finish(bool(torn), cut)
+        decoded(data[end:])
+    for block in blocks_of(data, end):
+        reader.take(decoded(block).split("\n")[:-1])
+    return reader.finish(end < len(data), cut)
+
+
+def blocks_of(data: bytes, end: int) -> Iterator[bytes]:
+    """Yields the whole lines of these bytes, which end there, many at a time."""
+    first = 0
+    while first < end:
+        after = data.find(b"\n", min(first + BLOCK, end - 1)) + 1
+        yield data[first:after]
+        first = after
 
 
 def decoded(data: bytes) -> str:
