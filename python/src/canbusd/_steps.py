@@ -133,22 +133,26 @@ class Steps(Sequence[Step]):
     def __len__(self) -> int:
         return len(self.kinds)
 
-    def add(self, step: Step) -> None:
-        """Adds a step."""
-        self.kinds.append(KINDS.index(step.kind))
-        self.ifaces.append(step.iface)
-        self.entries.append(step.entry)
-        self.moments.append(micros_of(step.moment))
-        self.attempts.append(step.attempt)
-        self.numbers.append(step.number)
-        self.idle.append(step.idle)
-        self.frames.append(self.texts[step.text])
-        self.verdicts.append(self.verdict_texts[step.verdict])
-        self.counts.append(self.count_lists[tuple(step.counts)])
-        self.waiting.append(self.waiting_lists[tuple(step.waiting)])
-        for column, ifaces in ((self.accepted, step.accepted), (self.off, step.off), (self.hit, step.hit)):
-            column.append(members(ifaces))
-        met = step.contenders if len(step.contenders) > 1 else []
+    def extend(self, steps: Sequence[Step]) -> None:
+        """Adds these steps."""
+        self.kinds.extend([KINDS.index(step.kind) for step in steps])
+        self.ifaces.extend([step.iface for step in steps])
+        self.entries.extend([step.entry for step in steps])
+        self.moments.extend([micros_of(step.moment) for step in steps])
+        self.attempts.extend([step.attempt for step in steps])
+        self.numbers.extend([step.number for step in steps])
+        self.idle.extend([step.idle for step in steps])
+        self.frames.extend([self.texts[step.text] for step in steps])
+        self.verdicts.extend([self.verdict_texts[step.verdict] for step in steps])
+        self.counts.extend([self.count_lists[tuple(step.counts)] for step in steps])
+        self.waiting.extend([self.waiting_lists[tuple(step.waiting)] for step in steps])
+        self.accepted.extend([members(step.accepted) for step in steps])
+        self.off.extend([members(step.off) for step in steps])
+        self.hit.extend([members(step.hit) for step in steps])
+        for step in steps:
+            self._meet(step.contenders if len(step.contenders) > 1 else ())
+
+    def _meet(self, met: Sequence[tuple[int, WireFrame]]) -> None:
         self.met.append(len(met))
         self.met_from.append(len(self.met_ifaces))
         for iface, frame in met:

@@ -22,12 +22,13 @@ from canbusd._steps import (
     Steps,
     WireFrame,
     members,
-    moment_of,
 )
 from canbusd.frames import error_frame, passes_filters
 
 OFF, PASSIVE, WARNING = 256, 128, 96
 MOST_SOCKETS = 64
+# After how many steps these are put into their columns.
+MOST_FRESH = 1000
 # The bytes 2 and 3 of a fault's error message frame: by the verdict at the winner, and by the local fault at who is
 # hit.
 AT_THE_WINNER = {"global-bit": (0x81, 0x0A), "global-form": (0x82, 0x1B), "local": (0x81, 0x00)}
@@ -48,16 +49,22 @@ class Socket:
         self.number, self.iface, self.capacity = number, iface, capacity
         self.closed_after: Optional[int] = None
         self.filters = [(0, 0)]
+        # By the identifier word: whether a frame passes them.
+        self.passed: dict[int, bool] = {}
         self.options = {"loopback": 1, "recvown": 0, "join": 0, "errmask": 0, "fd": 0}
-        # The places of the items that wait.
-        self.queue: deque[int] = deque()
+        # The places of the items that wait, and the words of a reply with each.
+        self.queue: deque[tuple[int, list[str]]] = deque()
         self.queued = self.dropped = self.taken = 0
 
     def passes(self, frame: WireFrame) -> bool:
         """Whether a frame passes the filters, and an FD frame the option for such."""
         if frame.is_fd and not self.options["fd"]:
             return False
-        return passes_filters(frame.word, self.filters, bool(self.options["join"]))
+        found = self.passed.get(frame.word)
+        if found is None:
+            found = passes_filters(frame.word, self.filters, bool(self.options["join"]))
+            self.passed[frame.word] = found
+        return found
 
 
 class Pending:
@@ -128,19 +135,31 @@ class Replay:
         self.last, self.begun = -1, 0
         # How many attempts were idle since the last step.
         self.idle_since = 0
+        self.moment = ""
+        # Steps that are not in the columns yet.
+        self.fresh: list[Step] = []
         # How many entries were replayed.
         self.entries = 0
         self.go_on()
 
     def go_on(self) -> None:
         """Replays the entries that the record has more than before: of one that is written while its run goes on."""
+        calls = {name[3:]: getattr(self, name) for name in dir(self) if name.startswith("on_")}
         for event, reply in self.record.entries(self.entries):
             if self.entries >= self.record.limit:
                 raise wrong(self.entries, f"past the limit of {self.record.limit} entries")
-            legal: list[str] = getattr(self, "on_" + event[0])(self.entries, *event[1:])
+            legal: list[str] = calls[event[0]](self.entries, *event[1:])
             if legal != reply:
                 raise wrong(self.entries, f"wrong: `{' '.join(reply)}`; legal is `{' '.join(legal)}`")
             self.entries += 1
+            if len(self.fresh) >= MOST_FRESH:
+                self.keep()
+        self.keep()
+
+    def keep(self) -> None:
+        """Puts the steps that have happened into their columns."""
+        self.steps.extend(self.fresh)
+        self.fresh.clear()
 
     def frame(self, text: str) -> WireFrame:
         """The frame of this text, one for all places where it is."""
@@ -176,8 +195,8 @@ class Replay:
         socket = self.open_socket(number)
         if socket is None:
             return ["no-socket"]
-        for item in socket.queue:
-            self.items.end(item, UNREAD, len(self.steps))
+        for item, _ in socket.queue:
+            self.items.end(item, UNREAD, self.last + 1)
         unread = len(socket.queue)
         socket.queue.clear()
         socket.closed_after = self.last
@@ -191,6 +210,7 @@ class Replay:
             return ["no-socket"]
         numbers = [int(word, 16) for word in words]
         socket.filters = list(zip(numbers[::2], numbers[1::2]))
+        socket.passed.clear()
         return ["ok"]
 
     def on_option(self, _entry: int, number: str, kind: str, value: str) -> list[str]:
@@ -199,6 +219,7 @@ class Replay:
         if socket is None:
             return ["no-socket"]
         socket.options[kind] = int(value, 16)
+        socket.passed.clear()
         return ["ok"]
 
     def on_send(self, _entry: int, number: str, text: str) -> list[str]:
@@ -230,14 +251,10 @@ class Replay:
             return ["no-socket"]
         if not socket.queue:
             return ["none"]
-        item, steps = socket.queue.popleft(), self.steps
-        self.items.end(item, TAKEN, len(steps))
+        item, reply = socket.queue.popleft()
+        self.items.end(item, TAKEN, self.last + 1)
         socket.taken += 1
-        step, error = self.items.steps[item], self.items.errors[item]
-        moment = moment_of(steps.moments[step])
-        if error:
-            return ["error", str(socket.iface), self.texts.all[error], moment]
-        return ["data", str(steps.ifaces[step]), str(steps.numbers[step]), steps.text(step), moment]
+        return reply
 
     def on_restart(self, entry: int, number: str, moment: str) -> list[str]:
         """An interface is restarted by hand."""
@@ -349,10 +366,11 @@ class Replay:
     def post_frame(self, step: Step, sent: Pending) -> None:
         """Puts the frame to the sockets where it was accepted, and looped back."""
         looped = [step.iface] if step.kind == "done" and sent.loops_back else []
+        reply = ["data", str(step.iface), str(step.number), step.text, step.moment]
         for number in sorted([*step.accepted, *looped]):
             for socket in self.open_sockets[number]:
                 if socket.passes(sent.frame) and (socket is not sent.socket or socket.options["recvown"]):
-                    self.put(socket)
+                    self.put(socket, reply)
 
     def post_fault(self, step: Step, number: int, is_receiver: bool) -> None:
         """An error message frame for the fault that an interface saw in the attempt, where faults are reported."""
@@ -389,22 +407,24 @@ class Replay:
 
     def post_error(self, number: int, error_class: int, data: Sequence[int]) -> None:
         """Puts an error message frame to the sockets that ask for its class."""
+        text = error_frame(error_class, data)
         for socket in self.open_sockets[number]:
             if socket.options["errmask"] & error_class:
-                self.put(socket, self.texts[error_frame(error_class, data)])
+                self.put(socket, ["error", str(number), text, self.moment], self.texts[text])
 
-    def put(self, socket: Socket, error: int = 0) -> None:
-        """Puts an error message frame, or without one the frame of the step, to a socket, which drops it for want of room."""
+    def put(self, socket: Socket, reply: list[str], error: int = 0) -> None:
+        """Puts an item to a socket, which drops it for want of room; `error` is the place of an error message frame."""
         has_room = len(socket.queue) < socket.capacity
         item = self.items.add(socket.number, self.begun, error, WAITING if has_room else DROPPED)
         if has_room:
-            socket.queue.append(item)
+            socket.queue.append((item, reply))
             socket.queued += 1
         else:
             socket.dropped += 1
 
     def begin(self, kind: str, entry: int, moment: str, iface: int) -> Step:
         """A new step."""
+        self.moment = moment
         self.begun = self.last + 1
         waiting = [len(one.waiting) for one in self.ifaces]
         idle, self.idle_since = self.idle_since, 0
@@ -421,7 +441,7 @@ class Replay:
     def end(self, step: Step) -> None:
         """Keeps a step that has happened."""
         step.counts = self.counts
-        self.steps.add(step)
+        self.fresh.append(step)
         self.last = self.begun
         self.attempts += step.kind != "restart"
 
