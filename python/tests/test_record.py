@@ -215,6 +215,52 @@ def test_idle_attempts_are_counted():
     assert ([step.idle for step in run.steps], run.idle_since, run.idle) == ([2, 0, 1], 1, 4)
 
 
+def test_steps_are_made_of_columns():
+    run = parse_record(RESTARTED.encode()).replay
+    assert [step.kind for step in run.steps[30:]] == ["destroyed"] * 2 + ["restart"]
+    off, back = run.steps[-2:]
+    assert (off.entry, off.moment, off.attempt, off.text, off.verdict, off.off) == (
+        34, "0.000032", 31, "123#", "global-bit", (0,),
+    )  # fmt: skip
+    assert (off.counts, back.counts) == (((256, 0), (0, 32)), ((0, 0), (0, 32)))
+    assert [(number, frame.text) for number, frame in off.contenders] == [(0, "123#")]
+    assert (back.entry, back.attempt, back.idle, back.text, back.contenders) == (36, 32, 2, "", [])
+    # The restart has the number of an attempt that was not made.
+    assert list(map(run.steps.place_of, [0, 31, 32, None])) == [0, 31, None, None]
+
+
+def test_who_took_part():
+    with Bench("can0,can1,can2") as bench:
+        for name, identifier in (("can0", 0x125), ("can1", 0x123), ("can2", 0x124)):
+            bench.open(name).send(identifier)
+        for _ in range(3):
+            bench.attempt()
+        steps = bench.record().replay.steps
+    met = [[(number, frame.text) for number, frame in step.contenders] for step in steps]
+    assert met == [
+        [(0, "125#"), (1, "123#"), (2, "124#")],
+        [(0, "125#"), (2, "124#")],
+        [(0, "125#")],
+    ]
+    assert [step.waiting for step in steps] == [(1, 1, 1), (1, 0, 1), (1, 0, 0)]
+
+
+@pytest.mark.parametrize("size", [1, 7, 100])
+def test_a_text_that_is_read_in_parts(monkeypatch, size):
+    whole = parse_text(RESTARTED.encode())
+    monkeypatch.setattr("canbusd._record_text.BLOCK", size)
+    assert parse_text(RESTARTED.encode()) == whole
+    for text, said in (
+        (RESTARTED.replace("open 0", "open 16").encode(), "line 3: bad line"),
+        (RESTARTED.encode() + b"x", f"line {RESTARTED.count(chr(10)) + 1}: bad line"),
+        # A byte that is none of a text goes before lines that are wrong.
+        (RESTARTED.replace("open 0", "open 16").encode() + b"\xff", "read fault"),
+    ):
+        with pytest.raises(BadRecord) as fault:
+            parse_text(text)
+        assert fault.value.verdict == said
+
+
 @pytest.mark.parametrize("text", [EXAMPLE, WITH_FD, LIVE], ids=["1", "3", "4"])
 def test_a_record_that_is_cut_off(tmp_path, text):
     path = tmp_path / "can0.rec"
