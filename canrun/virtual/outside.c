@@ -125,7 +125,7 @@ static bool waits_for_turn(uint32_t pid, uint32_t tid, const struct called *call
     for (uint32_t i = 0; i < run->used && called->number == SYS_futex; i++) {
         struct slot *slot = &run->slots[i];
         uint32_t outside = SLOT_OUTSIDE;
-        if (slot->pid == pid && slot->tid == tid && ((uintptr_t)&slot->go & 4095) == (called->arguments[0] & 4095)) {
+        if (slot->pid == pid && slot->tid == tid && slot->go_at == called->arguments[0]) {
             __atomic_compare_exchange_n((uint32_t *)&slot->state, &outside, SLOT_READY, 0, __ATOMIC_SEQ_CST,
                                         __ATOMIC_SEQ_CST);
             return true;

@@ -60,6 +60,7 @@ struct slot {
     uint64_t since;              /* the number of its wait: who waits longer is woken first */
     uint64_t ticket;             /* its place among those that can go on, 0 before it has one */
     uint64_t thread;             /* pthread_self */
+    uint64_t go_at;              /* where its process has `go` */
 } __attribute__((aligned(128)));
 
 /* A timer that sends a signal: alarm, setitimer, timer_create. */

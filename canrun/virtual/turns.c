@@ -40,7 +40,7 @@ uint32_t take_slot(void) {
         slot->pid = slot->tid = slot->parent = 0;
         slot->rank = slot->kind = 0;
         slot->deadline = NEVER;
-        slot->key = slot->ticket = slot->thread = 0;
+        slot->key = slot->ticket = slot->thread = slot->go_at = 0;
         slot->generation++;
         uint32_t used = run->used;
         while (used < i + 1 && !__atomic_compare_exchange_n((uint32_t *)&run->used, &used, i + 1, 0, __ATOMIC_SEQ_CST,
@@ -68,6 +68,7 @@ void begin_slot(uint32_t index) {
     slot->pid = (uint32_t)RAW(SYS_getpid, 0);
     slot->tid = (uint32_t)RAW(SYS_gettid, 0);
     slot->rank = is_bridge ? RANK_BRIDGE : is_server ? RANK_DRIVER : RANK_PROGRAM;
+    slot->go_at = (uintptr_t)&slot->go;
     if (has_turn()) {
         slot->state = SLOT_RUNS; /* execve: the process goes on as another program */
         return;
