@@ -21,7 +21,6 @@ use Rattle.can_event.specs.declared.pending.Pending.{Pending}
 use Rattle.can_event.specs.declared.received.Received.{Received}
 use Rattle.can_event.specs.declared.reply.Reply.TheVariants as reply
 use Rattle.can_event.specs.declared.attempt.Tried.{Tried}
-use Rattle.can_record.specs.Outcomes.{told_attempt}
 use Rattle.can_bus.specs.AutoRestart.{attempts_off, restarted_next}
 use Rattle.can_record.specs.Journal.{Kept}
 use Rattle.can_bus.specs.Sockets.{places, open_sockets, is_open, iface_of, capacity_of, filters_of, options_of}
@@ -47,7 +46,7 @@ use Rattle.can_bus.proofs.OffFacts.{all_stepped-append, head-below, counts-beyon
 use Rattle.can_bus.proofs.Winning.{winner-is, idle-is, holds_key}
 
 abbrev pub entry : ℕ → Verdict → Attempt → Entry
-entry m v r = record { event = event.Attempt m v; reply = told_attempt r }
+entry m v r = record { event = event.Attempt m v; reply = reply.Attempted r }
 
 -- ---- the attempt as the kept parts have it, and as the history has it
 
@@ -105,9 +104,9 @@ the_winner c past m v t new legal few k =
           ∙ ap (λ (rs : IfaceSet). tried_in (transmission c past w v) m (gone_count past w) rs k.pending) (due-kept c past legal);
     }
 
-reply-tried : (c : BusConfig) (past : List Entry) (m : ℕ) (v : Verdict) (t : Tried) (w : ℕ) (l : InterfaceState) (p : Pending) → IsCarried c past m v t w l p → reply.Tried t ≡ legal_reply c past (event.Attempt m v)
+reply-tried : (c : BusConfig) (past : List Entry) (m : ℕ) (v : Verdict) (t : Tried) (w : ℕ) (l : InterfaceState) (p : Pending) → IsCarried c past m v t w l p → reply.Attempted (attempt.Tried t) ≡ legal_reply c past (event.Attempt m v)
 reply-tried c past m v t w l p is =
-    ap (λ (u : Tried). reply.Tried u) is.tried_is
+    ap (λ (u : Tried). reply.Attempted (attempt.Tried u)) is.tried_is
     ∙ ap (tried_head c past m v w) (sym is.head_is)
     ∙ ap (attempt_reply c past m v) (sym is.won)
 
@@ -308,7 +307,7 @@ sockets-told c past e posts old after legal are posts_are same_places same_open 
 
 posts-tried : (c : BusConfig) (past : List Entry) (m : ℕ) (v : Verdict) (t : Tried) (w : ℕ) (l : InterfaceState) (p : Pending) → IsLegal c past
     → c.ifaces ≤ 16 → IsCarried c past m v t w l p → (i : ℕ)
-    → attempt_posts c.reporting (attempt_between (kept_nodes c past) w v c.ack) t (Some p) i ++ auto_restart_posts t.restarted m i ≡ posts_of c past i (event.Attempt m v) (reply.Tried t)
+    → attempt_posts c.reporting (attempt_between (kept_nodes c past) w v c.ack) t (Some p) i ++ auto_restart_posts t.restarted m i ≡ posts_of c past i (event.Attempt m v) (reply.Attempted (attempt.Tried t))
 posts-tried c past m v t w l p legal few is i =
     let who : w ≡ t.winner = sym (ap (λ (u : Tried). u.winner) is.tried_is) in
     let frame : Some p ≡ slice_get (sent_by past t.winner) t.number = sym is.head_is ∙ ap (λ (u : Tried). slice_get (sent_by past u.winner) u.number) (sym is.tried_is) in
@@ -341,7 +340,7 @@ came_follows c past m v None between new legal few tries after =
     let due : rs ≡ restarted_next c past = due-kept c past legal in
     let same = idle-same c past m v rs in
     record {
-      lawful = ap (λ (s : IfaceSet). reply.Idle s) due ∙ ap (attempt_reply c past m v) (sym (idle-is c past few tries.0));
+      lawful = ap (λ (s : IfaceSet). reply.Attempted (attempt.Idle s)) due ∙ ap (attempt_reply c past m v) (sym (idle-is c past few tries.0));
       after = after
           ∙ ap (λ (p : Parts). after_auto_restart p rs m) tries.1
           ∙ parts-are (after_auto_restart (counted c past) rs m) (kept_parts c (e ∷ past)) (sym same.0) (sym same.1)

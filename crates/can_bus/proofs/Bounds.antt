@@ -8,6 +8,7 @@ use Rattle.can_event.specs.declared.bus_config.BusConfig.{BusConfig}
 use Rattle.can_event.specs.declared.event.Event.{Event}
 use Rattle.can_event.specs.declared.event.Event.TheVariants.{Open}
 use Rattle.can_event.specs.declared.attempt.Tried.{Tried}
+use Rattle.can_event.specs.declared.attempt.Attempt.TheVariants as attempt
 use Rattle.can_event.specs.declared.reply.Reply.{Reply}
 use Rattle.can_event.specs.declared.reply.Reply.TheVariants as reply
 use Rattle.can_event.specs.Events.{max_long_limit}
@@ -82,7 +83,7 @@ known_ifaces j parts kept = all_sockets (λ (v : SocketState). v.iface < length 
 -- ---- attempts and sockets ever opened
 
 tape-step : (r : Reply) (before : List Tried) → length (tape_after r before) ≤ length before + 1
-tape-step (reply.Tried t) before = omega (arith, length_push before t)
+tape-step (reply.Attempted (attempt.Tried t)) before = omega (arith, length_push before t)
 tape-step _ before = omega arith
 
 tape-le : (past : List Entry) → length (tape past) ≤ length past

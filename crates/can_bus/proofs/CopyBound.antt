@@ -19,6 +19,7 @@ use Rattle.can_event.specs.declared.reply.Reply.TheVariants as reply
 use Rattle.can_event.specs.declared.refusal.Refusal.TheVariants as refusal
 use Rattle.can_event.specs.declared.bus_config.BusConfig.{BusConfig}
 use Rattle.can_event.specs.declared.attempt.Tried.{Tried}
+use Rattle.can_event.specs.declared.attempt.Attempt.TheVariants as attempt
 use Rattle.can_bus.specs.Sockets.{iface_of}
 use Rattle.can_bus.specs.Transmit.{sent_by, sent_after, gone_count, gone_after}
 use Rattle.can_bus.specs.Counters.{counts_of, steps_of, steps_after, state_at, transmission}
@@ -72,7 +73,7 @@ last_bit-step t failed =
 below-off : (x : ErrorCounts) → is_off (state_of x) ≡ false → x.tec < 256
 below-off x live = grind (arith, live)
 
-count-tried : (c : BusConfig) (past : List Entry) (i m : ℕ) (v : Verdict) (t : Tried) → is_in i t.restarted ≡ false → count_after c past i (Attempt m v) (reply.Tried t) ≡ (counts_after (transmission c past t.winner v) i).tec
+count-tried : (c : BusConfig) (past : List Entry) (i m : ℕ) (v : Verdict) (t : Tried) → is_in i t.restarted ≡ false → count_after c past i (Attempt m v) (reply.Attempted (attempt.Tried t)) ≡ (counts_after (transmission c past t.winner v) i).tec
 count-tried c past i m v t stays =
     ap (λ b. (all_stepped at_start (if b then [] else steps_of c past i ++ steps_at i (transmission c past t.winner v))).tec) stays
     ∙ ap (λ (x : ErrorCounts). x.tec) (all_stepped-append at_start (steps_of c past i) (steps_at i (transmission c past t.winner v)))
@@ -86,14 +87,14 @@ not-restarted c past m v t i legal w live = ap (λ (u : Tried). is_in i u.restar
 
 -- ---- each fault in the last bit adds 8
 
-last_bit-step-of : (c : BusConfig) (past : List Entry) (e : Event) (t : Tried) → IsLegal c past → reply.Tried t ≡ legal_reply c past e → t.class ≡ class.LastBit → count_after c past t.winner e (reply.Tried t) ≡ transmit_count c past t.winner + 8
+last_bit-step-of : (c : BusConfig) (past : List Entry) (e : Event) (t : Tried) → IsLegal c past → reply.Attempted (attempt.Tried t) ≡ legal_reply c past e → t.class ≡ class.LastBit → count_after c past t.winner e (reply.Attempted (attempt.Tried t)) ≡ transmit_count c past t.winner + 8
 last_bit-step-of c past e t legal law failed =
-    by_attempt (λ k. count_after c past t.winner k (reply.Tried t) ≡ transmit_count c past t.winner + 8) c past e t law
+    by_attempt (λ k. count_after c past t.winner k (reply.Attempted (attempt.Tried t)) ≡ transmit_count c past t.winner + 8) c past e t law
     (λ m v w.
     let live = subst (λ k. is_off (state_at c past k) ≡ false) (sym (ap (λ (u : Tried). u.winner) w.is)) (winner-contends c past w.place w.won).live in
     count-tried c past t.winner m v t (not-restarted c past m v t t.winner legal w live) ∙ last_bit-step (transmission c past t.winner v) (sym (class-is c past m v t w) ∙ failed))
 
-last_bit-adds-at : (c : BusConfig) (past : List Entry) (e : Event) (r : Reply) → IsLegal c past → r ≡ legal_reply c past e → (t : Tried) → r ≡ reply.Tried t → t.class ≡ class.LastBit → count_after c past t.winner e r ≡ transmit_count c past t.winner + 8
+last_bit-adds-at : (c : BusConfig) (past : List Entry) (e : Event) (r : Reply) → IsLegal c past → r ≡ legal_reply c past e → (t : Tried) → r ≡ reply.Attempted (attempt.Tried t) → t.class ≡ class.LastBit → count_after c past t.winner e r ≡ transmit_count c past t.winner + 8
 last_bit-adds-at c past e r legal law t is failed = subst (λ q. count_after c past t.winner e q ≡ transmit_count c past t.winner + 8) (sym is) (last_bit-step-of c past e t legal (sym is ∙ law) failed)
 
 pub last_bit-adds : (c : BusConfig) (past : List Entry) (e : Entry) → IsLegal c (e ∷ past) → LastBitAdds8 c e past
@@ -117,7 +118,7 @@ waits-live c past i legal few waits = when (is_off (state_at c past i)) refl
     when false is = refl
     when true is = let gone = off-all-gone c past legal few i is in absurd (omega (arith, gone, waits))
 
-rises-tried : (c : BusConfig) (past : List Entry) (i m : ℕ) (v : Verdict) (t : Tried) → IsLegal c past → c.ifaces ≤ 16 → WasTried c past m v t → gone_count past i < sent_count past i → gone_then past i (reply.Tried t) ≡ gone_count past i → transmit_count c past i ≤ count_after c past i (Attempt m v) (reply.Tried t)
+rises-tried : (c : BusConfig) (past : List Entry) (i m : ℕ) (v : Verdict) (t : Tried) → IsLegal c past → c.ifaces ≤ 16 → WasTried c past m v t → gone_count past i < sent_count past i → gone_then past i (reply.Attempted (attempt.Tried t)) ≡ gone_count past i → transmit_count c past i ≤ count_after c past i (Attempt m v) (reply.Attempted (attempt.Tried t))
 rises-tried c past i m v t legal few w waits same =
     let tr = transmission c past t.winner v in
     let stays : ((t.winner == i) && is_done t.class) ≡ false = not-gone (sent_count past i) (gone_count past i) (is_in i t.off) ((t.winner == i) && is_done t.class) waits same in
@@ -131,8 +132,8 @@ was-off false true law = refl
 was-off false false law = cc
 
 rises-step : (c : BusConfig) (past : List Entry) (i : ℕ) (e : Event) (r : Reply) → IsLegal c past → c.ifaces ≤ 16 → r ≡ legal_reply c past e → gone_count past i < sent_count past i → gone_then past i r ≡ gone_count past i → transmit_count c past i ≤ count_after c past i e r
-rises-step c past i e (reply.Tried t) legal few law waits same =
-    by_attempt (λ k. transmit_count c past i ≤ count_after c past i k (reply.Tried t)) c past e t law (λ m v w. rises-tried c past i m v t legal few w waits same)
+rises-step c past i e (reply.Attempted (attempt.Tried t)) legal few law waits same =
+    by_attempt (λ k. transmit_count c past i ≤ count_after c past i k (reply.Attempted (attempt.Tried t))) c past e t law (λ m v w. rises-tried c past i m v t legal few w waits same)
 rises-step c past i (Restart k m) reply.Done legal few law waits same = when (k == i) refl
   where
     off : is_off (state_at c past k) ≡ true
@@ -143,7 +144,7 @@ rises-step c past i (Restart k m) reply.Done legal few law waits same = when (k 
         let gone : gone_count past i ≡ sent_count past i = off-all-gone c past legal few i (subst (λ j. is_off (state_at c past j) ≡ true) (eqb-true k i is) off) in
         absurd (omega (arith, gone, waits))
     when false is = omega arith
-rises-step c past i (Attempt m v) (reply.Idle restarted) legal few law waits same =
+rises-step c past i (Attempt m v) (reply.Attempted (attempt.Idle restarted)) legal few law waits same =
     let stays : is_in i restarted ≡ false = ap (is_in i) (idle-restarts c past m v restarted law) ∙ live-restarted-not c past legal i (waits-live c past i legal few waits) in
     subst (λ b. transmit_count c past i ≤ (all_stepped at_start (if b then [] else steps_of c past i)).tec) (sym stays) (omega arith)
 rises-step c past i (Open j n) _ legal few law waits same = omega arith
@@ -224,7 +225,7 @@ copies-push : (n : ℕ) (ts : List Tried) (t : Tried) → copies_of n (ts ++ t �
 copies-push n ts t = sum_by-append (λ (x : Tried). one_if (x.number == n)) ts (t ∷ []) ∙ omega arith
 
 gone-grows : (past : List Entry) (i : ℕ) (r : Reply) → gone_count past i ≤ sent_count past i → gone_count past i ≤ gone_then past i r
-gone-grows past i (reply.Tried t) le = gone-grows-if (sent_count past i) (gone_count past i) (is_in i t.off) ((t.winner == i) && is_done t.class) le
+gone-grows past i (reply.Attempted (attempt.Tried t)) le = gone-grows-if (sent_count past i) (gone_count past i) (is_in i t.off) ((t.winner == i) && is_done t.class) le
 gone-grows past i _ le = omega arith
 
 -- these attempts fit a history, and the same history with one entry more
@@ -246,9 +247,9 @@ record IsCopy (c : BusConfig) (past : List Entry) (i : ℕ) (e : Event) (t : Tri
   pub number : t.number ≡ gone_count past i
   pub waits : gone_count past i < sent_count past i
   pub live : transmit_count c past i < 256
-  pub adds : gone_then past i (reply.Tried t) ≡ gone_count past i → transmit_count c past i + 8 ≤ count_after c past i e (reply.Tried t)
+  pub adds : gone_then past i (reply.Attempted (attempt.Tried t)) ≡ gone_count past i → transmit_count c past i + 8 ≤ count_after c past i e (reply.Attempted (attempt.Tried t))
 
-is_copy : (c : BusConfig) (past : List Entry) (i s : ℕ) (e : Event) (t : Tried) → IsLegal c past → reply.Tried t ≡ legal_reply c past e → here c past i s t ≡ true → IsCopy c past i e t
+is_copy : (c : BusConfig) (past : List Entry) (i s : ℕ) (e : Event) (t : Tried) → IsLegal c past → reply.Attempted (attempt.Tried t) ≡ legal_reply c past e → here c past i s t ≡ true → IsCopy c past i e t
 is_copy c past i s e t legal law is = tried_by c past e t law (λ m v w.
     let f : Facts past i t = facts c past m v t i w mine in
     let who : w.place ≡ i = sym (ap (λ (u : Tried). u.winner) w.is) ∙ mine in
@@ -266,11 +267,11 @@ is_copy c past i s e t legal law is = tried_by c past e t law (λ m v w.
     mine : t.winner ≡ i
     mine = eqb-true t.winner i both.1
 
-    eight : went_over t.class ≡ true → ((t.winner == i) && is_done t.class) ≡ false → transmit_count c past i + 8 ≤ count_after c past i e (reply.Tried t)
+    eight : went_over t.class ≡ true → ((t.winner == i) && is_done t.class) ≡ false → transmit_count c past i + 8 ≤ count_after c past i e (reply.Attempted (attempt.Tried t))
     eight over stays =
         let undone : is_done t.class ≡ false = ap (λ b. b && is_done t.class) (sym both.1) ∙ stays in
         let failed : t.class ≡ class.LastBit = was-last_bit t.class over undone in
-        let up : count_after c past i e (reply.Tried t) ≡ transmit_count c past i + 8 = subst (λ k. count_after c past k e (reply.Tried t) ≡ transmit_count c past k + 8) mine (last_bit-step-of c past e t legal law failed) in
+        let up : count_after c past i e (reply.Attempted (attempt.Tried t)) ≡ transmit_count c past i + 8 = subst (λ k. count_after c past k e (reply.Attempted (attempt.Tried t)) ≡ transmit_count c past k + 8) mine (last_bit-step-of c past e t legal law failed) in
         omega (arith, up)
 
 -- an entry that copies no frame of the interface to the socket
@@ -280,18 +281,18 @@ fits-unchanged c past i e r ts legal few law before =
     (gone-grows past i r (gone-le-sent c past legal i)) (sent_by-step past i e r (sent_by past i)) (rises-step c past i e r legal few law)
 
 -- an attempt that copies one
-fits-copied : (c : BusConfig) (past : List Entry) (i : ℕ) (e : Event) (t : Tried) (ts : List Tried) → IsLegal c past → IsCopy c past i e t → FitsNow c past i ts → FitsThen c past i e (reply.Tried t) (ts ++ t ∷ [])
+fits-copied : (c : BusConfig) (past : List Entry) (i : ℕ) (e : Event) (t : Tried) (ts : List Tried) → IsLegal c past → IsCopy c past i e t → FitsNow c past i ts → FitsThen c past i e (reply.Attempted (attempt.Tried t)) (ts ++ t ∷ [])
 fits-copied c past i e t ts legal k before =
     fits-one (λ n. copies_of n ts) (λ n. copies_of n (ts ++ t ∷ [])) (gone_count past i) (sent_count past i) (transmit_count c past i) _ _ _ before k.waits k.live
-    (gone-grows past i (reply.Tried t) (gone-le-sent c past legal i)) (sent_by-step past i e (reply.Tried t) (sent_by past i)) k.adds
+    (gone-grows past i (reply.Attempted (attempt.Tried t)) (gone-le-sent c past legal i)) (sent_by-step past i e (reply.Attempted (attempt.Tried t)) (sent_by past i)) k.adds
     (λ n. copies-push n ts t ∙ ap (λ j. copies_of n ts + one_if (j == n)) k.number)
 
 fits-step : (c : BusConfig) (past : List Entry) (i s : ℕ) (e : Event) (r : Reply) → IsLegal c past → c.ifaces ≤ 16 → r ≡ legal_reply c past e → FitsNow c past i (copying c past i s) → FitsThen c past i e r (copying_after c past i s r (copying c past i s))
-fits-step c past i s e (reply.Tried t) legal few law before = when (here c past i s t) refl
+fits-step c past i s e (reply.Attempted (attempt.Tried t)) legal few law before = when (here c past i s t) refl
   where
-    when : (b : Bool) → here c past i s t ≡ b → FitsThen c past i e (reply.Tried t) (if b then copying c past i s ++ t ∷ [] else copying c past i s)
+    when : (b : Bool) → here c past i s t ≡ b → FitsThen c past i e (reply.Attempted (attempt.Tried t)) (if b then copying c past i s ++ t ∷ [] else copying c past i s)
     when true is = fits-copied c past i e t (copying c past i s) legal (is_copy c past i s e t legal law is) before
-    when false is = fits-unchanged c past i e (reply.Tried t) (copying c past i s) legal few law before
+    when false is = fits-unchanged c past i e (reply.Attempted (attempt.Tried t)) (copying c past i s) legal few law before
 fits-step c past i s e r legal few law before = fits-unchanged c past i e r (copying c past i s) legal few law before
 
 fits : (c : BusConfig) (past : List Entry) → IsLegal c past → c.ifaces ≤ 16 → (i s : ℕ) → FitsNow c past i (copying c past i s)

@@ -18,6 +18,7 @@ use Rattle.can_event.specs.declared.reply.Reply.TheVariants as reply
 use Rattle.can_event.specs.declared.bus_config.BusConfig.{BusConfig}
 use Rattle.can_event.specs.declared.received.Received.{Received}
 use Rattle.can_event.specs.declared.attempt.Tried.{Tried}
+use Rattle.can_event.specs.declared.attempt.Attempt.TheVariants as attempt
 use Rattle.can_event.specs.declared.pending.Pending.{Pending}
 use Rattle.can_bus.specs.Sockets.{is_open, iface_of, capacity_of, filters_of, options_of}
 use Rattle.can_bus.specs.Transmit.{sent_by}
@@ -118,7 +119,7 @@ AreErrors-at reporting tr t m i =
 abbrev added : BusConfig → List Entry → ℕ → ℕ → Event → Reply → List Received
 added c past i s e r = filter (is_from i) (take (room_at c past s) (candidates_of c past s e r))
 
-added-tried : (c : BusConfig) (past : List Entry) (i s m : ℕ) (v : Verdict) (t : Tried) → added c past i s (Attempt m v) (reply.Tried t) ≡ (if is_copied c past s t (slice_get (sent_by past t.winner) t.number) && (t.winner == i) then copy_of t ∷ [] else [])
+added-tried : (c : BusConfig) (past : List Entry) (i s m : ℕ) (v : Verdict) (t : Tried) → added c past i s (Attempt m v) (reply.Attempted (attempt.Tried t)) ≡ (if is_copied c past s t (slice_get (sent_by past t.winner) t.number) && (t.winner == i) then copy_of t ∷ [] else [])
 added-tried c past i s m v t = when (is_open past s)
   where
     p : Option Pending
@@ -149,7 +150,7 @@ map-push true [] t = refl
 map-push true (x ∷ ts) t = ap (λ rs. copy_of x ∷ rs) (map-push true ts t)
 map-push false ts t = sym (append-nil (map copy_of ts))
 
-adds-tried : (c : BusConfig) (past : List Entry) (i s m : ℕ) (v : Verdict) (t : Tried) → Adds c past i s (Attempt m v) (reply.Tried t)
+adds-tried : (c : BusConfig) (past : List Entry) (i s m : ℕ) (v : Verdict) (t : Tried) → Adds c past i s (Attempt m v) (reply.Attempted (attempt.Tried t))
 adds-tried c past i s m v t =
     map-push (is_copied c past s t (slice_get (sent_by past t.winner) t.number) && (t.winner == i)) (copying c past i s) t
     ∙ ap (λ rs. map copy_of (copying c past i s) ++ rs) (sym (added-tried c past i s m v t))
@@ -169,9 +170,9 @@ errors-restart : (k m i : ℕ) → AreErrors (restart_posts k m i)
 errors-restart k m i = AreErrors-if (i == k) (error_posts i m (Some restart_message)) (AreErrors-posts i m (Some restart_message))
 
 adds : (c : BusConfig) (past : List Entry) (i s : ℕ) (e : Event) (r : Reply) → r ≡ legal_reply c past e → Adds c past i s e r
-adds c past i s e (reply.Tried t) law = by_attempt (λ k. Adds c past i s k (reply.Tried t)) c past e t law (λ m v w. adds-tried c past i s m v t)
+adds c past i s e (reply.Attempted (attempt.Tried t)) law = by_attempt (λ k. Adds c past i s k (reply.Attempted (attempt.Tried t))) c past e t law (λ m v w. adds-tried c past i s m v t)
 adds c past i s (Restart k m) reply.Done law = adds-none c past i s (Restart k m) reply.Done (added-errors c past i s (Restart k m) reply.Done (errors-restart k m (iface_of past s)))
-adds c past i s (Attempt m v) (reply.Idle restarted) law = adds-none c past i s (Attempt m v) (reply.Idle restarted) (added-errors c past i s (Attempt m v) (reply.Idle restarted) (errors-auto_restart restarted m (iface_of past s)))
+adds c past i s (Attempt m v) (reply.Attempted (attempt.Idle restarted)) law = adds-none c past i s (Attempt m v) (reply.Attempted (attempt.Idle restarted)) (added-errors c past i s (Attempt m v) (reply.Attempted (attempt.Idle restarted)) (errors-auto_restart restarted m (iface_of past s)))
 adds c past i s (Open x1 x2) r law = adds-none c past i s (Open x1 x2) r (added-errors c past i s (Open x1 x2) r tt)
 adds c past i s (Close x1) r law = adds-none c past i s (Close x1) r (added-errors c past i s (Close x1) r tt)
 adds c past i s (SetFilters x1 x2) r law = adds-none c past i s (SetFilters x1 x2) r (added-errors c past i s (SetFilters x1 x2) r tt)

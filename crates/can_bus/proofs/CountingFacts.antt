@@ -16,6 +16,7 @@ use Rattle.can_event.specs.declared.event.Event.TheVariants.{Open, Close, SetFil
 use Rattle.can_event.specs.declared.reply.Reply.{Reply}
 use Rattle.can_event.specs.declared.reply.Reply.TheVariants as reply
 use Rattle.can_event.specs.declared.attempt.Tried.{Tried}
+use Rattle.can_event.specs.declared.attempt.Attempt.TheVariants as attempt
 use Rattle.can_event.specs.declared.pending.Pending.{Pending}
 use Rattle.can_bus.specs.Attempts.{winner, attempt_reply, tried_head}
 use Rattle.can_bus.specs.Transmit.{head_of}
@@ -56,7 +57,7 @@ still-some : (k : Option ℕ) → is_some (option_map suc k) ≡ true → is_som
 still-some None h = cc
 still-some (Some k) h = refl
 
-counting-tried : (c : BusConfig) (past : List Entry) (i m : ℕ) (v : Verdict) (t : Tried) → reply.Tried t ≡ legal_reply c past (Attempt m v) → WasTried c past m v t → OffNow c past i → OffThen c past i (Attempt m v) (reply.Tried t)
+counting-tried : (c : BusConfig) (past : List Entry) (i m : ℕ) (v : Verdict) (t : Tried) → reply.Attempted (attempt.Tried t) ≡ legal_reply c past (Attempt m v) → WasTried c past m v t → OffNow c past i → OffThen c past i (Attempt m v) (reply.Attempted (attempt.Tried t))
 counting-tried c past i m v t law w before = when (is_in i t.restarted) (is_in i t.off) refl refl
   where
     who : t.winner ≡ w.place
@@ -72,21 +73,21 @@ counting-tried c past i m v t law w before = when (is_in i t.restarted) (is_in i
     when false true r o h = ap (λ (x : ErrorCounts). is_off (state_of x)) (all_stepped-append at_start (steps_of c past i) (steps_at i (transmission c past t.winner v))) ∙ off-here o
     when false false r o h =
         let was = before (still-some (attempts_off past i) h) in
-        let same = steps-stay c past i (Attempt m v) (reply.Tried t) law was r in
+        let same = steps-stay c past i (Attempt m v) (reply.Attempted (attempt.Tried t)) law was r in
         ap (λ b. is_off (state_of (all_stepped at_start (if b then [] else steps_of c past i ++ steps_at i (transmission c past t.winner v))))) (sym r)
         ∙ ap (λ ss. is_off (state_of (all_stepped at_start ss))) same
         ∙ was
 
 -- these replies change neither
 abbrev is_neutral : Reply → Bool
-is_neutral (reply.Idle restarted) = false
-is_neutral (reply.Tried t) = false
+is_neutral (reply.Attempted (attempt.Idle restarted)) = false
+is_neutral (reply.Attempted (attempt.Tried t)) = false
 is_neutral reply.Done = false
 is_neutral _ = true
 
 neutral-steps : (c : BusConfig) (past : List Entry) (i : ℕ) (e : Event) (r : Reply) → is_neutral r ≡ true → steps_after c e r (counts_of c past) i (steps_of c past i) ≡ steps_of c past i
-neutral-steps c past i (Attempt m v) (reply.Idle restarted) h = cc
-neutral-steps c past i (Attempt m v) (reply.Tried t) h = cc
+neutral-steps c past i (Attempt m v) (reply.Attempted (attempt.Idle restarted)) h = cc
+neutral-steps c past i (Attempt m v) (reply.Attempted (attempt.Tried t)) h = cc
 neutral-steps c past i (Attempt m v) _ h = refl
 neutral-steps c past i (Restart k m) reply.Done h = cc
 neutral-steps c past i (Restart k m) _ h = refl
@@ -106,20 +107,20 @@ idle-steps c past i true before some = cc
 idle-steps c past i false before some = before (still-some (attempts_off past i) some)
 
 counting-step : (c : BusConfig) (past : List Entry) (i : ℕ) (e : Event) (r : Reply) → r ≡ legal_reply c past e → OffNow c past i → OffThen c past i e r
-counting-step c past i e (reply.Tried t) law before =
-    by_attempt (λ k. reply.Tried t ≡ legal_reply c past k → OffThen c past i k (reply.Tried t)) c past e t law (λ m v w l. counting-tried c past i m v t l w before) law
+counting-step c past i e (reply.Attempted (attempt.Tried t)) law before =
+    by_attempt (λ k. reply.Attempted (attempt.Tried t) ≡ legal_reply c past k → OffThen c past i k (reply.Attempted (attempt.Tried t))) c past e t law (λ m v w l. counting-tried c past i m v t l w before) law
 counting-step c past i e (reply.Opened s) law before = neutral c past i e (reply.Opened s) refl before
 counting-step c past i e (reply.Closed k) law before = neutral c past i e (reply.Closed k) refl before
 counting-step c past i e (reply.Sent n) law before = neutral c past i e (reply.Sent n) refl before
 counting-step c past i e (reply.Received x) law before = neutral c past i e (reply.Received x) refl before
 counting-step c past i e (reply.Refused why) law before = neutral c past i e (reply.Refused why) refl before
-counting-step c past i e (reply.Idle restarted) law before = elsewhere e
+counting-step c past i e (reply.Attempted (attempt.Idle restarted)) law before = elsewhere e
   where
     kept : (b : Bool) → is_some (if b then None else option_map suc (attempts_off past i)) ≡ true → is_some (attempts_off past i) ≡ true
     kept true g = cc
     kept false g = still-some (attempts_off past i) g
 
-    elsewhere : (k : Event) → OffThen c past i k (reply.Idle restarted)
+    elsewhere : (k : Event) → OffThen c past i k (reply.Attempted (attempt.Idle restarted))
     elsewhere (Attempt m v) h = idle-steps c past i (is_in i restarted) before h
     elsewhere (Open j n) h = before (kept (is_in i restarted) h)
     elsewhere (Close s) h = before (kept (is_in i restarted) h)
@@ -185,14 +186,14 @@ live-restarted-not c past legal i live = when (is_in i (restarted_next c past)) 
         cc
 
 -- an idle attempt names those that are due
-pub idle-restarts : (c : BusConfig) (past : List Entry) (m : ℕ) (v : Verdict) (restarted : IfaceSet) → reply.Idle restarted ≡ legal_reply c past (Attempt m v) → restarted ≡ restarted_next c past
+pub idle-restarts : (c : BusConfig) (past : List Entry) (m : ℕ) (v : Verdict) (restarted : IfaceSet) → reply.Attempted (attempt.Idle restarted) ≡ legal_reply c past (Attempt m v) → restarted ≡ restarted_next c past
 idle-restarts c past m v restarted law = when (winner c past) law
   where
-    at_head : (w : ℕ) (p : Option Pending) → reply.Idle restarted ≡ tried_head c past m v w p → restarted ≡ restarted_next c past
+    at_head : (w : ℕ) (p : Option Pending) → reply.Attempted (attempt.Idle restarted) ≡ tried_head c past m v w p → restarted ≡ restarted_next c past
     at_head w None l = cc
     at_head w (Some p) l = cc
 
-    when : (w : Option ℕ) → reply.Idle restarted ≡ attempt_reply c past m v w → restarted ≡ restarted_next c past
+    when : (w : Option ℕ) → reply.Attempted (attempt.Idle restarted) ≡ attempt_reply c past m v w → restarted ≡ restarted_next c past
     when None l = cc
     when (Some w) l = at_head w (head_of past w) l
 

@@ -21,6 +21,7 @@ use Rattle.can_event.specs.declared.received.Received.{Received}
 use Rattle.can_event.specs.declared.reply.Reply.{Reply}
 use Rattle.can_event.specs.declared.reply.Reply.TheVariants as reply
 use Rattle.can_event.specs.declared.attempt.Tried.{Tried}
+use Rattle.can_event.specs.declared.attempt.Attempt.TheVariants as attempt
 use Rattle.can_bus.specs.Sockets.{open_sockets, is_open, iface_of, capacity_of, filters_of, options_of}
 use Rattle.can_bus.specs.Transmit.{sent_by, gone_count, head_of}
 use Rattle.can_bus.specs.Counters.{state_at, transmission}
@@ -83,11 +84,11 @@ auto_restart-posts : (restarted : IfaceSet) (m i : ℕ) → ArePosts (auto_resta
 auto_restart-posts restarted m i = if-holds ArePosts (is_in i restarted) _ _ (error-posts i m (Some restart_message)) no-posts
 
 posts-numbered : (c : BusConfig) (past : List Entry) (i : ℕ) (e : Event) (r : Reply) → ArePosts (posts_of c past i e r)
-posts-numbered c past i (Attempt m v) (reply.Tried t) =
+posts-numbered c past i (Attempt m v) (reply.Attempted (attempt.Tried t)) =
     let p = slice_get (sent_by past t.winner) t.number in
     let tr = transmission c past t.winner v in
     All-append IsPost (attempt_posts c.reporting tr t p i) (auto_restart_posts t.restarted m i) (attempt-posts c.reporting tr t p i) (auto_restart-posts t.restarted m i)
-posts-numbered c past i (Attempt m v) (reply.Idle restarted) = auto_restart-posts restarted m i
+posts-numbered c past i (Attempt m v) (reply.Attempted (attempt.Idle restarted)) = auto_restart-posts restarted m i
 posts-numbered c past i (Restart k m) reply.Done = if-holds ArePosts (i == k) _ _ (error-posts i m (Some restart_message)) no-posts
 posts-numbered c past i _ _ = no-posts
 

@@ -7,6 +7,7 @@ use Rattle.can_event.specs.declared.pending.Pending.{Pending}
 use Rattle.can_event.specs.declared.event.Event.TheVariants.{Attempt}
 use Rattle.can_event.specs.declared.reply.Reply.TheVariants as reply
 use Rattle.can_event.specs.declared.attempt.Tried.{Tried}
+use Rattle.can_event.specs.declared.attempt.Attempt.TheVariants as attempt
 use Rattle.can_bus.specs.Attempts.{winner, tried_head, attempt_reply}
 use Rattle.can_bus.specs.AutoRestart.{restarted_next}
 use Rattle.can_bus.specs.Heads.{with_frame, head_at, next_head, IsNext, ReportsNext}
@@ -39,17 +40,17 @@ tried-head c past m v t w =
     ap (head_at past) w.won ∙ ap (with_frame w.place) w.head ∙ ap (λ (u : Tried). Some (u.winner, u.frame)) (sym w.is)
 
 -- the frame that an attempt tries is the one that was next
-pub tried_is_next : (c : BusConfig) (past : List Entry) (m : ℕ) (v : Verdict) (t : Tried) → reply.Tried t ≡ legal_reply c past (Attempt m v) → next_head c past ≡ Some (t.winner, t.frame)
+pub tried_is_next : (c : BusConfig) (past : List Entry) (m : ℕ) (v : Verdict) (t : Tried) → reply.Attempted (attempt.Tried t) ≡ legal_reply c past (Attempt m v) → next_head c past ≡ Some (t.winner, t.frame)
 tried_is_next c past m v t law = tried-head c past m v t (was_tried c past m v t law)
 
-idle-at : (c : BusConfig) (past : List Entry) (m : ℕ) (v : Verdict) (w : ℕ) (p : Option Pending) → with_frame w p ≡ None → tried_head c past m v w p ≡ reply.Idle (restarted_next c past)
+idle-at : (c : BusConfig) (past : List Entry) (m : ℕ) (v : Verdict) (w : ℕ) (p : Option Pending) → with_frame w p ≡ None → tried_head c past m v w p ≡ reply.Attempted (attempt.Idle (restarted_next c past))
 idle-at c past m v w None none = refl
 idle-at c past m v w (Some p) none = cc
 
-idle-of : (c : BusConfig) (past : List Entry) (m : ℕ) (v : Verdict) (w : Option ℕ) → head_at past w ≡ None → attempt_reply c past m v w ≡ reply.Idle (restarted_next c past)
+idle-of : (c : BusConfig) (past : List Entry) (m : ℕ) (v : Verdict) (w : Option ℕ) → head_at past w ≡ None → attempt_reply c past m v w ≡ reply.Attempted (attempt.Idle (restarted_next c past))
 idle-of c past m v None none = refl
 idle-of c past m v (Some w) none = idle-at c past m v w (head_of past w) none
 
 -- where none is next an attempt is idle
-pub idle_without_next : (c : BusConfig) (past : List Entry) (m : ℕ) (v : Verdict) → next_head c past ≡ None → legal_reply c past (Attempt m v) ≡ reply.Idle (restarted_next c past)
+pub idle_without_next : (c : BusConfig) (past : List Entry) (m : ℕ) (v : Verdict) → next_head c past ≡ None → legal_reply c past (Attempt m v) ≡ reply.Attempted (attempt.Idle (restarted_next c past))
 idle_without_next c past m v none = idle-of c past m v (winner c past) none

@@ -12,6 +12,7 @@ use Rattle.can_event.specs.declared.event.Event.TheVariants.{Attempt}
 use Rattle.can_event.specs.declared.reply.Reply.TheVariants as reply
 use Rattle.can_event.specs.declared.socket_id.SocketId.{SocketId}
 use Rattle.can_event.specs.declared.attempt.Tried.{Tried}
+use Rattle.can_event.specs.declared.attempt.Attempt.TheVariants as attempt
 use Rattle.can_event.specs.Events.{IsLongConfig}
 use Rattle.can_bus.specs.Sockets.{iface_of}
 use Rattle.can_bus.specs.Counters.{transmission}
@@ -42,7 +43,7 @@ last_bit-verdict verdict.Good is = cc
 last_bit-verdict (verdict.Global k) is = cc
 last_bit-verdict (verdict.Local set k) is = cc
 
-fault-of-last_bit : (c : BusConfig) (past : List Entry) (e : Event) (t : Tried) → reply.Tried t ≡ legal_reply c past e → t.class ≡ class.LastBit → e ≡ Attempt t.moment verdict.LastBit
+fault-of-last_bit : (c : BusConfig) (past : List Entry) (e : Event) (t : Tried) → reply.Attempted (attempt.Tried t) ≡ legal_reply c past e → t.class ≡ class.LastBit → e ≡ Attempt t.moment verdict.LastBit
 fault-of-last_bit c past e t law failed = by_attempt (λ k. k ≡ Attempt t.moment verdict.LastBit) c past e t law when
   where
     when : (m : ℕ) (v : Verdict) → WasTried c past m v t → Attempt m v ≡ Attempt t.moment verdict.LastBit

@@ -21,6 +21,7 @@ use Rattle.can_event.specs.declared.refusal.Refusal.TheVariants as refusal
 use Rattle.can_event.specs.declared.bus_config.BusConfig.{BusConfig}
 use Rattle.can_event.specs.declared.received.Received.{Received}
 use Rattle.can_event.specs.declared.attempt.Tried.{Tried}
+use Rattle.can_event.specs.declared.attempt.Attempt.TheVariants as attempt
 use Rattle.can_event.specs.declared.pending.Pending.{Pending}
 use Rattle.can_bus.specs.Sockets.{Place, places, places_after, open_sockets, is_open, iface_of, iface_in, filters_of, options_of}
 use Rattle.can_bus.specs.Transmit.{sent_by, sent_after, gone_count, gone_after, done_count, done_after, refused_count, refused_after, head_of}
@@ -65,15 +66,15 @@ pub record WasTried (c : BusConfig) (past : List Entry) (m : ℕ) (v : Verdict) 
   pub head : head_of past place ≡ Some pending
   pub is : t ≡ tried_with c past m v place pending.frame
 
-was_tried-at : (c : BusConfig) (past : List Entry) (m : ℕ) (v : Verdict) (t : Tried) (w : Option ℕ) → winner c past ≡ w → reply.Tried t ≡ attempt_reply c past m v w → WasTried c past m v t
+was_tried-at : (c : BusConfig) (past : List Entry) (m : ℕ) (v : Verdict) (t : Tried) (w : Option ℕ) → winner c past ≡ w → reply.Attempted (attempt.Tried t) ≡ attempt_reply c past m v w → WasTried c past m v t
 was_tried-at c past m v t None who law = cc
 was_tried-at c past m v t (Some w) who law = at_head (head_of past w) refl law
   where
-    at_head : (p : Option Pending) → head_of past w ≡ p → reply.Tried t ≡ tried_head c past m v w p → WasTried c past m v t
+    at_head : (p : Option Pending) → head_of past w ≡ p → reply.Attempted (attempt.Tried t) ≡ tried_head c past m v w p → WasTried c past m v t
     at_head None is l = cc
     at_head (Some p) is l = record { place = w; pending = p; won = who; head = is; is = (cc) }
 
-pub was_tried : (c : BusConfig) (past : List Entry) (m : ℕ) (v : Verdict) (t : Tried) → reply.Tried t ≡ legal_reply c past (Attempt m v) → WasTried c past m v t
+pub was_tried : (c : BusConfig) (past : List Entry) (m : ℕ) (v : Verdict) (t : Tried) → reply.Attempted (attempt.Tried t) ≡ legal_reply c past (Attempt m v) → WasTried c past m v t
 was_tried c past m v t law = was_tried-at c past m v t (winner c past) refl law
 
 pub tried_had_head : (c : BusConfig) (past : List Entry) (m : ℕ) (v : Verdict) (t : Tried) → WasTried c past m v t → gone_count past t.winner < length (sent_by past t.winner)
@@ -82,18 +83,18 @@ tried_had_head c past m v t w =
     subst (λ i. gone_count past i < length (sent_by past i)) (sym who) (slice_get_within (sent_by past w.place) (gone_count past w.place) w.pending w.head)
 
 abbrev is_tried : Reply → Bool
-is_tried (reply.Tried t) = true
+is_tried (reply.Attempted (attempt.Tried t)) = true
 is_tried _ = false
 
 untried-if : (b : Bool) (x y : Reply) → is_tried x ≡ false → is_tried y ≡ false → is_tried (if b then x else y) ≡ false
 untried-if true x y hx hy = hx
 untried-if false x y hx hy = hy
 
-never : {P : Type 0} (t : Tried) (r : Reply) → reply.Tried t ≡ r → is_tried r ≡ false → P
+never : {P : Type 0} (t : Tried) (r : Reply) → reply.Attempted (attempt.Tried t) ≡ r → is_tried r ≡ false → P
 never t r law untried = let e : true ≡ false = ap is_tried law ∙ untried in cc
 
 -- only an attempt answers with a tried frame
-pub by_attempt : (P : Event → Type 0) (c : BusConfig) (past : List Entry) (e : Event) (t : Tried) → reply.Tried t ≡ legal_reply c past e → ((m : ℕ) (v : Verdict) → WasTried c past m v t → P (Attempt m v)) → P e
+pub by_attempt : (P : Event → Type 0) (c : BusConfig) (past : List Entry) (e : Event) (t : Tried) → reply.Attempted (attempt.Tried t) ≡ legal_reply c past e → ((m : ℕ) (v : Verdict) → WasTried c past m v t → P (Attempt m v)) → P e
 by_attempt P c past (Attempt m v) t law k = k m v (was_tried c past m v t law)
 by_attempt P c past (Open i n) t law k = never t _ law (untried-if (nat_le c.ifaces i) _ _ refl (untried-if (not (nat_le 1 n && nat_le n 65536)) _ _ refl (untried-if (nat_le 64 (length (open_sockets past))) _ _ refl refl)))
 by_attempt P c past (Close s) t law k = never t _ law (untried-if (is_open past s.0) _ _ refl refl)
@@ -106,7 +107,7 @@ by_attempt P c past (Send s f) t law k =
 by_attempt P c past (Receive s) t law k = never t _ law (untried-if (is_open past s.0) _ _ refl refl)
 by_attempt P c past (Restart i m) t law k = never t _ law (untried-if (nat_le c.ifaces i) _ _ refl (untried-if (is_off (state_at c past i)) _ _ refl refl))
 
-pub tried_by : {P : Type 0} (c : BusConfig) (past : List Entry) (e : Event) (t : Tried) → reply.Tried t ≡ legal_reply c past e → ((m : ℕ) (v : Verdict) → WasTried c past m v t → P) → P
+pub tried_by : {P : Type 0} (c : BusConfig) (past : List Entry) (e : Event) (t : Tried) → reply.Attempted (attempt.Tried t) ≡ legal_reply c past e → ((m : ℕ) (v : Verdict) → WasTried c past m v t → P) → P
 tried_by {P = P} c past e t law k = by_attempt (λ f. P) c past e t law k
 
 -- ---- no more frames are gone than were sent, and no more are done than are gone
@@ -126,11 +127,11 @@ had-head : (c : BusConfig) (past : List Entry) (m : ℕ) (v : Verdict) (t : Trie
 had-head c past m v t i w here = subst (λ k. gone_count past k < length (sent_by past k)) (eqb-true t.winner i (and_parts (t.winner == i) (is_done t.class) here).0) (tried_had_head c past m v t w)
 
 gone-more : (c : BusConfig) (past : List Entry) (i : ℕ) (e : Event) (r : Reply) → r ≡ legal_reply c past e → gone_count past i ≤ length (sent_by past i) → gone_after r i (length (sent_by past i)) (gone_count past i) ≤ length (sent_by past i)
-gone-more c past i e (reply.Tried t) law le = tried_by c past e t law (λ m v w. gone-step (length (sent_by past i)) (gone_count past i) (is_in i t.off) ((t.winner == i) && is_done t.class) le (had-head c past m v t i w))
+gone-more c past i e (reply.Attempted (attempt.Tried t)) law le = tried_by c past e t law (λ m v w. gone-step (length (sent_by past i)) (gone_count past i) (is_in i t.off) ((t.winner == i) && is_done t.class) le (had-head c past m v t i w))
 gone-more c past i e _ law le = le
 
 done-more : (c : BusConfig) (past : List Entry) (i : ℕ) (e : Event) (r : Reply) → r ≡ legal_reply c past e → gone_count past i ≤ length (sent_by past i) → done_count past i ≤ gone_count past i → done_after r i (done_count past i) ≤ gone_after r i (length (sent_by past i)) (gone_count past i)
-done-more c past i e (reply.Tried t) law le le' = tried_by c past e t law (λ m v w. done-step (length (sent_by past i)) (gone_count past i) (done_count past i) (is_in i t.off) ((t.winner == i) && is_done t.class) le le' (had-head c past m v t i w))
+done-more c past i e (reply.Attempted (attempt.Tried t)) law le le' = tried_by c past e t law (λ m v w. done-step (length (sent_by past i)) (gone_count past i) (done_count past i) (is_in i t.off) ((t.winner == i) && is_done t.class) le le' (had-head c past m v t i w))
 done-more c past i e _ law le le' = le'
 
 pub gone-le-sent : (c : BusConfig) (past : List Entry) → IsLegal c past → (i : ℕ) → gone_count past i ≤ length (sent_by past i)
@@ -257,11 +258,11 @@ auto_restart_posts-le : (restarted : IfaceSet) (m i : ℕ) → length (auto_rest
 auto_restart_posts-le restarted m i = either-le (is_in i restarted) (error_posts i m (Some restart_message)) (error_posts-le i m (Some restart_message))
 
 posts_of-le : (c : BusConfig) (past : List Entry) (i : ℕ) (e : Event) (r : Reply) → length (posts_of c past i e r) ≤ 4
-posts_of-le c past i (Attempt m v) (reply.Tried t) =
+posts_of-le c past i (Attempt m v) (reply.Attempted (attempt.Tried t)) =
     let p = slice_get (sent_by past t.winner) t.number in
     let tr = transmission c past t.winner v in
     omega (arith, length-append (attempt_posts c.reporting tr t p i) (auto_restart_posts t.restarted m i), attempt_posts-le c.reporting tr t p i, auto_restart_posts-le t.restarted m i)
-posts_of-le c past i (Attempt m v) (reply.Idle restarted) = omega (arith, auto_restart_posts-le restarted m i)
+posts_of-le c past i (Attempt m v) (reply.Attempted (attempt.Idle restarted)) = omega (arith, auto_restart_posts-le restarted m i)
 posts_of-le c past i (Restart k m) reply.Done = omega (arith, restart_posts-le k m i)
 posts_of-le c past i _ _ = omega arith
 

@@ -14,6 +14,7 @@ use Rattle.can_event.specs.declared.reply.Reply.{Reply}
 use Rattle.can_event.specs.declared.reply.Reply.TheVariants as reply
 use Rattle.can_event.specs.declared.bus_config.BusConfig.{BusConfig}
 use Rattle.can_event.specs.declared.attempt.Tried.{Tried}
+use Rattle.can_event.specs.declared.attempt.Attempt.TheVariants as attempt
 use Rattle.can_bus.specs.Transmit.{sent_by, gone_count, gone_after, done_count, done_after, lost_count}
 use Rattle.can_bus.specs.Counters.{state_at, transmission}
 use Rattle.can_bus.specs.Legal.{legal_reply, IsLegal}
@@ -30,7 +31,7 @@ kept-if sent gone done false true is = omega arith
 kept-if sent gone done false false is = refl
 
 lost-step : (past : List Entry) (i : ℕ) (r : Reply) → goes_off i r ≡ false → gone_after r i (length (sent_by past i)) (gone_count past i) - done_after r i (done_count past i) ≡ gone_count past i - done_count past i
-lost-step past i (reply.Tried t) live = kept-if (length (sent_by past i)) (gone_count past i) (done_count past i) (is_in i t.off) ((t.winner == i) && is_done t.class) live
+lost-step past i (reply.Attempted (attempt.Tried t)) live = kept-if (length (sent_by past i)) (gone_count past i) (done_count past i) (is_in i t.off) ((t.winner == i) && is_done t.class) live
 lost-step past i _ live = refl
 
 pub lost-kept : (past : List Entry) (e : Entry) (i : ℕ) → goes_off i e.reply ≡ false → lost_count (e ∷ past) i ≡ lost_count past i
@@ -85,7 +86,7 @@ lost-if sent gone done true false fine is bad le le' = omega (arith, le, le')
 lost-if sent gone done false mine fine is bad le le' = cc
 
 lost-more : (c : BusConfig) (past : List Entry) (i : ℕ) (e : Event) (r : Reply) → IsLegal c past → r ≡ legal_reply c past e → goes_off i r ≡ true → gone_after r i (length (sent_by past i)) (gone_count past i) - done_after r i (done_count past i) ≡ lost_count past i + (length (sent_by past i) - gone_count past i)
-lost-more c past i e (reply.Tried t) legal law off =
+lost-more c past i e (reply.Attempted (attempt.Tried t)) legal law off =
     tried_by c past e t law (λ m v w. lost-if (length (sent_by past i)) (gone_count past i) (done_count past i) (is_in i t.off) (t.winner == i) (is_done t.class) off (not-done-off c past m v t i w off) (done-le-gone c past legal i) (gone-le-sent c past legal i))
 lost-more c past i e _ legal law off = cc
 

@@ -23,6 +23,7 @@ use Rattle.can_event.specs.declared.socket_id.SocketId.{SocketId}
 use Rattle.can_event.specs.declared.reply.Reply.{Reply}
 use Rattle.can_event.specs.declared.reply.Reply.TheVariants as reply
 use Rattle.can_event.specs.declared.attempt.Tried.{Tried}
+use Rattle.can_event.specs.declared.attempt.Attempt.TheVariants as attempt
 use Rattle.can_event.specs.Events.{max_long_limit}
 use Rattle.can_record.specs.Boxed.{needs_box, is_large, is_off_alone}
 use Rattle.can_record.specs.Journal.{Kept}
@@ -84,18 +85,18 @@ auto_restart-posts restarted m i = if-holds AreShort (is_in i restarted) _ _ (er
 gone-short : (c : BusConfig) (past : List Entry) → IsLegal c past → length past ≤ max_long_limit → (i : ℕ) → gone_count past i < 2 ^ 32
 gone-short c past legal few i = omega (arith, gone-le-sent c past legal i, sent_by-le past i)
 
-tried-short : (c : BusConfig) (past : List Entry) (m : ℕ) (v : Verdict) (t : Tried) → IsLegal c past → length past ≤ max_long_limit → reply.Tried t ≡ legal_reply c past (Attempt m v) → t.number < 2 ^ 32
+tried-short : (c : BusConfig) (past : List Entry) (m : ℕ) (v : Verdict) (t : Tried) → IsLegal c past → length past ≤ max_long_limit → reply.Attempted (attempt.Tried t) ≡ legal_reply c past (Attempt m v) → t.number < 2 ^ 32
 tried-short c past m v t legal few law =
     let was = was_tried c past m v t law in
     let is : t.number ≡ gone_count past was.place = ap (λ (u : Tried). u.number) was.is in
     omega (arith, is, gone-short c past legal few was.place)
 
 posts-short : (c : BusConfig) (past : List Entry) (i : ℕ) (e : Event) (r : Reply) → IsLegal c past → length past ≤ max_long_limit → r ≡ legal_reply c past e → AreShort (posts_of c past i e r)
-posts-short c past i (Attempt m v) (reply.Tried t) legal few law =
+posts-short c past i (Attempt m v) (reply.Attempted (attempt.Tried t)) legal few law =
     let p = slice_get (sent_by past t.winner) t.number in
     let tr = transmission c past t.winner v in
     All-append IsShortPost (attempt_posts c.reporting tr t p i) (auto_restart_posts t.restarted m i) (attempt-posts c.reporting tr t p i (tried-short c past m v t legal few law)) (auto_restart-posts t.restarted m i)
-posts-short c past i (Attempt m v) (reply.Idle restarted) legal few law = auto_restart-posts restarted m i
+posts-short c past i (Attempt m v) (reply.Attempted (attempt.Idle restarted)) legal few law = auto_restart-posts restarted m i
 posts-short c past i (Restart k m) reply.Done legal few law = if-holds AreShort (i == k) _ _ (error-posts i m (Some restart_message)) no-posts
 posts-short c past i _ _ legal few law = no-posts
 

@@ -15,6 +15,7 @@ use Rattle.can_event.specs.declared.reply.Reply.TheVariants as reply
 use Rattle.can_event.specs.declared.refusal.Refusal.TheVariants as refusal
 use Rattle.can_event.specs.declared.bus_config.BusConfig.{BusConfig}
 use Rattle.can_event.specs.declared.attempt.Tried.{Tried}
+use Rattle.can_event.specs.declared.attempt.Attempt.TheVariants as attempt
 use Rattle.can_event.specs.declared.pending.Pending.{Pending}
 use Rattle.can_bus.specs.Sockets.{open_sockets, is_open, iface_of, options_of}
 use Rattle.can_bus.specs.Transmit.{sent_by, sent_after, gone_count, gone_after, head_of}
@@ -132,13 +133,13 @@ abbrev AllGone : List Entry → ℕ → Event → Reply → Type 0
 AllGone past i e r = gone_after r i (length (sent_by past i)) (gone_count past i) ≡ length (sent_after past i e r (sent_by past i))
 
 off-step : (c : BusConfig) (past : List Entry) (i : ℕ) (e : Event) (r : Reply) → c.ifaces ≤ 16 → r ≡ legal_reply c past e → GoneIfOff c past i → off_with c past i e r ≡ true → AllGone past i e r
-off-step c past i e (reply.Tried t) few law before off =
-    by_attempt (λ k. off_with c past i k (reply.Tried t) ≡ true → AllGone past i k (reply.Tried t)) c past e t law (λ m v w h. when m v w (is_in i t.restarted) h) off
+off-step c past i e (reply.Attempted (attempt.Tried t)) few law before off =
+    by_attempt (λ k. off_with c past i k (reply.Attempted (attempt.Tried t)) ≡ true → AllGone past i k (reply.Attempted (attempt.Tried t))) c past e t law (λ m v w h. when m v w (is_in i t.restarted) h) off
   where
-    when : (m : ℕ) (v : Verdict) → WasTried c past m v t → (b : Bool) → is_off (state_of (all_stepped at_start (if b then [] else steps_of c past i ++ steps_at i (transmission c past t.winner v)))) ≡ true → AllGone past i (Attempt m v) (reply.Tried t)
+    when : (m : ℕ) (v : Verdict) → WasTried c past m v t → (b : Bool) → is_off (state_of (all_stepped at_start (if b then [] else steps_of c past i ++ steps_at i (transmission c past t.winner v)))) ≡ true → AllGone past i (Attempt m v) (reply.Attempted (attempt.Tried t))
     when m v w true h = cc
     when m v w false h = off-tried c past m v t i few w before (ap (λ (x : ErrorCounts). is_off (state_of x)) (sym (all_stepped-append at_start (steps_of c past i) (steps_at i (transmission c past t.winner v)))) ∙ h)
-off-step c past i (Attempt m v) (reply.Idle restarted) few law before off = when (is_in i restarted) off
+off-step c past i (Attempt m v) (reply.Attempted (attempt.Idle restarted)) few law before off = when (is_in i restarted) off
   where
     when : (b : Bool) → is_off (state_of (all_stepped at_start (if b then [] else steps_of c past i))) ≡ true → gone_count past i ≡ length (sent_by past i)
     when true h = cc
@@ -229,14 +230,14 @@ none-if true ss none = refl
 none-if false ss none = none
 
 steps-step : (c : BusConfig) (past : List Entry) (i : ℕ) (e : Event) (r : Reply) → r ≡ legal_reply c past e → c.ifaces ≤ i → steps_of c past i ≡ [] → steps_after c e r (counts_of c past) i (steps_of c past i) ≡ []
-steps-step c past i e (reply.Tried t) law above none =
-    by_attempt (λ k. steps_after c k (reply.Tried t) (counts_of c past) i (steps_of c past i) ≡ []) c past e t law
+steps-step c past i e (reply.Attempted (attempt.Tried t)) law above none =
+    by_attempt (λ k. steps_after c k (reply.Attempted (attempt.Tried t)) (counts_of c past) i (steps_of c past i) ≡ []) c past e t law
     (λ m v w.
     let who : t.winner ≡ w.place = ap (λ (u : Tried). u.winner) w.is in
     let below = (winner-contends c past w.place w.won).below in
     let other : (i == t.winner) ≡ false = ne_eqb i t.winner (λ same. absurd (omega (arith, same, who, below, above))) in
     none-if (is_in i t.restarted) _ (ap (λ ss. steps_of c past i ++ ss) (steps-nowhere (transmission c past t.winner v) i other above) ∙ append-nil (steps_of c past i) ∙ none))
-steps-step c past i (Attempt m v) (reply.Idle restarted) law above none = none-if (is_in i restarted) (steps_of c past i) none
+steps-step c past i (Attempt m v) (reply.Attempted (attempt.Idle restarted)) law above none = none-if (is_in i restarted) (steps_of c past i) none
 steps-step c past i (Restart k m) reply.Done law above none = when (k == i)
   where
     when : (b : Bool) → (if b then [] else steps_of c past i) ≡ []

@@ -18,6 +18,7 @@ use Rattle.can_event.specs.declared.reply.Reply.{Reply}
 use Rattle.can_event.specs.declared.reply.Reply.TheVariants as reply
 use Rattle.can_event.specs.declared.bus_config.BusConfig.{BusConfig}
 use Rattle.can_event.specs.declared.attempt.Tried.{Tried}
+use Rattle.can_event.specs.declared.attempt.Attempt.TheVariants as attempt
 use Rattle.can_event.specs.declared.pending.Pending.{Pending}
 use Rattle.can_bus.specs.Sockets.{Place, places, places_after, iface_of, iface_in}
 use Rattle.can_bus.specs.Transmit.{sent_by, sent_after}
@@ -96,7 +97,7 @@ abbrev AreDone : List Tried → Type 0
 AreDone ts = All (λ t. t.class ≡ class.Done) ts
 
 own-step : (c : BusConfig) (past : List Entry) (i s : ℕ) (e : Event) (r : Reply) → r ≡ legal_reply c past e → iface_of past s ≡ i → AreDone (copying c past i s) → AreDone (copying_after c past i s r (copying c past i s))
-own-step c past i s e (reply.Tried t) law own before =
+own-step c past i s e (reply.Attempted (attempt.Tried t)) law own before =
     all-if (λ (x : Tried). x.class ≡ class.Done) (here c past i s t) (copying c past i s) t before
     (λ is. tried_by c past e t law (λ m v w. own-done-tried c past m v t i s w own is))
 own-step c past i s e _ law own before = before
@@ -154,7 +155,7 @@ of_sent-new c past i s m v t w is =
     record { winner = mine; frame = ap (λ n. option_map (λ (p : Pending). p.frame) (slice_get (sent_by past i) n)) f.number ∙ f.frame }
 
 of_sent-step : (c : BusConfig) (past : List Entry) (i s : ℕ) (e : Event) (r : Reply) → r ≡ legal_reply c past e → All (IsOfSent past i) (copying c past i s) → All (IsOfSent past i) (copying_after c past i s r (copying c past i s))
-of_sent-step c past i s e (reply.Tried t) law before =
+of_sent-step c past i s e (reply.Attempted (attempt.Tried t)) law before =
     all-if (IsOfSent past i) (here c past i s t) (copying c past i s) t before
     (λ is. tried_by c past e t law (λ m v w. of_sent-new c past i s m v t w is))
 of_sent-step c past i s e _ law before = before

@@ -7,6 +7,7 @@ use Rattle.can_event.specs.declared.entry.Entry.{Entry}
 use Rattle.can_event.specs.declared.event.Event.{Event}
 use Rattle.can_event.specs.declared.event.Event.TheVariants.{Send, Receive}
 use Rattle.can_event.specs.declared.reply.Reply.{Reply}
+use Rattle.can_event.specs.declared.attempt.Attempt.TheVariants as attempt
 use Rattle.can_event.specs.declared.reply.Reply.TheVariants as reply
 use Rattle.can_event.specs.declared.refusal.Refusal.TheVariants as refusal
 use Rattle.can_event.specs.declared.bus_config.BusConfig.{BusConfig}
@@ -113,12 +114,12 @@ few-frames-step c past i (Send s f) (reply.Sent n) law le before = when (iface_o
         fewer : (a g n : ℕ) → (a - g == n) ≡ false → g ≤ a → a ≤ n + g → a < n + g
         fewer a g n differ le le' = grind (arith, differ, le, le')
     when false there p = before
-few-frames-step c past i e (reply.Tried t) law le before = sent-stays e
+few-frames-step c past i e (reply.Attempted (attempt.Tried t)) law le before = sent-stays e
   where
-    grows : gone_count past i ≤ gone_after (reply.Tried t) i (length (sent_by past i)) (gone_count past i)
+    grows : gone_count past i ≤ gone_after (reply.Attempted (attempt.Tried t)) i (length (sent_by past i)) (gone_count past i)
     grows = gone-grows-if (length (sent_by past i)) (gone_count past i) (is_in i t.off) ((t.winner == i) && is_done t.class) le
 
-    sent-stays : (k : Event) → length (sent_after past i k (reply.Tried t) (sent_by past i)) ≤ c.tx_capacity + gone_after (reply.Tried t) i (length (sent_by past i)) (gone_count past i)
+    sent-stays : (k : Event) → length (sent_after past i k (reply.Attempted (attempt.Tried t)) (sent_by past i)) ≤ c.tx_capacity + gone_after (reply.Attempted (attempt.Tried t)) i (length (sent_by past i)) (gone_count past i)
     sent-stays (Send s f) = omega (arith, grows, before)
     sent-stays _ = omega (arith, grows, before)
 few-frames-step c past i _ _ law le before = before

@@ -18,6 +18,7 @@ use Rattle.can_event.specs.declared.refusal.Refusal.TheVariants as refusal
 use Rattle.can_event.specs.declared.bus_config.BusConfig.{BusConfig}
 use Rattle.can_event.specs.declared.socket_id.SocketId.{SocketId}
 use Rattle.can_event.specs.declared.attempt.Tried.{Tried}
+use Rattle.can_event.specs.declared.attempt.Attempt.TheVariants as attempt
 use Rattle.can_bus.specs.Sockets.{is_open, iface_of, options_of}
 use Rattle.can_bus.specs.Counters.{counts_of, steps_of, steps_after, state_at, transmission}
 use Rattle.can_bus.specs.Legal.{lacks_fd, legal_reply, IsLegal}
@@ -56,10 +57,10 @@ silent-at c past m v t i w off same =
     let clash : true ≡ false = sym off ∙ ap (λ k. is_off (state_at c past k)) (sym is) ∙ live in
     cc
 
-pub off-not-winner : (c : BusConfig) (past : List Entry) (m : ℕ) (v : Verdict) (t : Tried) (i : ℕ) → reply.Tried t ≡ legal_reply c past (Attempt m v) → is_off (state_at c past i) ≡ true → t.winner ≢ i
+pub off-not-winner : (c : BusConfig) (past : List Entry) (m : ℕ) (v : Verdict) (t : Tried) (i : ℕ) → reply.Attempted (attempt.Tried t) ≡ legal_reply c past (Attempt m v) → is_off (state_at c past i) ≡ true → t.winner ≢ i
 off-not-winner c past m v t i law off = silent-at c past m v t i (was_tried c past m v t law) off
 
-pub off-accepts-nothing : (c : BusConfig) (past : List Entry) (m : ℕ) (v : Verdict) (t : Tried) (i : ℕ) → reply.Tried t ≡ legal_reply c past (Attempt m v) → is_off (state_at c past i) ≡ true → is_in i t.accepted ≡ false
+pub off-accepts-nothing : (c : BusConfig) (past : List Entry) (m : ℕ) (v : Verdict) (t : Tried) (i : ℕ) → reply.Attempted (attempt.Tried t) ≡ legal_reply c past (Attempt m v) → is_off (state_at c past i) ≡ true → is_in i t.accepted ≡ false
 off-accepts-nothing c past m v t i law off =
     let w : WasTried c past m v t = was_tried c past m v t law in
     let tr = transmission c past w.place v in
@@ -71,14 +72,14 @@ steps-none : (t : Transmission) (i : ℕ) → (i == t.winner) ≡ false → is_a
 steps-none t i other among = rw (other, among) refl
 
 pub steps-stay : (c : BusConfig) (past : List Entry) (i : ℕ) (e : Event) (r : Reply) → r ≡ legal_reply c past e → is_off (state_at c past i) ≡ true → is_restart_of i e r ≡ false → steps_after c e r (counts_of c past) i (steps_of c past i) ≡ steps_of c past i
-steps-stay c past i e (reply.Tried t) law off other =
-    by_attempt (λ k. steps_after c k (reply.Tried t) (counts_of c past) i (steps_of c past i) ≡ steps_of c past i) c past e t law
+steps-stay c past i e (reply.Attempted (attempt.Tried t)) law off other =
+    by_attempt (λ k. steps_after c k (reply.Attempted (attempt.Tried t)) (counts_of c past) i (steps_of c past i) ≡ steps_of c past i) c past e t law
     (λ m v w.
     let apart : (i == t.winner) ≡ false = ne_eqb i t.winner (λ same. silent-at c past m v t i w off (sym same)) in
     ap (λ b. if b then [] else steps_of c past i ++ steps_at i (transmission c past t.winner v)) other
     ∙ ap (λ ss. steps_of c past i ++ ss) (steps-none (transmission c past t.winner v) i apart (no_receiver (transmission c past t.winner v) i off))
     ∙ append-nil (steps_of c past i))
-steps-stay c past i (Attempt m v) (reply.Idle restarted) law off other = ap (λ b. if b then [] else steps_of c past i) other
+steps-stay c past i (Attempt m v) (reply.Attempted (attempt.Idle restarted)) law off other = ap (λ b. if b then [] else steps_of c past i) other
 steps-stay c past i (Restart k m) reply.Done law off other = ap (λ b. if b then [] else steps_of c past i) other
 steps-stay c past i (Open j n) _ law off other = refl
 steps-stay c past i (Close s) _ law off other = refl

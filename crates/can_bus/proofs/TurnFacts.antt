@@ -19,6 +19,7 @@ use Rattle.can_event.specs.declared.reply.Reply.TheVariants as reply
 use Rattle.can_event.specs.declared.bus_config.BusConfig.{BusConfig}
 use Rattle.can_event.specs.declared.received.Received.{Received}
 use Rattle.can_event.specs.declared.attempt.Tried.{Tried}
+use Rattle.can_event.specs.declared.attempt.Attempt.TheVariants as attempt
 use Rattle.can_event.specs.declared.pending.Pending.{Pending}
 use Rattle.can_bus.specs.Sockets.{is_open, iface_of, filters_of, options_of}
 use Rattle.can_bus.specs.Transmit.{sent_by, gone_count, gone_after}
@@ -165,11 +166,11 @@ gone-grows-if sent gone true mine le = le
 gone-grows-if sent gone false true le = omega arith
 gone-grows-if sent gone false false le = omega arith
 
-follow-tried : (c : BusConfig) (past : List Entry) (i s m : ℕ) (v : Verdict) (t : Tried) → WasTried c past m v t → gone_count past i ≤ length (sent_by past i) → Follow 0 (gone_count past i) (copying c past i s) → Follow 0 (gone_after (reply.Tried t) i (length (sent_by past i)) (gone_count past i)) (copying_after c past i s (reply.Tried t) (copying c past i s))
+follow-tried : (c : BusConfig) (past : List Entry) (i s m : ℕ) (v : Verdict) (t : Tried) → WasTried c past m v t → gone_count past i ≤ length (sent_by past i) → Follow 0 (gone_count past i) (copying c past i s) → Follow 0 (gone_after (reply.Attempted (attempt.Tried t)) i (length (sent_by past i)) (gone_count past i)) (copying_after c past i s (reply.Attempted (attempt.Tried t)) (copying c past i s))
 follow-tried c past i s m v t w le before = when (here c past i s t) refl
   where
     after : ℕ
-    after = gone_after (reply.Tried t) i (length (sent_by past i)) (gone_count past i)
+    after = gone_after (reply.Attempted (attempt.Tried t)) i (length (sent_by past i)) (gone_count past i)
 
     when : (b : Bool) → here c past i s t ≡ b → Follow 0 after (if b then copying c past i s ++ t ∷ [] else copying c past i s)
     when true is =
@@ -182,7 +183,7 @@ follow-tried c past i s m v t w le before = when (here c past i s t) refl
     when false is = Follow-more 0 (gone_count past i) after (copying c past i s) (gone-grows-if (length (sent_by past i)) (gone_count past i) (is_in i t.off) ((t.winner == i) && is_done t.class) le) before
 
 follow-step : (c : BusConfig) (past : List Entry) (i s : ℕ) (e : Event) (r : Reply) → r ≡ legal_reply c past e → gone_count past i ≤ length (sent_by past i) → Follow 0 (gone_count past i) (copying c past i s) → Follow 0 (gone_after r i (length (sent_by past i)) (gone_count past i)) (copying_after c past i s r (copying c past i s))
-follow-step c past i s e (reply.Tried t) law le before = tried_by c past e t law (λ m v w. follow-tried c past i s m v t w le before)
+follow-step c past i s e (reply.Attempted (attempt.Tried t)) law le before = tried_by c past e t law (λ m v w. follow-tried c past i s m v t w le before)
 follow-step c past i s e _ law le before = before
 
 follow : (c : BusConfig) (past : List Entry) → IsLegal c past → (i s : ℕ) → Follow 0 (gone_count past i) (copying c past i s)

@@ -11,6 +11,7 @@ use Rattle.can_event.specs.declared.pending.Pending.{Pending}
 use Rattle.can_event.specs.declared.reply.Reply.{Reply}
 use Rattle.can_event.specs.declared.reply.Reply.TheVariants as reply
 use Rattle.can_event.specs.declared.attempt.Tried.{Tried}
+use Rattle.can_event.specs.declared.attempt.Attempt.TheVariants as attempt
 use Rattle.can_bus.specs.Transmit.{gone_count, head_of}
 use Rattle.can_bus.specs.Counters.{state_at, transmission}
 use Rattle.can_bus.specs.AutoRestart.{restarted_next}
@@ -53,10 +54,10 @@ tried_with c past m v w frame =
 
 -- the reply to an attempt that interface w wins, whose oldest frame is this (own choice)
 abbrev pub tried_head : BusConfig → List Entry → ℕ → Verdict → ℕ → Option Pending → Reply
-tried_head c past m v w None = reply.Idle (restarted_next c past)
-tried_head c past m v w (Some p) = reply.Tried (tried_with c past m v w p.frame)
+tried_head c past m v w None = reply.Attempted (attempt.Idle (restarted_next c past))
+tried_head c past m v w (Some p) = reply.Attempted (attempt.Tried (tried_with c past m v w p.frame))
 
 -- idle exactly where no live interface has a frame to send
 abbrev pub attempt_reply : BusConfig → List Entry → ℕ → Verdict → Option ℕ → Reply
-attempt_reply c past m v None = reply.Idle (restarted_next c past)
+attempt_reply c past m v None = reply.Attempted (attempt.Idle (restarted_next c past))
 attempt_reply c past m v (Some w) = tried_head c past m v w (head_of past w)

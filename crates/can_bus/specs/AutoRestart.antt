@@ -10,6 +10,7 @@ use Rattle.can_event.specs.declared.entry.Entry.{Entry}
 use Rattle.can_event.specs.declared.event.Event.{Event}
 use Rattle.can_event.specs.declared.event.Event.TheVariants.{Restart}
 use Rattle.can_event.specs.declared.reply.Reply.{Reply}
+use Rattle.can_event.specs.declared.attempt.Attempt.TheVariants as attempt
 use Rattle.can_event.specs.declared.reply.Reply.TheVariants as reply
 
 -- Automatic restart: an interface that went bus off comes back by itself in the n-th attempt after that, where
@@ -17,8 +18,9 @@ use Rattle.can_event.specs.declared.reply.Reply.TheVariants as reply
 
 -- attempts_off after one more entry (own choice)
 abbrev pub attempts_off_after : Event → Reply → ℕ → Option ℕ → Option ℕ
-attempts_off_after e (reply.Idle restarted) i before = if is_in i restarted then None else option_map suc before
-attempts_off_after e (reply.Tried t) i before =
+attempts_off_after e (reply.Attempted (attempt.Idle restarted)) i before =
+    if is_in i restarted then None else option_map suc before
+attempts_off_after e (reply.Attempted (attempt.Tried t)) i before =
     if is_in i t.restarted then None else if is_in i t.off then Some 0 else option_map suc before
 attempts_off_after (Restart k m) reply.Done i before = if k == i then None else before
 attempts_off_after _ _ i before = before

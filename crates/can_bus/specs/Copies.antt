@@ -14,6 +14,7 @@ use Rattle.can_event.specs.declared.received.Received.{Received}
 use Rattle.can_event.specs.declared.reply.Reply.{Reply}
 use Rattle.can_event.specs.declared.reply.Reply.TheVariants as reply
 use Rattle.can_event.specs.declared.attempt.Tried.{Tried}
+use Rattle.can_event.specs.declared.attempt.Attempt.TheVariants as attempt
 use Rattle.can_bus.specs.Sockets.{is_open, iface_of, capacity_of, filters_of, options_of}
 use Rattle.can_bus.specs.Transmit.{sent_by}
 use Rattle.can_bus.specs.Posts.{is_looped_back, is_own, sender_in}
@@ -65,7 +66,7 @@ is_copied c past s t p =
 
 -- copying after one more entry (own choice)
 abbrev pub copying_after : BusConfig → List Entry → ℕ → ℕ → Reply → List Tried → List Tried
-copying_after c past i s (reply.Tried t) before =
+copying_after c past i s (reply.Attempted (attempt.Tried t)) before =
     if is_copied c past s t (slice_get (sent_by past t.winner) t.number) && (t.winner == i) then before ++ t ∷ []
     else before
 copying_after c past i s _ before = before

@@ -9,6 +9,7 @@ use Rattle.can_event.specs.declared.entry.Entry.{Entry}
 use Rattle.can_event.specs.declared.event.Event.{Event}
 use Rattle.can_event.specs.declared.event.Event.TheVariants.{Attempt, Restart}
 use Rattle.can_event.specs.declared.reply.Reply.{Reply}
+use Rattle.can_event.specs.declared.attempt.Attempt.TheVariants as attempt
 use Rattle.can_event.specs.declared.reply.Reply.TheVariants as reply
 
 -- The error counters of a bus's interfaces, by its history (Bosch CAN Specification 2.0, fault confinement).
@@ -19,9 +20,10 @@ sending c counts w v = record { count = c.ifaces; counts = counts; winner = w; v
 
 -- steps_of after one more entry (own choice)
 abbrev pub steps_after : BusConfig → Event → Reply → (ℕ → ErrorCounts) → ℕ → List Step → List Step
-steps_after c (Attempt m v) (reply.Tried t) counts i before =
+steps_after c (Attempt m v) (reply.Attempted (attempt.Tried t)) counts i before =
     if is_in i t.restarted then [] else before ++ steps_at i (sending c counts t.winner v)
-steps_after c (Attempt m v) (reply.Idle restarted) counts i before = if is_in i restarted then [] else before
+steps_after c (Attempt m v) (reply.Attempted (attempt.Idle restarted)) counts i before =
+    if is_in i restarted then [] else before
 steps_after c (Restart k m) reply.Done counts i before = if k == i then [] else before
 steps_after c _ _ counts i before = before
 

@@ -10,6 +10,7 @@ use Rattle.can_event.specs.declared.reply.Reply.TheVariants as reply
 use Rattle.can_event.specs.declared.reply.Closed.{Closed}
 use Rattle.can_event.specs.declared.socket_id.SocketId.{SocketId}
 use Rattle.can_event.specs.declared.attempt.Tried.{Tried}
+use Rattle.can_event.specs.declared.attempt.Attempt.TheVariants as attempt
 use Rattle.can_attempt.specs.Attempts.{is_done}
 use Rattle.can_bus.specs.Transmit.{sent_by, gone_count}
 use Rattle.can_record.specs.Tapes.{tape}
@@ -43,7 +44,7 @@ frames_with fate past i = count_by (λ n. is_fate (fate_of past i n) fate) (rang
 
 -- interface i goes bus off in an attempt
 abbrev pub goes_off : ℕ → Reply → Bool
-goes_off i (reply.Tried t) = is_in i t.off
+goes_off i (reply.Attempted (attempt.Tried t)) = is_in i t.off
 goes_off i _ = false
 
 -- numbers_given after one more entry (own choice)
@@ -66,7 +67,7 @@ closing s counts = record { event = Close s; reply = reply.Closed counts }
 
 -- interface i is restarted, by hand or by an attempt
 abbrev pub is_restart_of : ℕ → Event → Reply → Bool
-is_restart_of i e (reply.Idle restarted) = is_in i restarted
-is_restart_of i e (reply.Tried t) = is_in i t.restarted
+is_restart_of i e (reply.Attempted (attempt.Idle restarted)) = is_in i restarted
+is_restart_of i e (reply.Attempted (attempt.Tried t)) = is_in i t.restarted
 is_restart_of i (Restart k m) r = k == i
 is_restart_of i _ _ = false

@@ -21,6 +21,7 @@ use Rattle.can_event.specs.declared.reply.Reply.{Reply}
 use Rattle.can_event.specs.declared.reply.Reply.TheVariants as reply
 use Rattle.can_event.specs.declared.socket_id.SocketId.{SocketId}
 use Rattle.can_event.specs.declared.attempt.Tried.{Tried}
+use Rattle.can_event.specs.declared.attempt.Attempt.TheVariants as attempt
 use Rattle.can_bus.specs.Transmit.{sent_by}
 use Rattle.can_bus.specs.Counters.{transmission}
 use Rattle.can_event.specs.Events.{tried_item}
@@ -95,10 +96,10 @@ auto_restart_posts restarted m i = if is_in i restarted then error_posts i m (So
 
 -- what an entry puts to the sockets of interface i, in order
 abbrev pub posts_of : BusConfig → List Entry → ℕ → Event → Reply → List Post
-posts_of c past i (Attempt m v) (reply.Tried t) =
+posts_of c past i (Attempt m v) (reply.Attempted (attempt.Tried t)) =
     attempt_posts c.reporting (transmission c past t.winner v) t (slice_get (sent_by past t.winner) t.number) i
     ++ auto_restart_posts t.restarted m i
-posts_of c past i (Attempt m v) (reply.Idle restarted) = auto_restart_posts restarted m i
+posts_of c past i (Attempt m v) (reply.Attempted (attempt.Idle restarted)) = auto_restart_posts restarted m i
 posts_of c past i (Restart k m) reply.Done = restart_posts k m i
 posts_of c past i _ _ = []
 

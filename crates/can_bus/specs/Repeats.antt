@@ -7,6 +7,7 @@ use Rattle.can_event.specs.declared.event.Event.TheVariants.{Attempt}
 use Rattle.can_event.specs.declared.pending.Pending.{Pending}
 use Rattle.can_event.specs.declared.reply.Reply.TheVariants as reply
 use Rattle.can_event.specs.declared.attempt.Tried.{Tried}
+use Rattle.can_event.specs.declared.attempt.Attempt.TheVariants as attempt
 use Rattle.can_bus.specs.Transmit.{gone_count, head_of}
 use Rattle.can_bus.specs.Counters.{counts_of}
 use Rattle.can_bus.specs.Queues.{queued_to}
@@ -36,10 +37,11 @@ RisesAtTheHead c e past =
 -- an attempt that failed only at the last bit adds 8 to the transmit error count of its winner
 abbrev pub LastBitAdds8 : BusConfig → Entry → List Entry → Type 0
 LastBitAdds8 c e past =
-    (t : Tried) → e.reply ≡ reply.Tried t → t.class ≡ class.LastBit
+    (t : Tried) → e.reply ≡ reply.Attempted (attempt.Tried t) → t.class ≡ class.LastBit
     → transmit_count c (e ∷ past) t.winner ≡ transmit_count c past t.winner + 8
 
 -- an attempt that failed only at the last bit of end of frame had that fault, and no other
 abbrev pub HadThatFaultAlone : Entry → Type 0
 HadThatFaultAlone e =
-    (t : Tried) → e.reply ≡ reply.Tried t → t.class ≡ class.LastBit → e.event ≡ Attempt t.moment verdict.LastBit
+    (t : Tried) → e.reply ≡ reply.Attempted (attempt.Tried t) → t.class ≡ class.LastBit
+    → e.event ≡ Attempt t.moment verdict.LastBit

@@ -3,6 +3,7 @@ use Rattle.can_frame.specs.Sets.{is_in}
 use Rattle.can_event.specs.declared.event.Event.{Event}
 use Rattle.can_event.specs.declared.event.Event.TheVariants.{Send}
 use Rattle.can_event.specs.declared.reply.Reply.{Reply}
+use Rattle.can_event.specs.declared.attempt.Attempt.TheVariants as attempt
 use Rattle.can_event.specs.declared.reply.Reply.TheVariants as reply
 use Rattle.can_event.specs.declared.refusal.Refusal.TheVariants as refusal
 use Rattle.can_event.specs.declared.entry.Entry.{Entry}
@@ -28,7 +29,7 @@ sent_by (e ∷ past) i = sent_after past i e.event e.reply (sent_by past i)
 
 -- gone_count after one more entry, where this many frames were sent (own choice)
 abbrev pub gone_after : Reply → ℕ → ℕ → ℕ → ℕ
-gone_after (reply.Tried t) i sent before =
+gone_after (reply.Attempted (attempt.Tried t)) i sent before =
     if is_in i t.off then sent else if (t.winner == i) && is_done t.class then before + 1 else before
 gone_after _ i sent before = before
 
@@ -48,7 +49,8 @@ head_of past i = slice_get (sent_by past i) (gone_count past i)
 
 -- done_count after one more entry (own choice)
 abbrev pub done_after : Reply → ℕ → ℕ → ℕ
-done_after (reply.Tried t) i before = if (t.winner == i) && is_done t.class then before + 1 else before
+done_after (reply.Attempted (attempt.Tried t)) i before =
+    if (t.winner == i) && is_done t.class then before + 1 else before
 done_after _ i before = before
 
 -- how many frames of interface i are done: its attempts of class Done

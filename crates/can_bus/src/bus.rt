@@ -1,6 +1,6 @@
 ghost use Rattle.std.specs.Prelude.{◌≡◌, ◌≢◌, ◌<◌, true, [], length, Ok, IfOk, OnOk, ◌↔◌};
 ghost use Rattle.can_bus.specs.Answer.{Answers};
-ghost use Rattle.can_record.specs.Outcomes.{done_reply, told_attempt};
+ghost use Rattle.can_record.specs.Outcomes.{done_reply};
 ghost use Rattle.can_bus.specs.Attempts.{winner};
 ghost use Rattle.can_bus.specs.AutoRestart.{is_counting};
 ghost use Rattle.can_bus.specs.Headline.{Headline};
@@ -298,7 +298,7 @@ impl<T: BoundedQueue<Pending>, R: BoundedQueue<Received>, A: Arbiter> Bus<T, R, 
     ///
     /// It costs a look at each interface and at each open socket. Refusal: `RecordFull`.
     pub fn attempt(&mut self, moment: Moment, verdict: Verdict) -> Result<Attempt, Refusal>
-        ensures { Answers told_attempt self.old (event.Attempt moment verdict) result self.new }
+        ensures { Answers reply.Attempted self.old (event.Attempt moment verdict) result self.new }
     {
         if self.record.is_full() {
             return Err(Refusal::RecordFull);

@@ -27,6 +27,7 @@ ghost use Rattle.can_event.specs.declared.reply.Reply.TheVariants as reply;
 ghost use Rattle.can_event.specs.declared.refusal.Refusal.TheVariants as refusal;
 ghost use Rattle.can_event.specs.declared.entry.Entry.{Entry};
 ghost use Rattle.can_event.specs.declared.attempt.Tried.{Tried};
+ghost use Rattle.can_event.specs.declared.attempt.Attempt.TheVariants as attempt;
 
 use can_event::BusConfig;
 
@@ -213,10 +214,10 @@ pub fn off_interfaces_have_nothing_to_send(config: BusConfig)
 /// error counts stay until it is restarted.
 pub fn off_interfaces_take_no_part(config: BusConfig)
     ensures wins { (past : List Entry) → (m : ℕ) → (v : Verdict) → (t : Tried) →
-        reply.Tried t ≡ legal_reply config past (event.Attempt m v) → (i : ℕ) →
+        reply.Attempted (attempt.Tried t) ≡ legal_reply config past (event.Attempt m v) → (i : ℕ) →
         is_off (state_at config past i) ≡ true → t.winner ≢ i }
     ensures accepts { (past : List Entry) → (m : ℕ) → (v : Verdict) → (t : Tried) →
-        reply.Tried t ≡ legal_reply config past (event.Attempt m v) → (i : ℕ) →
+        reply.Attempted (attempt.Tried t) ≡ legal_reply config past (event.Attempt m v) → (i : ℕ) →
         is_off (state_at config past i) ≡ true → is_in i t.accepted ≡ false }
     ensures sends { (past : List Entry) → (s : SocketId) → (f : CanFrame) →
         is_open past s.0 ≡ true → lacks_fd f (options_of past s.0) ≡ false →
@@ -233,11 +234,12 @@ pub fn off_interfaces_take_no_part(config: BusConfig)
 /// An attempt tries the frame that was next, of the interface that had it, and is idle where there was none.
 pub fn attempts_try_what_is_next(config: BusConfig)
     ensures tried { (past : List Entry) → (m : ℕ) → (v : Verdict) → (t : Tried) →
-        reply.Tried t ≡ legal_reply config past (event.Attempt m v) →
+        reply.Attempted (attempt.Tried t) ≡ legal_reply config past (event.Attempt m v) →
         next_head config past ≡ Some (t.winner, t.frame) }
     ensures idle { (past : List Entry) → (m : ℕ) → (v : Verdict) →
         next_head config past ≡ None →
-        legal_reply config past (event.Attempt m v) ≡ reply.Idle (restarted_next config past) }
+        legal_reply config past (event.Attempt m v)
+        ≡ reply.Attempted (attempt.Idle (restarted_next config past)) }
 {}
 
 /// Nothing is sent on an interface that is not there, and its error counts stay 0/0.

@@ -5,7 +5,7 @@ ghost use Rattle.can_bus.specs.Legal.{IsLegal};
 
 use crate::bus::Bus;
 use can_arbiter::Arbiter;
-use can_event::{Event, Pending, Received, Reply};
+use can_event::{Attempt, Event, Pending, Received, Reply};
 use can_frame::Item;
 use can_queue::BoundedQueue;
 use std::alloc::Global;
@@ -26,7 +26,7 @@ fn note(replies: &mut Vec<Reply>, reply: Reply)
     ensures room { vec_capacity replies.old ≤ vec_capacity replies.new }
 {
     // The checker has to meet the types inside a reply before a vector takes one.
-    let _types: Option<(Item, Received)> = None;
+    let _types: Option<(Attempt, Item, Received)> = None;
     let _ = replies.push(reply);
 }
 

@@ -17,7 +17,7 @@ use can_confine::Counters;
 use can_event::{BusConfig, Event, Pending, Received, Reply};
 use can_frame::{Frame, Iface};
 use can_queue::{BoundedQueue, QueueError, RingQueue};
-use can_record::{attempt_reply, sent_reply};
+use can_record::sent_reply;
 use std::alloc::Global;
 use std::marker::Model;
 
@@ -102,7 +102,7 @@ impl<T: BoundedQueue<Pending>, R: BoundedQueue<Received>, A: Arbiter> State<T, R
             Event::Send(id, frame) => sent_reply(&self.send(*id, *frame)),
             Event::Receive(id) => self.receive(*id),
             Event::Attempt(moment, verdict) => {
-                attempt_reply(&self.attempt(config, *moment, *verdict))
+                Reply::Attempted(self.attempt(config, *moment, *verdict))
             }
             Event::Restart(iface, moment) => self.restart(*iface, *moment),
         }

@@ -6,7 +6,6 @@ use Rattle.can_confine.specs.Confinement.{ErrorCounts}
 use Rattle.can_event.specs.declared.socket_id.SocketId.{SocketId}
 use Rattle.can_event.specs.declared.opt.Opt.{Opt}
 use Rattle.can_event.specs.declared.attempt.Attempt.{Attempt as AnAttempt}
-use Rattle.can_event.specs.declared.attempt.Attempt.TheVariants as attempt
 use Rattle.can_event.specs.declared.reply.Closed.{Closed}
 use Rattle.can_event.specs.declared.event.Event.{Event}
 use Rattle.can_event.specs.declared.event.Event.TheVariants as event
@@ -108,10 +107,7 @@ Gives step old (event.SetFilters socket filters) reply.Done new = step old (SetF
 Gives step old (event.SetOption socket option) reply.Done new = step old (SetOption socket option) (Ok tt) new
 Gives step old (event.Send socket frame) (reply.Sent number) new = step old (Send socket frame) (Ok number) new
 Gives step old (event.Receive socket) (reply.Received item) new = step old (Receive socket) (Ok item) new
-Gives step old (event.Attempt moment verdict) (reply.Idle restarted) new =
-    step old (Attempt moment verdict) (Ok (attempt.Idle restarted)) new
-Gives step old (event.Attempt moment verdict) (reply.Tried tried) new =
-    step old (Attempt moment verdict) (Ok (attempt.Tried tried)) new
+Gives step old (event.Attempt moment verdict) (reply.Attempted a) new = step old (Attempt moment verdict) (Ok a) new
 Gives step old (event.Restart iface moment) reply.Done new = step old (Restart iface moment) (Ok tt) new
 Gives step old e r new = ⊥
 

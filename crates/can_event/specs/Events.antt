@@ -11,13 +11,14 @@ use Rattle.can_event.specs.declared.received.Received.{Received}
 use Rattle.can_event.specs.declared.reply.Reply.{Reply}
 use Rattle.can_event.specs.declared.reply.Reply.TheVariants as reply
 use Rattle.can_event.specs.declared.attempt.Tried.{Tried}
+use Rattle.can_event.specs.declared.attempt.Attempt.TheVariants as attempt
 
 -- The limits of a configuration, and what the plain types of a bus say of themselves.
 
 -- the interfaces that a reply names as restarted by its attempt
 abbrev pub restarted_in : Reply → IfaceSet
-restarted_in (reply.Idle restarted) = restarted
-restarted_in (reply.Tried t) = t.restarted
+restarted_in (reply.Attempted (attempt.Idle restarted)) = restarted
+restarted_in (reply.Attempted (attempt.Tried t)) = t.restarted
 restarted_in _ = no_ifaces
 
 -- how many frames wait at most in a transmit queue (the product's own limit, as in the manual page)

@@ -78,3 +78,9 @@ abbrev pub IsReceiveReply : Reply → Type 0
 IsReceiveReply (reply.Received item) = Unit {0}
 IsReceiveReply (reply.Refused why) = Unit {0}
 IsReceiveReply _ = ⊥
+
+-- the reply to an attempt (own choice)
+abbrev pub IsAttemptReply : Reply → Type 0
+IsAttemptReply (reply.Attempted a) = Unit {0}
+IsAttemptReply (reply.Refused why) = Unit {0}
+IsAttemptReply _ = ⊥

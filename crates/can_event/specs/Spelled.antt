@@ -12,6 +12,7 @@ use Rattle.can_event.specs.declared.received.Received.{Received}
 use Rattle.can_event.specs.declared.refusal.Refusal.{Refusal}
 use Rattle.can_event.specs.declared.refusal.Refusal.TheVariants as refusal
 use Rattle.can_event.specs.declared.reply.Reply.{Reply}
+use Rattle.can_event.specs.declared.attempt.Attempt.TheVariants as attempt
 use Rattle.can_event.specs.declared.reply.Reply.TheVariants as reply
 use Rattle.can_event.specs.Events.{IsConfig, restarted_in}
 
@@ -61,8 +62,8 @@ FitsReply (SetFilters s filters) reply.Done = Unit {0}
 FitsReply (SetOption s option) reply.Done = Unit {0}
 FitsReply (Send s frame) (reply.Sent n) = Unit {0}
 FitsReply (Receive s) (reply.Received item) = AreNumbered item
-FitsReply (Attempt m v) (reply.Idle restarted) = Unit {0}
-FitsReply (Attempt m v) (reply.Tried t) = t.moment ≡ m
+FitsReply (Attempt m v) (reply.Attempted (attempt.Idle restarted)) = Unit {0}
+FitsReply (Attempt m v) (reply.Attempted (attempt.Tried t)) = t.moment ≡ m
 FitsReply (Restart i m) reply.Done = Unit {0}
 FitsReply _ _ = ⊥
 

@@ -1,12 +1,11 @@
 ghost use Rattle.std.specs.Prelude.{◌≡◌};
-ghost use Rattle.can_event.specs.Replies.{IsCloseReply, IsDoneReply, IsOpenReply, IsReceiveReply, IsSendReply, enters, told};
+ghost use Rattle.can_event.specs.Replies.{IsAttemptReply, IsCloseReply, IsDoneReply, IsOpenReply, IsReceiveReply, IsSendReply, enters, told};
 ghost use Rattle.can_event.specs.declared.reply.Reply.TheVariants as reply;
 
-use crate::attempt::Tried;
+use crate::attempt::Attempt;
 use crate::received::Received;
 use crate::refusal::Refusal;
 use crate::socket_id::SocketId;
-use can_frame::IfaceSet;
 
 /// What was left at a close of a socket: items that nobody took, and items that found no room.
 #[derive(Debug, Clone, Copy, PartialEq, Eq)]
@@ -28,10 +27,8 @@ pub enum Reply {
     Sent(u64),
     /// The oldest item, or none.
     Received(Option<Received>),
-    /// No live interface had a frame to send, and these were restarted.
-    Idle { restarted: IfaceSet },
-    /// A frame was tried.
-    Tried(Tried),
+    /// An attempt was made, and came to this.
+    Attempted(Attempt),
     /// The call was refused.
     Refused(Refusal),
 }
@@ -102,6 +99,18 @@ impl Reply {
     {
         match self {
             Reply::Received(item) => Ok(item),
+            Reply::Refused(why) => Err(why),
+            _ => unreachable!(),
+        }
+    }
+
+    /// What an `Attempt` came to.
+    pub fn into_attempted(self) -> Result<Attempt, Refusal>
+        requires { IsAttemptReply self }
+        ensures { self ≡ told reply.Attempted result }
+    {
+        match self {
+            Reply::Attempted(attempt) => Ok(attempt),
             Reply::Refused(why) => Err(why),
             _ => unreachable!(),
         }

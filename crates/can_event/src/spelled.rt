@@ -1,8 +1,9 @@
 ghost use Rattle.std.specs.Prelude.{IsTrue, ◌↔◌};
 ghost use Rattle.can_event.specs.Spelled.{SendsFd, MayRefuse, IsNumbered, AreNumbered, FitsReply, MayRestart, IsSpelled};
+ghost use Rattle.can_event.specs.declared.attempt.Attempt.TheVariants as attempt;
 ghost use Rattle.can_event.specs.declared.reply.Reply.TheVariants as reply;
 
-use crate::attempt::Tried;
+use crate::attempt::{Attempt, Tried};
 use crate::bus_config::BusConfig;
 use crate::entry::Entry;
 use crate::event::Event;
@@ -26,8 +27,8 @@ fn may_restart(config: BusConfig, reply: &Reply) -> bool
     ensures { IsTrue result ↔ MayRestart config reply.now }
 {
     let restarted = match reply {
-        Reply::Idle { restarted } => *restarted,
-        Reply::Tried(tried) => tried.restarted,
+        Reply::Attempted(Attempt::Idle { restarted }) => *restarted,
+        Reply::Attempted(Attempt::Tried(tried)) => tried.restarted,
         _ => IfaceSet::empty(),
     };
     config.auto_restart != 0 || restarted.is_empty()
@@ -44,8 +45,8 @@ fn fits_reply(event: &Event, reply: &Reply) -> bool
         Reply::Done => is_setting(event),
         Reply::Sent(_) => matches!(event, Event::Send(_, _)),
         Reply::Received(item) => matches!(event, Event::Receive(_)) && are_numbered(item),
-        Reply::Idle { .. } => matches!(event, Event::Attempt(_, _)),
-        Reply::Tried(tried) => is_attempt_of(event, tried),
+        Reply::Attempted(Attempt::Idle { .. }) => matches!(event, Event::Attempt(_, _)),
+        Reply::Attempted(Attempt::Tried(tried)) => is_attempt_of(event, tried),
     }
 }
 
@@ -63,7 +64,7 @@ fn is_setting(event: &Event) -> bool
 
 /// Whether this event is an attempt, at the moment at which the frame was tried.
 fn is_attempt_of(event: &Event, tried: &Tried) -> bool
-    ensures { IsTrue result ↔ FitsReply event.now (reply.Tried tried.now) }
+    ensures { IsTrue result ↔ FitsReply event.now (reply.Attempted (attempt.Tried tried.now)) }
 {
     match event {
         Event::Attempt(moment, _) => tried.moment == *moment,

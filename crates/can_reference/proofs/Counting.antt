@@ -14,6 +14,7 @@ use Rattle.can_event.specs.declared.reply.Reply.{Reply}
 use Rattle.can_event.specs.declared.reply.Reply.TheVariants as reply
 use Rattle.can_event.specs.declared.refusal.Refusal.TheVariants as refusal
 use Rattle.can_event.specs.declared.attempt.Tried.{Tried}
+use Rattle.can_event.specs.declared.attempt.Attempt.TheVariants as attempt
 use Rattle.can_frame.specs.declared.iface.IfaceSet.{IfaceSet}
 use Rattle.can_frame.specs.Sets.{is_in}
 use Rattle.can_bus.specs.Changes.{begun_anew}
@@ -54,7 +55,7 @@ earlier c e past h = record { proper = h.proper; legal = h.legal.2 }
 -- ---- what an entry leaves
 
 counts-tried : (c : BusConfig) (past : List Entry) (m : ℕ) (v : Verdict) (t : Tried) (i : ℕ)
-    → counts_of c (entry_of (Attempt m v) (reply.Tried t) ∷ past) i ≡ (if is_in i t.restarted then at_start else counts_after (transmission c past t.winner v) i)
+    → counts_of c (entry_of (Attempt m v) (reply.Attempted (attempt.Tried t)) ∷ past) i ≡ (if is_in i t.restarted then at_start else counts_after (transmission c past t.winner v) i)
 counts-tried c past m v t i = when (is_in i t.restarted)
   where
     when : (b : Bool) → all_stepped at_start (if b then [] else steps_of c past i ++ steps_at i (transmission c past t.winner v)) ≡ (if b then at_start else counts_after (transmission c past t.winner v) i)
@@ -62,7 +63,7 @@ counts-tried c past m v t i = when (is_in i t.restarted)
     when false = all_stepped-append at_start (steps_of c past i) (steps_at i (transmission c past t.winner v))
 
 counts-idle : (c : BusConfig) (past : List Entry) (m : ℕ) (v : Verdict) (set : IfaceSet) (i : ℕ)
-    → counts_of c (entry_of (Attempt m v) (reply.Idle set) ∷ past) i ≡ (if is_in i set then at_start else counts_of c past i)
+    → counts_of c (entry_of (Attempt m v) (reply.Attempted (attempt.Idle set)) ∷ past) i ≡ (if is_in i set then at_start else counts_of c past i)
 counts-idle c past m v set i = when (is_in i set)
   where
     when : (b : Bool) → all_stepped at_start (if b then [] else steps_of c past i) ≡ (if b then at_start else counts_of c past i)
@@ -79,7 +80,7 @@ map_all f g xs same = ap (λ (h : ℕ → ErrorCounts). map h xs) (fun_ext same)
 
 nodes-tried : (c : BusConfig) (past : List Entry) (m : ℕ) (v : Verdict) (t : Tried) (old new : Nodes) → IsHistory c past → old ≡ kept_nodes c past
     → new ≡ begun_anew t.restarted (judged_nodes old t.winner v c.ack)
-    → new ≡ kept_nodes c (entry_of (Attempt m v) (reply.Tried t) ∷ past)
+    → new ≡ kept_nodes c (entry_of (Attempt m v) (reply.Attempted (attempt.Tried t)) ∷ past)
 unfolding kept_nodes
 nodes-tried c past m v t old new h are after =
     after
@@ -87,23 +88,23 @@ nodes-tried c past m v t old new h are after =
     ∙ ap (λ (tr : Transmission). begun_anew t.restarted (record { count = c.ifaces; counters = (judged tr).counters })) (between-is c past t.winner v h.legal h.proper.few_ifaces)
     ∙ anew c.ifaces t.restarted (counts_after (transmission c past t.winner v))
     ∙ ap (λ (cs : List ErrorCounts). record { count = c.ifaces; counters = cs })
-    (map_all (λ i. if is_in i t.restarted then at_start else counts_after (transmission c past t.winner v) i) (counts_of c (entry_of (Attempt m v) (reply.Tried t) ∷ past)) (range_with_len 0 16)
+    (map_all (λ i. if is_in i t.restarted then at_start else counts_after (transmission c past t.winner v) i) (counts_of c (entry_of (Attempt m v) (reply.Attempted (attempt.Tried t)) ∷ past)) (range_with_len 0 16)
     (λ i. sym (counts-tried c past m v t i)))
 
 nodes-idle : (c : BusConfig) (past : List Entry) (m : ℕ) (v : Verdict) (set : IfaceSet) (old new : Nodes)
-    → old ≡ kept_nodes c past → new ≡ begun_anew set old → new ≡ kept_nodes c (entry_of (Attempt m v) (reply.Idle set) ∷ past)
+    → old ≡ kept_nodes c past → new ≡ begun_anew set old → new ≡ kept_nodes c (entry_of (Attempt m v) (reply.Attempted (attempt.Idle set)) ∷ past)
 unfolding kept_nodes
 nodes-idle c past m v set old new are after =
     after
     ∙ ap (begun_anew set) are
     ∙ anew c.ifaces set (counts_of c past)
     ∙ ap (λ (cs : List ErrorCounts). record { count = c.ifaces; counters = cs })
-    (map_all (λ i. if is_in i set then at_start else counts_of c past i) (counts_of c (entry_of (Attempt m v) (reply.Idle set) ∷ past)) (range_with_len 0 16)
+    (map_all (λ i. if is_in i set then at_start else counts_of c past i) (counts_of c (entry_of (Attempt m v) (reply.Attempted (attempt.Idle set)) ∷ past)) (range_with_len 0 16)
     (λ i. sym (counts-idle c past m v set i)))
 
-tried-law : (c : BusConfig) (past : List Entry) (e : Event) (t : Tried) (old new : Nodes) → IsHistory c past → reply.Tried t ≡ legal_reply c past e → old ≡ kept_nodes c past → Counts c e (reply.Tried t) old new → new ≡ kept_nodes c (entry_of e (reply.Tried t) ∷ past)
+tried-law : (c : BusConfig) (past : List Entry) (e : Event) (t : Tried) (old new : Nodes) → IsHistory c past → reply.Attempted (attempt.Tried t) ≡ legal_reply c past e → old ≡ kept_nodes c past → Counts c e (reply.Attempted (attempt.Tried t)) old new → new ≡ kept_nodes c (entry_of e (reply.Attempted (attempt.Tried t)) ∷ past)
 tried-law c past e t old new h law are =
-    by_attempt (λ k. Counts c k (reply.Tried t) old new → new ≡ kept_nodes c (entry_of k (reply.Tried t) ∷ past)) c past e t law
+    by_attempt (λ k. Counts c k (reply.Attempted (attempt.Tried t)) old new → new ≡ kept_nodes c (entry_of k (reply.Attempted (attempt.Tried t)) ∷ past)) c past e t law
     (λ m v w counted.
     let live : IsLive old t.winner = subst (λ (n : Nodes). IsLive n t.winner) (sym are) (winner-live c past m v t h w) in
     nodes-tried c past m v t old new h are (counted live))
@@ -118,9 +119,9 @@ restart-below c past i m law = when (nat_le c.ifaces i) refl law
 
 pub counted-kept : (c : BusConfig) (past : List Entry) (e : Event) (r : Reply) (old new : Nodes) → IsHistory c past → r ≡ legal_reply c past e → old ≡ kept_nodes c past → Counts c e r old new → new ≡ kept_nodes c (entry_of e r ∷ past)
 unfolding kept_nodes
-counted-kept c past e (reply.Tried t) old new h law are counted = tried-law c past e t old new h law are counted
+counted-kept c past e (reply.Attempted (attempt.Tried t)) old new h law are counted = tried-law c past e t old new h law are counted
 counted-kept c past (Restart i m) reply.Done old new h law are counted = nodes-restarted c past i m old new (omega (arith, restart-below c past i m law, h.proper.few_ifaces)) are counted
-counted-kept c past (Attempt m v) (reply.Idle set) old new h law are counted = nodes-idle c past m v set old new are counted
+counted-kept c past (Attempt m v) (reply.Attempted (attempt.Idle set)) old new h law are counted = nodes-idle c past m v set old new are counted
 counted-kept c past (Open i n) _ old new h law are counted = counted ∙ are
 counted-kept c past (Close s) _ old new h law are counted = counted ∙ are
 counted-kept c past (SetFilters s f) _ old new h law are counted = counted ∙ are
@@ -132,7 +133,7 @@ counted-kept c past (Restart i m) _ old new h law are counted = counted ∙ are
 
 -- ---- one entry after another
 
-pub counts-as : (c : BusConfig) (e : Event) (r : Reply) (old new : Nodes) (m : ℕ) (v : Verdict) (t : Tried) → e ≡ Attempt m v → r ≡ reply.Tried t → Counts c (Attempt m v) (reply.Tried t) old new → Counts c e r old new
+pub counts-as : (c : BusConfig) (e : Event) (r : Reply) (old new : Nodes) (m : ℕ) (v : Verdict) (t : Tried) → e ≡ Attempt m v → r ≡ reply.Attempted (attempt.Tried t) → Counts c (Attempt m v) (reply.Attempted (attempt.Tried t)) old new → Counts c e r old new
 counts-as c e r old new m v t event_is reply_is counted =
     subst (λ (k : Event). Counts c k r old new) (sym event_is) (subst (λ (k : Reply). Counts c (Attempt m v) k old new) (sym reply_is) counted)
 

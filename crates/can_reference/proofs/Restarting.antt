@@ -10,6 +10,7 @@ use Rattle.can_event.specs.declared.entry.Entry.{Entry}
 use Rattle.can_event.specs.declared.event.Event.{Event}
 use Rattle.can_event.specs.declared.event.Event.TheVariants.{Open, Close, SetFilters, SetOption, Send, Receive, Attempt, Restart}
 use Rattle.can_event.specs.declared.reply.Reply.{Reply}
+use Rattle.can_event.specs.declared.attempt.Attempt.TheVariants as attempt
 use Rattle.can_event.specs.declared.reply.Reply.TheVariants as reply
 use Rattle.can_bus.specs.AutoRestart.{attempts_off, attempts_off_after, is_due, restarted_next}
 use Rattle.can_replay.proofs.Before.{before_more}
@@ -52,12 +53,12 @@ no-more None k h = tt
 no-more (Some n) k h = omega (arith, h)
 
 few-then : (e : Event) (r : Reply) (i k : ℕ) (old : Option ℕ) → IfSome old (λ n. n ≤ k) → IfSome (attempts_off_after e r i old) (λ n. n ≤ k + 1)
-few-then e (reply.Idle set) i k old h = when (is_in i set)
+few-then e (reply.Attempted (attempt.Idle set)) i k old h = when (is_in i set)
   where
     when : (b : Bool) → IfSome (if b then None else option_map suc old) (λ n. n ≤ k + 1)
     when true = tt
     when false = one-more old k h
-few-then e (reply.Tried t) i k old h = when (is_in i t.restarted) (is_in i t.off)
+few-then e (reply.Attempted (attempt.Tried t)) i k old h = when (is_in i t.restarted) (is_in i t.off)
   where
     when : (b d : Bool) → IfSome (if b then None else if d then Some 0 else option_map suc old) (λ n. n ≤ k + 1)
     when true d = tt

@@ -13,7 +13,7 @@ use crate::sockets::iface_at;
 use crate::transmit::{gone_count, head_of};
 use can_arbiter::{Arbiter, ScanArbiter};
 use can_attempt::Judgement;
-use can_bus::{BusConfig, Entry, Pending, Reply, Tried};
+use can_bus::{Attempt, BusConfig, Entry, Pending, Reply, Tried};
 use can_fault::Verdict;
 use can_frame::{Iface, IfaceSet, Moment};
 use std::alloc::{AllocError, Global};
@@ -63,7 +63,7 @@ fn tried_as(
 ) -> Reply
     ensures { result ≡ tried_reply moment winner number pending.now judgement.now restarted }
 {
-    Reply::Tried(Tried {
+    Reply::Attempted(Attempt::Tried(Tried {
         moment,
         winner,
         number: number as u64,
@@ -72,7 +72,7 @@ fn tried_as(
         accepted: judgement.accepted,
         off: judgement.off,
         restarted,
-    })
+    }))
 }
 
 /// The reply of an attempt after these entries.
@@ -87,15 +87,15 @@ pub fn attempt_reply(
 {
     let restarted = restarted_next(config, past);
     let Some(winner) = winner(alloc, past)? else {
-        return Ok(Reply::Idle { restarted });
+        return Ok(Reply::Attempted(Attempt::Idle { restarted }));
     };
     let Some(pending) = head_of(alloc, past, winner)? else {
-        return Ok(Reply::Idle { restarted });
+        return Ok(Reply::Attempted(Attempt::Idle { restarted }));
     };
     let number = gone_count(alloc, past, winner)?;
     let nodes = nodes_of(config, past);
     Ok(match judgement_of(&nodes, winner, verdict, config.ack) {
         Some(judgement) => tried_as(moment, winner, number, &pending, &judgement, restarted),
-        None => Reply::Idle { restarted },
+        None => Reply::Attempted(Attempt::Idle { restarted }),
     })
 }

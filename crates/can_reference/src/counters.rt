@@ -7,7 +7,7 @@ ghost use Rattle.can_reference.specs.inner.Counted.{Counts, CountsTried, IsLive,
 ghost use Rattle.can_reference.specs.Histories.{OnHistory};
 
 use can_attempt::{AckMode, Judgement, Nodes, judge};
-use can_bus::{BusConfig, Entry, Event, Reply, Tried, begun_anew};
+use can_bus::{Attempt, BusConfig, Entry, Event, Reply, Tried, begun_anew};
 use can_confine::Counters;
 use can_fault::Verdict;
 use can_frame::{Iface, IfaceSet};
@@ -78,8 +78,8 @@ fn note(config: BusConfig, entry: &Entry, nodes: &mut Nodes)
 {
     match &entry.event {
         Event::Attempt(_, verdict) => match &entry.reply {
-            Reply::Tried(tried) => note_attempt(config, nodes, tried, *verdict),
-            Reply::Idle { restarted } => note_restarts(nodes, *restarted),
+            Reply::Attempted(Attempt::Tried(tried)) => note_attempt(config, nodes, tried, *verdict),
+            Reply::Attempted(Attempt::Idle { restarted }) => note_restarts(nodes, *restarted),
             _ => {}
         },
         Event::Restart(iface, _) => {

@@ -3,6 +3,7 @@ ghost use Rattle.can_filter.specs.Passing.{wants};
 ghost use Rattle.can_bus.specs.Posts.{sender_in, data_posts, error_posts, attempt_posts, restart_posts, auto_restart_posts, is_own};
 ghost use Rattle.can_bus.specs.Queues.{passing};
 ghost use Rattle.can_event.specs.declared.event.Event.TheVariants as event;
+ghost use Rattle.can_event.specs.declared.attempt.Attempt.TheVariants as attempt;
 ghost use Rattle.can_event.specs.declared.reply.Reply.TheVariants as reply;
 ghost use Rattle.can_bus.specs.Attempted.{transmission_of};
 ghost use Rattle.can_event.specs.Replies.{entry_of};
@@ -11,7 +12,9 @@ ghost use Rattle.can_reference.specs.inner.Posted.{ReturnsPosts};
 
 use crate::counters::{judgement_of, nodes_of};
 use crate::transmit::{frame_at, sent_by};
-use can_bus::{Attempted, BusConfig, Entry, Event, Pending, Received, Reply, SocketId, Tried};
+use can_bus::{
+    Attempt, Attempted, BusConfig, Entry, Event, Pending, Received, Reply, SocketId, Tried,
+};
 use can_errframe::restart_frame;
 use can_fault::Verdict;
 use can_filter::{FilterSet, Options, wants};
@@ -159,7 +162,8 @@ fn tried_posts(
     tried: &Tried,
 ) -> Result<Vec<Post>, AllocError>
     ensures { ReturnsPosts config past.now iface
-        (entry_of (event.Attempt moment verdict) (reply.Tried tried.now)) result }
+        (entry_of (event.Attempt moment verdict)
+        (reply.Attempted (attempt.Tried tried.now))) result }
 {
     let nodes = nodes_of(config, past);
     let judgement = match judgement_of(&nodes, tried.winner, verdict, config.ack) {
@@ -202,10 +206,12 @@ pub fn posts_of(
 {
     match &entry.event {
         Event::Attempt(moment, verdict) => match &entry.reply {
-            Reply::Tried(tried) => {
+            Reply::Attempted(Attempt::Tried(tried)) => {
                 tried_posts(alloc, config, past, iface, *moment, *verdict, tried)
             }
-            Reply::Idle { restarted } => idle_posts(alloc, *restarted, *moment, iface),
+            Reply::Attempted(Attempt::Idle { restarted }) => idle_posts(
+                alloc, *restarted, *moment, iface,
+            ),
             _ => Ok(Vec::new(alloc)),
         },
         Event::Restart(restarted, moment) => match &entry.reply {

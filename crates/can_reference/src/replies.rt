@@ -15,7 +15,7 @@ use crate::counters::nodes_of;
 use crate::queues::{arrivals_at, item_at, taken_from};
 use crate::sockets::{options_of, sockets_of};
 use crate::transmit::{gone_count, sent_by};
-use can_bus::{BusConfig, Closed, Entry, Event, Received, Refusal, Reply, SocketId};
+use can_bus::{Attempt, BusConfig, Closed, Entry, Event, Received, Refusal, Reply, SocketId};
 use can_event::MAX_RX_CAPACITY;
 use can_frame::{Frame, Iface, Item};
 use std::alloc::{AllocError, Global};
@@ -181,7 +181,7 @@ fn note(past: &mut Vec<Entry>, event: Event, reply: Reply) -> Result<(), AllocEr
     ensures { OnOk result (past.new.items ≡ past.old.items ++ entry_of event reply ∷ []) }
 {
     // The checker has to meet the types inside a reply before a vector takes one.
-    let _types: Option<(Item, Received)> = None;
+    let _types: Option<(Attempt, Item, Received)> = None;
     past.push(Entry { event, reply })?;
     Ok(())
 }
@@ -211,7 +211,7 @@ fn replies(alloc: Global, events: &[Event], config: BusConfig) -> Result<Vec<Rep
     requires { IsConfig config }
     ensures { ReturnsList result (replies_after config [] events.now) }
 {
-    let _types: Option<(Item, Received)> = None;
+    let _types: Option<(Attempt, Item, Received)> = None;
     let mut past = Vec::new(alloc);
     let mut replies = Vec::new(alloc);
     for event in events {

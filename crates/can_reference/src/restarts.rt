@@ -3,7 +3,7 @@ ghost use Rattle.std.specs.Option.{option_map};
 ghost use Rattle.can_bus.specs.AutoRestart.{attempts_off, attempts_off_after, is_due, restarted_next};
 
 use crate::sockets::iface_at;
-use can_bus::{BusConfig, Entry, Event, Reply};
+use can_bus::{Attempt, BusConfig, Entry, Event, Reply};
 use can_frame::{Iface, IfaceSet};
 
 // Which interfaces an attempt restarts, by the entries before it.
@@ -25,14 +25,14 @@ fn attempts_off_after(entry: &Entry, iface: Iface, before: Option<usize>) -> Opt
     ensures { result ≡ attempts_off_after entry.now.event entry.now.reply iface before }
 {
     match &entry.reply {
-        Reply::Idle { restarted } => {
+        Reply::Attempted(Attempt::Idle { restarted }) => {
             if restarted.contains(iface) {
                 None
             } else {
                 one_more(before)
             }
         }
-        Reply::Tried(tried) => {
+        Reply::Attempted(Attempt::Tried(tried)) => {
             if tried.restarted.contains(iface) {
                 None
             } else if tried.off.contains(iface) {

@@ -4,7 +4,7 @@ ghost use Rattle.can_bus.specs.Transmit.{sent_by, sent_after, gone_count, gone_a
 
 use crate::sockets::{options_of, sockets_of};
 use can_attempt::Class;
-use can_bus::{Entry, Event, Pending, Reply};
+use can_bus::{Attempt, Entry, Event, Pending, Reply};
 use can_frame::Iface;
 use std::alloc::{AllocError, Global};
 
@@ -64,7 +64,7 @@ fn gone_after(
     ensures few { IfOk result (λ n. n ≤ length past.now + 1) }
 {
     match &entry.reply {
-        Reply::Tried(tried) => {
+        Reply::Attempted(Attempt::Tried(tried)) => {
             if tried.off.contains(iface) {
                 return Ok(sent_by(alloc, past, iface)?.len());
             }

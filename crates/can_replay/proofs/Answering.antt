@@ -4,6 +4,7 @@ use Rattle.can_event.specs.declared.bus_config.BusConfig.{BusConfig}
 use Rattle.can_event.specs.declared.entry.Entry.{Entry}
 use Rattle.can_event.specs.declared.event.Event.{Event}
 use Rattle.can_event.specs.declared.reply.Reply.{Reply}
+use Rattle.can_event.specs.declared.attempt.Attempt.TheVariants as attempt
 use Rattle.can_event.specs.declared.reply.Reply.TheVariants as reply
 use Rattle.can_event.specs.declared.refusal.Refusal.TheVariants as refusal
 use Rattle.can_bus.specs.Legal.{legal_reply}
@@ -41,8 +42,8 @@ answers c past e (reply.Closed k) h memory = noted c past e _ h.0 h.1 refl
 answers c past e reply.Done h memory = noted c past e _ h.0 h.1 refl
 answers c past e (reply.Sent n) h memory = noted c past e _ h.0 h.1 refl
 answers c past e (reply.Received x) h memory = noted c past e _ h.0 h.1 refl
-answers c past e (reply.Idle set) h memory = noted c past e _ h.0 h.1 refl
-answers c past e (reply.Tried t) h memory = noted c past e _ h.0 h.1 refl
+answers c past e (reply.Attempted (attempt.Idle set)) h memory = noted c past e _ h.0 h.1 refl
+answers c past e (reply.Attempted (attempt.Tried t)) h memory = noted c past e _ h.0 h.1 refl
 
 pub answers_all : (c : BusConfig) (past : List Entry) (es : List Event) (rs : List Reply) → AreAnswers c past es rs → All (λ r. r ≢ reply.Refused refusal.NoMemory) rs → rs ≡ replies_after c past es
 unfolding AreAnswers replies_after

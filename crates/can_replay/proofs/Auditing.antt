@@ -6,6 +6,7 @@ use Rattle.can_event.specs.declared.bus_config.BusConfig.{BusConfig}
 use Rattle.can_event.specs.declared.entry.Entry.{Entry}
 use Rattle.can_event.specs.declared.event.Event.{Event}
 use Rattle.can_event.specs.declared.reply.Reply.{Reply}
+use Rattle.can_event.specs.declared.attempt.Attempt.TheVariants as attempt
 use Rattle.can_event.specs.declared.reply.Reply.TheVariants as reply
 use Rattle.can_event.specs.declared.refusal.Refusal.TheVariants as refusal
 use Rattle.can_bus.specs.Lean.{Lean, IsAfter}
@@ -70,8 +71,8 @@ blamed_at c es k e (reply.Closed n) at is other = other_reply c es k e _ at (ome
 blamed_at c es k e reply.Done at is other = other_reply c es k e _ at (omega (arith, is.0, count_before es k at.below)) is.1 other
 blamed_at c es k e (reply.Sent n) at is other = other_reply c es k e _ at (omega (arith, is.0, count_before es k at.below)) is.1 other
 blamed_at c es k e (reply.Received x) at is other = other_reply c es k e _ at (omega (arith, is.0, count_before es k at.below)) is.1 other
-blamed_at c es k e (reply.Idle set) at is other = other_reply c es k e _ at (omega (arith, is.0, count_before es k at.below)) is.1 other
-blamed_at c es k e (reply.Tried t) at is other = other_reply c es k e _ at (omega (arith, is.0, count_before es k at.below)) is.1 other
+blamed_at c es k e (reply.Attempted (attempt.Idle set)) at is other = other_reply c es k e _ at (omega (arith, is.0, count_before es k at.below)) is.1 other
+blamed_at c es k e (reply.Attempted (attempt.Tried t)) at is other = other_reply c es k e _ at (omega (arith, is.0, count_before es k at.below)) is.1 other
 
 -- entry k was carried out: the bus answered its event with this reply
 pub record Turn (c : BusConfig) (es : List Entry) (k : ℕ) (e : Entry) (bus : Lean) (r : Reply) : Type 0 where

@@ -27,6 +27,7 @@ use Rattle.can_event.specs.declared.refusal.Refusal.TheVariants as refusal
 use Rattle.can_event.specs.declared.reply.Reply.{Reply}
 use Rattle.can_event.specs.declared.reply.Reply.TheVariants as reply
 use Rattle.can_event.specs.declared.attempt.Tried.{Tried}
+use Rattle.can_event.specs.declared.attempt.Attempt.TheVariants as attempt
 use Rattle.can_record_text.specs.declared.version.Version.{Version}
 use Rattle.can_record_text.specs.declared.version.Version.TheVariants as version
 use Rattle.can_record_text.specs.inner.Words.{is_word}
@@ -103,7 +104,7 @@ received : (i : Item) (r : Received) → IsItem r.item → r.from < 16 → r.num
 received (item.Data f) r good from n m = (refl, (number r.from 16 from (omega arith), (is_word-decimal r.number n, (is_word-item r.item good, (is_word-moment r.moment m, tt)))))
 received (item.Error e) r good from n m = (refl, (number r.from 16 from (omega arith), (is_word-item r.item good, (is_word-moment r.moment m, tt))))
 
-tried : (t : Tried) → HoldsTried t → AreWords (reply_words (reply.Tried t))
+tried : (t : Tried) → HoldsTried t → AreWords (reply_words (reply.Attempted (attempt.Tried t)))
 tried t h = (refl, (number t.winner 16 h.winner (omega arith), (is_word-decimal t.number h.number, (is_word-item (item.Data t.frame) h.frame, (class_is t.class, (set-plain t.accepted, (set-plain t.off, restarted t.restarted)))))))
 
 refused : (why : Refusal) → AreWords (refusal_words why)
@@ -125,8 +126,8 @@ replies reply.Done h = (refl, tt)
 replies (reply.Sent n) h = (refl, (is_word-decimal n h, tt))
 replies (reply.Received None) h = (refl, tt)
 replies (reply.Received (Some r)) h = received r.item r h.0 h.1 h.2 h.3
-replies (reply.Idle set) h = (refl, restarted set)
-replies (reply.Tried t) h = tried t h
+replies (reply.Attempted (attempt.Idle set)) h = (refl, restarted set)
+replies (reply.Attempted (attempt.Tried t)) h = tried t h
 replies (reply.Refused why) h = refused why
 
 pub entry_are_words : (v : Version) (c : BusConfig) (e : Entry) → HasLine v c e → AreWords (entry_words e)

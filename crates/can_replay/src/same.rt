@@ -1,6 +1,6 @@
 ghost use Rattle.std.specs.Prelude.{◌≡◌, ◌↔◌, IsTrue};
 
-use can_bus::{Closed, Received, Reply, Tried};
+use can_bus::{Attempt, Closed, Received, Reply, Tried};
 use can_frame::{Frame, Item};
 
 // Whether two replies are one. Each type has a function of its own, so that the proof meets them one by one.
@@ -88,12 +88,12 @@ pub(crate) fn same_reply(one: &Reply, other: &Reply) -> bool
             Reply::Received(more) => same_taken(taken, more),
             _ => false,
         },
-        Reply::Idle { restarted } => match other {
-            Reply::Idle { restarted: more } => restarted.0 == more.0,
+        Reply::Attempted(Attempt::Idle { restarted }) => match other {
+            Reply::Attempted(Attempt::Idle { restarted: more }) => restarted.0 == more.0,
             _ => false,
         },
-        Reply::Tried(tried) => match other {
-            Reply::Tried(more) => same_tried(tried, more),
+        Reply::Attempted(Attempt::Tried(tried)) => match other {
+            Reply::Attempted(Attempt::Tried(more)) => same_tried(tried, more),
             _ => false,
         },
         Reply::Refused(why) => match other {

@@ -11,10 +11,9 @@ use Rattle.can_event.specs.declared.received.Received.{Received}
 use Rattle.can_event.specs.declared.socket_id.SocketId.{SocketId}
 use Rattle.can_event.specs.Replies.{received_into, taken_item, taken_reply}
 use Rattle.can_bus.specs.Answer.{Answers, Noted, Refuses}
-use Rattle.can_record.specs.Outcomes.{done_reply, told_attempt}
+use Rattle.can_record.specs.Outcomes.{done_reply}
 use Rattle.can_bus.specs.Run.{IsAnswer, history_after}
 use Rattle.can_bus.proofs.Fitting.{legal_is_spelled}
-use Rattle.can_event.specs.declared.attempt.Attempt.TheVariants as attempt
 use Rattle.can_dialog.specs.declared.port.PortRefusal.TheVariants as port
 use Rattle.can_session.specs.BusSteps.{NamedBus, BusStep, IsEvent, passed_on}
 use Rattle.can_dialog.specs.Calls.{Gives}
@@ -42,14 +41,13 @@ module _ (old new : NamedBus) (names : new.names ≡ old.names) (plan : new.plan
   gives (event.SetOption socket option) reply.Done a is = given done_reply tt _ (record { room = a.0; lawful = a.1; new_is = is })
   gives (event.Send socket frame) (reply.Sent number) a is = given (λ x. reply.Sent x) number _ (record { room = a.0; lawful = a.1; new_is = is })
   gives (event.Receive socket) (reply.Received item) a is = given (λ x. reply.Received x) item _ (record { room = a.0; lawful = a.1; new_is = is })
-  gives (event.Attempt moment verdict) (reply.Idle restarted) a is = given told_attempt (attempt.Idle restarted) _ (record { room = a.0; lawful = a.1; new_is = is })
-  gives (event.Attempt moment verdict) (reply.Tried tried) a is = given told_attempt (attempt.Tried tried) _ (record { room = a.0; lawful = a.1; new_is = is })
+  gives (event.Attempt moment verdict) (reply.Attempted attempt) a is = given reply.Attempted attempt _ (record { room = a.0; lawful = a.1; new_is = is })
   gives (event.Restart iface moment) reply.Done a is = given done_reply tt _ (record { room = a.0; lawful = a.1; new_is = is })
   gives (event.Open iface capacity) (reply.Refused why) a is = refused (λ x. reply.Opened x) why _ a is
   gives (event.Close socket) (reply.Refused why) a is = refused (λ x. reply.Closed x) why _ a is
   gives (event.Send socket frame) (reply.Refused why) a is = refused (λ x. reply.Sent x) why _ a is
   gives (event.Receive socket) (reply.Refused why) a is = refused (λ x. reply.Received x) why _ a is
-  gives (event.Attempt moment verdict) (reply.Refused why) a is = refused told_attempt why _ a is
+  gives (event.Attempt moment verdict) (reply.Refused why) a is = refused reply.Attempted why _ a is
   gives e (reply.Refused why) a is = refused done_reply why _ a is
   gives e r a is = absurd (legal_is_spelled old.journal.config old.journal.history e r a.1)
 

@@ -8,7 +8,7 @@ use Rattle.can_event.specs.declared.refusal.Refusal.TheVariants as refusal
 use Rattle.can_event.specs.declared.reply.Reply.{Reply}
 use Rattle.can_record.specs.Journal.{Journal}
 use Rattle.can_bus.specs.Answer.{Answers, Refuses}
-use Rattle.can_record.specs.Outcomes.{told_attempt}
+use Rattle.can_event.specs.declared.reply.Reply.TheVariants as reply
 use Rattle.can_proto.specs.declared.message.Incoming.{Incoming}
 use Rattle.can_dialog.specs.declared.stage.Stage.{Stage}
 use Rattle.can_dialog.specs.declared.stage.Stage.TheVariants.{NoBus, Opened, Raw, Ended}
@@ -82,7 +82,7 @@ given zero stage p text q h = ap of_bus h.1
 given (suc n) stage p text q (before, mid, last, first, plays, is) = played _ mid q last _ plays ∙ given n stage p before mid first
 
 tried : (v : VerdictMap) (b : BenchState) (text : List ℕ) (after : BenchState) → IsTried v b text after → of_bench after ≡ of_bench b
-tried v b text after h = ap of_bench h.after_is ∙ answered told_attempt b.bus.journal _ h.outcome h.journal h.answers
+tried v b text after h = ap of_bench h.after_is ∙ answered reply.Attempted b.bus.journal _ h.outcome h.journal h.answers
 
 all_tried : (v : VerdictMap) (moment n : ℕ) (b : BenchState) (text : List ℕ) (after : BenchState) → AreTried v moment n b text after → of_bench after ≡ of_bench b
 all_tried v moment zero b text after h = ap of_bench h.1

@@ -13,7 +13,6 @@ use Rattle.can_event.specs.declared.refusal.Refusal.{Refusal}
 use Rattle.can_event.specs.declared.refusal.Refusal.TheVariants as refusal
 use Rattle.can_event.specs.declared.reply.Reply.TheVariants as reply
 use Rattle.can_record.specs.Journal.{Journal}
-use Rattle.can_record.specs.Outcomes.{told_attempt}
 use Rattle.can_bus.specs.Answer.{Answers, Refuses}
 use Rattle.can_bus.specs.Attempts.{winner, attempt_reply, tried_head}
 use Rattle.can_bus.specs.Heads.{next_head, head_at, with_frame}
@@ -27,11 +26,11 @@ use Rattle.can_session.specs.inner.Acts.{Puts}
 
 -- where there is a frame to try, an attempt is not idle
 
-not_idle_head : (c : BusConfig) (past : List Entry) (m : ℕ) (v : Verdict) (r : IfaceSet) (w : ℕ) (p : Option Pending) → is_some (with_frame w p) ≡ true → reply.Idle r ≡ tried_head c past m v w p → ⊥
+not_idle_head : (c : BusConfig) (past : List Entry) (m : ℕ) (v : Verdict) (r : IfaceSet) (w : ℕ) (p : Option Pending) → is_some (with_frame w p) ≡ true → reply.Attempted (attempt.Idle r) ≡ tried_head c past m v w p → ⊥
 not_idle_head c past m v r w None there is = cc
 not_idle_head c past m v r w (Some p) there is = cc
 
-not_idle : (c : BusConfig) (past : List Entry) (m : ℕ) (v : Verdict) (r : IfaceSet) (w : Option ℕ) → is_some (head_at past w) ≡ true → reply.Idle r ≡ attempt_reply c past m v w → ⊥
+not_idle : (c : BusConfig) (past : List Entry) (m : ℕ) (v : Verdict) (r : IfaceSet) (w : Option ℕ) → is_some (head_at past w) ≡ true → reply.Attempted (attempt.Idle r) ≡ attempt_reply c past m v w → ⊥
 not_idle c past m v r None there is = cc
 not_idle c past m v r (Some w) there is = not_idle_head c past m v r w (head_of past w) there is
 
@@ -51,7 +50,7 @@ full old m v refusal.RecordFull new h = h.0
 full old m v refusal.NoMemory new h = absurd h.1
 full old m v why new h = absurd (not_refused old.config old.history m v why (winner old.config old.history) h.lawful)
 
-no_frame : (old : Journal) (m : ℕ) (v : Verdict) (outcome : Result Attempt Refusal) (new : Journal) → is_some (next_head old.config old.history) ≡ true → tries outcome ≡ false → Answers told_attempt old (event.Attempt m v) outcome new → old.config.limit ≤ length old.history
+no_frame : (old : Journal) (m : ℕ) (v : Verdict) (outcome : Result Attempt Refusal) (new : Journal) → is_some (next_head old.config old.history) ≡ true → tries outcome ≡ false → Answers reply.Attempted old (event.Attempt m v) outcome new → old.config.limit ≤ length old.history
 no_frame old m v (Ok (attempt.Tried t)) new there is h = cc
 no_frame old m v (Ok (attempt.Idle r)) new there is h = absurd (not_idle old.config old.history m v r (winner old.config old.history) there h.lawful)
 no_frame old m v (Err why) new there is h = full old m v why new h
@@ -79,16 +78,16 @@ pub record Made (verdicts : VerdictMap) (b : BenchState) (bus : NamedBus) (sourc
   pub verdict_is : verdict ≡ verdict_on b.bus source
   pub moment_is : moment ≡ next_moment b
   pub when_is : when ≡ said_moment b.wire moment
-  pub answers : Answers told_attempt b.bus.journal (event.Attempt moment (verdict_on b.bus source)) outcome bus.journal
+  pub answers : Answers reply.Attempted b.bus.journal (event.Attempt moment (verdict_on b.bus source)) outcome bus.journal
   pub names : bus.names ≡ b.bus.names
   pub plan : bus.plan ≡ plan_left b.bus source
   pub used : bus.used ≡ b.bus.used
 
 answers_of : (verdicts : VerdictMap) (b : BenchState) (bus : NamedBus) (source verdict : Verdict) (moment : ℕ) (when : Option ℕ) (outcome : Result Attempt Refusal) → Made verdicts b bus source verdict moment when outcome
-    → Answers told_attempt b.bus.journal (event.Attempt (next_moment b) (verdict_on b.bus (sourced verdicts b.bus))) outcome bus.journal
+    → Answers reply.Attempted b.bus.journal (event.Attempt (next_moment b) (verdict_on b.bus (sourced verdicts b.bus))) outcome bus.journal
 answers_of verdicts b bus source verdict moment when outcome h =
-    subst (λ (s : Verdict). Answers told_attempt b.bus.journal (event.Attempt (next_moment b) (verdict_on b.bus s)) outcome bus.journal) h.source_is
-    (subst (λ (m : ℕ). Answers told_attempt b.bus.journal (event.Attempt m (verdict_on b.bus source)) outcome bus.journal) h.moment_is h.answers)
+    subst (λ (s : Verdict). Answers reply.Attempted b.bus.journal (event.Attempt (next_moment b) (verdict_on b.bus s)) outcome bus.journal) h.source_is
+    (subst (λ (m : ℕ). Answers reply.Attempted b.bus.journal (event.Attempt m (verdict_on b.bus source)) outcome bus.journal) h.moment_is h.answers)
 
 pub tried_by : (verdicts : VerdictMap) (b after : BenchState) (bus : NamedBus) (source verdict : Verdict) (moment : ℕ) (when : Option ℕ) (outcome : Result Attempt Refusal) (names : List (List ℕ)) (said new : List ℕ) (is : Bool)
     → Made verdicts b bus source verdict moment when outcome → names ≡ bus.names → new ≡ said ++ attempt_line names when outcome

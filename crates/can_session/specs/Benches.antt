@@ -13,7 +13,7 @@ use Rattle.can_event.specs.declared.attempt.Attempt.{Attempt}
 use Rattle.can_event.specs.declared.attempt.Attempt.TheVariants as attempt
 use Rattle.can_record.specs.Journal.{Journal}
 use Rattle.can_bus.specs.Answer.{Answers}
-use Rattle.can_record.specs.Outcomes.{told_attempt}
+use Rattle.can_event.specs.declared.reply.Reply.TheVariants as reply
 use Rattle.can_proto.specs.Messages.{messages_of, kept_of}
 use Rattle.can_dialog.specs.declared.stage.Stage.{Stage}
 use Rattle.can_dialog.specs.declared.stage.Stage.TheVariants.{Ended}
@@ -135,7 +135,7 @@ passed v outcome b = record b {
 pub record IsTried (verdicts : VerdictMap) (b : BenchState) (text : List ℕ) (after : BenchState) : Type 0 where
   pub outcome : Result Attempt Refusal
   pub journal : Journal
-  pub answers : Answers told_attempt b.bus.journal
+  pub answers : Answers reply.Attempted b.bus.journal
       (event.Attempt (next_moment b) (verdict_on b.bus (sourced verdicts b.bus))) outcome journal
   pub text_is : text ≡ attempt_line b.bus.names (said_moment b.wire (next_moment b)) outcome
   pub after_is : after ≡ passed (verdict_on b.bus (sourced verdicts b.bus)) outcome (record b {

@@ -15,7 +15,7 @@ use Rattle.can_record.specs.Journal.{Journal}
 use Rattle.can_record.specs.Tapes.{tape}
 use Rattle.can_bus.specs.Heads.{next_head}
 use Rattle.can_bus.specs.Answer.{Answers}
-use Rattle.can_record.specs.Outcomes.{done_reply, told_attempt}
+use Rattle.can_record.specs.Outcomes.{done_reply}
 use Rattle.can_event.specs.declared.stats.IfaceStats.{IfaceStats}
 use Rattle.can_bus.specs.Stats.{socket_stats_of, iface_stats_of}
 use Rattle.can_dialog.specs.declared.port.PortRefusal.{PortRefusal}
@@ -97,7 +97,7 @@ BusStep old (SetOption socket option) answer new = IsEvent done_reply old (event
 BusStep old (Send socket frame) answer new = IsEvent reply.Sent old (event.Send socket frame) answer new
 BusStep old (Receive socket) answer new = IsEvent reply.Received old (event.Receive socket) answer new
 BusStep old (Restart iface moment) answer new = IsEvent done_reply old (event.Restart iface moment) answer new
-BusStep old (Attempt moment verdict) answer new = IsEvent told_attempt old (event.Attempt moment verdict) answer new
+BusStep old (Attempt moment verdict) answer new = IsEvent reply.Attempted old (event.Attempt moment verdict) answer new
 BusStep old (CountsOfSocket socket) answer new =
     (answer ≡ socket_stats_of old.journal.config old.journal.history socket.0) × (new ≡ old)
 BusStep old (CountsOfIface iface) answer new =

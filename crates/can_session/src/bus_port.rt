@@ -1,6 +1,6 @@
 ghost use Rattle.std.specs.Prelude.{◌≡◌, ◌<◌, ◌^◌, None, option_map};
 ghost use Rattle.can_bus.specs.Answer.{Answers};
-ghost use Rattle.can_record.specs.Outcomes.{told_attempt};
+ghost use Rattle.can_event.specs.declared.reply.Reply.TheVariants as reply;
 ghost use Rattle.can_event.specs.declared.event.Event.TheVariants as event;
 ghost use Rattle.can_rules.specs.Plans.{no_plan, Injected};
 ghost use Rattle.can_session.specs.BusSteps.{next_number, head_on, verdict_on, plan_left, passed_on};
@@ -109,7 +109,7 @@ impl<T: BoundedQueue<Pending>, R: BoundedQueue<Received>, A: Arbiter> BusPort<T,
         source: Verdict,
     ) -> (Verdict, Result<Attempt, Refusal>)
         ensures verdict { result.0 ≡ verdict_on self.old source }
-        ensures answer { Answers told_attempt self.old.journal
+        ensures answer { Answers reply.Attempted self.old.journal
             (event.Attempt moment (verdict_on self.old source)) result.1 self.new.journal }
         ensures names { self.new.names ≡ self.old.names }
         ensures plan { self.new.plan ≡ plan_left self.old source }

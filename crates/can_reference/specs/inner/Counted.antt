@@ -11,6 +11,7 @@ use Rattle.can_event.specs.declared.event.Event.TheVariants.{Attempt, Restart}
 use Rattle.can_event.specs.declared.reply.Reply.{Reply}
 use Rattle.can_event.specs.declared.reply.Reply.TheVariants as reply
 use Rattle.can_event.specs.declared.attempt.Tried.{Tried}
+use Rattle.can_event.specs.declared.attempt.Attempt.TheVariants as attempt
 
 -- What an entry does to the error counts of all interfaces (Bosch CAN Specification 2.0, fault confinement): an
 -- attempt of a live interface counts as its faults have it, a restart sets one interface's counts to 0, and an attempt
@@ -32,7 +33,7 @@ CountsTried c t v old new = IsLive old t.winner → new ≡ begun_anew t.restart
 
 -- an entry
 abbrev pub Counts : BusConfig → Event → Reply → Nodes → Nodes → Type 0
-Counts c (Attempt m v) (reply.Tried t) old new = CountsTried c t v old new
-Counts c (Attempt m v) (reply.Idle restarted) old new = new ≡ begun_anew restarted old
+Counts c (Attempt m v) (reply.Attempted (attempt.Tried t)) old new = CountsTried c t v old new
+Counts c (Attempt m v) (reply.Attempted (attempt.Idle restarted)) old new = new ≡ begun_anew restarted old
 Counts c (Restart i m) reply.Done old new = new ≡ record old { counters = slice_set old.counters i at_start }
 Counts c _ _ old new = new ≡ old

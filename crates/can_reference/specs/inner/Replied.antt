@@ -6,6 +6,7 @@ use Rattle.can_event.specs.declared.entry.Entry.{Entry}
 use Rattle.can_event.specs.declared.event.Event.{Event}
 use Rattle.can_event.specs.declared.pending.Pending.{Pending}
 use Rattle.can_event.specs.declared.reply.Reply.{Reply}
+use Rattle.can_event.specs.declared.attempt.Attempt.TheVariants as attempt
 use Rattle.can_event.specs.declared.reply.Reply.TheVariants as reply
 use Rattle.can_bus.specs.Legal.{legal_reply}
 use Rattle.can_reference.specs.Histories.{OnHistory, Returns}
@@ -20,7 +21,7 @@ ReturnsReply c entries e result = OnHistory c entries (λ past. Returns result (
 -- that were restarted
 abbrev pub tried_reply : ℕ → ℕ → ℕ → Pending → Judgement → IfaceSet → Reply
 tried_reply moment winner number p j restarted =
-    reply.Tried (record {
+    reply.Attempted (attempt.Tried (record {
       moment = moment;
       winner = winner;
       number = number;
@@ -29,4 +30,4 @@ tried_reply moment winner number p j restarted =
       accepted = j.accepted;
       off = j.off;
       restarted = restarted;
-    })
+    }))

@@ -1,5 +1,5 @@
 use Rattle.std.proofs.Common.{Ok, refl, subst}
-use Rattle.can_record.specs.Outcomes.{told_attempt}
+use Rattle.can_event.specs.declared.reply.Reply.TheVariants as reply
 use Rattle.can_bus.specs.Changes.{Attempts}
 use Rattle.can_event.specs.declared.bus_config.BusConfig.{BusConfig}
 use Rattle.can_event.specs.declared.event.Event.TheVariants as event
@@ -44,9 +44,9 @@ push_attempt-requires-clause-fits g c =
 attempts : (g : given.Over) (c : After-push_attempt g) → Attempts c.self.inside.state c.self.inside.record.config c.args.moment c.args.verdict c.attempt-attempt.result c.attempt-attempt.new.self
 attempts g c = subst (λ (k : BusConfig). Attempts c.self.inside.state k c.args.moment c.args.verdict c.attempt-attempt.result c.attempt-attempt.new.self) c.config-config.ensures.config c.attempt-attempt.ensures
 
-is_done : (g : given.Over) (c : After-push_attempt g) → IsDone told_attempt c.args.self.now (event.Attempt c.args.moment c.args.verdict) (Ok c.attempt-attempt.result) c.push_attempt.new.self c.attempt-attempt.new.self
+is_done : (g : given.Over) (c : After-push_attempt g) → IsDone reply.Attempted c.args.self.now (event.Attempt c.args.moment c.args.verdict) (Ok c.attempt-attempt.result) c.push_attempt.new.self c.attempt-attempt.new.self
 is_done g c =
-    done told_attempt (λ (p : Parts). Attempts p c.self.inside.record.config c.args.moment c.args.verdict c.attempt-attempt.result c.attempt-attempt.new.self)
+    done reply.Attempted (λ (p : Parts). Attempts p c.self.inside.record.config c.args.moment c.args.verdict c.attempt-attempt.result c.attempt-attempt.new.self)
     c.self.view_is c.self.invariant c.is_full.ensures c.if-is_full.false (attempts g c) refl c.push_attempt.ensures
     (attempt_follows _ _ c.args.moment c.args.verdict _ _ c.self.invariant.legal c.self.invariant.proper.few_ifaces)
 

@@ -80,7 +80,7 @@ pub returns-in-Attempt : goal.returns-in-Attempt
 returns-in-Attempt g c = λ past kept room.
     carried c.args.config past (event.Attempt c.in-Attempt.moment c.in-Attempt.verdict) _
     (λ (p : Parts). Attempts p c.args.config c.in-Attempt.moment c.in-Attempt.verdict c.attempt.result c.attempt.new.self)
-    c.in-Attempt.is kept room c.attempt.ensures c.attempt_reply.ensures
+    c.in-Attempt.is kept room c.attempt.ensures refl
     (attempt_follows _ _ c.in-Attempt.moment c.in-Attempt.verdict _ _ kept.legal kept.proper.few_ifaces)
 
 pub returns-in-Restart : goal.returns-in-Restart
