@@ -6,10 +6,12 @@ use Rattle.std.proofs.lemmas.Grind.{flat_map-append}
 use Rattle.std.proofs.lemmas.Option.{slice_get_read, slice_get_cases, none-some, same_Some}
 use Rattle.can_event.specs.declared.entry.Entry.{Entry}
 use Rattle.can_event.specs.declared.attempt.Tried.{Tried}
+use Rattle.can_event.specs.declared.attempt.Attempt.TheVariants as attempt
 use Rattle.can_event.specs.declared.reply.Reply.{Reply}
 use Rattle.can_event.specs.declared.reply.Reply.TheVariants as reply
 use Rattle.can_record.specs.Tapes.{tape, tape_after}
-use Rattle.can_logfile.specs.Log.{entries_in, lines_of_blocks, log_line, log_lines, tried_of, tried_in, joined, TornAfter}
+use Rattle.can_record_text.specs.LongRuns.{entries_in}
+use Rattle.can_logfile.specs.Log.{lines_of_blocks, log_line, log_lines, tried_of, tried_in, joined, TornAfter}
 use Rattle.std.proofs.KnownBytes.{Appends-trans}
 
 -- The oldest entries of a history, and their lines.
@@ -34,13 +36,13 @@ abbrev Grows : List Tried → List Tried → Type 0
 Grows base all = (more : List Tried) × (all ≡ base ++ more)
 
 grows : (r : Reply) (base all : List Tried) → Grows base all → Grows base (tape_after r all)
-grows (reply.Tried t) base all h = (h.0 ++ t ∷ [], ap (λ (x : List Tried). x ++ t ∷ []) h.1 ∙ append_assoc base h.0 (t ∷ []))
+grows (reply.Attempted (attempt.Tried t)) base all h = (h.0 ++ t ∷ [], ap (λ (x : List Tried). x ++ t ∷ []) h.1 ∙ append_assoc base h.0 (t ∷ []))
 grows (reply.Opened s) base all h = h
 grows (reply.Closed s) base all h = h
 grows reply.Done base all h = h
 grows (reply.Sent s) base all h = h
 grows (reply.Received s) base all h = h
-grows (reply.Idle restarted) base all h = h
+grows (reply.Attempted (attempt.Idle restarted)) base all h = h
 grows (reply.Refused s) base all h = h
 
 tape-grows : (later past : List Entry) → Grows (tape past) (tape (later ++ past))
@@ -51,13 +53,13 @@ tape-of : (k : ℕ) (past : List Entry) → Grows (tape (front k past)) (tape pa
 tape-of k past = subst (λ (all : List Entry). Grows (tape (front k past)) (tape all)) (past-front k past) (tape-grows (reverse (drop k (reverse past))) (front k past))
 
 -- one tried entry more
-tried-more : (k : ℕ) (past : List Entry) (e : Entry) (t : Tried) → k < length past → e ≡ get_or (reverse past) k e → e.reply ≡ reply.Tried t → tape (front (k + 1) past) ≡ tape (front k past) ++ t ∷ []
+tried-more : (k : ℕ) (past : List Entry) (e : Entry) (t : Tried) → k < length past → e ≡ get_or (reverse past) k e → e.reply ≡ reply.Attempted (attempt.Tried t) → tape (front (k + 1) past) ≡ tape (front k past) ++ t ∷ []
 tried-more k past e t lt at is = ap tape (front-more k past e lt at) ∙ ap (λ (r : Reply). tape_after r (tape (front k past))) is
 
-pub count-more : (k : ℕ) (past : List Entry) (e : Entry) (t : Tried) → k < length past → e ≡ get_or (reverse past) k e → e.reply ≡ reply.Tried t → length (tape (front (k + 1) past)) ≡ length (tape (front k past)) + 1
+pub count-more : (k : ℕ) (past : List Entry) (e : Entry) (t : Tried) → k < length past → e ≡ get_or (reverse past) k e → e.reply ≡ reply.Attempted (attempt.Tried t) → length (tape (front (k + 1) past)) ≡ length (tape (front k past)) + 1
 count-more k past e t lt at is = ap length (tried-more k past e t lt at is) ∙ length-append (tape (front k past)) (t ∷ [])
 
-pub lines-more : (names : List (List ℕ)) (k : ℕ) (past : List Entry) (e : Entry) (t : Tried) → k < length past → e ≡ get_or (reverse past) k e → e.reply ≡ reply.Tried t → joined (log_lines names (front (k + 1) past)) ≡ joined (log_lines names (front k past)) ++ log_line names t
+pub lines-more : (names : List (List ℕ)) (k : ℕ) (past : List Entry) (e : Entry) (t : Tried) → k < length past → e ≡ get_or (reverse past) k e → e.reply ≡ reply.Attempted (attempt.Tried t) → joined (log_lines names (front (k + 1) past)) ≡ joined (log_lines names (front k past)) ++ log_line names t
 lines-more names k past e t lt at is =
     ap (λ (ts : List Tried). joined (map (log_line names) ts)) (tried-more k past e t lt at is)
     ∙ ap joined (map-append (log_line names) (tape (front k past)) (t ∷ []))
@@ -73,7 +75,7 @@ there : (xs : List (List ℕ)) (x : List ℕ) (ys : List (List ℕ)) → slice_g
 there xs x ys = slice_get_read (xs ++ x ∷ ys) (length (xs ++ x ∷ ys)) (length xs) x refl (omega (arith, length-append xs (x ∷ ys))) (sym (at_length xs x ys))
 
 -- the lines of a history, cut at a tried entry
-lines-cut : (names : List (List ℕ)) (k : ℕ) (past : List Entry) (e : Entry) (t : Tried) → k < length past → e ≡ get_or (reverse past) k e → e.reply ≡ reply.Tried t → (more : List (List ℕ)) × (log_lines names past ≡ log_lines names (front k past) ++ log_line names t ∷ more)
+lines-cut : (names : List (List ℕ)) (k : ℕ) (past : List Entry) (e : Entry) (t : Tried) → k < length past → e ≡ get_or (reverse past) k e → e.reply ≡ reply.Attempted (attempt.Tried t) → (more : List (List ℕ)) × (log_lines names past ≡ log_lines names (front k past) ++ log_line names t ∷ more)
 lines-cut names k past e t lt at is =
     let grown = tape-of (k + 1) past in
     let base = tape (front k past) in
@@ -81,7 +83,7 @@ lines-cut names k past e t lt at is =
     (map (log_line names) grown.0, ap (map (log_line names)) whole ∙ map-append (log_line names) base (t ∷ grown.0))
 
 pub torn : (a b c : Option (List ℕ)) (names : List (List ℕ)) (k whole : ℕ) (past : List Entry) (e : Entry) (t : Tried) →
-    k < length past → e ≡ get_or (reverse past) k e → e.reply ≡ reply.Tried t → whole ≡ length (tape (front k past)) →
+    k < length past → e ≡ get_or (reverse past) k e → e.reply ≡ reply.Attempted (attempt.Tried t) → whole ≡ length (tape (front k past)) →
     Appends a b (joined (log_lines names (front k past))) → (part : ℕ) × (part < length (log_line names t)) × Appends b c (take part (log_line names t)) → TornAfter a c (log_lines names past) whole
 torn a b c names k whole past e t lt at is count out part =
     let cut = lines-cut names k past e t lt at is in
@@ -97,44 +99,44 @@ torn a b c names k whole past e t lt at is count out part =
           subst (λ (ls : List (List ℕ)). Appends a c (joined ls ++ take part.0 (log_line names t))) (sym taken) (Appends-trans a b c (joined base) (take part.0 (log_line names t)) out part.2);
     }
 
-stays : (r : Reply) (before : List Tried) → ((t : Tried) → r ≡ reply.Tried t → ⊥) → tape_after r before ≡ before
-stays (reply.Tried t) before never = absurd (never t refl)
+stays : (r : Reply) (before : List Tried) → ((t : Tried) → r ≡ reply.Attempted (attempt.Tried t) → ⊥) → tape_after r before ≡ before
+stays (reply.Attempted (attempt.Tried t)) before never = absurd (never t refl)
 stays (reply.Opened s) before never = refl
 stays (reply.Closed s) before never = refl
 stays reply.Done before never = refl
 stays (reply.Sent s) before never = refl
 stays (reply.Received s) before never = refl
-stays (reply.Idle restarted) before never = refl
+stays (reply.Attempted (attempt.Idle restarted)) before never = refl
 stays (reply.Refused s) before never = refl
 
 -- one entry more that was no attempt
-pub same-tape : (k : ℕ) (past : List Entry) (e : Entry) → k < length past → e ≡ get_or (reverse past) k e → ((t : Tried) → e.reply ≡ reply.Tried t → ⊥) → tape (front (k + 1) past) ≡ tape (front k past)
+pub same-tape : (k : ℕ) (past : List Entry) (e : Entry) → k < length past → e ≡ get_or (reverse past) k e → ((t : Tried) → e.reply ≡ reply.Attempted (attempt.Tried t) → ⊥) → tape (front (k + 1) past) ≡ tape (front k past)
 same-tape k past e lt at never = ap tape (front-more k past e lt at) ∙ stays e.reply (tape (front k past)) never
 
 pub line-more : (a b c : Option (List ℕ)) (names : List (List ℕ)) (k : ℕ) (past : List Entry) (e : Entry) (t : Tried) →
-    k < length past → e ≡ get_or (reverse past) k e → e.reply ≡ reply.Tried t →
+    k < length past → e ≡ get_or (reverse past) k e → e.reply ≡ reply.Attempted (attempt.Tried t) →
     Appends a b (joined (log_lines names (front k past))) → Appends b c (log_line names t) → Appends a c (joined (log_lines names (front (k + 1) past)))
 line-more a b c names k past e t lt at is out part =
     subst (Appends a c) (sym (lines-more names k past e t lt at is)) (Appends-trans a b c (joined (log_lines names (front k past))) (log_line names t) out part)
 
 -- ---- the entry at a place
 
-tried-is : (r : Reply) (t : Tried) → tried_of r ≡ Some t → r ≡ reply.Tried t
-tried-is (reply.Tried s) t e = ap reply.Tried (same_Some s t e)
+tried-is : (r : Reply) (t : Tried) → tried_of r ≡ Some t → r ≡ reply.Attempted (attempt.Tried t)
+tried-is (reply.Attempted (attempt.Tried s)) t e = ap (λ (u : Tried). reply.Attempted (attempt.Tried u)) (same_Some s t e)
 tried-is (reply.Opened s) t e = absurd (none-some t e)
 tried-is (reply.Closed s) t e = absurd (none-some t e)
 tried-is reply.Done t e = absurd (none-some t e)
 tried-is (reply.Sent s) t e = absurd (none-some t e)
 tried-is (reply.Received s) t e = absurd (none-some t e)
-tried-is (reply.Idle restarted) t e = absurd (none-some t e)
+tried-is (reply.Attempted (attempt.Idle restarted)) t e = absurd (none-some t e)
 tried-is (reply.Refused s) t e = absurd (none-some t e)
 
 -- an entry of a history, and the frame that was tried in it
 pub record Seen (k : ℕ) (past : List Entry) (o : Option Tried) : Type 0 where
   pub entry : Entry
   pub read : entry ≡ get_or (reverse past) k entry
-  pub tried : (t : Tried) → o ≡ Some t → entry.reply ≡ reply.Tried t
-  pub never : ((t : Tried) → o ≡ Some t → ⊥) → (t : Tried) → entry.reply ≡ reply.Tried t → ⊥
+  pub tried : (t : Tried) → o ≡ Some t → entry.reply ≡ reply.Attempted (attempt.Tried t)
+  pub never : ((t : Tried) → o ≡ Some t → ⊥) → (t : Tried) → entry.reply ≡ reply.Attempted (attempt.Tried t) → ⊥
 
 pub seen : (k : ℕ) (past : List Entry) (o : Option Tried) → k < length past → o ≡ tried_in (slice_get (reverse past) k) → Seen k past o
 seen k past o lt is =
@@ -162,13 +164,13 @@ tape-join [] past = sym (append-nil (tape past))
 tape-join (e ∷ later) past = ap (tape_after e.reply) (tape-join later past) ∙ after e.reply (tape past) (tape later)
   where
     after : (r : Reply) (base more : List Tried) → tape_after r (base ++ more) ≡ base ++ tape_after r more
-    after (reply.Tried t) base more = append_assoc base more (t ∷ [])
+    after (reply.Attempted (attempt.Tried t)) base more = append_assoc base more (t ∷ [])
     after (reply.Opened s) base more = refl
     after (reply.Closed s) base more = refl
     after reply.Done base more = refl
     after (reply.Sent s) base more = refl
     after (reply.Received s) base more = refl
-    after (reply.Idle restarted) base more = refl
+    after (reply.Attempted (attempt.Idle restarted)) base more = refl
     after (reply.Refused s) base more = refl
 
 lines-join : (names : List (List ℕ)) (block more : List Entry) → log_lines names (reverse (block ++ more)) ≡ log_lines names (reverse block) ++ log_lines names (reverse more)

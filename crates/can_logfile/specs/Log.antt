@@ -12,6 +12,7 @@ use Rattle.can_event.specs.declared.entry.Entry.{Entry}
 use Rattle.can_event.specs.declared.reply.Reply.{Reply}
 use Rattle.can_event.specs.declared.reply.Reply.TheVariants as reply
 use Rattle.can_event.specs.declared.attempt.Tried.{Tried}
+use Rattle.can_event.specs.declared.attempt.Attempt.TheVariants as attempt
 use Rattle.can_record.specs.Tapes.{tape}
 use Rattle.can_logfile.specs.declared.log_writing.LogFault.{LogFault}
 
@@ -39,7 +40,7 @@ log_line names t = stamp t.moment ++ 32 ∷ winner_name names t.winner ++ 32 ∷
 
 -- the frame that was tried, where one was
 abbrev pub tried_of : Reply → Option Tried
-tried_of (reply.Tried t) = Some t
+tried_of (reply.Attempted (attempt.Tried t)) = Some t
 tried_of _ = None
 
 -- the frame that was tried in this entry, where there is one
@@ -54,10 +55,6 @@ log_lines names past = map (log_line names) (tape past)
 -- lines one after another
 abbrev pub joined : List (List ℕ) → List ℕ
 joined lines = flat_map (λ line. line) lines
-
--- the entries of blocks, one after another
-abbrev pub entries_in : List (List Entry) → List Entry
-entries_in blocks = flat_map (λ (block : List Entry). block) blocks
 
 -- the lines of the frames tried in blocks of entries, one block after another
 abbrev pub lines_of_blocks : List (List ℕ) → List (List Entry) → List (List ℕ)

@@ -1,14 +1,15 @@
 ghost use Rattle.std.specs.Prelude.{◌≡◌, ◌<◌, ◌+◌, ◌^◌, IfErr, IfOk, List, reverse, slice_get, ℕ};
 ghost use Rattle.can_frame.specs.Names.{AreNames};
-ghost use Rattle.can_lines.specs.Lines.{LineGoesOut};
 ghost use Rattle.can_event.specs.declared.entry.Entry.{Entry as AnEntry};
-ghost use Rattle.can_logfile.specs.Log.{entries_in, lines_of_blocks, log_line, log_lines, tried_in, tried_of, LinesGoOut};
+ghost use Rattle.can_record_text.specs.Lines.{LineGoesOut};
+ghost use Rattle.can_record_text.specs.LongRuns.{entries_in};
+ghost use Rattle.can_logfile.specs.Log.{lines_of_blocks, log_line, log_lines, tried_in, tried_of, LinesGoOut};
 
 use crate::lines::log_line;
-use can_event::{Reply, Tried};
+use can_event::{Attempt, Reply, Tried};
 use can_frame::Names;
-use can_lines::write_line;
 use can_record::{PackedRecord, Record};
+use can_record_text::write_line;
 use std::io::Write;
 use thiserror::Error;
 
@@ -120,7 +121,7 @@ fn tried_of(reply: &Reply) -> Option<Tried>
     ensures { result ≡ tried_of reply.now }
 {
     match reply {
-        Reply::Tried(tried) => Some(*tried),
+        Reply::Attempted(Attempt::Tried(tried)) => Some(*tried),
         _ => None,
     }
 }

@@ -8,13 +8,14 @@ use Rattle.can_frame.specs.declared.item.Item.TheVariants as item
 use Rattle.can_event.specs.declared.event.Event.{Event}
 use Rattle.can_event.specs.declared.event.Event.TheVariants.{Send, Receive, Attempt}
 use Rattle.can_event.specs.declared.reply.Reply.{Reply}
+use Rattle.can_event.specs.declared.attempt.Attempt.TheVariants as attempt
 use Rattle.can_event.specs.declared.reply.Reply.TheVariants as reply
 use Rattle.can_record.specs.declared.packed_entry.PackedEntry.{PackedEntry}
 use Rattle.can_record.specs.declared.packed_entry.PackedEntry.TheVariants as kept
 use Rattle.can_record.specs.FrameWords.{no_frame}
 use Rattle.can_record.specs.PackedEntry.{entry_in, frames_needed, AreWithin, fd_frame_at, fd_frames, fd_frames_of, fd_frames_of_item}
 
--- What is kept gives the same entry where the list of FD frames has grown behind its place.
+-- What is kept gives the same entry where the list of FD frames has grown after its place.
 
 same_place : (fs more : List CanFrame) (place : ℕ) → place + 1 ≤ length fs → fd_frame_at (fs ++ more) place ≡ fd_frame_at fs place
 same_place fs more place h = get_or-append fs more no_frame place (omega arith)
@@ -47,7 +48,7 @@ same_entries : (fs more : List CanFrame) (ks : List PackedEntry) → AreWithin (
 same_entries fs more [] h = refl
 same_entries fs more (k ∷ ks) h = rw (same_entry fs more k (All-head (λ j. frames_needed j ≤ length fs) k ks h), same_entries fs more ks (All-tail (λ j. frames_needed j ≤ length fs) k ks h))
 
--- so where one more is kept, its entry comes behind the others
+-- so where one more is kept, its entry comes after the others
 pub entries_pushed : (fs more : List CanFrame) (ks : List PackedEntry) (k : PackedEntry) → AreWithin (length fs) ks → map (entry_in (fs ++ more)) (ks ++ k ∷ []) ≡ map (entry_in fs) ks ++ entry_in (fs ++ more) k ∷ []
 entries_pushed fs more ks k h = rw (map-append (entry_in (fs ++ more)) ks (k ∷ []), same_entries fs more ks h)
 
@@ -71,5 +72,5 @@ few_of_item (item.Error error) = omega arith
 pub few_frames : (e : Event) (r : Reply) → length (fd_frames e r) ≤ 1
 few_frames (Send s frame) r = few_of frame
 few_frames (Receive s) (reply.Received (Some r)) = few_of_item r.item
-few_frames (Attempt m v) (reply.Tried t) = few_of t.frame
+few_frames (Attempt m v) (reply.Attempted (attempt.Tried t)) = few_of t.frame
 few_frames _ _ = omega arith

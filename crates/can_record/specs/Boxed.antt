@@ -3,9 +3,10 @@ use Rattle.can_frame.specs.declared.iface.IfaceSet.{IfaceSet}
 use Rattle.can_event.specs.declared.event.Event.{Event}
 use Rattle.can_event.specs.declared.event.Event.TheVariants.{Open, Close, SetOption, Send, Receive, Attempt, Restart}
 use Rattle.can_event.specs.declared.reply.Reply.{Reply}
+use Rattle.can_event.specs.declared.attempt.Attempt.TheVariants as attempt
 use Rattle.can_event.specs.declared.reply.Reply.TheVariants as reply
 
--- Which entries are wide: they do not fit in 32 bytes, and take memory of their own (own choice).
+-- Which entries need a box: they do not fit in 32 bytes, and take memory of their own (own choice).
 
 -- the number of a frame does not fit 32 bits; no frame of a legal record has such a number
 abbrev pub is_large : ℕ → Bool
@@ -15,7 +16,7 @@ is_large number = nat_le (2 ^ 32) number
 abbrev pub is_off_alone : ℕ → IfaceSet → Bool
 is_off_alone winner off = (off.0 == 0) || (off.0 == 2 ^ winner)
 
--- the filters of a socket are wide, and so is what no bus answers: another kind of reply than the event has, an
+-- the filters of a socket need a box, and so does what no bus returns: another kind of reply than the event has, an
 -- attempt at another moment, in which others than the winner went off, or numbers that no record reaches
 abbrev pub needs_box : Event → Reply → Bool
 needs_box (Open i capacity) (reply.Opened s) = false
@@ -29,8 +30,9 @@ needs_box (Send s frame) (reply.Refused why) = false
 needs_box (Receive s) (reply.Received None) = false
 needs_box (Receive s) (reply.Received (Some r)) = is_large r.number
 needs_box (Receive s) (reply.Refused why) = false
-needs_box (Attempt m v) (reply.Idle restarted) = false
-needs_box (Attempt m v) (reply.Tried t) = is_large t.number || not (t.moment == m) || not (is_off_alone t.winner t.off)
+needs_box (Attempt m v) (reply.Attempted (attempt.Idle restarted)) = false
+needs_box (Attempt m v) (reply.Attempted (attempt.Tried t)) =
+    is_large t.number || not (t.moment == m) || not (is_off_alone t.winner t.off)
 needs_box (Attempt m v) (reply.Refused why) = false
 needs_box (Restart i m) reply.Done = false
 needs_box (Restart i m) (reply.Refused why) = false

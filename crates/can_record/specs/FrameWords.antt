@@ -11,10 +11,14 @@ identifier_in word =
     if nat_le (2 ^ 31) word then record { extended = Bool.true; number = word % 2 ^ 29 }
     else record { extended = Bool.false; number = word % 2 ^ 11 }
 
--- the bytes that count, or in a remote frame, which bit 30 marks, how many are asked for
+-- whether a word is of a remote frame, which bit 30 marks
+abbrev pub is_remote_word : ℕ → Bool
+is_remote_word word = nat_le (2 ^ 30) (word % 2 ^ 31)
+
+-- the bytes that count, or in a remote frame how many are asked for
 abbrev pub payload_in : ℕ → ℕ → List ℕ → Payload
 payload_in word len bytes =
-    if nat_le (2 ^ 30) (word % 2 ^ 31) then Remote (min len 8) else Data (take (min len 8) bytes)
+    if is_remote_word word then Remote (min len 8) else Data (take (min len 8) bytes)
 
 -- the frame
 abbrev pub frame_in : ℕ → ℕ → List ℕ → CanFrame

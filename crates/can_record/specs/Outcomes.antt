@@ -1,7 +1,6 @@
 use Rattle.std.specs.Prelude.{ℕ}
 use Rattle.can_fault.specs.declared.verdict.Verdict.{Verdict}
 use Rattle.can_event.specs.declared.attempt.Attempt.{Attempt}
-use Rattle.can_event.specs.declared.attempt.Attempt.TheVariants as attempt
 use Rattle.can_event.specs.declared.entry.Entry.{Entry}
 use Rattle.can_event.specs.declared.event.Event.TheVariants as event
 use Rattle.can_event.specs.declared.reply.Reply.{Reply}
@@ -10,14 +9,9 @@ use Rattle.can_event.specs.Replies.{entry_of}
 
 -- What a call came to, as the reply that a record has.
 
--- the reply to an attempt that came to this (own choice)
-abbrev pub told_attempt : Attempt → Reply
-told_attempt (attempt.Idle restarted) = reply.Idle restarted
-told_attempt (attempt.Tried t) = reply.Tried t
-
 -- the entry of an attempt that came to this (own choice)
 abbrev pub attempt_entry : ℕ → Verdict → Attempt → Entry
-attempt_entry m v a = entry_of (event.Attempt m v) (told_attempt a)
+attempt_entry m v a = entry_of (event.Attempt m v) (reply.Attempted a)
 
 -- the reply to a call that only changes something (own choice)
 abbrev pub done_reply : Unit {0} → Reply

@@ -16,6 +16,7 @@ use Rattle.can_event.specs.declared.reply.Reply.{Reply}
 use Rattle.can_event.specs.declared.reply.Reply.TheVariants as reply
 use Rattle.can_event.specs.declared.socket_id.SocketId.{SocketId}
 use Rattle.can_event.specs.declared.attempt.Tried.{Tried}
+use Rattle.can_event.specs.declared.attempt.Attempt.TheVariants as attempt
 use Rattle.can_event.specs.Replies.{entry_of, receive_reply, told}
 use Rattle.can_record.specs.declared.packed_entry.PackedEntry.{PackedEntry}
 use Rattle.can_record.specs.declared.packed_entry.PackedEntry.TheVariants as kept
@@ -84,12 +85,12 @@ entry_in frames (kept.ErrorReceived from s number error m) =
     entry_of (Receive s) (reply.Received
     (Some (record { item = item.Error error; from = from; number = number; moment = m })))
 entry_in frames (kept.ReceiveRefused s why) = entry_of (Receive s) (reply.Refused why)
-entry_in frames (kept.Idle restarted v m) = entry_of (Attempt m v) (reply.Idle restarted)
+entry_in frames (kept.Idle restarted v m) = entry_of (Attempt m v) (reply.Attempted (attempt.Idle restarted))
 entry_in frames (kept.Tried end named word number accepted restarted bytes stamp) =
     entry_of (Attempt (stamp_moment stamp) (verdict_in (end / 4) named))
-    (reply.Tried (tried_in end word number accepted restarted bytes stamp))
+    (reply.Attempted (attempt.Tried (tried_in end word number accepted restarted bytes stamp)))
 entry_in frames (kept.FdTried end winner number named accepted off restarted place m) =
-    entry_of (Attempt m (verdict_in (end / 4) named)) (reply.Tried (record {
+    entry_of (Attempt m (verdict_in (end / 4) named)) (reply.Attempted (attempt.Tried (record {
       moment = m;
       winner = winner;
       number = number;
@@ -98,7 +99,7 @@ entry_in frames (kept.FdTried end winner number named accepted off restarted pla
       accepted = accepted;
       off = off;
       restarted = restarted;
-    }))
+    })))
 entry_in frames (kept.AttemptRefused v m why) = entry_of (Attempt m v) (reply.Refused why)
 entry_in frames (kept.Restarted i m) = entry_of (Restart i m) reply.Done
 entry_in frames (kept.RestartRefused i m why) = entry_of (Restart i m) (reply.Refused why)
@@ -149,7 +150,7 @@ fd_frames_of_item (item.Error error) = []
 abbrev pub fd_frames : Event → Reply → List CanFrame
 fd_frames (Send s frame) r = fd_frames_of frame
 fd_frames (Receive s) (reply.Received (Some r)) = fd_frames_of_item r.item
-fd_frames (Attempt m v) (reply.Tried t) = fd_frames_of t.frame
+fd_frames (Attempt m v) (reply.Attempted (attempt.Tried t)) = fd_frames_of t.frame
 fd_frames _ _ = []
 
 -- the entry of a receive that came to this with the room (own choice)
@@ -166,4 +167,4 @@ send_entry s frame outcome = entry_of (Send s frame) (told reply.Sent outcome)
 
 -- the entry of an attempt that tried this frame (own choice)
 abbrev pub tried_entry : ℕ → Verdict → Tried → Entry
-tried_entry m v t = entry_of (Attempt m v) (reply.Tried t)
+tried_entry m v t = entry_of (Attempt m v) (reply.Attempted (attempt.Tried t))

@@ -6,7 +6,7 @@ pub record PackedEntries : Type 0 where
   pub entries : List Entry
   pub room : ℕ
 
--- the same of a list that grows, and whether there is memory for a wide entry
+-- the same of a list that grows, and whether there is memory for an entry that needs a box
 pub record ListedEntries : Type 0 where
   pub entries : List Entry
   pub room : ℕ

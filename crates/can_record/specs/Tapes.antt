@@ -1,5 +1,6 @@
 use Rattle.std.specs.Prelude.{List, [], ◌∷◌, ◌++◌}
 use Rattle.can_event.specs.declared.attempt.Tried.{Tried}
+use Rattle.can_event.specs.declared.attempt.Attempt.TheVariants as attempt
 use Rattle.can_event.specs.declared.entry.Entry.{Entry}
 use Rattle.can_event.specs.declared.reply.Reply.{Reply}
 use Rattle.can_event.specs.declared.reply.Reply.TheVariants as reply
@@ -8,7 +9,7 @@ use Rattle.can_event.specs.declared.reply.Reply.TheVariants as reply
 
 -- tape after one more entry (own choice)
 abbrev pub tape_after : Reply → List Tried → List Tried
-tape_after (reply.Tried t) before = before ++ t ∷ []
+tape_after (reply.Attempted (attempt.Tried t)) before = before ++ t ∷ []
 tape_after _ before = before
 
 -- the attempts in which a frame was tried: an attempt's number is its place

@@ -4,7 +4,7 @@ ghost use Rattle.can_event.specs.declared.event.Event.TheVariants as asked;
 ghost use Rattle.can_event.specs.declared.socket_id.SocketId.{SocketId};
 ghost use Rattle.can_record.specs.Boxed.{needs_box, is_large, is_off_alone};
 
-use can_event::{Event, Received, Refusal, Reply};
+use can_event::{Attempt, Event, Received, Refusal, Reply};
 use can_frame::{Iface, IfaceSet};
 
 /// Whether an entry does not fit in 32 bytes.
@@ -17,11 +17,11 @@ pub fn needs_box(event: &Event, reply: &Reply) -> bool
         | (Event::Close(_), Reply::Closed(_))
         | (Event::SetOption(_, _) | Event::Restart(_, _), Reply::Done)
         | (Event::Receive(_), Reply::Received(None))
-        | (Event::Attempt(_, _), Reply::Idle { .. })
+        | (Event::Attempt(_, _), Reply::Attempted(Attempt::Idle { .. }))
         | (_, Reply::Refused(_)) => false,
         (Event::Send(_, _), Reply::Sent(number)) => is_large(*number),
         (Event::Receive(_), Reply::Received(Some(received))) => is_large(received.number),
-        (Event::Attempt(moment, _), Reply::Tried(tried)) => {
+        (Event::Attempt(moment, _), Reply::Attempted(Attempt::Tried(tried))) => {
             is_large(tried.number)
                 || tried.moment != *moment
                 || !is_off_alone(tried.winner, tried.off)

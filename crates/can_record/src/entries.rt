@@ -50,7 +50,7 @@ impl<'a> Entries<'a> {
         ensures { result ≡ slice_get self.now place }
     {
         let held = self.held;
-        held.entry(place)
+        held.get(place)
     }
 
     /// Goes over the entries, the oldest first. No memory is taken.
@@ -94,8 +94,8 @@ impl<'a> Iterator for EntriesIter<'a> {
         if self.place >= held.len() {
             return None;
         }
-        let looked = held.entry(self.place)?;
+        let entry = held.get(self.place)?;
         self.place += 1;
-        Some(looked)
+        Some(entry)
     }
 }

@@ -7,10 +7,10 @@ use can_event::Entry;
 use std::marker::Model;
 use std::ops::Deref;
 
-/// An entry that is looked at: made for the look, or borrowed from where it is kept. Contracts see the entry.
+/// An entry that is read: made for that, or borrowed from where it is kept. Contracts see the entry.
 #[derive(Drop)]
 pub struct EntryRef<'a> {
-    sight: EntryCow<'a>,
+    cow: EntryCow<'a>,
 }
 
 /// Whose the entry is.
@@ -26,7 +26,7 @@ impl<'a> Model for EntryRef<'a> {
 
     ghost Value = { Entry };
 
-    ghost view = { λ l. entry_seen l.sight };
+    ghost view = { λ l. entry_seen l.cow };
 }
 
 impl<'a> EntryRef<'a> {
@@ -35,21 +35,21 @@ impl<'a> EntryRef<'a> {
         requires { IsStored stored.now }
         ensures { result ≡ entry_stored stored.now }
     {
-        let sight = match stored {
+        let cow = match stored {
             StoredEntry::Packed(frames, kept) => EntryCow::Owned(Entry {
                 event: event_in(frames, kept),
                 reply: reply_in(frames, kept),
             }),
             StoredEntry::Whole(entry) => EntryCow::Borrowed(entry),
         };
-        EntryRef { sight }
+        EntryRef { cow }
     }
 
     /// The entry.
     pub fn entry(&self) -> &Entry
         ensures { result.now ≡ self.now }
     {
-        match &self.sight {
+        match &self.cow {
             EntryCow::Owned(entry) => entry,
             EntryCow::Borrowed(entry) => entry,
         }
@@ -59,7 +59,7 @@ impl<'a> EntryRef<'a> {
 impl<'a> Deref for EntryRef<'a> {
     type Target = Entry;
 
-    ghost deref_gives = { λ looked entry. entry ≡ looked };
+    ghost deref_gives = { λ seen entry. entry ≡ seen };
 
     fn deref(&self) -> &Entry {
         self.entry()

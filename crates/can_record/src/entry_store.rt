@@ -55,7 +55,7 @@ impl EntryStore {
     }
 
     /// The entry at a place, if there is one.
-    pub fn entry(&self, place: usize) -> Option<EntryRef<'_>>
+    pub fn get(&self, place: usize) -> Option<EntryRef<'_>>
         ensures { result ≡ slice_get (entries_in self.now) place }
     {
         match self.stored(place) {
@@ -71,8 +71,8 @@ impl EntryStore {
         let mut copies = Vec::with_capacity(alloc, self.len())?;
         for place in 0..self.len() {
             let stored = self.stored(place).unwrap();
-            let looked = EntryRef::of(&stored);
-            let entry = copy_of(alloc, looked.entry())?;
+            let seen = EntryRef::of(&stored);
+            let entry = copy_of(alloc, seen.entry())?;
             add(&mut copies, entry);
         }
         Ok(copies)

@@ -1,44 +1,84 @@
-ghost use Rattle.std.specs.Prelude.{◌≡◌, ◌≤◌, false, length, take};
+ghost use Rattle.std.specs.Prelude.{◌≡◌, ◌≤◌, false, length, min, take};
 ghost use Rattle.can_frame.specs.Frames.{is_fd};
-ghost use Rattle.can_record.specs.FrameWords.{identifier_in, frame_in};
+ghost use Rattle.can_record.specs.FrameWords.{frame_in, identifier_in, is_remote_word};
 ghost use Rattle.can_record.specs.Moments.{moment_in};
 
 use can_frame::{CanId, Frame, Moment};
+use std::marker::Model;
 
-/// The frame of an identifier word, a length and eight bytes.
-pub fn frame_in(word: u32, len: u8, bytes: &[u8; 8]) -> Frame
-    ensures { result ≡ frame_in word len bytes.now }
-{
-    let id = identifier_in(word);
-    let len = if len <= 8 { len } else { 8 };
-    if word % 0x8000_0000 >= 0x4000_0000 {
-        Frame::remote(id, len).unwrap()
-    } else {
-        Frame::data(id, &bytes[..len as usize]).unwrap()
+/// The identifier word of a frame that is no FD frame (linux/can.h): the identifier, and whether it is a remote frame.
+#[derive(Clone, Copy)]
+pub struct IdWord {
+    bits: u32,
+}
+
+impl Model for IdWord {
+    ghost use Rattle.std.specs.Prelude.{ℕ};
+
+    ghost Value = { ℕ };
+
+    ghost view = { λ w. w.bits };
+
+    ghost inverse = { λ n. record { bits = n } };
+}
+
+impl IdWord {
+    /// The identifier.
+    pub fn id(self) -> CanId
+        ensures { result ≡ identifier_in self }
+    {
+        if self.bits >= 0x8000_0000 {
+            CanId::extended(self.bits % 0x2000_0000).unwrap()
+        } else {
+            CanId::standard((self.bits % 0x800) as u16).unwrap()
+        }
+    }
+
+    /// Whether it is a remote frame.
+    pub fn is_remote(self) -> bool
+        ensures { result ≡ is_remote_word self }
+    {
+        self.bits % 0x8000_0000 >= 0x4000_0000
     }
 }
 
-/// The identifier of a word.
-fn identifier_in(word: u32) -> CanId
-    ensures { result ≡ identifier_in word }
+/// The frame of an identifier word, a length and eight bytes.
+pub fn frame_in(word: IdWord, len: u8, bytes: &[u8; 8]) -> Frame
+    ensures { result ≡ frame_in word len bytes.now }
 {
-    if word >= 0x8000_0000 {
-        CanId::extended(word % 0x2000_0000).unwrap()
+    if word.is_remote() {
+        Frame::remote(word.id(), short_len(len)).unwrap()
     } else {
-        CanId::standard((word % 0x800) as u16).unwrap()
+        Frame::data(word.id(), data_in(len, bytes)).unwrap()
     }
+}
+
+/// The bytes of a data frame of this length.
+pub fn data_in(len: u8, bytes: &[u8; 8]) -> &[u8]
+    ensures data { result.now ≡ take (min len 8) bytes.now }
+    ensures short { length result.now ≤ 8 }
+{
+    &bytes[..short_len(len) as usize]
+}
+
+/// A length that is at most 8.
+fn short_len(len: u8) -> u8
+    ensures { result ≡ min len 8 }
+{
+    if len <= 8 { len } else { 8 }
 }
 
 /// The word, the length and the eight bytes of a frame that is no FD frame.
 #[inline(always)]
-pub fn frame_words(frame: &Frame) -> (u32, u8, [u8; 8])
+pub fn frame_words(frame: &Frame) -> (IdWord, u8, [u8; 8])
     requires classic { is_fd frame.now.payload ≡ false }
     ensures back { frame_in result.0 result.1 result.2 ≡ frame.now }
     ensures short { result.1 ≤ 8 }
 {
     // Its number is within its bits.
     let _ = frame.id().number();
-    (frame.word(), frame.len(), eight_bytes(frame.bytes()))
+    let word = IdWord { bits: frame.word() };
+    (word, frame.len(), eight_bytes(frame.bytes()))
 }
 
 /// These bytes, then zeros.

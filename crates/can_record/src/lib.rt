@@ -9,11 +9,13 @@
 //! or borrowed. `StoredEntry` shows how it is kept, for those who read many.
 #![tactic(auto)]
 
+mod attempt_end;
+mod attempt_stamp;
 mod boxed;
 pub mod entries;
 pub mod entry_ref;
 mod entry_store;
-pub mod frame_words;
+mod frame_words;
 pub mod outcomes;
 pub mod packed_entry;
 pub mod packed_list;
@@ -21,17 +23,18 @@ pub mod packed_record;
 mod packing;
 pub mod records;
 pub mod stored_entry;
-pub mod unpacking;
-pub mod verdicts;
+mod unpacking;
+mod verdicts;
 
+pub use attempt_end::AttemptEnd;
+pub use attempt_stamp::AttemptStamp;
 pub use entries::{Entries, EntriesIter};
 pub use entry_ref::EntryRef;
-pub use frame_words::frame_in;
-pub use outcomes::{attempt_reply, receive_reply, sent_reply};
+pub use frame_words::{IdWord, data_in};
+pub use outcomes::{receive_reply, sent_reply};
 pub use packed_entry::PackedEntry;
 pub use packed_list::PackedList;
 pub use packed_record::PackedRecord;
 pub use records::Record;
 pub use stored_entry::StoredEntry;
-pub use unpacking::{event_in, reply_in, stamp_moment, tried_in};
-pub use verdicts::verdict_in;
+pub use unpacking::{event_in, reply_in};

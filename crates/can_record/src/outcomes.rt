@@ -1,9 +1,8 @@
 ghost use Rattle.std.specs.Prelude.{◌≡◌};
 ghost use Rattle.can_event.specs.Replies.{receive_reply, told};
 ghost use Rattle.can_event.specs.declared.reply.Reply.TheVariants as reply;
-ghost use Rattle.can_record.specs.Outcomes.{told_attempt};
 
-use can_event::{Attempt, Received, Refusal, Reply};
+use can_event::{Received, Refusal, Reply};
 
 /// The reply to a send, which gave the frame this number, or was refused.
 pub fn sent_reply(outcome: &Result<u64, Refusal>) -> Reply
@@ -23,17 +22,5 @@ pub fn receive_reply(outcome: Result<bool, Refusal>, room: &Received) -> Reply
         Ok(true) => Reply::Received(Some(*room)),
         Ok(false) => Reply::Received(None),
         Err(why) => Reply::Refused(why),
-    }
-}
-
-/// The reply to an attempt.
-pub fn attempt_reply(attempt: &Attempt) -> Reply
-    ensures { result ≡ told_attempt attempt.now }
-{
-    match attempt {
-        Attempt::Idle { restarted } => Reply::Idle {
-            restarted: *restarted,
-        },
-        Attempt::Tried(tried) => Reply::Tried(*tried),
     }
 }

@@ -1,3 +1,6 @@
+use crate::attempt_end::AttemptEnd;
+use crate::attempt_stamp::AttemptStamp;
+use crate::frame_words::IdWord;
 use can_event::{Closed, Entry, Opt, Refusal, SocketId};
 use can_fault::Verdict;
 use can_frame::{ErrorFrame, Iface, IfaceSet, Moment};
@@ -38,7 +41,7 @@ pub enum PackedEntry {
     Sent {
         len: u8,
         socket: SocketId,
-        word: u32,
+        word: IdWord,
         number: u32,
         bytes: [u8; 8],
     },
@@ -51,7 +54,7 @@ pub enum PackedEntry {
         why: Refusal,
         len: u8,
         socket: SocketId,
-        word: u32,
+        word: IdWord,
         bytes: [u8; 8],
     },
     FdSendRefused {
@@ -66,7 +69,7 @@ pub enum PackedEntry {
         from: Iface,
         len: u8,
         socket: SocketId,
-        word: u32,
+        word: IdWord,
         number: u32,
         bytes: [u8; 8],
         moment: Moment,
@@ -95,20 +98,18 @@ pub enum PackedEntry {
         moment: Moment,
     },
     Tried {
-        /// The class and the verdict as one number.
-        end: u8,
+        end: AttemptEnd,
         /// The interfaces that the verdict names.
         named: IfaceSet,
-        word: u32,
+        word: IdWord,
         number: u32,
         accepted: IfaceSet,
         restarted: IfaceSet,
         bytes: [u8; 8],
-        /// The moment, the winner, the length and whether the winner went off as one number.
-        stamp: u64,
+        stamp: AttemptStamp,
     },
     FdTried {
-        end: u8,
+        end: AttemptEnd,
         winner: Iface,
         number: u32,
         named: IfaceSet,
@@ -138,6 +139,10 @@ pub enum PackedEntry {
 
 /// How the frame of an entry is kept: by its identifier word, its length and its bytes, or an FD frame by its place.
 pub enum PackedFrame {
-    Words { word: u32, len: u8, bytes: [u8; 8] },
+    Words {
+        word: IdWord,
+        len: u8,
+        bytes: [u8; 8],
+    },
     Place(usize),
 }

@@ -14,7 +14,7 @@ use std::marker::Model;
 
 /// A list of entries, the oldest first, of 32 bytes each, that grows.
 ///
-/// Its memory is taken before an entry comes: places, and a spare box, which the next wide entry uses up.
+/// Its memory is taken before an entry comes: places, and a spare box, which the next boxed entry uses up.
 #[derive(Drop)]
 pub struct PackedList {
     entries: PackedRecord,
@@ -52,7 +52,7 @@ impl PackedList {
         self.entries.reserve(more)
     }
 
-    /// Takes memory for a wide entry, where it is not there yet.
+    /// Takes memory for an entry that needs a box, where it is not there yet.
     pub fn reserve_spare(&mut self, alloc: Global) -> Result<(), AllocError>
         ensures entries { self.new.entries ≡ self.old.entries }
         ensures room { self.new.room ≡ self.old.room }
@@ -99,7 +99,7 @@ impl PackedList {
         ensures { Adds self.old.entries (receive_entry id room.now outcome) self.new.entries }
     {
         if receive_needs_box(outcome, room) {
-            self.push_wide_receive(id, outcome, room);
+            self.push_boxed_receive(id, outcome, room);
         } else {
             self.entries.push_receive(id, outcome, room);
         }
@@ -107,7 +107,7 @@ impl PackedList {
 
     // Its event and its reply are made only in the rare case.
     #[inline(never)]
-    fn push_wide_receive(&mut self, id: SocketId, outcome: Result<bool, Refusal>, room: &Received)
+    fn push_boxed_receive(&mut self, id: SocketId, outcome: Result<bool, Refusal>, room: &Received)
         requires room { length self.old.entries < self.old.room }
         requires spare { self.old.spare ≡ true }
         ensures { Adds self.old.entries (receive_entry id room.now outcome) self.new.entries }

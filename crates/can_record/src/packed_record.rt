@@ -2,17 +2,18 @@ ghost use Rattle.std.specs.Prelude.{◌≡◌, ◌<◌, ◌≤◌, ◌+◌, fals
 ghost use Rattle.std.specs.Option.{option_map};
 ghost use Rattle.can_event.specs.Replies.{entry_of, receive_reply, told};
 ghost use Rattle.can_event.specs.declared.attempt.Attempt.TheVariants.{Idle};
+ghost use Rattle.can_event.specs.declared.attempt.Attempt.TheVariants as attempt;
 ghost use Rattle.can_event.specs.declared.event.Event.TheVariants as asked;
 ghost use Rattle.can_event.specs.declared.reply.Reply.TheVariants as answer;
 ghost use Rattle.can_record.specs.PackedEntry.{entry_in, frames_needed, receive_entry, send_entry, tried_entry};
-ghost use Rattle.can_record.specs.Outcomes.{attempt_entry, told_attempt};
+ghost use Rattle.can_record.specs.Outcomes.{attempt_entry};
 ghost use Rattle.can_record.specs.Records.{Adds};
 ghost use Rattle.can_record.specs.StoredEntry.{entry_stored, IsStored};
 ghost use Rattle.can_record.specs.Boxed.{needs_box};
 
 use crate::entry_ref::EntryRef;
 use crate::packed_entry::PackedEntry;
-use crate::packing::{packed, packed_receive, packed_send, tried_at};
+use crate::packing::{pack, pack_receive, pack_send, pack_tried};
 use crate::stored_entry::StoredEntry;
 use can_event::{Attempt, Entry, Event, Received, Refusal, Reply, SocketId, Tried};
 use can_fault::Verdict;
@@ -97,7 +98,7 @@ impl PackedRecord {
         self.frames.clear();
     }
 
-    /// Adds an event with its reply that is not wide. No memory is taken.
+    /// Adds an event with its reply that needs no box. No memory is taken.
     #[inline(always)]
     pub fn push(&mut self, event: &Event, reply: &Reply)
         requires room { length self.old.entries < self.old.room }
@@ -105,11 +106,11 @@ impl PackedRecord {
         ensures more { Adds self.old.entries (entry_of event.now reply.now) self.new.entries }
         ensures room { self.old.room ≤ self.new.room }
     {
-        let kept = packed(&mut self.frames, event, reply);
+        let kept = pack(&mut self.frames, event, reply);
         let _ = self.entries.push(kept);
     }
 
-    /// Adds a receive that is not wide: it took an item into the room, or took none, or was refused. No memory is taken.
+    /// Adds a receive that needs no box: it took an item into the room, or took none, or was refused. No memory is taken.
     #[inline(always)]
     pub fn push_receive(&mut self, id: SocketId, outcome: Result<bool, Refusal>, room: &Received)
         requires room { length self.old.entries < self.old.room }
@@ -117,11 +118,11 @@ impl PackedRecord {
         ensures more { Adds self.old.entries (receive_entry id room.now outcome) self.new.entries }
         ensures room { self.old.room ≤ self.new.room }
     {
-        let kept = packed_receive(&mut self.frames, id, outcome, room);
+        let kept = pack_receive(&mut self.frames, id, outcome, room);
         let _ = self.entries.push(kept);
     }
 
-    /// Adds a send that is not wide: it gave the frame this number, or was refused. No memory is taken.
+    /// Adds a send that needs no box: it gave the frame this number, or was refused. No memory is taken.
     #[inline(always)]
     pub fn push_send(&mut self, id: SocketId, frame: &Frame, outcome: Result<u64, Refusal>)
         requires room { length self.old.entries < self.old.room }
@@ -129,16 +130,16 @@ impl PackedRecord {
         ensures more { Adds self.old.entries (send_entry id frame.now outcome) self.new.entries }
         ensures room { self.old.room ≤ self.new.room }
     {
-        let kept = packed_send(&mut self.frames, id, frame, outcome);
+        let kept = pack_send(&mut self.frames, id, frame, outcome);
         let _ = self.entries.push(kept);
     }
 
-    /// Adds an attempt that is not wide. No memory is taken.
+    /// Adds an attempt that needs no box. No memory is taken.
     #[inline(always)]
     pub fn push_attempt(&mut self, moment: Moment, verdict: Verdict, attempt: &Attempt)
         requires room { length self.old.entries < self.old.room }
         requires fits { needs_box (asked.Attempt moment verdict)
-            (told_attempt attempt.now) ≡ false }
+            (answer.Attempted attempt.now) ≡ false }
         ensures more { Adds self.old.entries (attempt_entry moment verdict attempt.now)
             self.new.entries }
         ensures room { self.old.room ≤ self.new.room }
@@ -157,19 +158,23 @@ impl PackedRecord {
             self.new.entries }
         ensures room { self.old.room ≤ self.new.room }
     {
-        self.push(&Event::Attempt(moment, verdict), &Reply::Idle { restarted });
+        self.push(
+            &Event::Attempt(moment, verdict),
+            &Reply::Attempted(Attempt::Idle { restarted }),
+        );
     }
 
     /// Adds an attempt that tried a frame.
     #[inline(always)]
     fn push_tried(&mut self, moment: Moment, verdict: Verdict, tried: &Tried)
         requires room { length self.old.entries < self.old.room }
-        requires fits { needs_box (asked.Attempt moment verdict) (answer.Tried tried.now) ≡ false }
+        requires fits { needs_box (asked.Attempt moment verdict)
+            (answer.Attempted (attempt.Tried tried.now)) ≡ false }
         ensures more { Adds self.old.entries (tried_entry moment verdict tried.now)
             self.new.entries }
         ensures room { self.old.room ≤ self.new.room }
     {
-        let kept = tried_at(&mut self.frames, moment, verdict, tried);
+        let kept = pack_tried(&mut self.frames, moment, verdict, tried);
         let _ = self.entries.push(kept);
     }
 

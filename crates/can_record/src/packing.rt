@@ -1,23 +1,24 @@
-ghost use Rattle.std.specs.Prelude.{◌≡◌, ◌<◌, ◌≤◌, ◌/◌, ◌%◌, ◌++◌, List, length, vec_capacity, false, IsTrue, Some};
+ghost use Rattle.std.specs.Prelude.{◌≡◌, ◌<◌, ◌≤◌, ◌++◌, List, length, vec_capacity, false, Some};
 ghost use Rattle.can_event.specs.declared.event.Event.TheVariants as asked;
+ghost use Rattle.can_event.specs.declared.attempt.Attempt.TheVariants as attempt;
 ghost use Rattle.can_event.specs.declared.reply.Reply.TheVariants as answer;
 ghost use Rattle.can_event.specs.Replies.{entry_of, receive_reply, told};
 ghost use Rattle.can_frame.specs.Frames.{CanFrame};
-ghost use Rattle.can_record.specs.PackedEntry.{entry_in, frames_needed, frame_kept, frames_needed_for, fd_frames, fd_frames_of, fd_frames_of_item, receive_entry, receive_frames, send_entry, tried_entry, IsShort, stamp_moment, stamp_winner, stamp_len, stamp_off};
-ghost use Rattle.can_record.specs.Verdicts.{class_in, verdict_in, verdict_set};
-ghost use Rattle.can_record.specs.Boxed.{needs_box, is_large, is_off_alone};
+ghost use Rattle.can_record.specs.PackedEntry.{entry_in, frames_needed, frame_kept, frames_needed_for, fd_frames, fd_frames_of, fd_frames_of_item, receive_entry, receive_frames, send_entry, tried_entry, IsShort};
+ghost use Rattle.can_record.specs.Boxed.{needs_box, is_large};
 
+use crate::attempt_end::AttemptEnd;
+use crate::attempt_stamp::AttemptStamp;
 use crate::frame_words::frame_words;
 use crate::packed_entry::{PackedEntry, PackedFrame};
-use crate::verdicts::{class_number, verdict_number, verdict_set};
-use can_attempt::Class;
-use can_event::{Event, Opt, Received, Refusal, Reply, SocketId, Tried};
+use crate::verdicts::verdict_set;
+use can_event::{Attempt, Event, Opt, Received, Refusal, Reply, SocketId, Tried};
 use can_fault::Verdict;
 use can_frame::{Frame, Iface, IfaceSet, Item, Moment};
 
-/// An entry that is not wide, in 32 bytes. Its FD frame, if it has one, goes to the end of the list, where there is room.
+/// An entry that needs no box, in 32 bytes. Its FD frame, if it has one, goes to the end of the list, where there is room.
 #[inline(always)]
-pub fn packed(frames: &mut Vec<Frame>, event: &Event, reply: &Reply) -> PackedEntry
+pub fn pack(frames: &mut Vec<Frame>, event: &Event, reply: &Reply) -> PackedEntry
     requires fits { needs_box event.now reply.now ≡ false }
     requires room { length frames.old.items < vec_capacity frames.old }
     ensures entry { entry_in frames.new.items result ≡ entry_of event.now reply.now }
@@ -28,7 +29,7 @@ pub fn packed(frames: &mut Vec<Frame>, event: &Event, reply: &Reply) -> PackedEn
     match event {
         Event::Open(iface, capacity) => opened(*iface, *capacity, reply),
         Event::Close(id) => closed(*id, reply),
-        // The filters of a socket are wide.
+        // The filters of a socket need a box.
         Event::SetFilters(_, _) => unreachable!(),
         Event::SetOption(id, option) => option_set(*id, *option, reply),
         Event::Send(id, frame) => sent(frames, *id, frame, reply),
@@ -127,15 +128,15 @@ fn sent(frames: &mut Vec<Frame>, id: SocketId, frame: &Frame, reply: &Reply) -> 
     ensures memory { vec_capacity frames.old ≤ vec_capacity frames.new }
 {
     match reply {
-        Reply::Sent(number) => packed_send(frames, id, frame, Ok(*number)),
-        Reply::Refused(why) => packed_send(frames, id, frame, Err(*why)),
+        Reply::Sent(number) => pack_send(frames, id, frame, Ok(*number)),
+        Reply::Refused(why) => pack_send(frames, id, frame, Err(*why)),
         _ => unreachable!(),
     }
 }
 
 /// The entry of a send, which gave the frame this number, or was refused.
 #[inline(always)]
-pub fn packed_send(
+pub fn pack_send(
     frames: &mut Vec<Frame>,
     id: SocketId,
     frame: &Frame,
@@ -148,7 +149,7 @@ pub fn packed_send(
     ensures frames { frames.new.items ≡ frames.old.items ++ fd_frames_of frame.now }
     ensures memory { vec_capacity frames.old ≤ vec_capacity frames.new }
 {
-    match (outcome, packed_frame(frames, frame)) {
+    match (outcome, pack_frame(frames, frame)) {
         (Ok(number), PackedFrame::Words { word, len, bytes }) => {
             PackedEntry::Sent {
                 len,
@@ -202,7 +203,7 @@ fn received(frames: &mut Vec<Frame>, id: SocketId, reply: &Reply) -> PackedEntry
 
 /// The entry of a receive, which took an item into the room, or took none, or was refused.
 #[inline(always)]
-pub fn packed_receive(
+pub fn pack_receive(
     frames: &mut Vec<Frame>,
     id: SocketId,
     outcome: Result<bool, Refusal>,
@@ -240,7 +241,7 @@ fn item_received(frames: &mut Vec<Frame>, id: SocketId, received: &Received) -> 
     } = *received;
     let number = number as u32;
     match &received.item {
-        Item::Data(frame) => match packed_frame(frames, frame) {
+        Item::Data(frame) => match pack_frame(frames, frame) {
             PackedFrame::Words { word, len, bytes } => {
                 PackedEntry::FrameReceived {
                     from,
@@ -287,12 +288,12 @@ fn attempted(
     ensures memory { vec_capacity frames.old ≤ vec_capacity frames.new }
 {
     match reply {
-        Reply::Idle { restarted } => PackedEntry::Idle {
+        Reply::Attempted(Attempt::Idle { restarted }) => PackedEntry::Idle {
             restarted: *restarted,
             verdict,
             moment,
         },
-        Reply::Tried(tried) => tried_at(frames, moment, verdict, tried),
+        Reply::Attempted(Attempt::Tried(tried)) => pack_tried(frames, moment, verdict, tried),
         Reply::Refused(why) => PackedEntry::AttemptRefused {
             verdict,
             moment,
@@ -304,20 +305,21 @@ fn attempted(
 
 /// The entry of an attempt that tried this frame.
 #[inline(always)]
-pub fn tried_at(
+pub fn pack_tried(
     frames: &mut Vec<Frame>,
     moment: Moment,
     verdict: Verdict,
     tried: &Tried,
 ) -> PackedEntry
-    requires fits { needs_box (asked.Attempt moment verdict) (answer.Tried tried.now) ≡ false }
+    requires fits { needs_box (asked.Attempt moment verdict)
+        (answer.Attempted (attempt.Tried tried.now)) ≡ false }
     requires room { length frames.old.items < vec_capacity frames.old }
     ensures entry { entry_in frames.new.items result ≡ tried_entry moment verdict tried.now }
     ensures within { frames_needed result ≤ length frames.new.items }
     ensures frames { frames.new.items ≡ frames.old.items ++ fd_frames_of tried.now.frame }
     ensures memory { vec_capacity frames.old ≤ vec_capacity frames.new }
 {
-    let end = end_of(tried.class, verdict);
+    let end = AttemptEnd::new(tried.class, verdict);
     let named = verdict_set(verdict);
     let number = tried.number as u32;
     let Tried {
@@ -327,9 +329,9 @@ pub fn tried_at(
         restarted,
         ..
     } = *tried;
-    match packed_frame(frames, &tried.frame) {
+    match pack_frame(frames, &tried.frame) {
         PackedFrame::Words { word, len, bytes } => {
-            let stamp = stamp_of(moment, winner, len, off);
+            let stamp = AttemptStamp::new(moment, winner, len, off);
             PackedEntry::Tried {
                 end,
                 named,
@@ -357,7 +359,7 @@ pub fn tried_at(
 
 /// How a frame is kept. An FD frame goes to the end of the list.
 #[inline(always)]
-fn packed_frame(frames: &mut Vec<Frame>, frame: &Frame) -> PackedFrame
+fn pack_frame(frames: &mut Vec<Frame>, frame: &Frame) -> PackedFrame
     requires room { length frames.old.items < vec_capacity frames.old }
     ensures frame { frame_kept frames.new.items result ≡ frame.now }
     ensures short { IsShort result }
@@ -373,27 +375,4 @@ fn packed_frame(frames: &mut Vec<Frame>, frame: &Frame) -> PackedFrame
         let (word, len, bytes) = frame_words(frame);
         PackedFrame::Words { word, len, bytes }
     }
-}
-
-/// The class of an attempt and its verdict as one number.
-#[inline(always)]
-fn end_of(class: Class, verdict: Verdict) -> u8
-    ensures class { class_in (result % 4) ≡ class }
-    ensures verdict { verdict_in (result / 4) (verdict_set verdict) ≡ verdict }
-{
-    verdict_number(verdict) * 4 + class_number(class)
-}
-
-/// The moment, the winner, the length and whether the winner went off as one number.
-#[inline(always)]
-fn stamp_of(moment: Moment, winner: Iface, len: u8, off: IfaceSet) -> u64
-    requires short { len ≤ 8 }
-    requires alone { IsTrue (is_off_alone winner off) }
-    ensures moment { stamp_moment result ≡ moment }
-    ensures winner { stamp_winner result ≡ winner }
-    ensures len { stamp_len result ≡ len }
-    ensures off { stamp_off result ≡ off }
-{
-    let went_off = if off.is_empty() { 0 } else { 1 };
-    moment.micros() * 512 + u64::from(winner.number()) * 32 + u64::from(len) * 2 + went_off
 }

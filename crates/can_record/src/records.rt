@@ -5,7 +5,7 @@ ghost use Rattle.can_event.specs.Spelled.{IsSpelled, IsRecord};
 ghost use Rattle.can_event.specs.Replies.{entry_of, receive_reply, told};
 ghost use Rattle.can_event.specs.declared.event.Event.TheVariants as asked;
 ghost use Rattle.can_event.specs.declared.reply.Reply.TheVariants as answer;
-ghost use Rattle.can_record.specs.Outcomes.{attempt_entry, told_attempt};
+ghost use Rattle.can_record.specs.Outcomes.{attempt_entry};
 ghost use Rattle.can_record.specs.PackedEntry.{receive_entry, send_entry};
 ghost use Rattle.can_record.specs.StoredEntry.{entry_stored, IsStored};
 ghost use Rattle.can_record.specs.Boxed.{needs_box};
@@ -66,7 +66,7 @@ impl Record {
     /// The record of these parts, the oldest entry first: `None` exactly where the configuration is outside
     /// the limits of a bus, or some entry has no line in the text of a record (`is_spelled`).
     ///
-    /// There may be more entries than the limit, and their replies need not be what a bus would answer.
+    /// There may be more entries than the limit, and their replies need not be what a bus would return.
     /// It looks at each entry once, and takes no memory.
     pub fn from_entries(config: BusConfig, entries: Vec<Entry>) -> Option<Record>
         ensures config { IfSome result (λ r. r.config ≡ config) }
@@ -115,7 +115,7 @@ impl Record {
         ensures entry { result ≡ slice_get (reverse self.now.history) place }
         ensures spelled { IfSome result (IsSpelled self.now.config) }
     {
-        self.held.entry(place)
+        self.held.get(place)
     }
 
     /// The entry at a place as it is stored, if there is one, for those who read many. No memory is taken.
@@ -157,7 +157,7 @@ impl Record {
         self.held.len() >= self.config.limit as usize
     }
 
-    /// Adds an entry that is not wide. No memory is taken.
+    /// Adds an entry that needs no box. No memory is taken.
     #[inline(always)]
     pub fn push(&mut self, event: &Event, reply: &Reply)
         requires room { length self.old.history < self.old.room }
@@ -172,7 +172,7 @@ impl Record {
         entries.push(event, reply);
     }
 
-    /// Adds a receive that is not wide: it took an item into the room, or took none, or was refused. No memory is taken.
+    /// Adds a receive that needs no box: it took an item into the room, or took none, or was refused. No memory is taken.
     #[inline(always)]
     pub fn push_receive(&mut self, id: SocketId, outcome: Result<bool, Refusal>, room: &Received)
         requires room { length self.old.history < self.old.room }
@@ -187,7 +187,7 @@ impl Record {
         entries.push_receive(id, outcome, room);
     }
 
-    /// Adds a send that is not wide: it gave the frame this number, or was refused. No memory is taken.
+    /// Adds a send that needs no box: it gave the frame this number, or was refused. No memory is taken.
     #[inline(always)]
     pub fn push_send(&mut self, id: SocketId, frame: &Frame, outcome: Result<u64, Refusal>)
         requires room { length self.old.history < self.old.room }
@@ -202,13 +202,13 @@ impl Record {
         entries.push_send(id, frame, outcome);
     }
 
-    /// Adds an attempt that is not wide. No memory is taken.
+    /// Adds an attempt that needs no box. No memory is taken.
     #[inline(always)]
     pub fn push_attempt(&mut self, moment: Moment, verdict: Verdict, attempt: &Attempt)
         requires room { length self.old.history < self.old.room }
         requires spelled { IsSpelled self.old.config (attempt_entry moment verdict attempt.now) }
         requires fits { needs_box (asked.Attempt moment verdict)
-            (told_attempt attempt.now) ≡ false }
+            (answer.Attempted attempt.now) ≡ false }
         ensures { IsLonger self.old (attempt_entry moment verdict attempt.now) self.new }
     {
         // There is no room in a list that was handed in.

@@ -1,11 +1,12 @@
-ghost use Rattle.std.specs.Prelude.{◌≡◌, ◌≤◌, ◌/◌, ◌%◌, length};
-ghost use Rattle.can_record.specs.PackedEntry.{entry_in, frames_needed, IsSmall, tried_in, stamp_moment, stamp_winner, stamp_len, stamp_off};
+ghost use Rattle.std.specs.Prelude.{◌≡◌, ◌≤◌, length};
+ghost use Rattle.can_record.specs.PackedEntry.{entry_in, frames_needed, IsSmall, tried_in};
 
-use crate::frame_words::{frame_in, moment_in};
+use crate::attempt_end::AttemptEnd;
+use crate::attempt_stamp::AttemptStamp;
+use crate::frame_words::{IdWord, frame_in};
 use crate::packed_entry::PackedEntry;
-use crate::verdicts::{class_in, verdict_in};
-use can_event::{Event, Received, Reply, Tried};
-use can_frame::{Frame, Iface, IfaceSet, Item, Moment};
+use can_event::{Attempt, Event, Received, Reply, Tried};
+use can_frame::{Frame, IfaceSet, Item};
 
 /// The event that is kept beside these FD frames.
 pub fn event_in(frames: &[Frame], kept: &PackedEntry) -> Event
@@ -59,13 +60,13 @@ pub fn event_in(frames: &[Frame], kept: &PackedEntry) -> Event
             named,
             stamp,
             ..
-        } => { Event::Attempt(stamp_moment(*stamp), verdict_in(*end / 4, *named)) }
+        } => { Event::Attempt(stamp.moment(), end.verdict(*named)) }
         PackedEntry::FdTried {
             end,
             named,
             moment,
             ..
-        } => { Event::Attempt(*moment, verdict_in(*end / 4, *named)) }
+        } => { Event::Attempt(*moment, end.verdict(*named)) }
         PackedEntry::AttemptRefused {
             verdict,
             moment,
@@ -135,9 +136,9 @@ pub fn reply_in(frames: &[Frame], kept: &PackedEntry) -> Reply
             moment: *moment,
         })),
         PackedEntry::ReceiveRefused { why, .. } => Reply::Refused(*why),
-        PackedEntry::Idle { restarted, .. } => Reply::Idle {
+        PackedEntry::Idle { restarted, .. } => Reply::Attempted(Attempt::Idle {
             restarted: *restarted,
-        },
+        }),
         PackedEntry::Tried {
             end,
             word,
@@ -149,7 +150,7 @@ pub fn reply_in(frames: &[Frame], kept: &PackedEntry) -> Reply
             ..
         } => {
             let words = (*end, *word, *number);
-            Reply::Tried(tried_in(words, *accepted, *restarted, bytes, *stamp))
+            Reply::Attempted(Attempt::Tried(tried_in(words, *accepted, *restarted, bytes, *stamp)))
         }
         PackedEntry::FdTried {
             end,
@@ -162,16 +163,16 @@ pub fn reply_in(frames: &[Frame], kept: &PackedEntry) -> Reply
             moment,
             ..
         } => {
-            Reply::Tried(Tried {
+            Reply::Attempted(Attempt::Tried(Tried {
                 moment: *moment,
                 winner: *winner,
                 number: u64::from(*number),
                 frame: frames[*place],
-                class: class_in(*end % 4),
+                class: end.class(),
                 accepted: *accepted,
                 off: *off,
                 restarted: *restarted,
-            })
+            }))
         }
         PackedEntry::AttemptRefused { why, .. } => Reply::Refused(*why),
         PackedEntry::Restarted { .. } => Reply::Done,
@@ -181,56 +182,24 @@ pub fn reply_in(frames: &[Frame], kept: &PackedEntry) -> Reply
 }
 
 /// The frame that was tried, of its end, word and number, and of the rest.
-pub fn tried_in(
-    words: (u8, u32, u32),
+fn tried_in(
+    words: (AttemptEnd, IdWord, u32),
     accepted: IfaceSet,
     restarted: IfaceSet,
     bytes: &[u8; 8],
-    stamp: u64,
+    stamp: AttemptStamp,
 ) -> Tried
     ensures { result ≡ tried_in words.0 words.1 words.2 accepted restarted bytes.now stamp }
 {
     let (end, word, number) = words;
     Tried {
-        moment: stamp_moment(stamp),
-        winner: stamp_winner(stamp),
+        moment: stamp.moment(),
+        winner: stamp.winner(),
         number: u64::from(number),
-        frame: frame_in(word, stamp_len(stamp), bytes),
-        class: class_in(end % 4),
+        frame: frame_in(word, stamp.len(), bytes),
+        class: end.class(),
         accepted,
-        off: stamp_off(stamp),
+        off: stamp.off(),
         restarted,
-    }
-}
-
-/// The moment of an attempt, of its stamp.
-pub fn stamp_moment(stamp: u64) -> Moment
-    ensures { result ≡ stamp_moment stamp }
-{
-    moment_in(stamp / 512)
-}
-
-/// The winner.
-fn stamp_winner(stamp: u64) -> Iface
-    ensures { result ≡ stamp_winner stamp }
-{
-    Iface::new((stamp / 32 % 16) as u8).unwrap()
-}
-
-/// The length of its frame.
-fn stamp_len(stamp: u64) -> u8
-    ensures { result ≡ stamp_len stamp }
-{
-    (stamp / 2 % 16) as u8
-}
-
-/// The winner where it went off.
-fn stamp_off(stamp: u64) -> IfaceSet
-    ensures { result ≡ stamp_off stamp }
-{
-    if stamp % 2 == 0 {
-        IfaceSet::empty()
-    } else {
-        IfaceSet(1 << stamp_winner(stamp).number())
     }
 }

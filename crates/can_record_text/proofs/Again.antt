@@ -31,6 +31,7 @@ use Rattle.can_event.specs.declared.refusal.Refusal.{Refusal}
 use Rattle.can_event.specs.declared.refusal.Refusal.TheVariants as refusal
 use Rattle.can_event.specs.declared.received.Received.{Received}
 use Rattle.can_event.specs.declared.attempt.Tried.{Tried}
+use Rattle.can_event.specs.declared.attempt.Attempt.TheVariants as attempt
 use Rattle.can_event.specs.declared.reply.Reply.{Reply}
 use Rattle.can_event.specs.declared.reply.Reply.TheVariants as reply
 use Rattle.can_event.specs.declared.entry.Entry.{Entry}
@@ -209,7 +210,7 @@ restarted_again w rest set plain small = when (set.0 == 0) refl
         ∙ ap (λ (n : ℕ). Some (record { 0 = n }, rest)) (sym (eqb-true set.0 0 is))
     when false is = ap (λ (ws : List (List ℕ)). restarted_at (w ++ gap_before ws ∷ spell ws rest)) (cond-false (set.0 == 0) [] some is) ∙ some_restarted w rest set plain small
 
-idle_again : (moment : Option ℕ) (set : IfaceSet) (rest : List ℕ) → set.0 < 2 ^ 16 → reply_at moment (spell (codes "idle" ∷ restarted_words set) rest) ≡ Some (reply.Idle set, rest)
+idle_again : (moment : Option ℕ) (set : IfaceSet) (rest : List ℕ) → set.0 < 2 ^ 16 → reply_at moment (spell (codes "idle" ∷ restarted_words set) rest) ≡ Some (reply.Attempted (attempt.Idle set), rest)
 unfolding reply_at
 idle_again moment set rest small =
     let ws = restarted_words set in
@@ -220,7 +221,7 @@ abbrev tried_end : Tried → List ℕ → List ℕ
 tried_end t rest = set_word t.off ++ gap_before (restarted_words t.restarted) ∷ spell (restarted_words t.restarted) rest
 
 tried_again : (t : Tried) (rest : List ℕ) → HoldsTried t
-    → tried_at t.moment (decimal t.winner ++ 32 ∷ (decimal t.number ++ 32 ∷ (frame_spelling (item.Data t.frame) ++ 32 ∷ (class_word t.class ++ 32 ∷ (set_word t.accepted ++ 32 ∷ tried_end t rest))))) ≡ Some (reply.Tried t, rest)
+    → tried_at t.moment (decimal t.winner ++ 32 ∷ (decimal t.number ++ 32 ∷ (frame_spelling (item.Data t.frame) ++ 32 ∷ (class_word t.class ++ 32 ∷ (set_word t.accepted ++ 32 ∷ tried_end t rest))))) ≡ Some (reply.Attempted (attempt.Tried t), rest)
 unfolding tried_at
 tried_again t rest h =
     let ws = restarted_words t.restarted in
@@ -235,7 +236,7 @@ tried_again t rest h =
     ) refl
 
 -- an attempt's frame was tried at its moment
-tried_moment : (e : Event) (t : Tried) → FitsReply e (reply.Tried t) → moment_of e ≡ Some t.moment
+tried_moment : (e : Event) (t : Tried) → FitsReply e (reply.Attempted (attempt.Tried t)) → moment_of e ≡ Some t.moment
 tried_moment (Attempt m v) t h = ap Some (sym h)
 tried_moment (Open i c) t h = absurd h
 tried_moment (Close s) t h = absurd h
@@ -304,8 +305,8 @@ reply_again e reply.Done rest fits h = refl
 reply_again e (reply.Sent n) rest fits h = rw (long_field n 10 rest h refl) refl
 reply_again e (reply.Received None) rest fits h = refl
 reply_again e (reply.Received (Some r)) rest fits h = received_again r.item r.from r.number r.moment (moment_of e) rest (received_number e r fits) h.0 h.1 h.2 h.3
-reply_again e (reply.Idle set) rest fits h = idle_again (moment_of e) set rest h
-reply_again e (reply.Tried t) rest fits h = rw (tried_moment e t fits) (tried_again t rest h)
+reply_again e (reply.Attempted (attempt.Idle set)) rest fits h = idle_again (moment_of e) set rest h
+reply_again e (reply.Attempted (attempt.Tried t)) rest fits h = rw (tried_moment e t fits) (tried_again t rest h)
 reply_again e (reply.Refused why) rest fits h = refused_again why (moment_of e) rest (leaves e why fits)
 
 -- ---- events, with the words that follow them
@@ -385,7 +386,7 @@ pub end_is_none : (count : ℕ) (rest : List ℕ) → entry_at (spell (end_words
 unfolding entry_at event_at plain_at setting_at word after
 end_is_none count rest = refl
 
--- where a line stands, nothing but want of memory keeps it from being read
+-- where a line is there, nothing but want of memory keeps it from being read
 pub refused : (u : Unread) (text : List ℕ) → Gives (Err u) (entry_at text) → (v : Version) (c : BusConfig) (e : Entry) (rest : List ℕ) → HasLine v c e → text ≡ entry_line e rest → u ≡ unread.NoMemory
 refused unread.NoMemory text h v c e rest spelled is = refl
 refused unread.Bad text h v c e rest spelled is = absurd (none-some e (sym h ∙ ap entry_at is ∙ entry_again v c e rest spelled))
@@ -420,7 +421,7 @@ starts-with-bytes event r text line same is begins always =
 pub kept : (old new l : List ℕ) → old ≡ [] → new ≡ old ++ l → new ≡ l
 kept old new l nothing h = h ∙ ap (λ (x : List ℕ). x ++ l) nothing
 
--- where a bus's line stands, it is read
+-- where the line of a bus is there, it is read
 pub config_refused : (v : Version) (text : List ℕ) → None ≡ config_at v text → (c : BusConfig) (rest : List ℕ) → HasBusLine v c → text ≡ spell (bus_words v c) rest → ⊥
 config_refused v text h c rest good is = none-some c (h ∙ ap (config_at v) is ∙ config_again v c rest good)
 

@@ -5,7 +5,7 @@ use Rattle.std.specs.Io.KnownBytes.{Appends}
 use Rattle.std.proofs.KnownBytes.{Appends-nil, Appends-trans}
 use Rattle.std.proofs.lemmas.List.{take_more}
 use Rattle.can_event.specs.declared.entry.Entry.{Entry}
-use Rattle.can_lines.specs.Lines.{LineGoesOut}
+use Rattle.can_record_text.specs.Lines.{LineGoesOut}
 use Rattle.can_record_text.specs.Spelling.{entry_line, entry_lines}
 use Rattle.can_record_text.specs.LongRuns.{IsTornAfter}
 use Rattle.can_record_text.proofs.LineLists.{lines-more, lines-rest}

@@ -8,6 +8,7 @@ pub mod LineLists
 pub mod Versioning
 pub mod Whole
 pub mod Growing
+pub mod Parts
 pub mod Short
 pub mod TriedLines
 pub mod Fronts

@@ -6,7 +6,7 @@ use Rattle.std.proofs.lemmas.Option.{slice_get_within, get_or_from_slice_get}
 use Rattle.std.proofs.lemmas.List.Elements.{All-cons, All-head, All-nil, All-tail}
 use Rattle.can_frame.specs.Frames.{CanFrame, Payload, is_fd, is_flagged}
 use Rattle.can_frame.specs.Frames.Payload.{Data, Remote, Fd}
-use Rattle.can_record.specs.FrameWords.{frame_in}
+use Rattle.can_record.specs.FrameWords.{frame_in, is_remote_word}
 use Rattle.can_event.specs.declared.bus_config.BusConfig.{BusConfig}
 use Rattle.can_event.specs.declared.entry.Entry.{Entry}
 use Rattle.can_event.specs.Events.{max_limit}
@@ -67,9 +67,9 @@ classic_frame f h = of_payload f.payload h
 
 -- a frame of a word, a length and eight bytes is no FD frame
 pub classic : (word len : ℕ) (bytes : List ℕ) → frame_needs (frame_in word len bytes) ≡ no_needs
-classic word len bytes = when (nat_le (2 ^ 30) (word % 2 ^ 31)) refl
+classic word len bytes = when (is_remote_word word) refl
   where
-    when : (b : Bool) → nat_le (2 ^ 30) (word % 2 ^ 31) ≡ b → frame_needs (frame_in word len bytes) ≡ no_needs
+    when : (b : Bool) → is_remote_word word ≡ b → frame_needs (frame_in word len bytes) ≡ no_needs
     when true is = rw is refl
     when false is = rw is refl
 

@@ -191,7 +191,7 @@ one_record text c d es ds one other =
     let met = whole_texts_meet (version_of c es) (version_of d ds) c d es ds one.0 other.0 (sym one.1 ∙ other.1) in
     (met.1, met.2)
 
--- where the first two lines stand, the bus's line is right
+-- where the first two lines are there, the bus's line is right
 bus_stands : (text : List ℕ) (n : ℕ) (v : Version) (c : BusConfig) (rest : List ℕ) → HasBusLine v c → text ≡ front_lines v c rest → BusIsWrong text n → ⊥
 bus_stands text n v c rest good is h =
     let of_text = one_version h.version v _ _ (sym h.begins ∙ is) in

@@ -94,7 +94,7 @@ Ends count rest (Err (fault.BadLine n)) =
 Ends count rest (Err fault.NoMemory) = Unit {0}
 Ends count rest (Err fault.BadVersion) = ⊥
 
--- what reading a text of any version answers
+-- what reading a text of any version returns
 abbrev pub Reads : List ℕ → Result Kept ReadFault → Type 0
 Reads text (Ok r) = IsTextOf text r.config (reverse r.history)
 Reads text (Err fault.BadVersion) = IsOfNoVersion text
@@ -105,7 +105,7 @@ Reads text (Err fault.NoMemory) = Unit {0}
 abbrev pub IsOfLongRun : List ℕ → Type 0
 IsOfLongRun text = (rest : List ℕ) × (text ≡ first_line version.Four ++ rest)
 
--- what reading the text of a record answers, which is that of no long run
+-- what reading the text of a record returns, which is that of no long run
 abbrev pub ReadsRecord : List ℕ → Result Kept ReadFault → Type 0
 ReadsRecord text (Err fault.BadVersion) = IsOfNoVersion text ⊎ IsOfLongRun text
 ReadsRecord text (Err (fault.BadLine n)) = IsFirstWrong text n × ¬ IsOfLongRun text

@@ -25,6 +25,7 @@ use Rattle.can_event.specs.declared.refusal.Refusal.{Refusal}
 use Rattle.can_event.specs.declared.refusal.Refusal.TheVariants as refusal
 use Rattle.can_event.specs.declared.received.Received.{Received}
 use Rattle.can_event.specs.declared.reply.Reply.{Reply}
+use Rattle.can_event.specs.declared.attempt.Attempt.TheVariants as attempt
 use Rattle.can_event.specs.declared.reply.Reply.TheVariants as reply
 use Rattle.can_event.specs.declared.entry.Entry.{Entry}
 use Rattle.can_event.specs.declared.socket_id.SocketId.{SocketId}
@@ -142,8 +143,8 @@ reply_words reply.Done = codes "ok" ∷ []
 reply_words (reply.Sent n) = codes "number" ∷ decimal n ∷ []
 reply_words (reply.Received None) = codes "none" ∷ []
 reply_words (reply.Received (Some r)) = received_words r.item r
-reply_words (reply.Idle restarted) = codes "idle" ∷ restarted_words restarted
-reply_words (reply.Tried t) =
+reply_words (reply.Attempted (attempt.Idle restarted)) = codes "idle" ∷ restarted_words restarted
+reply_words (reply.Attempted (attempt.Tried t)) =
     codes "tried" ∷ decimal t.winner ∷ decimal t.number ∷ frame_spelling (item.Data t.frame) ∷ class_word t.class
     ∷ set_word t.accepted ∷ set_word t.off ∷ restarted_words t.restarted
 reply_words (reply.Refused why) = refusal_words why
@@ -202,7 +203,7 @@ event_needs _ = no_needs
 -- what a reply needs: the frame in it
 abbrev pub reply_needs : Reply → Needs
 reply_needs (reply.Received (Some r)) = item_needs r.item
-reply_needs (reply.Tried t) = frame_needs t.frame
+reply_needs (reply.Attempted (attempt.Tried t)) = frame_needs t.frame
 reply_needs _ = no_needs
 
 -- what an entry needs

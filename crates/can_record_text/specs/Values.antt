@@ -11,6 +11,7 @@ use Rattle.can_event.specs.declared.event.Event.TheVariants.{Open, Close, SetFil
 use Rattle.can_event.specs.declared.event.Event.TheVariants.{Send, Receive, Attempt, Restart}
 use Rattle.can_event.specs.declared.received.Received.{Received}
 use Rattle.can_event.specs.declared.attempt.Tried.{Tried}
+use Rattle.can_event.specs.declared.attempt.Attempt.TheVariants as attempt
 use Rattle.can_event.specs.declared.reply.Reply.{Reply}
 use Rattle.can_event.specs.declared.reply.Reply.TheVariants as reply
 use Rattle.can_event.specs.declared.entry.Entry.{Entry}
@@ -77,8 +78,8 @@ HoldsReply reply.Done = Unit {0}
 HoldsReply (reply.Sent n) = n < 2 ^ 64
 HoldsReply (reply.Received None) = Unit {0}
 HoldsReply (reply.Received (Some r)) = HoldsReceived r
-HoldsReply (reply.Idle restarted) = restarted.0 < 2 ^ 16
-HoldsReply (reply.Tried t) = HoldsTried t
+HoldsReply (reply.Attempted (attempt.Idle restarted)) = restarted.0 < 2 ^ 16
+HoldsReply (reply.Attempted (attempt.Tried t)) = HoldsTried t
 HoldsReply (reply.Refused why) = Unit {0}
 
 -- an entry that has a line in the record of this bus in this version, of such values

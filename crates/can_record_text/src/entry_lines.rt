@@ -1,5 +1,6 @@
 ghost use Rattle.std.specs.Prelude.{◌≡◌, ◌≤◌, ◌+◌, ◌++◌, ◌∷◌, [], IsTrue, None, Some, codes, decimal, length};
 ghost use Rattle.can_attempt.specs.Words.{class_word};
+ghost use Rattle.can_event.specs.declared.attempt.Attempt.TheVariants as attempt;
 ghost use Rattle.can_event.specs.declared.reply.Reply.TheVariants as reply;
 ghost use Rattle.can_record_text.specs.inner.Words.{spaced};
 ghost use Rattle.can_record_text.specs.Spelling.{answered_line, event_words, filter_words, moment_word, option_words, refusal_words, reply_words, restarted_words, set_word, spell, verdict_word};
@@ -9,7 +10,7 @@ use crate::line_words::{
     push_set, push_verdict,
 };
 use can_attempt::Class;
-use can_event::{Event, Opt, Received, Refusal, Reply, SocketId, Tried};
+use can_event::{Attempt, Event, Opt, Received, Refusal, Reply, SocketId, Tried};
 use can_fault::Verdict;
 use can_filter::Filter;
 use can_frame::{Iface, IfaceSet, Item, Moment};
@@ -139,8 +140,8 @@ pub(crate) fn push_reply(line: &mut LineText, reply: &Reply)
         Reply::Received(None) => line.push_all(b"= none\n"),
         Reply::Received(Some(received)) => push_received(line, received),
         Reply::Sent(number) => push_sent(line, *number),
-        Reply::Idle { restarted } => push_idle(line, *restarted),
-        Reply::Tried(tried) => push_tried(line, tried),
+        Reply::Attempted(Attempt::Idle { restarted }) => push_idle(line, *restarted),
+        Reply::Attempted(Attempt::Tried(tried)) => push_tried(line, tried),
         Reply::Opened(id) => {
             line.push_all(b"= socket ");
             push_number(line, u64::from(id.0), b'\n');
@@ -178,9 +179,10 @@ fn push_received(line: &mut LineText, received: &Received)
 /// A frame that was tried, and the line's end.
 fn push_tried(line: &mut LineText, tried: &Tried)
     requires { length line.old + 225 ≤ 392 }
-    ensures { line.new ≡ line.old ++ spell (codes "=" ∷ reply_words (reply.Tried tried.now)) [] }
+    ensures { line.new ≡ line.old
+        ++ spell (codes "=" ∷ reply_words (reply.Attempted (attempt.Tried tried.now))) [] }
 {
-    push_winner(line, u64::from(tried.winner.number()), tried.number);
+    push_winner(line, tried.winner, tried.number);
     push_frame(line, &tried.frame);
     push_outcome(
         line,
@@ -214,7 +216,7 @@ pub(crate) fn push_error_from(line: &mut LineText, from: Iface)
     push_number(line, u64::from(from.number()), b' ');
 }
 
-/// What a send is answered with, and the line's end.
+/// The number that a send returned, and the line's end.
 pub(crate) fn push_sent(line: &mut LineText, number: u64)
     requires { length line.old + 30 ≤ 392 }
     ensures { line.new ≡ line.old ++ spell (codes "=" ∷ reply_words (reply.Sent number)) [] }
@@ -226,7 +228,8 @@ pub(crate) fn push_sent(line: &mut LineText, number: u64)
 /// The interfaces that an attempt restarted which tried nothing, and the line's end.
 pub(crate) fn push_idle(line: &mut LineText, restarted: IfaceSet)
     requires { length line.old + 22 ≤ 392 }
-    ensures { line.new ≡ line.old ++ spell (codes "=" ∷ reply_words (reply.Idle restarted)) [] }
+    ensures { line.new ≡ line.old
+        ++ spell (codes "=" ∷ reply_words (reply.Attempted (attempt.Idle restarted))) [] }
 {
     if restarted.is_empty() {
         line.push_all(b"= idle\n");
@@ -237,14 +240,14 @@ pub(crate) fn push_idle(line: &mut LineText, restarted: IfaceSet)
 }
 
 /// Which interface sent the frame that was tried, and its number.
-pub(crate) fn push_winner(line: &mut LineText, winner: u64, number: u64)
+pub(crate) fn push_winner(line: &mut LineText, winner: Iface, number: u64)
     requires { length line.old + 50 ≤ 392 }
     ensures text { line.new ≡ line.old ++
         spaced (codes "=" ∷ codes "tried" ∷ decimal winner ∷ decimal number ∷ []) }
     ensures len { length line.new ≤ length line.old + 50 }
 {
     line.push_all(b"= tried ");
-    push_number(line, winner, b' ');
+    push_number(line, u64::from(winner.number()), b' ');
     push_number(line, number, b' ');
 }
 

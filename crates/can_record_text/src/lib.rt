@@ -1,7 +1,8 @@
 //! The text of a record, both ways: `record_text` writes a record as text and `read_record` reads it back. A record has
 //! one text, in one version, and a text is of one record at most.
 //!
-//! The readers and writers of single lines are public for can_replay, which reads a text line by line.
+//! The readers and writers of single lines are public for can_replay, which reads a text line by line. `write_line` writes
+//! any line to a writer that may fail, for can_logfile too.
 #![tactic(auto)]
 
 mod entry_lines;
@@ -10,6 +11,7 @@ pub mod fault;
 mod fields;
 mod filter_lines;
 mod line_words;
+pub mod line_writing;
 pub mod lines;
 pub mod long_writing;
 pub mod needs;
@@ -25,6 +27,7 @@ pub mod version;
 mod words;
 
 pub use fault::ReadFault;
+pub use line_writing::write_line;
 pub use long_writing::{Torn, write_block, write_end, write_front};
 pub use record_reading::{read_record, read_record_bytes};
 pub use record_writing::{line_text, record_text, write_record};

@@ -1,14 +1,15 @@
-ghost use Rattle.std.specs.Prelude.{◌≡◌, ◌≤◌, ◌+◌, ◌%◌, ◌^◌, ◌++◌, ◌∷◌, [], IsTrue, false, length, decimal, nat_le};
+ghost use Rattle.std.specs.Prelude.{◌≡◌, ◌≤◌, ◌+◌, ◌++◌, ◌∷◌, [], IsTrue, false, length, decimal};
 ghost use Rattle.can_frame.specs.Frames.{is_remote, is_fd, payload_len};
-ghost use Rattle.can_frame.specs.FrameText.{frame_spelling, id_text, pairs};
+ghost use Rattle.can_frame.specs.FrameText.{frame_spelling, pairs};
 ghost use Rattle.can_frame.specs.declared.item.Item.TheVariants as item;
 ghost use Rattle.can_attempt.specs.Words.{class_word};
-ghost use Rattle.can_record.specs.FrameWords.{frame_in, identifier_in};
+ghost use Rattle.can_record.specs.FrameWords.{frame_in, is_remote_word};
 ghost use Rattle.can_record_text.specs.Spelling.{ack_word, flag_word, local_front, mask_word, moment_word, set_word, verdict_word};
 
 use can_attempt::{AckMode, Class};
 use can_fault::{GlobalKind, LocalKind, Verdict};
 use can_frame::{ErrorFrame, Frame, IfaceSet, Item, Moment, Text, frame_text};
+use can_record::{IdWord, data_in};
 
 /// Room for a line without filters: the words of an event have at most 166 bytes, and those of a reply 225.
 pub type LineText = Text<392>;
@@ -106,29 +107,15 @@ fn push_frame_text(line: &mut LineText, frame: &Frame)
 
 /// A packed data frame of at most 8 bytes, and a space.
 #[tactic(auto, unfolding(can_frame::specs::FrameText::frame_spelling))]
-pub(crate) fn push_packed(line: &mut LineText, word: u32, len: u8, bytes: &[u8; 8])
+pub(crate) fn push_packed(line: &mut LineText, word: IdWord, len: u8, bytes: &[u8; 8])
     requires room { length line.old + 26 ≤ 392 }
-    requires data { nat_le (2 ^ 30) (word % 2 ^ 31) ≡ false }
+    requires data { is_remote_word word ≡ false }
     ensures text { line.new ≡ line.old ++
         (frame_spelling (item.Data (frame_in word len bytes.now)) ++ 32 ∷ []) }
     ensures len { length line.new ≤ length line.old + 26 }
 {
-    push_id(line, word);
-    let len = if len <= 8 { len } else { 8 };
-    push_bytes(line, &bytes[..len as usize]);
-}
-
-/// The identifier of a word.
-fn push_id(line: &mut LineText, word: u32)
-    requires { length line.old + 8 ≤ 392 }
-    ensures text { line.new ≡ line.old ++ id_text (identifier_in word) }
-    ensures len { length line.new ≤ length line.old + 8 }
-{
-    if word >= 0x8000_0000 {
-        line.push_hex(8, u64::from(word % 0x2000_0000));
-    } else {
-        line.push_hex(3, u64::from(word % 0x800));
-    }
+    line.push_id(word.id());
+    push_bytes(line, data_in(len, bytes));
 }
 
 /// An error message frame, and a space.

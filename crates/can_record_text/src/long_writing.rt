@@ -2,19 +2,19 @@ ghost use Rattle.std.specs.Prelude.{◌≡◌, ◌++◌, ◌<◌, [], All, List,
 ghost use Rattle.can_event.specs.declared.bus_config.BusConfig.{BusConfig as AConfig};
 ghost use Rattle.can_event.specs.declared.entry.Entry.{Entry as AnEntry};
 ghost use Rattle.can_event.specs.Events.{max_limit};
-ghost use Rattle.can_lines.specs.Lines.{LineGoesOut};
+ghost use Rattle.can_record_text.specs.Lines.{LineGoesOut};
 ghost use Rattle.can_record_text.specs.declared.version.Version.TheVariants as version;
 ghost use Rattle.can_record_text.specs.LongRuns.{BlockGoesOut, entries_in, lines_of_blocks};
 ghost use Rattle.can_record_text.specs.Spelling.{end_words, front_lines, record_spelling, spell};
 ghost use Rattle.can_record.specs.StoredEntry.{entry_stored, IsStored};
 ghost use Rattle.can_record_text.specs.inner.StoredLines.{HasFittingReply, stored_line};
 
+use crate::line_writing::write_line;
 use crate::lines::put_end;
 use crate::record_writing::{put_front, spell_stored};
 use crate::rooms::Rooms;
 use crate::version::Version;
 use can_event::BusConfig;
-use can_lines::write_line;
 use can_record::{PackedRecord, StoredEntry};
 use std::alloc::Global;
 use std::io;

@@ -4,7 +4,7 @@ ghost use Rattle.can_record.specs.PackedEntry.{entry_in, frames_needed, IsSmall}
 ghost use Rattle.can_record.specs.StoredEntry.{entry_stored, IsStored};
 ghost use Rattle.can_record_text.specs.Spelling.{all_needs, both_needs, event_needs, frame_needs, item_needs, needs_of, no_needs, option_needs, reply_needs};
 
-use can_event::{Entry, Event, Opt, Reply};
+use can_event::{Attempt, Entry, Event, Opt, Reply};
 use can_frame::{Frame, Item};
 use can_record::{PackedEntry, Record, StoredEntry};
 
@@ -74,7 +74,7 @@ impl Needs {
     {
         match reply {
             Reply::Received(Some(received)) => Needs::of_item(&received.item),
-            Reply::Tried(tried) => Needs::of_frame(&tried.frame),
+            Reply::Attempted(Attempt::Tried(tried)) => Needs::of_frame(&tried.frame),
             _ => Needs::nothing(),
         }
     }
@@ -186,7 +186,7 @@ fn is_of_fd_frame(reply: &Reply) -> bool
 {
     match reply {
         Reply::Received(Some(received)) => is_fd_item(&received.item),
-        Reply::Tried(tried) => tried.frame.is_fd(),
+        Reply::Attempted(Attempt::Tried(tried)) => tried.frame.is_fd(),
         _ => false,
     }
 }

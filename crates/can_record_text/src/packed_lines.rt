@@ -1,5 +1,4 @@
-ghost use Rattle.std.specs.Prelude.{◌≡◌, ◌%◌, ◌^◌, [], IsTrue, nat_le};
-ghost use Rattle.can_record.specs.PackedEntry.{stamp_off};
+ghost use Rattle.std.specs.Prelude.{◌≡◌, [], IsTrue};
 ghost use Rattle.can_record_text.specs.inner.StoredLines.{IsPackedLine};
 
 use crate::entry_lines::{
@@ -7,9 +6,7 @@ use crate::entry_lines::{
     push_sent, push_winner,
 };
 use crate::line_words::{LineText, push_error, push_moment, push_packed};
-use can_frame::IfaceSet;
-use can_record::verdicts::class_in;
-use can_record::{PackedEntry, stamp_moment, verdict_in};
+use can_record::PackedEntry;
 
 /// The line of a packed entry, if it is of a usual kind; else what is in the room means nothing. It is written from
 /// the packed fields: no frame, event or reply is made, which would take longer than the line.
@@ -32,7 +29,7 @@ pub(crate) fn push_entry(line: &mut LineText, kept: &PackedEntry) -> bool
             bytes,
             moment,
         } => {
-            if is_remote_word(*word) {
+            if word.is_remote() {
                 return false;
             }
             push_receive(line, *socket);
@@ -61,7 +58,7 @@ pub(crate) fn push_entry(line: &mut LineText, kept: &PackedEntry) -> bool
             number,
             bytes,
         } => {
-            if is_remote_word(*word) {
+            if word.is_remote() {
                 return false;
             }
             push_send(line, *socket);
@@ -98,34 +95,15 @@ fn push_entry_attempt(line: &mut LineText, kept: &PackedEntry) -> bool
             bytes,
             stamp,
         } => {
-            if is_remote_word(*word) {
+            if word.is_remote() {
                 return false;
             }
-            push_attempt(line, stamp_moment(*stamp), verdict_in(*end / 4, *named));
-            push_winner(line, *stamp / 32 % 16, u64::from(*number));
-            push_packed(line, *word, (*stamp / 2 % 16) as u8, bytes);
-            let class = class_in(*end % 4);
-            push_outcome(line, class, *accepted, off_in(*stamp), *restarted);
+            push_attempt(line, stamp.moment(), end.verdict(*named));
+            push_winner(line, stamp.winner(), u64::from(*number));
+            push_packed(line, *word, stamp.len(), bytes);
+            push_outcome(line, end.class(), *accepted, stamp.off(), *restarted);
             true
         }
         _ => false,
     }
-}
-
-/// Whether the frame of a word is a remote frame.
-fn is_remote_word(word: u32) -> bool
-    ensures { result ≡ nat_le (2 ^ 30) (word % 2 ^ 31) }
-{
-    word % 0x8000_0000 >= 0x4000_0000
-}
-
-/// The winner of a stamp, where it went off.
-fn off_in(stamp: u64) -> IfaceSet
-    ensures { result ≡ stamp_off stamp }
-{
-    if stamp % 2 == 0 {
-        return IfaceSet::empty();
-    }
-    let winner = stamp / 32 % 16;
-    IfaceSet(1 << winner)
 }

@@ -7,7 +7,7 @@ use crate::fields::{
 };
 use crate::words::{begins, next_word, same_word};
 use can_attempt::Class;
-use can_event::{Closed, Received, Refusal, Reply, Tried};
+use can_event::{Attempt, Closed, Received, Refusal, Reply, Tried};
 use can_frame::{IfaceSet, Item, Moment};
 
 /// A reply to an attempt of this moment, or to another event.
@@ -28,7 +28,7 @@ pub fn reply_field(moment: Option<Moment>, text: &[u8]) -> Option<(Reply, &[u8])
     }
     if same_word(word, b"idle") {
         let (restarted, rest) = restarted_field(text)?;
-        return Some((Reply::Idle { restarted }, rest));
+        return Some((Reply::Attempted(Attempt::Idle { restarted }), rest));
     }
     if same_word(word, b"tried") {
         return tried_field(moment?, rest);
@@ -142,7 +142,7 @@ fn tried_field(moment: Moment, text: &[u8]) -> Option<(Reply, &[u8])>
         off,
         restarted,
     };
-    Some((Reply::Tried(tried), rest))
+    Some((Reply::Attempted(Attempt::Tried(tried)), rest))
 }
 
 /// The interfaces that an attempt restarted, after the first word of a text; none where the line ends there.

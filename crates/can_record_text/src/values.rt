@@ -5,7 +5,7 @@ ghost use Rattle.can_frame.specs.FrameText.{IsItem};
 ghost use Rattle.can_frame.specs.declared.item.Item.TheVariants as item;
 ghost use Rattle.can_record_text.specs.Values.{HoldsFilter, HoldsOption, HoldsVerdict, HoldsEvent, HoldsReceived, HoldsTried, HoldsReply};
 
-use can_event::{Closed, Event, Opt, Received, Reply, SocketId, Tried};
+use can_event::{Attempt, Closed, Event, Opt, Received, Reply, SocketId, Tried};
 use can_fault::Verdict;
 use can_filter::Filter;
 use can_frame::{ErrorFrame, Frame, IfaceSet, Item};
@@ -114,8 +114,8 @@ pub(crate) fn hold_reply(reply: &Reply)
             let _number = *number;
         }
         Reply::Received(Some(received)) => hold_received(received),
-        Reply::Tried(tried) => hold_tried(tried),
-        Reply::Idle { restarted } => hold_set(*restarted),
+        Reply::Attempted(Attempt::Tried(tried)) => hold_tried(tried),
+        Reply::Attempted(Attempt::Idle { restarted }) => hold_set(*restarted),
         Reply::Done | Reply::Received(None) | Reply::Refused(_) => {}
     }
 }

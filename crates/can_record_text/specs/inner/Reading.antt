@@ -29,6 +29,7 @@ use Rattle.can_event.specs.declared.event.Event.TheVariants.{Send, Receive, Atte
 use Rattle.can_event.specs.declared.refusal.Refusal.{Refusal}
 use Rattle.can_event.specs.declared.refusal.Refusal.TheVariants as refusal
 use Rattle.can_event.specs.declared.reply.Reply.{Reply}
+use Rattle.can_event.specs.declared.attempt.Attempt.TheVariants as attempt
 use Rattle.can_event.specs.declared.reply.Reply.TheVariants as reply
 use Rattle.can_event.specs.declared.entry.Entry.{Entry}
 use Rattle.can_record_text.specs.declared.fault.Unread.{Unread}
@@ -206,7 +207,7 @@ tried_at moment t = do
   o ← set_at a.1
   r ← restarted_at a.1
   Some (
-    reply.Tried (record {
+    reply.Attempted (attempt.Tried (record {
       moment = moment;
       winner = w.0;
       number = n.0;
@@ -215,7 +216,7 @@ tried_at moment t = do
       accepted = a.0;
       off = o.0;
       restarted = r.0;
-    }),
+    })),
     r.1,
   )
 
@@ -232,7 +233,8 @@ reply_at moment t =
     if bytes_eq (word t) (codes "number") then (long_at (after t) >>= λ n. Some (reply.Sent n.0, n.1))
     else if bytes_eq (word t) (codes "data") then data_at (after t)
     else if bytes_eq (word t) (codes "error") then error_at (after t)
-    else if bytes_eq (word t) (codes "idle") then (restarted_at t >>= λ r. Some (reply.Idle r.0, r.1))
+    else if bytes_eq (word t) (codes "idle")
+    then (restarted_at t >>= λ r. Some (reply.Attempted (attempt.Idle r.0), r.1))
     else if bytes_eq (word t) (codes "tried") then (moment >>= λ m. tried_at m (after t))
     else if bytes_eq (word t) (codes "socket") then (socket_at (after t) >>= λ s. Some (reply.Opened s.0, s.1))
     else if bytes_eq (word t) (codes "closed") then closed_at (after t)

@@ -1,5 +1,5 @@
 use Rattle.std.proofs.Common.{◌≡◌, ◌∙◌, [], List, ℕ, subst}
-use Rattle.can_lines.specs.Lines.{LineGoesOut}
+use Rattle.can_record_text.specs.Lines.{LineGoesOut}
 use Rattle.can_record_text.specs.declared.version.Version.TheVariants as version
 use Rattle.can_record_text.specs.Spelling.{front_lines}
 use Rattle.can_record_text.proofs.Again.{kept}

@@ -15,5 +15,5 @@ one_more es copies new k e before here is =
 
 pub loop-place-preserved : goal.loop-place-preserved
 loop-place-preserved c =
-    let here : slice_get (entries_in c.args.self.now) c.loop-place.place ≡ Some c.in_ok-entry.entry = sym c.stored.ensures.entry ∙ ap (option_map entry_stored) c.unwrap-stored.ensures ∙ ap Some (cc (c.of-looked.ensures, c.entry.ensures, c.in_ok-entry.ensures)) in
+    let here : slice_get (entries_in c.args.self.now) c.loop-place.place ≡ Some c.in_ok-entry.entry = sym c.stored.ensures.entry ∙ ap (option_map entry_stored) c.unwrap-stored.ensures ∙ ap Some (cc (c.of-seen.ensures, c.entry.ensures, c.in_ok-entry.ensures)) in
     (one_more (entries_in c.args.self.now) c.loop-place.copies.items _ c.loop-place.place c.in_ok-entry.entry c.loop-place.invariant.0 here c.add.ensures.items, omega arith)

@@ -1,7 +1,8 @@
 use Rattle.std.proofs.Common.{◌≡◌, ◌≤◌, ◌+◌, ◌∷◌, ◌++◌, [], length, length-append, ap, arith}
 use Rattle.std.proofs.lemmas.Grind.{common_steps}
 use Rattle.can_event.specs.declared.event.Event.TheVariants.{Attempt}
-use Rattle.can_event.specs.declared.reply.Reply.TheVariants.{Tried}
+use Rattle.can_event.specs.declared.attempt.Attempt.TheVariants.{Tried}
+use Rattle.can_event.specs.declared.reply.Reply.TheVariants.{Attempted}
 use Rattle.can_record.specs.PackedEntry.{entry_in, frames_needed, fd_frames_of, tried_entry}
 use Rattle.can_record.specs.Records.{PackedEntries}
 use Rattle.can_record.proofs.Growing.{entries_pushed, few_frames, within_pushed}
@@ -9,26 +10,26 @@ use Rattle.can_record.proofs.packed_record.PackedRecord.push_tried.Goals as goal
 
 pub invariant_of-self : goal.invariant_of-self
 invariant_of-self c =
-    let kept : c.push.new.self.items ≡ c.self.inside.entries.items ++ c.tried_at-kept.result ∷ [] = grind (arith, common_steps) in
+    let kept : c.push.new.self.items ≡ c.self.inside.entries.items ++ c.pack_tried-kept.result ∷ [] = grind (arith, common_steps) in
     let fs = c.self.inside.frames.items in
     let more = fd_frames_of c.args.tried.now.frame in
-    let within : frames_needed c.tried_at-kept.result ≤ length (fs ++ more) = rw c.tried_at-kept.ensures.frames at c.tried_at-kept.ensures.within in
-    rw (c.tried_at-kept.ensures.frames, kept) (within_pushed fs more _ _ c.self.invariant within)
+    let within : frames_needed c.pack_tried-kept.result ≤ length (fs ++ more) = rw c.pack_tried-kept.ensures.frames at c.pack_tried-kept.ensures.within in
+    rw (c.pack_tried-kept.ensures.frames, kept) (within_pushed fs more _ _ c.self.invariant within)
 
 pub returns-clause-more : goal.returns-clause-more
 returns-clause-more c =
-    let kept : c.push.new.self.items ≡ c.self.inside.entries.items ++ c.tried_at-kept.result ∷ [] = grind (arith, common_steps) in
+    let kept : c.push.new.self.items ≡ c.self.inside.entries.items ++ c.pack_tried-kept.result ∷ [] = grind (arith, common_steps) in
     let fs = c.self.inside.frames.items in
     let more = fd_frames_of c.args.tried.now.frame in
-    let entry : entry_in (fs ++ more) c.tried_at-kept.result ≡ tried_entry c.args.moment c.args.verdict c.args.tried.now = rw c.tried_at-kept.ensures.frames at c.tried_at-kept.ensures.entry in
-    let all = entries_pushed fs more c.self.inside.entries.items c.tried_at-kept.result c.self.invariant in
-    rw (c.tried_at-kept.ensures.frames, kept, ← c.self.view_is, all, entry)
+    let entry : entry_in (fs ++ more) c.pack_tried-kept.result ≡ tried_entry c.args.moment c.args.verdict c.args.tried.now = rw c.pack_tried-kept.ensures.frames at c.pack_tried-kept.ensures.entry in
+    let all = entries_pushed fs more c.self.inside.entries.items c.pack_tried-kept.result c.self.invariant in
+    rw (c.pack_tried-kept.ensures.frames, kept, ← c.self.view_is, all, entry)
 
 pub returns-clause-room : goal.returns-clause-room
 returns-clause-room c =
     let fs = c.self.inside.frames.items in
     let more = fd_frames_of c.args.tried.now.frame in
-    let few : length (fs ++ more) ≤ length fs + 1 = omega (arith, length-append fs more, few_frames (Attempt c.args.moment c.args.verdict) (Tried c.args.tried.now)) in
-    let frames : length c.tried_at-kept.new.frames.items ≤ length fs + 1 = rw c.tried_at-kept.ensures.frames few in
+    let few : length (fs ++ more) ≤ length fs + 1 = omega (arith, length-append fs more, few_frames (Attempt c.args.moment c.args.verdict) (Attempted (Tried c.args.tried.now))) in
+    let frames : length c.pack_tried-kept.new.frames.items ≤ length fs + 1 = rw c.pack_tried-kept.ensures.frames few in
     let room = ap (λ (p : PackedEntries). p.room) c.self.view_is in
     grind (arith, common_steps, c.requires.room, room, frames)

@@ -1,7 +1,7 @@
 use Rattle.std.proofs.Common.{arith, length, ◌-◌, drop}
 use Rattle.std.proofs.lemmas.List.{length-take}
-use Rattle.can_lines.proofs.Growing.{part_more}
-use Rattle.can_lines.proofs.write_line.Goals as goal
+use Rattle.can_record_text.proofs.Parts.{part_more}
+use Rattle.can_record_text.proofs.line_writing.write_line.Goals as goal
 
 pub loop-done-preserved : goal.loop-done-preserved
 loop-done-preserved g c = record {

@@ -1,6 +1,6 @@
 use Rattle.std.proofs.Common.{◌≤◌, ◌-◌, length, take}
 use Rattle.std.specs.Io.KnownBytes.{Appends}
-use Rattle.can_lines.proofs.write_line.Given as goal
+use Rattle.can_record_text.proofs.line_writing.write_line.Given as goal
 
 abbrev pub invariant-loop-done : goal.invariant-loop-done
 invariant-loop-done g l = record { within : l.done ≤ length l.line; out : Appends (g.W.Write.contents l.fn.writer) (g.W.Write.contents l.writer) (take l.done l.line) }

@@ -1,7 +1,4 @@
-//! Lines that go out to a writer that may fail: whole, or only a proper front of one.
-#![tactic(auto)]
-
-ghost use Rattle.can_lines.specs.Lines.{LineGoesOut};
+ghost use Rattle.can_record_text.specs.Lines.{LineGoesOut};
 
 use std::io;
 use std::io::{ErrorKind, Write};
