@@ -4,12 +4,11 @@ use Rattle.can_meter.specs.Readings.{Readings}
 use Rattle.can_event.specs.declared.event.Event.{Event}
 use Rattle.can_event.specs.declared.event.Event.TheVariants as event
 use Rattle.can_event.specs.declared.reply.Reply.{Reply}
-use Rattle.can_event.specs.declared.attempt.Attempt.TheVariants as attempt
 use Rattle.can_event.specs.declared.received.Received.{Received}
 use Rattle.can_event.specs.declared.socket_id.SocketId.{SocketId}
 use Rattle.can_event.specs.Replies.{received_into, taken_item, taken_reply}
 use Rattle.can_dialog.specs.Calls.Call.{Receive}
-use Rattle.can_record.specs.Outcomes.{done_reply, told_attempt}
+use Rattle.can_record.specs.Outcomes.{done_reply}
 use Rattle.can_event.specs.declared.reply.Reply.TheVariants as reply
 use Rattle.std.specs.Prelude.{slice_get, IfOk}
 use Rattle.can_dialog.specs.declared.port.PortRefusal.{PortRefusal}
@@ -46,14 +45,13 @@ module _ (F : Type 0) (buses : List BusSeen) (now : EnteredSeen) (pass : PassSee
   gives (event.SetOption socket option) reply.Done called fits = on done_reply _ (Ok tt) called
   gives (event.Send socket frame) (reply.Sent number) called fits = on (λ x. reply.Sent x) _ (Ok number) called
   gives (event.Receive socket) (reply.Received item) called fits = on (λ x. reply.Received x) _ (Ok item) called
-  gives (event.Attempt moment verdict) (reply.Idle restarted) called fits = on told_attempt _ (Ok (attempt.Idle restarted)) called
-  gives (event.Attempt moment verdict) (reply.Tried tried) called fits = on told_attempt _ (Ok (attempt.Tried tried)) called
+  gives (event.Attempt moment verdict) (reply.Attempted attempt) called fits = on reply.Attempted _ (Ok attempt) called
   gives (event.Restart iface moment) reply.Done called fits = on done_reply _ (Ok tt) called
   gives (event.Open iface asked) (reply.Refused why) called fits = on (λ x. reply.Opened x) _ (Err (station.Bus why)) (inr called.0, called.1)
   gives (event.Close socket) (reply.Refused why) called fits = on (λ x. reply.Closed x) _ (Err (station.Bus why)) (inr called.0, called.1)
   gives (event.Send socket frame) (reply.Refused why) called fits = on (λ x. reply.Sent x) _ (Err (station.Bus why)) (inr called.0, called.1)
   gives (event.Receive socket) (reply.Refused why) called fits = on (λ x. reply.Received x) _ (Err (station.Bus why)) (inr called.0, called.1)
-  gives (event.Attempt moment verdict) (reply.Refused why) called fits = on told_attempt _ (Err (station.Bus why)) (inr called.0, called.1)
+  gives (event.Attempt moment verdict) (reply.Refused why) called fits = on reply.Attempted _ (Err (station.Bus why)) (inr called.0, called.1)
   gives e (reply.Refused why) called fits = on done_reply _ (Err (station.Bus why)) (inr called.0, called.1)
   gives e r called fits = absurd fits
 
@@ -74,7 +72,7 @@ module _ (F : Type 0) (buses : List BusSeen) (now : EnteredSeen) (pass : PassSee
   refuses (event.Close socket) why called = refused (λ x. reply.Closed x) _ why called
   refuses (event.Send socket frame) why called = refused (λ x. reply.Sent x) _ why called
   refuses (event.Receive socket) why called = refused (λ x. reply.Received x) _ why called
-  refuses (event.Attempt moment verdict) why called = refused told_attempt _ why called
+  refuses (event.Attempt moment verdict) why called = refused reply.Attempted _ why called
   refuses e why called = refused done_reply _ why called
 
   steps : (e : Event) (outcome : Result Reply StationRefusal) → Called same now.station.number now.pass (made e) outcome pass → IfOk outcome (λ r. Suits (made e) r)

@@ -11,7 +11,7 @@ use Rattle.can_event.specs.declared.reply.Reply.TheVariants as reply
 use Rattle.can_event.specs.declared.refusal.Refusal.TheVariants as refusal
 use Rattle.can_event.specs.declared.stats.SocketStats.{SocketStats}
 use Rattle.can_event.specs.declared.stats.IfaceStats.{IfaceStats}
-use Rattle.can_record.specs.Outcomes.{done_reply, told_attempt}
+use Rattle.can_record.specs.Outcomes.{done_reply}
 use Rattle.can_bus.specs.Stats.{socket_stats_of, iface_stats_of}
 use Rattle.can_dialog.specs.declared.port.PortRefusal.{PortRefusal}
 use Rattle.can_dialog.specs.declared.port.PortRefusal.TheVariants as port
@@ -184,7 +184,8 @@ PassStep F old (SetOption socket option) answer new = OnPort done_reply old (eve
 PassStep F old (Send socket frame) answer new = OnPort reply.Sent old (event.Send socket frame) answer new
 PassStep F old (Receive socket) answer new = OnPort reply.Received old (event.Receive socket) answer new
 PassStep F old (Restart iface moment) answer new = OnPort done_reply old (event.Restart iface moment) answer new
-PassStep F old (Attempt moment verdict) answer new = OnPort told_attempt old (event.Attempt moment verdict) answer new
+PassStep F old (Attempt moment verdict) answer new =
+    OnPort reply.Attempted old (event.Attempt moment verdict) answer new
 PassStep F old (CountsOfSocket socket) answer new = CountsSocket F old.entered socket.0 answer × (new ≡ old)
 PassStep F old (CountsOfIface iface) answer new = CountsIface F old.entered iface answer × (new ≡ old)
 PassStep F old (CountersOfIface iface) answer new =

@@ -15,10 +15,9 @@ use can_bus::BusFault;
 use can_dialog::put_names;
 use can_fault::FaultSource;
 use can_frame::{Iface, Moment, Names};
-use can_meter::{Gauge, MeterName};
+use can_meter::Gauge;
 use can_proto::BusLoad;
-use can_roll::RollName;
-use can_station::{Gate, Scroll, Station};
+use can_station::{BusName, Gate, Scroll, Station};
 use can_wire::{Load, Timing};
 use std::alloc::{AllocError, Global};
 use std::marker::Model;
@@ -26,7 +25,7 @@ use std::sync::Wait;
 
 /// A bus of a hub: its station, and the names of its interfaces.
 #[derive(Drop)]
-pub struct Network<N: RollName + MeterName, F: FaultSource + Drop, G: Gate + Drop> {
+pub struct Network<N: BusName, F: FaultSource + Drop, G: Gate + Drop> {
     names: Names,
     pub(crate) station: Station<N, F, G, HubBus>,
     timing: Option<Timing>,
@@ -35,7 +34,7 @@ pub struct Network<N: RollName + MeterName, F: FaultSource + Drop, G: Gate + Dro
     shown: ShownTime,
 }
 
-impl<N: RollName + MeterName, F: FaultSource + Drop, G: Gate + Drop> Model for Network<N, F, G> {
+impl<N: BusName, F: FaultSource + Drop, G: Gate + Drop> Model for Network<N, F, G> {
     ghost use Rattle.can_hub.specs.Buses.{BusSeen};
 
     ghost Value = { BusSeen };
@@ -50,7 +49,7 @@ impl<N: RollName + MeterName, F: FaultSource + Drop, G: Gate + Drop> Model for N
     } };
 }
 
-impl<N: RollName + MeterName, F: FaultSource + Drop, G: Gate + Drop> Network<N, F, G> {
+impl<N: BusName, F: FaultSource + Drop, G: Gate + Drop> Network<N, F, G> {
     /// The bus that a bench makes under a number, one that leaves an `L`, and its scroll: in a long run it has memory for this
     /// many entries at once. `NoMemory` where memory was refused.
     fn new<L: Leaves>(
@@ -95,11 +94,11 @@ impl<N: RollName + MeterName, F: FaultSource + Drop, G: Gate + Drop> Network<N, 
 
 /// Buses, each with a station of its own. A bus's number is its place.
 #[derive(Drop)]
-pub struct Buses<N: RollName + MeterName, F: FaultSource + Drop, G: Gate + Drop> {
+pub struct Buses<N: BusName, F: FaultSource + Drop, G: Gate + Drop> {
     pub(crate) networks: Vec<Network<N, F, G>>,
 }
 
-impl<N: RollName + MeterName, F: FaultSource + Drop, G: Gate + Drop> Model for Buses<N, F, G> {
+impl<N: BusName, F: FaultSource + Drop, G: Gate + Drop> Model for Buses<N, F, G> {
     ghost use Rattle.std.specs.Prelude.{◌≤◌, List, length};
     ghost use Rattle.can_hub.specs.Buses.{BusSeen, NumberedFrom, AllApart, names_of};
 
@@ -112,7 +111,7 @@ impl<N: RollName + MeterName, F: FaultSource + Drop, G: Gate + Drop> Model for B
         × (length b.networks.items ≤ 16) };
 }
 
-impl<N: RollName + MeterName, F: FaultSource + Drop, G: Gate + Drop> Buses<N, F, G> {
+impl<N: BusName, F: FaultSource + Drop, G: Gate + Drop> Buses<N, F, G> {
     /// The bus that has an interface of this name, and that interface. No other bus has the name. `None` exactly
     /// where no bus has it. It reads the names of the buses up to that one.
     pub fn find(&self, name: &str) -> Option<(usize, Iface)>
@@ -272,12 +271,7 @@ impl<N: RollName + MeterName, F: FaultSource + Drop, G: Gate + Drop> Buses<N, F,
 }
 
 /// The buses that these benches make, numbered from 0, and the scroll of each.
-pub(crate) fn networks_of<
-    N: RollName + MeterName,
-    F: FaultSource + Drop,
-    G: Gate + Drop,
-    L: Leaves,
->(
+pub(crate) fn networks_of<N: BusName, F: FaultSource + Drop, G: Gate + Drop, L: Leaves>(
     alloc: Global,
     benches: Vec<Bench<F, G>>,
     size: u32,

@@ -10,9 +10,8 @@ use crate::hub_bus::{HubEnd, Leaves};
 use can_bus::{BusFault, LongEnd, Record};
 use can_fault::FaultSource;
 use can_frame::Iface;
-use can_meter::{Gauge, MeterName};
-use can_roll::RollName;
-use can_station::{Gate, Pass, Scroll, Settled};
+use can_meter::Gauge;
+use can_station::{BusName, Gate, Pass, Scroll, Settled};
 use std::alloc::{AllocError, Global};
 use std::marker::Model;
 use std::sync::Wait;
@@ -28,14 +27,13 @@ pub struct SettleFault {
 
 /// Buses that are settled together: each leaves a record, or in a long run what was not taken of its entries.
 #[derive(Drop)]
-pub struct Hub<N: RollName + MeterName, F: FaultSource + Drop, G: Gate + Drop, L: Leaves = Record> {
+pub struct Hub<N: BusName, F: FaultSource + Drop, G: Gate + Drop, L: Leaves = Record> {
     buses: Buses<N, F, G>,
     // Room for what each bus leaves at its end.
     settled: Vec<Settled<L>>,
 }
 
-impl<N: RollName + MeterName, F: FaultSource + Drop, G: Gate + Drop, L: Leaves> Model
-    for Hub<N, F, G, L> {
+impl<N: BusName, F: FaultSource + Drop, G: Gate + Drop, L: Leaves> Model for Hub<N, F, G, L> {
     ghost use Rattle.std.specs.Prelude.{◌≡◌, ◌≤◌, [], All, List, length, vec_capacity};
     ghost use Rattle.can_hub.specs.Buses.{BusSeen};
 
@@ -48,7 +46,7 @@ impl<N: RollName + MeterName, F: FaultSource + Drop, G: Gate + Drop, L: Leaves> 
         × (h.settled.items ≡ []) × (length h.buses ≤ vec_capacity h.settled) };
 }
 
-impl<N: RollName + MeterName, F: FaultSource + Drop, G: Gate + Drop> Hub<N, F, G> {
+impl<N: BusName, F: FaultSource + Drop, G: Gate + Drop> Hub<N, F, G> {
     /// A station for each bench, with an empty record: the buses are numbered from 0 in this order. It takes memory
     /// for all entries of each record, and for what `settle` hands out.
     ///
@@ -65,7 +63,7 @@ impl<N: RollName + MeterName, F: FaultSource + Drop, G: Gate + Drop> Hub<N, F, G
     }
 }
 
-impl<N: RollName + MeterName, F: FaultSource + Drop, G: Gate + Drop> Hub<N, F, G, LongEnd> {
+impl<N: BusName, F: FaultSource + Drop, G: Gate + Drop> Hub<N, F, G, LongEnd> {
     /// The same with buses of long runs, each of which keeps in memory only the entries that were not taken yet; and the
     /// scroll of each. It takes memory for this many entries of each: `TAIL_SIZE`, but for tests.
     ///
@@ -85,10 +83,10 @@ impl<N: RollName + MeterName, F: FaultSource + Drop, G: Gate + Drop> Hub<N, F, G
     }
 }
 
-impl<N: RollName + MeterName, F: FaultSource + Drop, G: Gate + Drop, L: Leaves> Hub<N, F, G, L> {
+impl<N: BusName, F: FaultSource + Drop, G: Gate + Drop, L: Leaves> Hub<N, F, G, L> {
     /// A station for each bench over a bus on which nothing was done, in a long run with memory for this many entries at
-    /// once, and the scroll of each.
-    fn make(
+    /// once, and the scroll of each: as `new` and `new_long` do, for either kind.
+    pub fn make(
         alloc: Global,
         benches: Vec<Bench<F, G>>,
         size: u32,

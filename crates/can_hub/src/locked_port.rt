@@ -9,10 +9,8 @@ use can_confine::Counters;
 use can_dialog::{Port, PortRefusal};
 use can_fault::FaultSource;
 use can_frame::{Iface, Moment};
-use can_meter::MeterName;
 use can_proto::BusLoad;
-use can_roll::RollName;
-use can_station::{Gate, Hold, Station};
+use can_station::{BusName, Gate, Hold, Station};
 use std::alloc::AllocError;
 use std::marker::Model;
 use std::sync::Wait;
@@ -20,12 +18,12 @@ use std::sync::Wait;
 /// A [`PassPort`] for a few calls: sends and receives that follow one another are made in one hold of the station's
 /// lock. It takes the lock for the first of them, and frees it before any other call and when it is over.
 #[derive(Drop)]
-pub struct LockedPort<'a, N: RollName + MeterName, F: FaultSource + Drop, G: Gate + Drop, R: Wait> {
+pub struct LockedPort<'a, N: BusName, F: FaultSource + Drop, G: Gate + Drop, R: Wait> {
     port: PassPort<'a, N, F, G, R>,
     hold: Option<Hold<'a, N, F, G, HubBus>>,
 }
 
-impl<'a, N: RollName + MeterName, F: FaultSource + Drop, G: Gate + Drop, R: Wait> Model
+impl<'a, N: BusName, F: FaultSource + Drop, G: Gate + Drop, R: Wait> Model
     for LockedPort<'a, N, F, G, R> {
     ghost use Rattle.can_hub.specs.PassSteps.{PortSeen};
 
@@ -34,13 +32,7 @@ impl<'a, N: RollName + MeterName, F: FaultSource + Drop, G: Gate + Drop, R: Wait
     ghost view = { λ p. p.port };
 }
 
-impl<'a, N: RollName + MeterName, F: FaultSource + Drop, G: Gate + Drop, R: Wait> LockedPort<
-    'a,
-    N,
-    F,
-    G,
-    R,
-> {
+impl<'a, N: BusName, F: FaultSource + Drop, G: Gate + Drop, R: Wait> LockedPort<'a, N, F, G, R> {
     /// The same port; no lock is taken.
     pub fn new(port: PassPort<'a, N, F, G, R>) -> LockedPort<'a, N, F, G, R>
         ensures { result ≡ port.entry }
@@ -59,7 +51,7 @@ impl<'a, N: RollName + MeterName, F: FaultSource + Drop, G: Gate + Drop, R: Wait
 }
 
 /// The hold of this station. Where there is none it takes the lock, after a hold of another station is dropped.
-fn hold_of<'h, 'a, N: RollName + MeterName, F: FaultSource + Drop, G: Gate + Drop, R: Wait>(
+fn hold_of<'h, 'a, N: BusName, F: FaultSource + Drop, G: Gate + Drop, R: Wait>(
     rt: &R,
     station: &'a Station<N, F, G, HubBus>,
     taken: &'h mut Option<Hold<'a, N, F, G, HubBus>>,
@@ -84,7 +76,7 @@ fn is_shared(event: &Event) -> bool
     matches!(event, Event::Send(_, _) | Event::Receive(_))
 }
 
-impl<'a, N: RollName + MeterName, F: FaultSource + Drop, G: Gate + Drop, R: Wait> Port
+impl<'a, N: BusName, F: FaultSource + Drop, G: Gate + Drop, R: Wait> Port
     for LockedPort<'a, N, F, G, R> {
     ghost use Rattle.can_hub.specs.PassSteps.{PassStep};
 

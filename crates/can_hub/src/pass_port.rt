@@ -13,8 +13,7 @@ use can_fault::FaultSource;
 use can_frame::{Iface, Moment};
 use can_meter::{Gauge, MeterName};
 use can_proto::BusLoad;
-use can_roll::RollName;
-use can_station::{Gate, Pass, Station, StationRefusal, TooManyPasses};
+use can_station::{BusName, Gate, Pass, Station, StationRefusal, TooManyPasses};
 use std::alloc::{AllocError, Global};
 use std::marker::Model;
 use std::mem;
@@ -22,14 +21,13 @@ use std::sync::{Mutex, Wait};
 
 /// A station that was entered, with a gauge of its meter and the pass.
 #[derive(Drop)]
-pub struct EnteredStation<'a, N: RollName + MeterName, F: FaultSource + Drop, G: Gate + Drop> {
+pub struct EnteredStation<'a, N: BusName, F: FaultSource + Drop, G: Gate + Drop> {
     pub(crate) station: &'a Station<N, F, G, HubBus>,
     gauge: Gauge<N>,
     pub(crate) pass: Pass<N>,
 }
 
-impl<'a, N: RollName + MeterName, F: FaultSource + Drop, G: Gate + Drop> Model
-    for EnteredStation<'a, N, F, G> {
+impl<'a, N: BusName, F: FaultSource + Drop, G: Gate + Drop> Model for EnteredStation<'a, N, F, G> {
     ghost use Rattle.can_hub.specs.PassSteps.{EnteredSeen};
 
     ghost Value = { EnteredSeen };
@@ -49,7 +47,7 @@ impl<'a, N: RollName + MeterName, F: FaultSource + Drop, G: Gate + Drop> Model
 /// for nobody. They are 0/0 where no station was entered, or where its bus has no such interface. `load` takes no lock
 /// either; it has the bit rates of the bus that was entered.
 #[derive(Drop)]
-pub struct PassPort<'a, N: RollName + MeterName, F: FaultSource + Drop, G: Gate + Drop, R: Wait> {
+pub struct PassPort<'a, N: BusName, F: FaultSource + Drop, G: Gate + Drop, R: Wait> {
     pub(crate) rt: &'a R,
     pub(crate) alloc: Global,
     buses: &'a Buses<N, F, G>,
@@ -59,7 +57,7 @@ pub struct PassPort<'a, N: RollName + MeterName, F: FaultSource + Drop, G: Gate 
     pub(crate) tally: Tally,
 }
 
-impl<'a, N: RollName + MeterName, F: FaultSource + Drop, G: Gate + Drop, R: Wait> Model
+impl<'a, N: BusName, F: FaultSource + Drop, G: Gate + Drop, R: Wait> Model
     for PassPort<'a, N, F, G, R> {
     ghost use Rattle.can_hub.specs.PassSteps.{PortSeen};
 
@@ -68,13 +66,7 @@ impl<'a, N: RollName + MeterName, F: FaultSource + Drop, G: Gate + Drop, R: Wait
     ghost view = { λ p. record { buses = p.buses.now; entered = p.entered } };
 }
 
-impl<'a, N: RollName + MeterName, F: FaultSource + Drop, G: Gate + Drop, R: Wait> PassPort<
-    'a,
-    N,
-    F,
-    G,
-    R,
-> {
+impl<'a, N: BusName, F: FaultSource + Drop, G: Gate + Drop, R: Wait> PassPort<'a, N, F, G, R> {
     ghost use Rattle.std.specs.Prelude.{None, option_map};
 
     /// A port over the buses of a hub; no station was entered.
@@ -195,7 +187,7 @@ fn read_gauge<N: MeterName>(gauge: &mut Gauge<N>, iface: Iface) -> Counters
     gauge.status(place).counters
 }
 
-impl<'a, N: RollName + MeterName, F: FaultSource + Drop, G: Gate + Drop, R: Wait> Port
+impl<'a, N: BusName, F: FaultSource + Drop, G: Gate + Drop, R: Wait> Port
     for PassPort<'a, N, F, G, R> {
     ghost use Rattle.can_hub.specs.PassSteps.{PassStep};
 

@@ -1,9 +1,7 @@
 ghost use Rattle.std.specs.Prelude.{◌≡◌, ◌≢◌, ◌<◌, ◌≤◌, ℕ, IfOk, IfSome, length, slice_get, take};
 ghost use Rattle.can_hub.specs.Returning.{AddsOwn, AllEmpty, RemovesOwn};
 
-use can_meter::MeterName;
-use can_roll::RollName;
-use can_station::Pass;
+use can_station::{BusName, Pass};
 use std::alloc::{AllocError, Global};
 use std::marker::Model;
 
@@ -12,11 +10,11 @@ const MOST_BUSES: usize = 16;
 
 /// The passes that sessions and drivers hand back, those of each bus in a list of its own. Contracts see the lists.
 #[derive(Drop)]
-pub struct ReturnedPasses<N: RollName + MeterName> {
+pub struct ReturnedPasses<N: BusName> {
     lists: Vec<Vec<Pass<N>>>,
 }
 
-impl<N: RollName + MeterName> Model for ReturnedPasses<N> {
+impl<N: BusName> Model for ReturnedPasses<N> {
     ghost use Rattle.std.specs.Prelude.{◌≡◌, List, Vec, length};
     ghost use Rattle.std.specs.declared.alloc.Global.{Global};
     ghost use Rattle.can_station.specs.Passes.{PassSeen};
@@ -28,7 +26,7 @@ impl<N: RollName + MeterName> Model for ReturnedPasses<N> {
     ghost invariant = { λ r. length r.lists.items ≡ 16 };
 }
 
-impl<N: RollName + MeterName> ReturnedPasses<N> {
+impl<N: BusName> ReturnedPasses<N> {
     /// No pass, with room for this many of each of the first buses.
     pub fn new(alloc: Global, buses: usize, room: usize) -> Result<ReturnedPasses<N>, AllocError>
         ensures { IfOk result (λ returned. AllEmpty returned) }

@@ -7,10 +7,8 @@ use crate::serving::Clock;
 use can_fault::FaultSource;
 use can_frame::Moment;
 use can_hub::Tally;
-use can_meter::MeterName;
 use can_proto::Cause;
-use can_roll::RollName;
-use can_station::Gate;
+use can_station::{BusName, Gate};
 use std::alloc::Global;
 use std::sync::{Arc, Wait};
 use std::thread::Threads;
@@ -48,7 +46,7 @@ enum Next {
 // The acceptors of a server.
 impl<
     'a,
-    N: RollName + MeterName + Send + Sync,
+    N: BusName + Send + Sync,
     F: FaultSource + Drop + Send,
     G: Gate + Drop + Send + Sync,
     C: Clock + Sync,
@@ -82,14 +80,14 @@ impl<
     }
 }
 
-impl<
+impl<'a, N: BusName, F: FaultSource + Drop, G: Gate + Drop, C: Clock, R: Wait + time::Clock> Server<
     'a,
-    N: RollName + MeterName,
-    F: FaultSource + Drop,
-    G: Gate + Drop,
-    C: Clock,
-    R: Wait + time::Clock,
-> Server<'a, N, F, G, C, R> {
+    N,
+    F,
+    G,
+    C,
+    R,
+> {
     /// How many connections an acceptor accepts: each counts as one of its sessions, unless only those count that have been raw.
     fn most_connections(&self, acceptor: &Acceptor) -> u32 {
         if self.is_long {

@@ -12,19 +12,17 @@ use can_dialog::{Session, Stage};
 use can_fault::FaultSource;
 use can_frame::{Iface, Moment};
 use can_hub::{Buses, HubBus, LockedPort, PassPort, ReturnedPasses, Tally};
-use can_meter::MeterName;
-use can_roll::RollName;
-use can_station::{Gate, Pass, Station};
+use can_station::{BusName, Gate, Pass, Station};
 use std::alloc::{AllocError, Global};
 use std::io::Write;
 use std::sync::{Mutex, Wait};
 
-/// What a client is told where a command was carried out that has nothing else to say.
+/// The reply to a command that was carried out and has no other.
 const DONE: &[u8] = b"< ok >";
 
 /// Where the socket of a session in raw mode is, and of which interface it is one.
 #[derive(Drop)]
-pub struct OpenSocket<'a, N: RollName + MeterName, F: FaultSource + Drop, G: Gate + Drop> {
+pub struct OpenSocket<'a, N: BusName, F: FaultSource + Drop, G: Gate + Drop> {
     pub station: &'a Station<N, F, G, HubBus>,
     pub iface: Iface,
     pub socket: SocketId,
@@ -32,13 +30,7 @@ pub struct OpenSocket<'a, N: RollName + MeterName, F: FaultSource + Drop, G: Gat
 
 /// A session with its port: what its two threads share under a lock.
 #[derive(Drop)]
-pub struct Conversation<
-    'a,
-    N: RollName + MeterName,
-    F: FaultSource + Drop,
-    G: Gate + Drop,
-    R: Wait,
-> {
+pub struct Conversation<'a, N: BusName, F: FaultSource + Drop, G: Gate + Drop, R: Wait> {
     session: Session,
     port: PassPort<'a, N, F, G, R>,
     batch: Batch,
@@ -49,13 +41,7 @@ pub struct Conversation<
     said_more: bool,
 }
 
-impl<'a, N: RollName + MeterName, F: FaultSource + Drop, G: Gate + Drop, R: Wait> Conversation<
-    'a,
-    N,
-    F,
-    G,
-    R,
-> {
+impl<'a, N: BusName, F: FaultSource + Drop, G: Gate + Drop, R: Wait> Conversation<'a, N, F, G, R> {
     /// A session that has just begun, which may have one of these passes, and writes at most this many bytes of items at once.
     pub fn new(
         rt: &'a R,

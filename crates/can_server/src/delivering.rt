@@ -5,41 +5,31 @@ use crate::conversation::Conversation;
 use crate::serving::Clock;
 use can_fault::FaultSource;
 use can_hub::{Buses, HubBus};
-use can_meter::MeterName;
-use can_roll::RollName;
-use can_station::{Gate, Station, WakeReason};
+use can_station::{BusName, Gate, Station, WakeReason};
 use std::sync::{Mutex, Wait};
 use std::time::Duration;
 use std::{thread, time};
 
-/// How many milliseconds the thread waits at first where the reply to `rawmode` went out alone. Some clients read it and
-/// whatever came with it as one text.
+/// How many milliseconds the thread waits at first where the reply to `rawmode` went out in a write of its own. Some
+/// clients read it, and what came with it, as one text.
 const BEFORE_ITEMS_MS: u64 = 20;
 
 /// What the thread has that delivers the items of a session in raw mode.
 #[derive(Drop)]
-pub struct Delivery<
-    's,
-    't,
-    N: RollName + MeterName,
-    F: FaultSource + Drop,
-    G: Gate + Drop,
-    C,
-    R: Wait,
-> {
+pub struct Delivery<'s, 't, N: BusName, F: FaultSource + Drop, G: Gate + Drop, C, R: Wait> {
     pub rt: &'s R,
     pub host: &'s C,
     pub buses: &'s Buses<N, F, G>,
     pub talk: &'s Mutex<Conversation<'t, N, F, G, R>>,
     pub conn: &'s Conn,
-    /// Whether the client was told of its raw mode and of nothing else at once.
-    pub is_told_alone: bool,
+    /// Whether the reply to `rawmode` went out in a write of its own.
+    pub is_reply_apart: bool,
 }
 
 impl<
     's,
     't,
-    N: RollName + MeterName,
+    N: BusName,
     F: FaultSource + Drop,
     G: Gate + Drop,
     C: Clock,
@@ -48,7 +38,7 @@ impl<
     /// Gives the client its items, until the session is over, its socket is closed or the record is full. Where items
     /// are refused for another reason, as want of memory, or the client does not take them, the session ends.
     pub fn deliver_all(&self) {
-        if self.is_told_alone {
+        if self.is_reply_apart {
             thread::sleep(self.rt, Duration::from_millis(BEFORE_ITEMS_MS));
         }
         let Some(place) = self.talk.lock(self.rt).place() else {
@@ -104,7 +94,7 @@ impl<
 
 /// Ends the waits of a station whose record is full: no call changes it any more, not even one that closes a socket.
 /// Its driver ends, and reports that to the host.
-pub fn stop_full<N: RollName + MeterName, F: FaultSource + Drop, G: Gate + Drop, R: Wait>(
+pub fn stop_full<N: BusName, F: FaultSource + Drop, G: Gate + Drop, R: Wait>(
     rt: &R,
     station: &Station<N, F, G, HubBus>,
 ) {

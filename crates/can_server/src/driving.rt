@@ -1,7 +1,7 @@
 ghost use Rattle.std.specs.Prelude.{◌≡◌, ◌↔◌, IsTrue, false};
 ghost use Rattle.can_event.specs.Events.{restarted_in};
 ghost use Rattle.can_frame.specs.Sets.{no_ifaces};
-ghost use Rattle.can_record.specs.Outcomes.{told_attempt};
+ghost use Rattle.can_event.specs.declared.reply.Reply.TheVariants as reply;
 ghost use Rattle.can_server.specs.Driving.{IsInVain, off_in};
 
 use crate::notice::Notice;
@@ -12,9 +12,7 @@ use can_bus::Attempt;
 use can_fault::FaultSource;
 use can_frame::{Iface, IfaceSet};
 use can_hub::HubBus;
-use can_meter::MeterName;
-use can_roll::RollName;
-use can_station::{Gate, Hold, Pass};
+use can_station::{BusName, Gate, Hold, Pass};
 use std::sync::Wait;
 use std::sync::atomic::Ordering;
 use std::time;
@@ -35,14 +33,14 @@ pub enum Stepped {
 }
 
 // The driver of a bus.
-impl<
+impl<'a, N: BusName, F: FaultSource + Drop, G: Gate + Drop, C: Clock, R: Wait + time::Clock> Server<
     'a,
-    N: RollName + MeterName,
-    F: FaultSource + Drop,
-    G: Gate + Drop,
-    C: Clock,
-    R: Wait + time::Clock,
-> Server<'a, N, F, G, C, R> {
+    N,
+    F,
+    G,
+    C,
+    R,
+> {
     /// Steps a bus while an interface has a frame to send or counts towards its restart, until its station is stopped,
     /// and hands the pass back. Then it reports a full record, and refused memory, to the host.
     pub fn drive(&self, bus: usize) {
@@ -183,7 +181,7 @@ impl Changes {
     /// Of this attempt.
     pub fn of(attempt: &Attempt) -> Changes
         ensures off { result.off ≡ off_in attempt.now }
-        ensures restarted { result.restarted ≡ restarted_in (told_attempt attempt.now) }
+        ensures restarted { result.restarted ≡ restarted_in (reply.Attempted attempt.now) }
     {
         match attempt {
             Attempt::Idle { restarted } => Changes {

@@ -4,9 +4,8 @@ ghost use Rattle.std.specs.Prelude.{◌≡◌};
 use crate::given::Given;
 use can_bus::Journaled;
 use can_fault::FaultSource;
-use can_meter::MeterName;
 use can_roll::RollName;
-use can_station::{Block, Gate, Scroll, Station, WakeReason, WrongStation};
+use can_station::{Block, BusName, Gate, Scroll, Station, WakeReason, WrongStation};
 use std::alloc::{AllocError, Global};
 use std::marker::Model;
 use std::sync::Wait;
@@ -64,7 +63,7 @@ impl<N: RollName, K: Keeper + Drop> Model for ScrollKeeper<N, K> {
     ghost invariant = { λ k. K.given k.keeper ≡ k.scroll.entries };
 }
 
-impl<N: RollName + MeterName, K: Keeper + Drop> ScrollKeeper<N, K> {
+impl<N: BusName, K: Keeper + Drop> ScrollKeeper<N, K> {
     /// A keeper that was given what was handed out to the scroll.
     pub fn new(keeper: K, scroll: Scroll<N>) -> ScrollKeeper<N, K>
         requires { K.given keeper ≡ scroll.entries }
@@ -114,7 +113,7 @@ pub struct Scribe<'k, N: RollName, K: Keeper + Drop> {
     patience: Duration,
 }
 
-impl<'k, N: RollName + MeterName, K: Keeper + Drop> Scribe<'k, N, K> {
+impl<'k, N: BusName, K: Keeper + Drop> Scribe<'k, N, K> {
     /// A scribe of the scroll's bus, with memory for this many entries, as many as the bus's tail has places. It gives the
     /// keeper a block once there are half as many, or so long after the first of them.
     pub fn new(

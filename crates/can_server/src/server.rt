@@ -3,9 +3,7 @@ use crate::clients::Clients;
 use crate::serving::Clock;
 use can_fault::FaultSource;
 use can_hub::{Buses, ReturnedPasses};
-use can_meter::MeterName;
-use can_roll::RollName;
-use can_station::Gate;
+use can_station::{BusName, Gate};
 use std::alloc::{AllocError, Global};
 use std::io::Read;
 use std::net::Shutdown;
@@ -24,7 +22,7 @@ struct Closing<'d> {
 
 /// What all threads of a server share.
 #[derive(Drop)]
-pub struct Server<'a, N: RollName + MeterName, F: FaultSource + Drop, G: Gate + Drop, C, R> {
+pub struct Server<'a, N: BusName, F: FaultSource + Drop, G: Gate + Drop, C, R> {
     pub rt: &'a R,
     pub alloc: Global,
     pub buses: &'a Buses<N, F, G>,
@@ -40,7 +38,7 @@ pub struct Server<'a, N: RollName + MeterName, F: FaultSource + Drop, G: Gate + 
 
 impl<
     'a,
-    N: RollName + MeterName + Send + Sync,
+    N: BusName + Send + Sync,
     F: FaultSource + Drop + Send,
     G: Gate + Drop + Send + Sync,
     C: Clock + Sync,
@@ -88,14 +86,14 @@ impl<
     }
 }
 
-impl<
+impl<'a, N: BusName, F: FaultSource + Drop, G: Gate + Drop, C: Clock, R: Wait + time::Clock> Server<
     'a,
-    N: RollName + MeterName,
-    F: FaultSource + Drop,
-    G: Gate + Drop,
-    C: Clock,
-    R: Wait + time::Clock,
-> Server<'a, N, F, G, C, R> {
+    N,
+    F,
+    G,
+    C,
+    R,
+> {
     /// Ends all other threads: no session is at work any more.
     fn finish(&self, until: Option<&UnixStream>) {
         let _ = self.clients.lock(self.rt).close();

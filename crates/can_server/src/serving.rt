@@ -9,9 +9,7 @@ use can_bus::LongEnd;
 use can_fault::FaultSource;
 use can_frame::Moment;
 use can_hub::{Buses, Hub, Leaves, ReturnedPasses};
-use can_meter::MeterName;
-use can_roll::RollName;
-use can_station::{Gate, Pass};
+use can_station::{BusName, Gate, Pass};
 use std::alloc::{AllocError, Global};
 use std::os::unix::net::UnixStream;
 use std::sync::atomic::AtomicBool;
@@ -62,7 +60,7 @@ pub trait Clock {
 /// A fault of a session's connection, or memory refused to it, ends only that session. `AllocError` where memory was
 /// refused to the server's own start; then the threads that were started are over too, and the stations are stopped.
 pub fn serve<
-    N: RollName + MeterName + Send + Sync,
+    N: BusName + Send + Sync,
     F: FaultSource + Drop + Send,
     G: Gate + Drop + Send + Sync,
     L: Leaves,
@@ -89,7 +87,7 @@ pub fn serve<
 /// The scribes go on until the other threads are over, and then give their keepers the last entries. `AllocError` as by
 /// `serve`; then they are over, too.
 pub fn serve_long<
-    N: RollName + MeterName + Send + Sync,
+    N: BusName + Send + Sync,
     F: FaultSource + Drop + Send,
     G: Gate + Drop + Send + Sync,
     C: Clock + Sync,
@@ -123,7 +121,7 @@ struct LongServer<
     's,
     'a,
     'k,
-    N: RollName + MeterName,
+    N: BusName,
     F: FaultSource + Drop,
     G: Gate + Drop,
     C,
@@ -140,7 +138,7 @@ impl<
     's,
     'a,
     'k,
-    N: RollName + MeterName + Send + Sync,
+    N: BusName + Send + Sync,
     F: FaultSource + Drop + Send,
     G: Gate + Drop + Send + Sync,
     C: Clock + Sync,
@@ -186,7 +184,7 @@ impl<
 /// Serves the sessions of all acceptors over these buses, which are those of long runs where there are scribes.
 fn serve_buses<
     'x,
-    N: RollName + MeterName + Send + Sync,
+    N: BusName + Send + Sync,
     F: FaultSource + Drop + Send,
     G: Gate + Drop + Send + Sync,
     C: Clock + Sync,

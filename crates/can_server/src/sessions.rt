@@ -8,10 +8,8 @@ use crate::serving::Clock;
 use can_fault::FaultSource;
 use can_frame::Iface;
 use can_hub::{HubBus, ReturnedPasses, Tally};
-use can_meter::MeterName;
 use can_proto::Cause;
-use can_roll::RollName;
-use can_station::{Gate, Station};
+use can_station::{BusName, Gate, Station};
 use std::sync::{Mutex, Wait};
 use std::thread::Threads;
 use std::{thread, time};
@@ -32,7 +30,7 @@ enum ReadOutcome {
 // A session of a server: a thread that reads and, in raw mode, one that delivers.
 impl<
     'a,
-    N: RollName + MeterName + Send + Sync,
+    N: BusName + Send + Sync,
     F: FaultSource + Drop + Send,
     G: Gate + Drop + Send + Sync,
     C: Clock + Sync,
@@ -93,14 +91,14 @@ impl<
             bus: usize::from(place.station.number()),
             iface: place.iface,
         });
-        let is_told_alone = !talk.lock(self.rt).said_more();
+        let is_reply_apart = !talk.lock(self.rt).said_more();
         let delivery = Delivery {
             rt: self.rt,
             host: self.host,
             buses: self.buses,
             talk,
             conn,
-            is_told_alone,
+            is_reply_apart,
         };
         let delivery = &delivery;
         thread::scope(thread::scope_env(), self.rt, |scope| {
@@ -110,14 +108,14 @@ impl<
     }
 }
 
-impl<
+impl<'a, N: BusName, F: FaultSource + Drop, G: Gate + Drop, C: Clock, R: Wait + time::Clock> Server<
     'a,
-    N: RollName + MeterName,
-    F: FaultSource + Drop,
-    G: Gate + Drop,
-    C: Clock,
-    R: Wait + time::Clock,
-> Server<'a, N, F, G, C, R> {
+    N,
+    F,
+    G,
+    C,
+    R,
+> {
     /// Reads to the end, if the items are delivered beside, and ends the session.
     fn hear_out(
         &self,

@@ -12,9 +12,7 @@ use can_bus::Attempt;
 use can_fault::{FaultSource, Verdict};
 use can_frame::{Frame, Iface, Moment};
 use can_hub::HubBus;
-use can_meter::MeterName;
-use can_roll::RollName;
-use can_station::{Gate, Hold, Pass, StationRefusal, WakeReason};
+use can_station::{BusName, Gate, Hold, Pass, StationRefusal, WakeReason};
 use can_wire::units::NANOS_PER_MILLI;
 use can_wire::{Schedule, Timing};
 use std::sync::Wait;
@@ -72,14 +70,14 @@ impl Timed {
     }
 }
 
-impl<
+impl<'a, N: BusName, F: FaultSource + Drop, G: Gate + Drop, C: Clock, R: Wait + time::Clock> Server<
     'a,
-    N: RollName + MeterName,
-    F: FaultSource + Drop,
-    G: Gate + Drop,
-    C: Clock,
-    R: Wait + time::Clock,
-> Server<'a, N, F, G, C, R> {
+    N,
+    F,
+    G,
+    C,
+    R,
+> {
     /// Steps a bus with bit rates while an interface has a frame to send or counts towards its restart, each time when
     /// the wire is free, until its station is stopped: whether a step was refused, which ends it.
     ///

@@ -2,7 +2,7 @@ use Rattle.std.proofs.Common.{◌≡◌, ℕ, Result, Ok, Err, subst, ◌∙◌,
 use Rattle.can_event.specs.declared.attempt.Attempt.{Attempt}
 use Rattle.can_event.specs.declared.reply.Reply.{Reply}
 use Rattle.can_event.specs.declared.refusal.Refusal.TheVariants as refusal
-use Rattle.can_record.specs.Outcomes.{told_attempt}
+use Rattle.can_event.specs.declared.reply.Reply.TheVariants as reply
 use Rattle.can_fault.specs.Sources.{VerdictMap}
 use Rattle.can_station.specs.Held.{Held, StationSeen}
 use Rattle.can_station.specs.Passes.{PassSeen, IsAnsweredIn, IsStateOf, StepsIn, Stepped, Reports, next_attempt, pass_after}
@@ -15,8 +15,8 @@ module _ {F : Type 0} (verdicts : F → VerdictMap) (held : Held F) (seen : Stat
   steps : (r told : Reply) → r ≡ told → IsAnsweredIn held (next_attempt verdicts held moment) r → new ≡ pass_after (next_attempt verdicts held moment) r old → StepsIn verdicts seen old moment told new
   steps r told is answer kept = subst (λ (t : Reply). StepsIn verdicts seen old moment t new) is (own, (held, state, (answer, kept)))
 
-  pub stepped : (outcome : Result Attempt StationRefusal) (r : Reply) → Reports told_attempt outcome r → IsAnsweredIn held (next_attempt verdicts held moment) r → new ≡ pass_after (next_attempt verdicts held moment) r old → Stepped verdicts seen old moment outcome new
-  stepped (Ok a) r is answer kept = steps r (told_attempt a) is answer kept
+  pub stepped : (outcome : Result Attempt StationRefusal) (r : Reply) → Reports reply.Attempted outcome r → IsAnsweredIn held (next_attempt verdicts held moment) r → new ≡ pass_after (next_attempt verdicts held moment) r old → Stepped verdicts seen old moment outcome new
+  stepped (Ok a) r is answer kept = steps r (reply.Attempted a) is answer kept
   stepped (Err (station.Bus refusal.RecordFull)) r is answer kept = steps r _ is answer kept
   stepped (Err (station.Bus refusal.NoInterface)) r is answer kept = steps r _ is answer kept
   stepped (Err (station.Bus refusal.BadCapacity)) r is answer kept = steps r _ is answer kept

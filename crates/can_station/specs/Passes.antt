@@ -12,7 +12,6 @@ use Rattle.can_event.specs.declared.socket_id.SocketId.{SocketId}
 use Rattle.can_event.specs.declared.attempt.Attempt.{Attempt}
 use Rattle.can_frame.specs.Frames.{CanFrame}
 use Rattle.can_fault.specs.declared.verdict.Verdict.{Verdict}
-use Rattle.can_record.specs.Outcomes.{told_attempt}
 use Rattle.can_record.specs.Journal.{Journal, Kept}
 use Rattle.can_bus.specs.Heads.{next_head}
 use Rattle.can_bus.specs.Legal.{IsLegal}
@@ -61,10 +60,6 @@ kept_calls p = if p.keeps then p.calls else []
 -- after a call: it is noted with its reply, unless the record was full or memory was refused
 abbrev pub pass_after : Event → Reply → PassSeen → PassSeen
 pass_after e r p = record p { calls = history_after e r p.calls }
-
--- a reply that a bus may give to an attempt
-abbrev pub SuitsAttempt : Reply → Type 0
-SuitsAttempt r = (moment : ℕ) × (verdict : Verdict) × Suits (event.Attempt moment verdict) r
 
 -- what the caller gets of a reply: its value, or why the bus refuses
 abbrev pub Reports : {A : Type 0} → (A → Reply) → Result A StationRefusal → Reply → Type 0
@@ -206,7 +201,7 @@ IsStepMade verdicts old pass moment r new pass' =
 -- grow or the bus has no place for an entry, or the pass is another station's
 abbrev pub MadeStep : {F : Type 0} → (F → VerdictMap) → Held F → PassSeen → ℕ → Result Attempt StationRefusal
     → Held F → PassSeen → Type 0
-MadeStep verdicts old pass moment (Ok a) new pass' = IsStepMade verdicts old pass moment (told_attempt a) new pass'
+MadeStep verdicts old pass moment (Ok a) new pass' = IsStepMade verdicts old pass moment (reply.Attempted a) new pass'
 MadeStep verdicts old pass moment (Err (station.Bus why)) new pass' =
     IsStepMade verdicts old pass moment (reply.Refused why) new pass'
     ⊎ ((why ≡ refusal.NoMemory) × IsUnchanged old pass new pass')
@@ -272,7 +267,7 @@ StepsIn {F} verdicts seen old moment r new =
 -- a step: it is carried out, or nothing changes, since the pass's list can't grow, or the pass is another station's
 abbrev pub Stepped :
     {F : Type 0} → (F → VerdictMap) → StationSeen → PassSeen → ℕ → Result Attempt StationRefusal → PassSeen → Type 0
-Stepped verdicts seen old moment (Ok a) new = StepsIn verdicts seen old moment (told_attempt a) new
+Stepped verdicts seen old moment (Ok a) new = StepsIn verdicts seen old moment (reply.Attempted a) new
 Stepped verdicts seen old moment (Err (station.Bus refusal.NoMemory)) new = new ≡ old
 Stepped verdicts seen old moment (Err (station.Bus why)) new = StepsIn verdicts seen old moment (reply.Refused why) new
 Stepped verdicts seen old moment (Err station.WrongStation) new = ¬ (old.number ≡ seen.number) × (new ≡ old)

@@ -1,9 +1,9 @@
-ghost use Rattle.can_record.specs.Outcomes.{done_reply, told_attempt};
+ghost use Rattle.can_record.specs.Outcomes.{done_reply};
 ghost use Rattle.can_event.specs.declared.event.Event.TheVariants as event;
 ghost use Rattle.can_event.specs.declared.reply.Reply.TheVariants as reply;
 ghost use Rattle.can_station.specs.Passes.{Answered, Called};
 
-use crate::attempts::attempt_in;
+use crate::bus_name::BusName;
 use crate::gate::Gate;
 use crate::pass::Pass;
 use crate::refusals::StationRefusal;
@@ -12,19 +12,12 @@ use can_bus::{Attempt, Closed, Event, Journaled, Opt, Received, Refusal, SocketI
 use can_fault::{FaultSource, Verdict};
 use can_filter::FilterSet;
 use can_frame::{Frame, Iface, Moment};
-use can_meter::MeterName;
-use can_roll::RollName;
 use std::alloc::Global;
 use std::sync::Wait;
 
 // The eight calls of a pass: each is one event of the bus. Before the bus's own refusals come `NoMemory`, where the pass's
 // list of calls can't grow, and `WrongStation`, where the pass is another station's; neither changes anything.
-impl<N: RollName + MeterName, F: FaultSource + Drop, G: Gate + Drop, B: Journaled> Station<
-    N,
-    F,
-    G,
-    B,
-> {
+impl<N: BusName, F: FaultSource + Drop, G: Gate + Drop, B: Journaled> Station<N, F, G, B> {
     /// Opens a socket on an interface, where `capacity` items may wait. Refusals of the bus: `RecordFull`,
     /// `NoInterface`, `BadCapacity`, `TooManySockets`, `NoMemory`.
     pub fn open<R: Wait>(
@@ -149,12 +142,14 @@ impl<N: RollName + MeterName, F: FaultSource + Drop, G: Gate + Drop, B: Journale
         moment: Moment,
         verdict: Verdict,
     ) -> Result<Attempt, StationRefusal>
-        ensures called { Called told_attempt self.now.number pass.old
+        ensures called { Called reply.Attempted self.now.number pass.old
             (event.Attempt moment verdict) result pass.new }
-        ensures answered { Answered F told_attempt self.now (event.Attempt moment verdict) result }
+        ensures answered { Answered F reply.Attempted self.now
+            (event.Attempt moment verdict) result }
     {
-        let reply = self.call(rt, alloc, pass, Event::Attempt(moment, verdict))?;
-        attempt_in(reply)
+        self.call(rt, alloc, pass, Event::Attempt(moment, verdict))?
+            .into_attempted()
+            .map_err(StationRefusal::Bus)
     }
 
     /// Brings an interface that is bus off back, at a moment. Refusals of the bus: `RecordFull`, `NoInterface`,

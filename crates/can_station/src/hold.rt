@@ -7,7 +7,8 @@ ghost use Rattle.can_station.specs.Held.{with_plan};
 ghost use Rattle.can_station.specs.Passes.{ChangesNothing, IsCarriedOut, IsReady, IsReadyFor, IsReceived, IsStepped, Keeps, Suits, Called, Made, MadeJudged, MadeStep, next_attempt, next_verdict, same};
 ghost use Rattle.can_station.specs.Waits.{IsNearlyFull, has_work};
 
-use crate::attempts::{attempt_in, with_verdict};
+use crate::attempts::with_verdict;
+use crate::bus_name::BusName;
 use crate::gate::{Gate, Point};
 use crate::pass::{Pass, keep, make_ready, make_ready_for};
 use crate::receives::keep_receive;
@@ -18,9 +19,8 @@ use crate::waits::Wakeups;
 use can_bus::{Attempt, Event, Journaled, Received, Refusal, Reply, RingBus, SocketId};
 use can_fault::{FaultSource, Verdict};
 use can_frame::{Frame, Iface, Moment, Names};
-use can_meter::MeterName;
 use can_record::PackedList;
-use can_roll::{RollName, Slip};
+use can_roll::Slip;
 use can_rules::RuleRefusal;
 use std::alloc::Global;
 use std::marker::Model;
@@ -30,19 +30,13 @@ use std::sync::MutexGuard;
 ///
 /// Contracts see it as the state under the lock. Whoever the calls have given something to do is woken once the lock is
 /// free again.
-pub struct Hold<
-    's,
-    N: RollName + MeterName,
-    F: FaultSource + Drop,
-    G: Gate + Drop,
-    B: Journaled = RingBus,
-> {
+pub struct Hold<'s, N: BusName, F: FaultSource + Drop, G: Gate + Drop, B: Journaled = RingBus> {
     pub(crate) station: &'s Station<N, F, G, B>,
     pub(crate) state: MutexGuard<'s, StationState<N, F, B>>,
     pub(crate) wakeups: Wakeups,
 }
 
-impl<'s, N: RollName + MeterName, F: FaultSource + Drop, G: Gate + Drop, B: Journaled> Model
+impl<'s, N: BusName, F: FaultSource + Drop, G: Gate + Drop, B: Journaled> Model
     for Hold<'s, N, F, G, B> {
     ghost use Rattle.std.specs.Coded.{codes};
     ghost use Rattle.std.specs.Sync.Mutex.{mutex_guard_value};
@@ -56,13 +50,7 @@ impl<'s, N: RollName + MeterName, F: FaultSource + Drop, G: Gate + Drop, B: Jour
     ghost view = { λ h. mutex_guard_value h.state };
 }
 
-impl<'s, N: RollName + MeterName, F: FaultSource + Drop, G: Gate + Drop, B: Journaled> Hold<
-    's,
-    N,
-    F,
-    G,
-    B,
-> {
+impl<'s, N: BusName, F: FaultSource + Drop, G: Gate + Drop, B: Journaled> Hold<'s, N, F, G, B> {
     /// The number of the station.
     pub fn number(&self) -> u8
         ensures { result ≡ self.now.number }
@@ -209,7 +197,7 @@ impl<'s, N: RollName + MeterName, F: FaultSource + Drop, G: Gate + Drop, B: Jour
         let Some(reply) = self.carry_out_step(alloc, &mut pass.slip, &mut pass.calls, moment) else {
             return Err(StationRefusal::Bus(Refusal::NoMemory));
         };
-        attempt_in(reply)
+        reply.into_attempted().map_err(StationRefusal::Bus)
     }
 
     /// Tries the frame that wins the bus, as `step` does, and returns the attempt's verdict too.
@@ -233,7 +221,7 @@ impl<'s, N: RollName + MeterName, F: FaultSource + Drop, G: Gate + Drop, B: Jour
         let Some((verdict, reply)) = judged else {
             return Err(StationRefusal::Bus(Refusal::NoMemory));
         };
-        with_verdict(verdict, attempt_in(reply))
+        with_verdict(verdict, reply.into_attempted().map_err(StationRefusal::Bus))
     }
 
     /// Carries out an attempt at a moment, with the verdict of the source or the plan, for the pass of this slip.
@@ -312,7 +300,7 @@ impl<'s, N: RollName + MeterName, F: FaultSource + Drop, G: Gate + Drop, B: Jour
     }
 }
 
-impl<N: RollName + MeterName, F: FaultSource + Drop, G: Gate + Drop, B: Journaled> Drop
+impl<N: BusName, F: FaultSource + Drop, G: Gate + Drop, B: Journaled> Drop
     for Hold<'_, N, F, G, B> {
     fn drop(self) {
         let Hold {

@@ -17,6 +17,7 @@
 #![tactic(auto)]
 
 mod attempts;
+mod bus_name;
 mod calls;
 pub mod gate;
 mod gauges;
@@ -32,6 +33,7 @@ mod taking;
 mod wait_queues;
 mod waits;
 
+pub use bus_name::BusName;
 pub use can_roll::Scroll;
 pub use gate::{Gate, Open, Point};
 pub use hold::Hold;

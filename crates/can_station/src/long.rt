@@ -7,14 +7,14 @@ ghost use Rattle.can_roll.specs.Seen.{scroll_seen, scroll_with};
 ghost use Rattle.can_station.specs.Held.{station_seen};
 ghost use Rattle.can_station.specs.Passes.{InSome};
 
+use crate::bus_name::BusName;
 use crate::gate::Gate;
 use crate::refusals::WrongStation;
 use crate::station::{Blanks, Station};
 use crate::waits::WakeReason;
 use can_bus::{BusConfig, BusFault, Journaled, LongRingBus, PackedRecord};
 use can_fault::FaultSource;
-use can_meter::MeterName;
-use can_roll::{RollName, Scroll};
+use can_roll::Scroll;
 use can_rules::Plan;
 use std::alloc::{AllocError, Global};
 use std::sync::Wait;
@@ -41,7 +41,7 @@ impl Block {
     }
 }
 
-impl<N: RollName + MeterName, F: FaultSource + Drop, G: Gate + Drop> Station<N, F, G, LongRingBus> {
+impl<N: BusName, F: FaultSource + Drop, G: Gate + Drop> Station<N, F, G, LongRingBus> {
     /// A station over the bus of a long run, which keeps in memory only the entries that were not taken yet, and the scroll
     /// of who takes them. It takes memory for this many: `TAIL_SIZE`, but for tests.
     ///
@@ -72,12 +72,7 @@ impl<N: RollName + MeterName, F: FaultSource + Drop, G: Gate + Drop> Station<N, 
     }
 }
 
-impl<N: RollName + MeterName, F: FaultSource + Drop, G: Gate + Drop, B: Journaled> Station<
-    N,
-    F,
-    G,
-    B,
-> {
+impl<N: BusName, F: FaultSource + Drop, G: Gate + Drop, B: Journaled> Station<N, F, G, B> {
     /// Takes the entries that were not taken yet, in order, into a block, whose own are let go, and puts them at the end of
     /// the scroll's. Calls that wait for a place go on. A bus with its whole record gives none.
     ///

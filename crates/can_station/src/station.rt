@@ -6,7 +6,7 @@ ghost use Rattle.can_station.specs.Held.{station_seen};
 ghost use Rattle.can_station.specs.Passes.{HadNoPassLeft, InSome, InjectsIn, IsNewLightPass, IsNewPass, IsStateOf, SettlesIn, Suits, Answered, Called, Stepped, same};
 ghost use Rattle.can_station.specs.Published.{AreTrue, TakesBack, TakesBackScroll};
 
-use crate::attempts::attempt_in;
+use crate::bus_name::BusName;
 use crate::gate::{Gate, Point};
 use crate::hold::Hold;
 use crate::pass::{Pass, Settled, make_ready, make_ready_for};
@@ -17,9 +17,9 @@ use crate::waits::{ROOM, Wakeups};
 use can_bus::{Attempt, BusConfig, BusFault, Event, Journaled, Refusal, Reply, RingBus};
 use can_fault::FaultSource;
 use can_frame::{Moment, Names};
-use can_meter::{Gauge, MeterBlank, MeterName, meter, meter_blank};
+use can_meter::{Gauge, MeterBlank, meter, meter_blank};
 use can_record::PackedList;
-use can_roll::{RollBlank, RollName, Scroll, Slip, roll_blank};
+use can_roll::{RollBlank, Scroll, Slip, roll_blank};
 use can_rules::{Plan, RuleRefusal};
 use std::alloc::{AllocError, Global};
 use std::marker::Model;
@@ -51,12 +51,7 @@ impl Blanks {
 /// Each of the eight calls of a pass, and `step`, is one event of the bus in one hold of the lock. What the lock
 /// keeps is a [`StationState`].
 #[derive(Drop)]
-pub struct Station<
-    N: RollName + MeterName,
-    F: FaultSource + Drop,
-    G: Gate + Drop,
-    B: Journaled = RingBus,
-> {
+pub struct Station<N: BusName, F: FaultSource + Drop, G: Gate + Drop, B: Journaled = RingBus> {
     pub(crate) state: Mutex<StationState<N, F, B>>,
     /// Where drivers wait for frames to send and interfaces to restart.
     pub(crate) work: Condvar,
@@ -75,7 +70,7 @@ pub struct Station<
     pub(crate) fullness: AtomicU8,
 }
 
-impl<N: RollName + MeterName, F: FaultSource + Drop, G: Gate + Drop, B: Journaled> Model
+impl<N: BusName, F: FaultSource + Drop, G: Gate + Drop, B: Journaled> Model
     for Station<N, F, G, B> {
     ghost use Rattle.can_station.specs.Held.{StationSeen, station_seen};
 
@@ -84,7 +79,7 @@ impl<N: RollName + MeterName, F: FaultSource + Drop, G: Gate + Drop, B: Journale
     ghost view = { λ s. station_seen s.number s.config };
 }
 
-impl<N: RollName + MeterName, F: FaultSource + Drop, G: Gate + Drop> Station<N, F, G> {
+impl<N: BusName, F: FaultSource + Drop, G: Gate + Drop> Station<N, F, G> {
     /// A station with an empty record, named by `N` under this number, and with no plan of faults: the source's verdicts are
     /// those of its attempts. It takes memory for all of `limit` entries.
     ///
@@ -114,12 +109,7 @@ impl<N: RollName + MeterName, F: FaultSource + Drop, G: Gate + Drop> Station<N, 
     }
 }
 
-impl<N: RollName + MeterName, F: FaultSource + Drop, G: Gate + Drop, B: Journaled> Station<
-    N,
-    F,
-    G,
-    B,
-> {
+impl<N: BusName, F: FaultSource + Drop, G: Gate + Drop, B: Journaled> Station<N, F, G, B> {
     /// A station over a bus with this configuration, on which nothing was done, with this plan of faults, and the scroll of
     /// who takes its entries. `NoMemory` where memory was refused.
     pub fn over(
@@ -302,7 +292,7 @@ impl<N: RollName + MeterName, F: FaultSource + Drop, G: Gate + Drop, B: Journale
         let Some(reply) = hold.carry_out_step(alloc, &mut pass.slip, &mut pass.calls, moment) else {
             return Err(StationRefusal::Bus(Refusal::NoMemory));
         };
-        attempt_in(reply)
+        reply.into_attempted().map_err(StationRefusal::Bus)
     }
 
     /// Takes the rule that a text spells, whose interfaces have these names: it counts from the next attempt on, after the

@@ -14,6 +14,7 @@ ghost use Rattle.can_roll.specs.Seen.{scroll_seen};
 ghost use Rattle.can_station.specs.Published.{AreTrue, IsPublished, TakesBack, TakesBackScroll};
 ghost use Rattle.can_station.specs.Waits.{AreCounts, IsNearlyFull, frame_wake, has_work, work_wake, stopped_wake, waiting_at};
 
+use crate::bus_name::BusName;
 use crate::gauges::{are_gauges_of, take_back_gauges};
 use crate::pass::{Pass, Settled, are_all_of, recall_all};
 use crate::publishing::{counters_before, publish_changes};
@@ -27,7 +28,7 @@ use can_bus::{
 };
 use can_fault::{FaultSource, Verdict};
 use can_frame::{Frame, Iface, Moment, Names};
-use can_meter::{Gauge, Keeper, MeterName};
+use can_meter::{Gauge, Keeper};
 use can_record::receive_reply;
 use can_roll::{HandedOut, Roll, RollBlank, RollName, Scroll, Slip, roll_with_scroll};
 use can_rules::{Plan, RuleRefusal};
@@ -44,7 +45,7 @@ const MAX_PASSES: u32 = 4096;
 /// list of each pass is the entries marked with it, the keeper has published each change of an interface's error
 /// counters, and what was handed out to the scroll is what the bus has handed out.
 #[derive(Drop)]
-pub struct StationState<N: RollName + MeterName, F: FaultSource + Drop, B: Journaled = RingBus> {
+pub struct StationState<N: BusName, F: FaultSource + Drop, B: Journaled = RingBus> {
     pub(crate) bus: B,
     config: BusConfig,
     source: F,
@@ -58,7 +59,7 @@ pub struct StationState<N: RollName + MeterName, F: FaultSource + Drop, B: Journ
     pub(crate) taking: Taking,
 }
 
-impl<N: RollName + MeterName, F: FaultSource + Drop, B: Journaled> Model for StationState<N, F, B> {
+impl<N: BusName, F: FaultSource + Drop, B: Journaled> Model for StationState<N, F, B> {
     ghost use Rattle.std.specs.Coded.{codes};
     ghost use Rattle.std.specs.Prelude.{◌≡◌};
     ghost use Rattle.can_fault.specs.Sources.{verdict_map_code};
@@ -86,7 +87,7 @@ impl<N: RollName + MeterName, F: FaultSource + Drop, B: Journaled> Model for Sta
         × (s.handed ≡ scroll_seen s.roll.number (B.handed_out s.bus)) };
 }
 
-impl<N: RollName + MeterName, F: FaultSource + Drop> StationState<N, F> {
+impl<N: BusName, F: FaultSource + Drop> StationState<N, F> {
     /// The record: a legal history, whose entries can be marked with the passes that made them.
     pub fn record(&self) -> &Record
         ensures config { result.now.config ≡ self.now.journal.config }
@@ -98,7 +99,7 @@ impl<N: RollName + MeterName, F: FaultSource + Drop> StationState<N, F> {
     }
 }
 
-impl<N: RollName + MeterName, F: FaultSource + Drop, B: Journaled> StationState<N, F, B> {
+impl<N: BusName, F: FaultSource + Drop, B: Journaled> StationState<N, F, B> {
     /// The state of a station whose bus has no entry, and its scroll.
     pub(crate) fn new(
         blank: RollBlank,
@@ -473,7 +474,7 @@ impl<N: RollName + MeterName, F: FaultSource + Drop, B: Journaled> StationState<
 
 /// What a bus leaves, with all these passes and gauges taken in. `WrongStation` exactly where some of them is another
 /// station's than the roll's.
-fn settle_bus<N: RollName + MeterName, B: Journaled>(
+fn settle_bus<N: BusName, B: Journaled>(
     bus: B,
     mut roll: Roll<N>,
     mut keeper: Keeper<N>,
@@ -516,7 +517,7 @@ fn next_verdict<B: Journaled>(plan: &mut Plan, bus: &B, attempt: u64, source: Ve
 
 /// Carries out an event for the pass of a slip, on a bus that has a place for it: it is noted in the roll, and what it
 /// changed of the error counters is published.
-fn answer_and_book<N: RollName + MeterName, B: Journaled>(
+fn answer_and_book<N: BusName, B: Journaled>(
     alloc: Global,
     bus: &mut B,
     roll: &mut Roll<N>,

@@ -5,13 +5,13 @@ ghost use Rattle.can_bus.specs.Long.{HasTail};
 ghost use Rattle.can_roll.specs.Seen.{scroll_with};
 ghost use Rattle.can_station.specs.Waits.{work_wake};
 
+use crate::bus_name::BusName;
 use crate::long::Block;
 use crate::station_state::StationState;
 use crate::waits::WakeReason;
 use can_bus::Journaled;
 use can_fault::FaultSource;
-use can_meter::MeterName;
-use can_roll::{RollName, Scroll};
+use can_roll::Scroll;
 
 /// How many places a call waits for: a hold of a server makes fewer entries.
 const HOLD_PLACES: usize = 512;
@@ -47,7 +47,7 @@ impl Taking {
 }
 
 // Places for entries, and those who take entries. None of this is seen by contracts.
-impl<N: RollName + MeterName, F: FaultSource + Drop, B: Journaled> StationState<N, F, B> {
+impl<N: BusName, F: FaultSource + Drop, B: Journaled> StationState<N, F, B> {
     /// How many entries were not taken yet.
     fn held_back(&self) -> u64 {
         self.bus.len().saturating_sub(self.taking.taken)

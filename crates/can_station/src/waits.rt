@@ -2,16 +2,15 @@ ghost use Rattle.std.specs.Prelude.{◌≡◌, true, false, Some, IfSome, IfNone
 ghost use Rattle.can_station.specs.Passes.{InSome, IsStateOf};
 ghost use Rattle.can_station.specs.Waits.{AreCounts, EndsItemWait, IsIdleAndStopped, frame_wake, has_work, work_wake};
 
+use crate::bus_name::BusName;
 use crate::gate::{Gate, Point};
 use crate::hold::Hold;
 use crate::station::Station;
 use crate::station_state::StationState;
 use crate::wait_queues::QueueSet;
-use can_bus::{Event, IfaceStats, Journaled, Refusal, Reply, SocketId, SocketStats};
+use can_bus::{Attempt, Event, IfaceStats, Journaled, Refusal, Reply, SocketId, SocketStats};
 use can_fault::FaultSource;
 use can_frame::Iface;
-use can_meter::MeterName;
-use can_roll::RollName;
 use std::sync::Wait;
 use std::sync::atomic::Ordering::SeqCst;
 use std::time::{Clock, Duration};
@@ -63,7 +62,7 @@ impl Wakeups {
     pub(crate) fn add(&mut self, event: &Event, reply: &Reply) {
         match (event, reply) {
             (_, Reply::Refused(why)) => self.add_refusal(*why),
-            (_, Reply::Idle { restarted }) if restarted.is_empty() => {}
+            (_, Reply::Attempted(Attempt::Idle { restarted })) if restarted.is_empty() => {}
             (Event::Send(_, _), _) => self.has_work = true,
             (Event::Close(_) | Event::Attempt(_, _) | Event::Restart(_, _), _) => {
                 self.has_items = true;
@@ -82,7 +81,7 @@ impl Wakeups {
 
 impl Wakeups {
     /// The queues of those for whom there is an item, or whose socket is closed.
-    pub(crate) fn woken<N: RollName + MeterName, F: FaultSource + Drop, B: Journaled>(
+    pub(crate) fn woken<N: BusName, F: FaultSource + Drop, B: Journaled>(
         self,
         state: &mut StationState<N, F, B>,
     ) -> QueueSet
@@ -97,12 +96,7 @@ impl Wakeups {
 }
 
 // What a station signals without an event. All of these may wait for the lock.
-impl<N: RollName + MeterName, F: FaultSource + Drop, G: Gate + Drop, B: Journaled> Station<
-    N,
-    F,
-    G,
-    B,
-> {
+impl<N: BusName, F: FaultSource + Drop, G: Gate + Drop, B: Journaled> Station<N, F, G, B> {
     /// The counts of a socket and of an interface, both of one moment: `None` exactly where the socket is not
     /// open, and where there is no such interface.
     pub fn stats<R: Wait>(

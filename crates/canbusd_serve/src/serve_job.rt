@@ -19,10 +19,9 @@ use crate::notices::first_name_at;
 use crate::serve_files::{lock_folder, look_at_folder, save_all, set_all_aside};
 use can_bus::{BusFault, LongEnd, TAIL_SIZE};
 use can_fault::Perfect;
-use can_meter::MeterName;
 use can_roll::RollName;
 use can_server::{Acceptor, Bench, Hub, Scribe, ScrollKeeper, serve, serve_long};
-use can_station::{Blanks, Open, Pass, Scroll, Settled};
+use can_station::{Blanks, BusName, Open, Pass, Scroll, Settled};
 use canbusd_io::{
     INPUT, OUTPUT, ProgramError, Report, Reporter, bus_config, fixed_note, read_names, read_plan,
     write_failure,
@@ -97,7 +96,7 @@ pub fn run_serve<'a, H: ServerRuntime, R: Read + Drop + Send + 'static, W: Write
 
 // The buses that are served: of a hub that keeps their records, or of long runs, with the scroll of each.
 #[derive(Drop)]
-enum Served<'h, N: RollName + MeterName> {
+enum Served<'h, N: BusName> {
     Whole(&'h Hub<N, Perfect, Open>),
     Long(&'h Hub<N, Perfect, Open, LongEnd>, Vec<Scroll<N>>),
 }
@@ -162,7 +161,7 @@ impl<'r, 'a, H: ServerRuntime> ServerRun<'r, 'a, H> {
 
     // Serves the buses that are made of these, and writes what they leave. Returns whether a fault was reported.
     fn run_whole<
-        N: RollName + MeterName + Send + Sync,
+        N: BusName + Send + Sync,
         R: Read + Drop + Send + 'static,
         W: Write,
         E: Write + Send,
@@ -192,7 +191,7 @@ impl<'r, 'a, H: ServerRuntime> ServerRun<'r, 'a, H> {
     // Serves the buses of long runs that are made of these, and ends their files, which it returns. Before them it returns
     // whether a fault was reported.
     fn run_live<
-        N: RollName + MeterName + Send + Sync,
+        N: BusName + Send + Sync,
         R: Read + Drop + Send + 'static,
         W: Write,
         E: Write + Send,
@@ -228,7 +227,7 @@ impl<'r, 'a, H: ServerRuntime> ServerRun<'r, 'a, H> {
 
     // Serves the buses that are made of these, and settles them.
     fn settle_whole<
-        N: RollName + MeterName + Send + Sync,
+        N: BusName + Send + Sync,
         R: Read + Drop + Send + 'static,
         W: Write,
         E: Write + Send,
@@ -260,7 +259,7 @@ impl<'r, 'a, H: ServerRuntime> ServerRun<'r, 'a, H> {
 
     // Serves the buses of long runs that are made of these, and settles them: what they leave, and their files.
     fn settle_live<
-        N: RollName + MeterName + Send + Sync,
+        N: BusName + Send + Sync,
         R: Read + Drop + Send + 'static,
         W: Write,
         E: Write + Send,
@@ -316,7 +315,7 @@ impl<'r, 'a, H: ServerRuntime> ServerRun<'r, 'a, H> {
 
     // Listens, and serves the buses of a hub.
     fn serve_hub<
-        N: RollName + MeterName + Send + Sync,
+        N: BusName + Send + Sync,
         R: Read + Drop + Send + 'static,
         W: Write,
         E: Write + Send,
@@ -352,7 +351,7 @@ impl<'r, 'a, H: ServerRuntime> ServerRun<'r, 'a, H> {
 
     // Looks at what the server needs besides, puts out where it listens, and serves.
     fn serve_acceptors<
-        N: RollName + MeterName + Send + Sync,
+        N: BusName + Send + Sync,
         R: Read + Drop + Send + 'static,
         W: Write,
         E: Write + Send,
@@ -387,7 +386,7 @@ impl<'r, 'a, H: ServerRuntime> ServerRun<'r, 'a, H> {
     }
 
     // Takes the folder, and opens the files of long runs.
-    fn open_files<N: RollName + MeterName, E: Write>(
+    fn open_files<N: BusName, E: Write>(
         &self,
         hub: &Served<'_, N>,
         errors: &mut E,
@@ -424,7 +423,7 @@ impl<'r, 'a, H: ServerRuntime> ServerRun<'r, 'a, H> {
         }
     }
 
-    fn serve_until<N: RollName + MeterName + Send + Sync, E: Write + Send>(
+    fn serve_until<N: BusName + Send + Sync, E: Write + Send>(
         &self,
         hub: Served<'_, N>,
         files: Vec<LiveFiles<File>>,
@@ -461,7 +460,7 @@ impl<'r, 'a, H: ServerRuntime> ServerRun<'r, 'a, H> {
     }
 
     // Serves buses that keep their records.
-    fn serve_whole<N: RollName + MeterName + Send + Sync, E: Write + Send>(
+    fn serve_whole<N: BusName + Send + Sync, E: Write + Send>(
         &self,
         hub: &Hub<N, Perfect, Open>,
         acceptors: &[Acceptor],
@@ -479,7 +478,7 @@ impl<'r, 'a, H: ServerRuntime> ServerRun<'r, 'a, H> {
     }
 
     // Serves the buses of long runs, each with a scribe that writes its files.
-    fn serve_long<N: RollName + MeterName + Send + Sync, E: Write + Send>(
+    fn serve_long<N: BusName + Send + Sync, E: Write + Send>(
         &self,
         hub: &Hub<N, Perfect, Open, LongEnd>,
         files: Vec<LiveFiles<File>>,
@@ -540,16 +539,7 @@ impl<'r, 'a, H: ServerRuntime> ServerRun<'r, 'a, H> {
 }
 
 // The keepers of these files, each with the scroll of its bus.
-fn keepers_of<
-    'o,
-    'h,
-    'a,
-    'l,
-    N: RollName + MeterName,
-    F: Write + OpenFile + Drop,
-    H: Wait + Clock,
-    E: Write,
->(
+fn keepers_of<'o, 'h, 'a, 'l, N: BusName, F: Write + OpenFile + Drop, H: Wait + Clock, E: Write>(
     alloc: Global,
     host: &'o Host<'h, 'a, 'l, H, E>,
     files: Vec<LiveFiles<F>>,
