@@ -14,6 +14,7 @@ use Rattle.can_event.specs.declared.reply.Reply.{Reply}
 use Rattle.can_event.specs.declared.reply.Reply.TheVariants as reply
 use Rattle.can_event.specs.declared.refusal.Refusal.TheVariants as refusal
 use Rattle.can_event.specs.declared.attempt.Tried.{Tried}
+use Rattle.can_event.specs.declared.attempt.Attempt.{Attempt as AnAttempt}
 use Rattle.can_event.specs.declared.attempt.Attempt.TheVariants as attempt
 use Rattle.can_frame.specs.declared.iface.IfaceSet.{IfaceSet}
 use Rattle.can_frame.specs.Sets.{is_in}
@@ -133,8 +134,8 @@ counted-kept c past (Restart i m) _ old new h law are counted = counted ∙ are
 
 -- ---- one entry after another
 
-pub counts-as : (c : BusConfig) (e : Event) (r : Reply) (old new : Nodes) (m : ℕ) (v : Verdict) (t : Tried) → e ≡ Attempt m v → r ≡ reply.Attempted (attempt.Tried t) → Counts c (Attempt m v) (reply.Attempted (attempt.Tried t)) old new → Counts c e r old new
-counts-as c e r old new m v t event_is reply_is counted =
+pub counts-as : (c : BusConfig) (e : Event) (r : Reply) (old new : Nodes) (m : ℕ) (v : Verdict) (a : AnAttempt) → e ≡ Attempt m v → r ≡ reply.Attempted a → Counts c (Attempt m v) (reply.Attempted a) old new → Counts c e r old new
+counts-as c e r old new m v a event_is reply_is counted =
     subst (λ (k : Event). Counts c k r old new) (sym event_is) (subst (λ (k : Reply). Counts c (Attempt m v) k old new) (sym reply_is) counted)
 
 abbrev all_at : BusConfig → ErrorCounts → Nodes

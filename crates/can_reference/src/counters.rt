@@ -1,6 +1,8 @@
-ghost use Rattle.std.specs.Prelude.{◌≡◌, ◌≤◌, slice_set, Some, IfSome, OnSome};
+ghost use Rattle.std.specs.Prelude.{◌≡◌, ◌≤◌, ℕ, slice_set, Some, IfSome, OnSome};
 ghost use Rattle.can_confine.specs.Confinement.{at_start};
 ghost use Rattle.can_attempt.specs.Attempts.{attempt_between, judged};
+ghost use Rattle.can_event.specs.declared.event.Event.TheVariants as event;
+ghost use Rattle.can_event.specs.declared.reply.Reply.TheVariants as reply;
 ghost use Rattle.can_bus.specs.Changes.{begun_anew};
 ghost use Rattle.can_bus.specs.State.{kept_nodes};
 ghost use Rattle.can_reference.specs.inner.Counted.{Counts, CountsTried, IsLive, judged_nodes};
@@ -57,11 +59,22 @@ fn note_frame(config: BusConfig, nodes: &mut Nodes, winner: Iface, verdict: Verd
 }
 
 /// What an attempt that tried a frame does to them.
-fn note_attempt(config: BusConfig, nodes: &mut Nodes, tried: &Tried, verdict: Verdict)
+fn note_tried(config: BusConfig, nodes: &mut Nodes, tried: &Tried, verdict: Verdict)
     ensures { CountsTried config tried.now verdict nodes.old nodes.new }
 {
     note_frame(config, nodes, tried.winner, verdict);
     note_restarts(nodes, tried.restarted);
+}
+
+/// What an attempt does to them.
+fn note_attempt(config: BusConfig, nodes: &mut Nodes, attempt: &Attempt, verdict: Verdict)
+    ensures { (moment : ℕ) → Counts config (event.Attempt moment verdict)
+        (reply.Attempted attempt.now) nodes.old nodes.new }
+{
+    match attempt {
+        Attempt::Tried(tried) => note_tried(config, nodes, tried, verdict),
+        Attempt::Idle { restarted } => note_restarts(nodes, *restarted),
+    }
 }
 
 /// What a restart does to them.
@@ -78,8 +91,7 @@ fn note(config: BusConfig, entry: &Entry, nodes: &mut Nodes)
 {
     match &entry.event {
         Event::Attempt(_, verdict) => match &entry.reply {
-            Reply::Attempted(Attempt::Tried(tried)) => note_attempt(config, nodes, tried, *verdict),
-            Reply::Attempted(Attempt::Idle { restarted }) => note_restarts(nodes, *restarted),
+            Reply::Attempted(attempt) => note_attempt(config, nodes, attempt, *verdict),
             _ => {}
         },
         Event::Restart(iface, _) => {

@@ -178,6 +178,25 @@ fn tried_posts(
     Ok(posts)
 }
 
+/// What an attempt at this moment puts to the sockets of an interface.
+fn posts_at(
+    alloc: Global,
+    config: BusConfig,
+    past: &[Entry],
+    iface: Iface,
+    moment: Moment,
+    verdict: Verdict,
+    attempt: &Attempt,
+) -> Result<Vec<Post>, AllocError>
+    ensures { ReturnsPosts config past.now iface
+        (entry_of (event.Attempt moment verdict) (reply.Attempted attempt.now)) result }
+{
+    match attempt {
+        Attempt::Tried(tried) => tried_posts(alloc, config, past, iface, moment, verdict, tried),
+        Attempt::Idle { restarted } => idle_posts(alloc, *restarted, moment, iface),
+    }
+}
+
 /// What a restart puts to the sockets of an interface.
 fn restart_posts(
     alloc: Global,
@@ -206,12 +225,9 @@ pub fn posts_of(
 {
     match &entry.event {
         Event::Attempt(moment, verdict) => match &entry.reply {
-            Reply::Attempted(Attempt::Tried(tried)) => {
-                tried_posts(alloc, config, past, iface, *moment, *verdict, tried)
+            Reply::Attempted(attempt) => {
+                posts_at(alloc, config, past, iface, *moment, *verdict, attempt)
             }
-            Reply::Attempted(Attempt::Idle { restarted }) => idle_posts(
-                alloc, *restarted, *moment, iface,
-            ),
             _ => Ok(Vec::new(alloc)),
         },
         Event::Restart(restarted, moment) => match &entry.reply {
