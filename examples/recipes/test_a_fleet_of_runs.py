@@ -15,6 +15,7 @@ from canbusd import Bench, Faults
 
 RUN = int(os.environ.get("RUN", "0"))
 
+
 def test_all_frames_arrive_in_their_order():
     rng = random.Random(RUN)
     plan = Faults().destroyed(rng.sample(range(200), 12))

@@ -7,6 +7,7 @@ A server has several buses, and a gateway has an interface on each. Here it lets
 import can
 import pytest
 
+
 @pytest.mark.canbusd("left,inner", "outer,right")
 def test_a_gateway(canbusd):
     with canbusd.bus("left") as left, canbusd.bus("inner") as inner, canbusd.bus("outer") as outer:

@@ -9,6 +9,7 @@ import pytest
 
 LOG = "(1.000000) can0 123#1122\n(1.000100) can0 124#33\n(1.250000) can0 123#1123\n"
 
+
 @pytest.mark.canbusd("car,node", observe="node")
 def test_a_drive(canbusd, tmp_path):
     (tmp_path / "drive.log").write_text(LOG)

@@ -17,6 +17,7 @@ BA_DEF_ BO_ "GenMsgCycleTime" INT 0 65535;
 BA_DEF_DEF_ "GenMsgCycleTime" 10;
 """
 
+
 def test_the_engine_falls_silent(tmp_path):
     (tmp_path / "car.dbc").write_text(DBC)
     with Bench("engine,ecu", bitrate=500_000) as bench:

@@ -7,6 +7,7 @@ in the middle of a run, and the partial record is read.
 import can
 from canbusd import Server, read_record
 
+
 def test_a_run_that_is_cut_off(tmp_path):
     with Server("ecu,tester", record="live", out=tmp_path) as server:
         with server.bus("ecu") as ecu, server.bus("tester") as tester:

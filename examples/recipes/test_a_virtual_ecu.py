@@ -13,6 +13,7 @@ QEMU = """qemu-system-x86_64 -m 256 -nographic -no-reboot -net none
     -kernel vmlinuz -initrd initrd -append "console=ttyS0 quiet no_timer_check" -object can-bus,id=b
     -object can-host-socketcan,id=h,if=ecu,canbus=b -device kvaser_pci,canbus=b"""
 
+
 @pytest.mark.skipif("GUEST" not in os.environ, reason="no guest")
 @pytest.mark.canbusd("ecu,tester")
 def test_the_ecu_comes_up(canbusd):

@@ -7,6 +7,7 @@ import asyncio
 import can
 import pytest
 
+
 @pytest.mark.canbusd("ecu,tester")
 def test_an_answer(canbusd):
     async def ask(ecu, tester):

@@ -6,6 +6,7 @@ else.
 
 from canbusd import Bench, Faults
 
+
 class Supervisor:
     last = 0.0
 
@@ -15,6 +16,7 @@ class Supervisor:
 
     def is_late(self, now):
         return now - self.last > 0.12
+
 
 def test_a_heartbeat_that_fails_is_noticed():
     with Bench("node,master", faults=Faults().destroyed([2, 3, 4])) as bench:

@@ -8,11 +8,13 @@ import can
 import pytest
 from canbusd import Server
 
+
 @pytest.fixture(scope="module")
 def server(tmp_path_factory):
     with Server("ecu,tester", out=tmp_path_factory.mktemp("can")) as running:
         yield running
     assert all(said.startswith("ok ") for said in running.audit().values())
+
 
 @pytest.mark.parametrize("value", range(3))
 def test_a_value(server, value):

@@ -8,6 +8,7 @@ import pytest
 
 REQUEST, STATE = 0x200, 0x201
 
+
 @pytest.mark.canbusd("tester,lamp")
 def test_the_lamp_answers(canbusd):
     with canbusd.bus("tester") as tester, canbusd.bus("lamp") as lamp:

@@ -7,6 +7,7 @@ as there are processors. Each has a server of its own on a free port, so interfa
 import can
 import pytest
 
+
 @pytest.mark.parametrize("value", range(4))
 @pytest.mark.canbusd("ecu,tester")
 def test_a_value(canbusd, value):

@@ -11,6 +11,7 @@ from canbusd.isotp import IsoTpError
 
 VIN = b"\x62\xf1\x90WVWZZZ1JZXW000001"
 
+
 @pytest.mark.canbusd("ecu,tester")
 def test_reading_the_vin(canbusd):
     with canbusd.isotp("ecu", tx=0x7E8, rx=0x7E0) as ecu, canbusd.isotp("tester", tx=0x7E0, rx=0x7E8) as tester:

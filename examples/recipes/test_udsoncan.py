@@ -10,10 +10,12 @@ import udsoncan
 from udsoncan.client import Client
 from udsoncan.connections import QueueConnection
 
+
 def carry(connection, end):
     while (request := connection.fromuserqueue.get()) is not None:
         end.send(request)
         connection.touserqueue.put(end.recv(timeout=5))
+
 
 @pytest.mark.canbusd("ecu,tester")
 def test_reading_the_vin(canbusd):
