@@ -1,6 +1,8 @@
 use crate::stops::{Stop, demand};
 use can_attempt::AckMode;
-use can_bus::{BusConfig, Event, Received, Refusal, Reply, RingBus, RunFault, SocketId, run};
+use can_bus::{
+    Attempt, BusConfig, Event, Received, Refusal, Reply, RingBus, RunFault, SocketId, run,
+};
 use can_fault::Verdict;
 use can_filter::{Filter, FilterSet};
 use can_frame::{CanId, Frame, Iface, IfaceSet, Item, Moment};
@@ -104,7 +106,7 @@ fn answered(bus: &mut RingBus, alloc: Global, event: &[Event; 1]) -> Result<Repl
 
 pub fn runs(alloc: Global) -> Result<(), Stop> {
     // The checker has to meet the types inside a reply before a bus gives one.
-    let _types: Option<(Item, Received)> = None;
+    let _types: Option<(Attempt, Item, Received)> = None;
     let mut bus = RingBus::new(alloc, TWO)?;
     let opening = [Event::Open(iface(1)?, 16)];
     demand(answered(&mut bus, alloc, &opening)? == Reply::Opened(SocketId(0)))?;

@@ -19,6 +19,7 @@ use crate::notices::first_name_at;
 use crate::serve_files::{lock_folder, look_at_folder, save_all, set_all_aside};
 use can_bus::{BusFault, LongEnd, TAIL_SIZE};
 use can_fault::Perfect;
+use can_meter::MeterName;
 use can_roll::RollName;
 use can_server::{Acceptor, Bench, Hub, Scribe, ScrollKeeper, serve, serve_long};
 use can_station::{Blanks, BusName, Open, Pass, Scroll, Settled};
@@ -161,7 +162,7 @@ impl<'r, 'a, H: ServerRuntime> ServerRun<'r, 'a, H> {
 
     // Serves the buses that are made of these, and writes what they leave. Returns whether a fault was reported.
     fn run_whole<
-        N: BusName + Send + Sync,
+        N: RollName + MeterName + Send + Sync,
         R: Read + Drop + Send + 'static,
         W: Write,
         E: Write + Send,
@@ -191,7 +192,7 @@ impl<'r, 'a, H: ServerRuntime> ServerRun<'r, 'a, H> {
     // Serves the buses of long runs that are made of these, and ends their files, which it returns. Before them it returns
     // whether a fault was reported.
     fn run_live<
-        N: BusName + Send + Sync,
+        N: RollName + MeterName + Send + Sync,
         R: Read + Drop + Send + 'static,
         W: Write,
         E: Write + Send,
