@@ -18,6 +18,7 @@ from canbusd.faults import Faults
 from canbusd.rest_bus import Counts
 from canbusd.server import Server
 from canbusd.signals import DatabaseError, load_database
+from canbusd.virtual import is_virtual
 
 pytest.importorskip("canmatrix", reason="canmatrix is not installed (python3-canmatrix)")
 REST = Path(__file__).with_name("rest.dbc")
@@ -515,7 +516,11 @@ def test_phases_keep_messages_apart():
 def test_threads_take_turns_sooner_beside_a_rest_bus(car):
     before, frozen = sys.getswitchinterval(), gc.get_freeze_count()
     with live(car), live(car):
-        assert sys.getswitchinterval() == pytest.approx(INTERVAL) and gc.get_freeze_count() > frozen
+        if is_virtual():
+            # There nothing is late.
+            assert (sys.getswitchinterval(), gc.get_freeze_count()) == (pytest.approx(before), frozen)
+        else:
+            assert sys.getswitchinterval() == pytest.approx(INTERVAL) and gc.get_freeze_count() > frozen
     assert (sys.getswitchinterval(), gc.get_freeze_count()) == (pytest.approx(before), frozen)
 
 
