@@ -67,10 +67,14 @@ struct start {
     char stacks[2][STACK] __attribute__((aligned(16)));
 };
 
+/* A function that does not return leaves no frame, so the address sanitizer would take its stack for one for ever, also
+ * once other memory is there. */
+#define NO_RETURN __attribute__((no_sanitize("address")))
+
 /* These two run in copies of the process that share its memory; the caller waits, and so does the first for the second.
  * The first executes nothing, so its end sends no signal, as `clone` asks for none. The second is its child, and
  * nobody's here once the first has ended: execve would make SIGCHLD of its own end. */
-static int become_bridge(void *argument) {
+NO_RETURN static int become_bridge(void *argument) {
     struct start *start = argument;
     char *words[] = {"canbusd-bridge", NULL};
     if (start->end == BRIDGE_END) {
@@ -85,7 +89,7 @@ static int become_bridge(void *argument) {
     return 0;
 }
 
-static int leave_child(void *argument) {
+NO_RETURN static int leave_child(void *argument) {
     struct start *start = argument;
     long child = copy_process(become_bridge, start->stacks[0] + STACK, start);
     if (child < 0) {
