@@ -5,7 +5,7 @@ from collections.abc import Iterator, Sequence
 
 from canbusd._steps import Step, WireFrame
 from canbusd.record import Record
-from canbusd.replay import OFF, PASSIVE, WARNING
+from canbusd._replayed import OFF, PASSIVE, WARNING
 
 # With what is at the left and the right of them, 120 columns.
 MOST_COLUMNS = 96

@@ -5,11 +5,11 @@ program is not asked, and nothing of it is used: each reply in the record is com
 so a replay to the end of a record is an audit. What only shows a run, such as names and attempts, is in canbusd.record.
 """
 
-from collections import deque
 from collections.abc import Sequence
 from typing import Optional
 
 from canbusd._record_text import BadRecord, RecordText
+from canbusd._replayed import Interface, Pending, Socket, severity
 from canbusd._steps import (
     DROPPED,
     TAKEN,
@@ -23,9 +23,8 @@ from canbusd._steps import (
     WireFrame,
     members,
 )
-from canbusd.frames import error_frame, passes_filters
+from canbusd.frames import error_frame
 
-OFF, PASSIVE, WARNING = 256, 128, 96
 MOST_SOCKETS = 64
 # After how many steps these are put into their columns.
 MOST_FRESH = 1000
@@ -35,82 +34,6 @@ AT_THE_WINNER = {"global-bit": (0x81, 0x0A), "global-form": (0x82, 0x1B), "local
 AT_THE_HIT = {"stuff": (0x04, 0x0A), "crc": (0x00, 0x08), "form": (0x02, 0x1B)}
 # A change of state's byte 1, by the severity of a side: active, warning, passive.
 TRANSMIT_CODES, RECEIVE_CODES = (0x40, 0x08, 0x20), (0x40, 0x04, 0x10)
-
-
-def severity(count: int) -> int:
-    """How bad a count is: 0 active, 1 warning, 2 passive, 3 off."""
-    return (count >= WARNING) + (count >= PASSIVE) + (count >= OFF)
-
-
-class Socket:
-    """A raw socket: its filters, its options, and what waits in it."""
-
-    def __init__(self, number: int, iface: int, capacity: int) -> None:
-        self.number, self.iface, self.capacity = number, iface, capacity
-        self.closed_after: Optional[int] = None
-        self.filters = [(0, 0)]
-        # By the identifier word: whether a frame passes them.
-        self.passed: dict[int, bool] = {}
-        self.options = {"loopback": 1, "recvown": 0, "join": 0, "errmask": 0, "fd": 0}
-        # The places of the items that wait, and the words of a reply with each.
-        self.queue: deque[tuple[int, list[str]]] = deque()
-        self.queued = self.dropped = self.taken = 0
-
-    def passes(self, frame: WireFrame) -> bool:
-        """Whether a frame passes the filters, and an FD frame the option for such."""
-        if frame.is_fd and not self.options["fd"]:
-            return False
-        found = self.passed.get(frame.word)
-        if found is None:
-            found = passes_filters(frame.word, self.filters, bool(self.options["join"]))
-            self.passed[frame.word] = found
-        return found
-
-
-class Pending:
-    """A frame in a transmit queue, and how it takes part in arbitration: with the number of its interface."""
-
-    __slots__ = ("number", "frame", "socket", "loops_back", "contender")
-
-    def __init__(self, number: int, frame: WireFrame, socket: Socket, loops_back: int) -> None:
-        self.number, self.frame, self.socket, self.loops_back = number, frame, socket, loops_back
-        self.contender = socket.iface, frame
-
-
-class Interface:
-    """An interface: its error counters, its transmit queue and its counts."""
-
-    def __init__(self) -> None:
-        self.tec = self.rec = 0
-        self.waiting: deque[Pending] = deque()
-        self.sent = self.done = self.lost = self.refused = 0
-        # How many attempts there were since it went bus off; None where it is not off.
-        self.attempts_off: Optional[int] = None
-
-    def is_off(self) -> bool:
-        """Whether it is bus off."""
-        return self.tec >= OFF
-
-    def is_passive(self) -> bool:
-        """Whether it is error passive."""
-        return self.state() == 2
-
-    def state(self) -> int:
-        """0 active, 1 warning, 2 passive, 3 off."""
-        return severity(max(self.tec, self.rec))
-
-    def restart(self) -> None:
-        """Back from bus off."""
-        self.tec = self.rec = 0
-        self.attempts_off = None
-
-    def receive_error(self) -> None:
-        """Counts a fault that it saw as a receiver."""
-        self.rec = min(self.rec + 1, 255)
-
-    def good_reception(self) -> None:
-        """Counts a frame that it received."""
-        self.rec = 127 if self.rec > 127 else max(self.rec - 1, 0)
 
 
 class Replay:

@@ -27,10 +27,11 @@ from canbusd import comparison
 from canbusd.frames import Frame, is_error, meaning
 from canbusd.record import Record
 from canbusd._protocol import STATES
+from canbusd._replayed import Socket
 from canbusd._report_wire import wire_of
 from canbusd._steps import IDLE, KINDS, RESTART, Items, Places, WireFrame
 from canbusd._wire import Rates
-from canbusd.replay import Replay, Socket
+from canbusd.replay import Replay
 from canbusd.signals import Database
 from canbusd.story import Event, events_of, facts_of, heading_of, verdict_words
 

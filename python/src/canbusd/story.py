@@ -8,7 +8,8 @@ from canbusd._protocol import STATES
 from canbusd._text import times
 from canbusd._steps import DONE, DROPPED, KINDS, LASTBIT, NOACK, RESTART, Step, Steps, micros_of, numbers_in
 from canbusd.record import members_of
-from canbusd.replay import Replay, severity
+from canbusd._replayed import severity
+from canbusd.replay import Replay
 
 OUTCOMES = {"done": "done", "lastbit": "failed in the last bit", "destroyed": "destroyed", "noack": "not acknowledged"}
 # Refusals and drops of one place are one event where no more steps than these are between them.
