@@ -531,7 +531,8 @@ def test_what_somebody_else_has_frozen_stays():
         frozen = gc.get_freeze_count()
         punctuality.begin()
         punctuality.end()
-        assert gc.get_freeze_count() == frozen > 0
+        # What is no longer used leaves.
+        assert 0 < gc.get_freeze_count() <= frozen
     finally:
         gc.unfreeze()
 
