@@ -584,13 +584,8 @@ def call_of(pid):
 
 #: So many writes of a process to a socket that those after them are quick.
 QUICK = 8
-
-
-@pytest.mark.parametrize("before", [0, QUICK])
-def test_server_stops(before):
-    """a server that is stopped for longer than a write waits: the writes fail, however many at once, and all goes on when
-    it continues; by pipes, and as quick writes"""
-    text = """
+#: A program that has written as many frames as its word says, and waits for a line before it goes on.
+WRITER = """
 import errno, socket, struct, sys, threading, time
 s = socket.socket(29, 3, 1)
 s.bind(("can0",))
@@ -599,6 +594,16 @@ for _ in range(int(sys.argv[1])):
     s.send(frame)
 print("ready", flush=True)
 sys.stdin.readline()
+"""
+
+
+@pytest.mark.parametrize("before", [0, QUICK])
+def test_server_stops(before):
+    """a server that is stopped for longer than a write waits: the writes fail, however many at once, and all goes on when
+    it continues; by pipes, and as quick writes"""
+    text = (
+        WRITER
+        + """
 def write():
     begun = time.monotonic()
     try:
@@ -614,6 +619,7 @@ for writer in writers:
 s.send(frame)
 print("sent", flush=True)
 """
+    )
     with serving("can0,can1") as server, contextlib.closing(plain(server, "can1")) as reader, started(
         server, "/usr/bin/python3", "-c", text, str(before), stdin=subprocess.PIPE
     ) as child:
@@ -634,20 +640,15 @@ print("sent", flush=True)
 @pytest.mark.parametrize("before", [0, QUICK])
 def test_bridge_is_killed(before):
     """a write whose bridge is killed meanwhile ends: ENXIO"""
-    text = """
-import errno, socket, struct, sys
-s = socket.socket(29, 3, 1)
-s.bind(("can0",))
-frame = struct.pack("=IB3x8s", 0x123, 1, b"1")
-for _ in range(int(sys.argv[1])):
-    s.send(frame)
-print("ready", flush=True)
-sys.stdin.readline()
+    text = (
+        WRITER
+        + """
 try:
     s.send(frame)
 except OSError as fault:
     print(errno.errorcode[fault.errno], flush=True)
 """
+    )
     with serving(*FAST, "can0,can1") as server, started(
         server, "/usr/bin/python3", "-c", text, str(before), stdin=subprocess.PIPE
     ) as child:
