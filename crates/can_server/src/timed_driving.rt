@@ -1,6 +1,6 @@
 //! The driver of a bus with bit rates.
 ghost use Rattle.std.specs.Prelude.{◌≡◌, ℕ, IfErr, IfOk};
-ghost use Rattle.can_server.specs.Timed.{Driven, GoesBy, MakesDue, after_attempt, caught_up, head_moment};
+ghost use Rattle.can_server.specs.Timed.{GoesBy, MakesDue, after_attempt, caught_up, head_moment};
 ghost use Rattle.can_station.specs.Held.{Held};
 ghost use Rattle.can_station.specs.Passes.{MadeStep, head_on, next_verdict};
 

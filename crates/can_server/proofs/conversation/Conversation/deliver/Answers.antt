@@ -1,7 +1,7 @@
-use Rattle.std.proofs.Common.{inl, inr, refl, sym, ◌∙◌, take}
+use Rattle.std.proofs.Common.{inr, ◌∙◌, take}
 use Rattle.can_hub.specs.PassSteps.{PassStep}
 use Rattle.can_server.specs.Batches.{texts_of}
-use Rattle.can_server.proofs.Talking.{gives_of, gives_all}
+use Rattle.can_server.proofs.Talking.{gives_of}
 use Rattle.can_server.proofs.conversation.Conversation.deliver.Goals as goal
 
 pub returns-then-not-write_items : goal.returns-then-not-write_items
