@@ -307,6 +307,36 @@ def test_static(tmp_path):
     fails(lost, r"sleep \(process \d+\) waits by the real clock, in system call \d+, .* it has lost LD_PRELOAD")
 
 
+SLOW_START = """
+#define _GNU_SOURCE
+#include <dlfcn.h>
+#include <time.h>
+
+static double now(void) {
+    struct timespec t;
+    return clock_gettime(CLOCK_MONOTONIC, &t) ? 0 : (double)t.tv_sec + (double)t.tv_nsec / 1e9;
+}
+
+int execv(const char *path, char *const words[]) {
+    int (*real)(const char *, char *const *);
+    *(void **)&real = dlsym(RTLD_NEXT, "execv");
+    for (double end = now() + 0.5; now() < end;) {
+    }
+    return real(path, words);
+}
+"""
+
+
+@needs_gcc
+def test_slow_start(tmp_path):
+    """a program that is executed late, as on a busy machine, is not thought to be without the library"""
+    (tmp_path / "slow.c").write_text(SLOW_START)
+    library = str(tmp_path / "slow.so")
+    subprocess.run(["gcc", *FLAGS, "-shared", "-fPIC", "-o", library, str(tmp_path / "slow.c")], check=True)
+    ended = virtual("sleep", "1", env={**os.environ, "LD_PRELOAD": library})
+    assert (ended.returncode, ended.stdout, ended.stderr) == (0, "", ""), ended
+
+
 @pytest.mark.parametrize(
     "words, fault",
     [

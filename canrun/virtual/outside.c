@@ -15,6 +15,8 @@
 #include <unistd.h>
 
 #define LIBRARY "libcanbusd-virtual.so"
+/* Only PROGRAM has this without the library, until it is executed: it is a copy of the coordinator before. */
+#define MEMORY "/memfd:" RUN_MEMORY
 /* What a program has loaded once it has loaded what is preloaded. */
 #define C_LIBRARY "/libc.so."
 /* After how many looks it is seen whether a program loads the library at all. */
@@ -26,7 +28,8 @@
 
 /* ---- programs that do not load the library ---- */
 
-/* What of these two a process has loaded. Of one that ends the list may be cut; the stack comes after the libraries. */
+/* Whether a process has what is ours, and whether the C library. Of one that ends the list may be cut; the stack comes
+ * after the libraries. */
 static void find_libraries(uint32_t pid, bool *has_ours, bool *has_c) {
     char path[32], line[PATH_MAX + 200];
     bool is_whole = false;
@@ -34,7 +37,7 @@ static void find_libraries(uint32_t pid, bool *has_ours, bool *has_c) {
     snprintf(path, sizeof path, "/proc/%u/maps", pid);
     FILE *maps = fopen(path, "re");
     while (maps && fgets(line, sizeof line, maps)) {
-        *has_ours |= strstr(line, LIBRARY) != NULL;
+        *has_ours |= strstr(line, LIBRARY) || strstr(line, MEMORY);
         *has_c |= strstr(line, C_LIBRARY) != NULL;
         is_whole |= strstr(line, "[stack]") != NULL;
     }

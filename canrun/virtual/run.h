@@ -100,6 +100,7 @@ struct run {
     struct alarm alarms[ALARMS];
 };
 
+#define RUN_MEMORY "canbusd-virtual"
 /* The setting that has the path of the memory; the coordinator listens at an abstract name with its process number. */
 #define RUN_SETTING "CANBUSD_RUN_VIRTUAL"
 #define RUN_SLOT "CANBUSD_RUN_SLOT"
