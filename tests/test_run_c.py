@@ -158,9 +158,11 @@ def test_waiting_signal():
         server.end()
 
 
-def test_deaf_thread(build):
-    """with --wait a thread that no signal reaches waits for a second, so that the program ends by its handler"""
-    with serving("--pace", "60000", "--txqueue", "1", "can0,can1") as server:
+@pytest.mark.parametrize("room", ["1", "10"])
+def test_deaf_thread(build, room):
+    """with --wait a thread that no signal reaches waits for a second, so that the program ends by its handler; with a
+    queue of 10 it is a quick write that finds no room"""
+    with serving("--pace", "60000", "--txqueue", room, "can0,can1") as server:
         build.passes(server, "deaf", options=["--wait"])
         server.end()
 

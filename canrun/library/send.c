@@ -23,12 +23,9 @@ static bool is_deaf(void) {
     return !pthread_sigmask(SIG_BLOCK, NULL, &mask) && sigismember(&mask, SIGTERM) == 1;
 }
 
-/* How long a write may wait. Where none waits for room, only those of ISO-TP need to ask. */
-static enum wire_wait wait_of(int fd, enum wire_protocol protocol, int flags) {
-    if (protocol == WIRE_ISOTP) {
-        return flags & MSG_DONTWAIT || fcntl(fd, F_GETFL) & O_NONBLOCK ? WIRE_NO_WAIT : WIRE_WAIT;
-    }
-    return waits_for_room && is_deaf() ? WIRE_SHORT_WAIT : WIRE_WAIT;
+/* How long a write of ISO-TP may wait. */
+static enum wire_wait wait_of_message(int fd, int flags) {
+    return flags & MSG_DONTWAIT || fcntl(fd, F_GETFL) & O_NONBLOCK ? WIRE_NO_WAIT : WIRE_WAIT;
 }
 
 /* The index of the interface that a message is sent to by its address, or an errno below 0. */
@@ -105,8 +102,13 @@ static ssize_t ask_to_send(int fd, const struct kind *kind, struct wire_request 
         return send_message(fd, request, parts, count);
     }
     enum quick quick = kind->protocol == WIRE_RAW ? ask_quickly(fd, kind, request, parts, count, &answer) : QUICK_NONE;
-    request->option = quick == QUICK_NO_ROOM;
-    if (quick == QUICK_REFUSED || (quick != QUICK_DONE && ask(fd, "write", request, parts, count, &answer))) {
+    if (quick == QUICK_NONE || quick == QUICK_NO_ROOM) {
+        /* Only this may wait for room, so only here is the mask of signals looked at, which is a system call. */
+        request->option = quick == QUICK_NO_ROOM;
+        request->number = waits_for_room && is_deaf() ? WIRE_SHORT_WAIT : WIRE_WAIT;
+        quick = ask(fd, "write", request, parts, count, &answer) ? QUICK_REFUSED : QUICK_DONE;
+    }
+    if (quick == QUICK_REFUSED) {
         return -1;
     }
     if (answer.length) {
@@ -133,8 +135,7 @@ static ssize_t send_joined(int fd, const struct kind *kind, struct wire_request 
 
 /* Sends a message; the pieces may be no memory of the program's, but what names them is. */
 static ssize_t can_sendmsg(int fd, const struct kind *kind, const struct msghdr *message, int flags) {
-    struct wire_request request = {
-        .kind = WIRE_SEND, .ifindex = WIRE_BOUND, .number = wait_of(fd, kind->protocol, flags)};
+    struct wire_request request = {.kind = WIRE_SEND, .ifindex = WIRE_BOUND};
     size_t length = 0;
     for (size_t i = 0; i < message->msg_iovlen; i++) {
         length += message->msg_iov[i].iov_len;
@@ -143,7 +144,9 @@ static ssize_t can_sendmsg(int fd, const struct kind *kind, const struct msghdr 
         }
     }
     request.length = (uint32_t)length;
-    if (message->msg_name && kind->protocol != WIRE_ISOTP && address_index(message, &request.ifindex)) {
+    if (kind->protocol == WIRE_ISOTP) {
+        request.number = wait_of_message(fd, flags);
+    } else if (message->msg_name && address_index(message, &request.ifindex)) {
         return -1;
     }
     return message->msg_iovlen > PIECES ? send_joined(fd, kind, &request, message)
