@@ -206,6 +206,27 @@ def test_until():
     assert ended.returncode == 128 + signal.SIGTERM and "--until" in ended.stderr
 
 
+#: One that SIGTERM does not end, one that it ends a second later, and one that it ends.
+LEFT = """
+(trap '' TERM; while :; do sleep 0.1; echo x; done) >deaf &
+(trap 'sleep 1; echo ended; exit' TERM; while :; do sleep 0.25; echo x; done) >late &
+(while :; do sleep 0.1; echo x; done) >plain &
+sleep $0
+"""
+
+
+@pytest.mark.parametrize("seconds, options", [("3.05", ()), ("1000", ("--until", "3.05"))])
+def test_what_is_left(tmp_path, seconds, options):
+    """what a program leaves has two seconds of the run after SIGTERM, however busy the machine is"""
+    for number in range(3):
+        folder = tmp_path / str(number)
+        folder.mkdir()
+        assert virtual("sh", "-c", LEFT, seconds, options=options, cwd=folder).returncode == (143 if options else 0)
+        lines = {path.name: path.read_text() for path in folder.iterdir()}
+        # That one ends with the sleep that it waits for, which gets SIGTERM too.
+        assert lines == {"deaf": 50 * "x\n", "late": 12 * "x\n" + "ended\n", "plain": 30 * "x\n"}, number
+
+
 def test_all_wait(tmp_path):
     """where all wait and nobody for a moment the run ends with status 125, and says who waits for what"""
     ended = virtual("sh", "-c", "mkfifo $0; cat $0", tmp_path / "pipe", options=("--stall", "2"))

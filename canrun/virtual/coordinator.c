@@ -35,8 +35,9 @@
 #define STEADY_LOOKS 8
 #define SOON_MS 1
 #define STATUS_STUCK 125
-/* Milliseconds that programs have to end once PROGRAM has. */
-#define END_MS 2000
+/* Seconds of the run that programs have to end once PROGRAM has; of real time, where they wait for nothing that comes;
+ * and of a processor, where one does not wait at all. */
+#define END_SECONDS 2
 /* Looks between two at how long a thread has run, and seconds between two at how busy the processor is. */
 #define RARELY 12
 /* Nanoseconds of a processor after which a thread that has the turn computes for long. */
@@ -148,17 +149,33 @@ static void process_ended(uint32_t pid, int fd) {
 
 /* ---- deciding ---- */
 
+/* For how many seconds nothing may go on; 0: for ever. */
+static double most_stall(void) {
+    return coordinator.has_ended ? END_SECONDS : coordinator.options->stall;
+}
+
 static bool is_stalled(void) {
     double now = real_now();
     if (!coordinator.since) {
         coordinator.since = now;
     }
-    return coordinator.options->stall > 0 && now - coordinator.since > coordinator.options->stall;
+    return most_stall() > 0 && now - coordinator.since > most_stall();
 }
 
-static void fail_stalled(void) {
-    fail("who is waited for does not go on for %.0f s:", coordinator.options->stall);
-    say_waits();
+/* Nothing goes on: the run fails, with this text, but where PROGRAM has ended it is over. */
+static void end_stalled(const char *text) {
+    if (coordinator.has_ended) {
+        coordinator.is_over = true;
+    } else {
+        fail("%s", text);
+        say_waits();
+    }
+}
+
+static void end_waiting(void) {
+    char text[80];
+    snprintf(text, sizeof text, "who is waited for does not go on for %.0f s:", most_stall());
+    end_stalled(text);
 }
 
 static void send_alarm(struct alarm *alarm) {
@@ -193,7 +210,12 @@ static void send_alarms(void) {
     }
 }
 
+/* The moment has come for which --until asks, or past which nothing of what PROGRAM left goes on. */
 static void end_by_until(void) {
+    if (coordinator.has_ended) {
+        coordinator.is_over = true;
+        return;
+    }
     run->now = run->until;
     run->until = NEVER;
     say("the time is over (--until)");
@@ -204,13 +226,9 @@ static void end_by_until(void) {
 /* Nobody waits for a moment: what comes from outside of the run may go on with it. */
 static int wait_idle(void) {
     struct epoll_event event = {.events = EPOLLIN | EPOLLONESHOT, .data.u64 = 1};
-    if (coordinator.has_ended) {
-        return SOON_MS;
-    }
     epoll_ctl(coordinator.own, EPOLL_CTL_MOD, run_epoll, &event);
     if (is_stalled()) {
-        fail("all wait, and nobody for a moment: for one another, or for what is outside of the run:");
-        say_waits();
+        end_stalled("all wait, and nobody for a moment: for one another, or for what is outside of the run:");
     }
     return 50;
 }
@@ -236,14 +254,14 @@ static int decide(void) {
             }
             break;
         case PAUSE_ALARM: send_alarms(); return 0;
-        case PAUSE_UNTIL: end_by_until(); continue;
+        case PAUSE_UNTIL: end_by_until(); return 0;
         default: return wait_idle();
         }
         if (outside_runs()) {
             coordinator.since = 0;
         }
         if (is_stalled()) {
-            fail_stalled();
+            end_waiting();
         }
         return SOON_MS;
     }
@@ -283,16 +301,17 @@ static void watch(void) {
     struct slot *slot = &run->slots[owner];
     uint64_t used = proc_usage(slot->pid, slot->tid).run;
     coordinator.run_before = coordinator.run_before ? coordinator.run_before : used;
-    double stall = coordinator.options->stall;
+    double stall = most_stall();
     if (used - coordinator.run_before > LONG_RUN) {
         outside_share(turn);
     }
-    if (stall > 0 && (double)(used - coordinator.run_before) > stall * SECOND) {
+    bool is_endless = stall > 0 && (double)(used - coordinator.run_before) > stall * SECOND;
+    if (is_endless && !coordinator.has_ended) {
         fail("%s has run for %.0f s without waiting; if it looks for what another thread does, that one gets no turn "
              "(--stall S for more)",
              who(slot->pid, slot->tid), stall);
-    } else if (is_stalled() && !outside_any_runs()) {
-        fail_stalled();
+    } else if (is_endless || (is_stalled() && !outside_any_runs())) {
+        end_waiting();
     }
 }
 
@@ -358,31 +377,43 @@ static void handle_events(int patience) {
     reap();
 }
 
-/* PROGRAM has ended: what it leaves has two seconds. */
+/* PROGRAM has ended, and what it leaves is to end. Who has no handler does so, and who has one knows of the signal,
+ * before anybody goes on. */
 static void end_rest(void) {
     static uint32_t pids[TREE_MOST];
-    if (coordinator.has_ended) {
-        size_t count = tree_below((uint32_t)getpid(), pids, TREE_MOST);
-        coordinator.is_over = !count || real_now() - coordinator.since > END_MS * 1e-3;
-        return;
-    }
-    coordinator.has_ended = true;
-    coordinator.since = real_now();
     size_t count = tree_below((uint32_t)getpid(), pids, TREE_MOST);
+    coordinator.has_ended = true;
+    coordinator.since = 0;
+    run->until = run->now + END_SECONDS * SECOND;
     for (size_t i = 0; i < count; i++) {
         kill((pid_t)pids[i], SIGTERM);
     }
-    coordinator.is_over = !count;
+    for (size_t i = 0; i < count; i++) {
+        if (proc_state(pids[i], 0) != 'T') {
+            settle(pids[i]);
+        }
+        wake(key_of_signals(pids[i]), SLOTS);
+        wake_descriptors(pids[i]);
+    }
+}
+
+static bool has_rest(void) {
+    static uint32_t pids[TREE_MOST];
+    return tree_below((uint32_t)getpid(), pids, TREE_MOST) > 0;
 }
 
 static void loop(void) {
     int patience = 0;
     while (!coordinator.is_over || run->has_failed) {
-        double ended = coordinator.has_ended ? coordinator.since : 0;
         handle_events(patience);
         if (coordinator.number || run->has_failed) {
             coordinator.status = run->has_failed ? STATUS_STUCK : 128 + coordinator.number;
             return;
+        }
+        if (coordinator.root_status >= 0 && !coordinator.has_ended) {
+            end_rest();
+            patience = 0;
+            continue;
         }
         if (turn_owner() == NOBODY) {
             patience = decide();
@@ -391,15 +422,12 @@ static void loop(void) {
             patience = watch_pause();
         }
         find_processor();
-        coordinator.since = ended ? ended : coordinator.since;
-        if (coordinator.root_status >= 0) {
-            end_rest();
-        }
+        coordinator.is_over |= coordinator.has_ended && !has_rest();
     }
 }
 
 static bool make_run(const struct virtual_options *options) {
-    int fd = memfd_create("canbusd-virtual", MFD_CLOEXEC);
+    int fd = memfd_create(RUN_MEMORY, MFD_CLOEXEC);
     char path[64];
     if (fd < 0 || ftruncate(fd, sizeof *run)) {
         return false;
