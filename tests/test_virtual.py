@@ -242,6 +242,15 @@ def test_stopped():
         assert (ended.returncode, ended.stdout) == (0, f"{1767225600 + seconds}\n"), ended
 
 
+def test_signals_to_a_stopped_one():
+    """nobody waits for it to take them, but it does once it goes on"""
+    send = 30 * "kill -USR1 $!; "
+    begun = time.monotonic()
+    ended = virtual("sh", "-c", f"sleep 100 & sleep 1; kill -STOP $!; {send} sleep 4; kill -CONT $!; wait $!; echo $?")
+    assert ended.stdout == f"{128 + signal.SIGUSR1}\n", ended
+    assert time.monotonic() - begun < 60
+
+
 def test_lock_of_a_file(tmp_path):
     """a wait that the library does not see, but that another program ends, takes the time that it has to"""
     text = '(flock 8; sleep 5) 8>"$0" & sleep 1; flock "$0" date +%s; wait'

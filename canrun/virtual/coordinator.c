@@ -389,9 +389,7 @@ static void end_rest(void) {
         kill((pid_t)pids[i], SIGTERM);
     }
     for (size_t i = 0; i < count; i++) {
-        if (proc_state(pids[i], 0) != 'T') {
-            settle(pids[i]);
-        }
+        settle(pids[i]);
         wake(key_of_signals(pids[i]), SLOTS);
         wake_descriptors(pids[i]);
     }

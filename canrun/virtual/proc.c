@@ -10,8 +10,9 @@
 #include <string.h>
 #include <time.h>
 
-/* How long the sender of a signal waits for who takes it, in seconds, and between two looks, in nanoseconds. */
-#define SETTLE_SECONDS 5
+/* How long the sender of a signal waits for who takes it, in seconds, as that one may be long without a processor; and
+ * between two looks, in nanoseconds. */
+#define SETTLE_SECONDS 60
 #define SETTLE_PAUSE 200000
 
 static char *put_number(char *at, uint32_t number) {
@@ -87,9 +88,10 @@ bool proc_has_signal(uint32_t pid) {
     return pending & ~mask_in(text, "\nSigBlk:\t");
 }
 
-/* Whether all threads of a process that has taken its signals sleep or have turns to come. */
+/* Whether all threads of a process that has taken its signals sleep or have turns to come. One that is stopped takes
+ * none. */
 static bool is_settled(uint32_t pid) {
-    bool is_there = false;
+    bool is_there = false, is_stopped = false;
     for (uint32_t i = 0; i < run->used; i++) {
         struct slot *slot = &run->slots[i];
         if (slot->pid != pid || slot->state == SLOT_FREE || i == turn_owner()) {
@@ -98,11 +100,12 @@ static bool is_settled(uint32_t pid) {
         char state = proc_state(pid, slot->tid);
         bool has_ended = state == 'X' || state == 'Z';
         is_there |= !has_ended;
+        is_stopped |= state == 'T' || state == 't';
         if (slot->tid && (state == 'R' || (has_ended && my.slot))) {
             return false; /* Who has ended is there until the coordinator has seen it. */
         }
     }
-    return !is_there || !proc_has_signal(pid);
+    return !is_there || is_stopped || !proc_has_signal(pid);
 }
 
 void settle(uint32_t pid) {
