@@ -268,8 +268,9 @@ bool outside_watch(uint64_t turn, int looks, bool (*is_asked)(void)) {
     uint32_t pid = slot->pid, tid = slot->tid;
     char state = proc_state(pid, tid);
     if (state == 'Z' || state == 'X') {
-        /* A thread that has ended unseen; of a process its end is seen. */
-        if ((pid != tid || state == 'Z') && turn_change(turn, NOBODY)) {
+        /* A thread that has ended unseen; of a process its end is seen. Where others of its threads are still to end
+         * with it, what it has open is not closed yet, for which some may wait. */
+        if ((pid != tid || state == 'Z') && !process_runs(pid) && turn_change(turn, NOBODY)) {
             free_slot(slot);
         }
     } else if (find_foreign(slot, looks)) {
