@@ -1,8 +1,12 @@
-use Rattle.std.specs.Prelude.{◌≡◌, ℕ, ◌+◌, ◌-◌, nat_lt, List, length, map, Option, Some, None, if◌then◌else◌}
+use Rattle.std.specs.Prelude.{◌≡◌, ℕ, ◌+◌, ◌-◌, nat_lt, List, [], length, map, slice_get}
+use Rattle.std.specs.Prelude.{Option, Some, None, if◌then◌else◌}
 use Rattle.std.specs.List.{range_with_len}
 use Rattle.can_confine.specs.Confinement.{ErrorCounts}
 use Rattle.can_event.specs.declared.bus_config.BusConfig.{BusConfig}
 use Rattle.can_event.specs.declared.entry.Entry.{Entry}
+use Rattle.can_event.specs.declared.received.Received.{Received}
+use Rattle.can_event.specs.declared.reply.Closed.{Closed}
+use Rattle.can_event.specs.declared.socket_id.SocketId.{SocketId}
 use Rattle.can_event.specs.declared.stats.SocketStats.{SocketStats}
 use Rattle.can_event.specs.declared.stats.IfaceStats.{IfaceStats}
 use Rattle.can_bus.specs.Sockets.{is_open}
@@ -51,6 +55,23 @@ told_interface counts l = record {
   refused = l.refused;
   counters = counts;
 }
+
+-- how many frames of an interface were lost, from what is kept of it
+abbrev pub lost_of : InterfaceState → ℕ
+lost_of l = l.gone - l.done
+
+-- the number of a socket, and how many items wait there and found no room, from what is kept of it
+abbrev pub numbered_counts : SocketState → SocketId × Closed
+numbered_counts v = (record { 0 = v.number }, record { unread = length v.waiting; dropped = v.dropped })
+
+-- what waits on a socket, if it is there (own choice)
+abbrev pub waiting_in : Option SocketState → List Received
+waiting_in None = []
+waiting_in (Some v) = v.waiting
+
+-- what waits on the socket at a place among those that are open
+abbrev pub waiting_at : List SocketState → ℕ → List Received
+waiting_at sockets place = waiting_in (slice_get sockets place)
 
 -- these are the counts of an open socket, from what is kept of it (own choice)
 pub record ReportsOf (sockets : List SocketState) (s : ℕ) (stats : SocketStats) : Type 0 where

@@ -3,7 +3,7 @@ ghost use Rattle.std.specs.Option.{option_map};
 ghost use Rattle.can_attempt.specs.Attempts.{counts_at};
 ghost use Rattle.can_bus.specs.Changes.{Sends, pending_of, settled};
 ghost use Rattle.can_bus.specs.State.{InterfaceState, fresh_interface, key_in};
-ghost use Rattle.can_bus.specs.Stats.{told_interface};
+ghost use Rattle.can_bus.specs.Stats.{lost_of, told_interface};
 
 use crate::interface::Interface;
 use crate::sockets;
@@ -99,6 +99,21 @@ impl<T: BoundedQueue<Pending>, R: BoundedQueue<Received>, A: Arbiter> State<T, R
         let key = interface.head_key();
         set_key(&mut self.arbiter, iface, key);
         Ok(number)
+    }
+
+    /// How many interfaces there are.
+    pub fn iface_count(&self) -> usize
+        ensures { result ≡ length self.now.interfaces }
+    {
+        self.interfaces.len()
+    }
+
+    /// How many frames of an interface were lost as it went bus off.
+    pub fn lost_at(&self, place: usize) -> Option<u64>
+        ensures { result ≡ option_map lost_of (slice_get self.now.interfaces place) }
+    {
+        let interface = self.interfaces.get(place)?;
+        Some(interface.gone().saturating_sub(interface.done()))
     }
 
     /// The counts of an interface.

@@ -61,6 +61,13 @@ impl<T: BoundedQueue<Pending>, R: BoundedQueue<Received>, A: Arbiter> LeanBus<T,
         })
     }
 
+    /// What its entries left.
+    pub fn state(&self) -> &State<T, R, A>
+        ensures { result.now ≡ self.now.parts }
+    {
+        &self.state
+    }
+
     /// Carries out one event, and answers its reply: `RecordFull` where there were as many entries as the limit
     /// allows, and `NoMemory` where memory was refused to `open` or `set_filters`. Neither changes anything.
     ///

@@ -1,4 +1,4 @@
-ghost use Rattle.std.specs.Prelude.{◌≡◌, ◌+◌, ◌<◌, ◌^◌, [], ◌∷◌, length, slice_get, IfOk, Some, None, Err, ◌≢◌, false};
+ghost use Rattle.std.specs.Prelude.{◌≡◌, ◌+◌, ◌<◌, ◌^◌, [], ◌∷◌, length, slice_get, IfOk, Some, None, Err, ◌≢◌, false, option_copied};
 ghost use Rattle.can_bus.specs.Changes.{fresh, relieved};
 ghost use Rattle.can_bus.specs.Legal.{lacks_fd};
 ghost use Rattle.can_event.specs.Events.{with_option};
@@ -9,7 +9,7 @@ ghost use Rattle.can_bus.specs.State.{offered};
 use can_event::{Closed, Opt, Received, SocketId};
 use can_filter::{FilterSet, Options, wants};
 use can_frame::{Frame, Iface};
-use can_queue::{BoundedQueue, QueueError};
+use can_queue::{BoundedQueue, QueueError, RingQueue};
 use std::alloc::Global;
 use std::marker::Model;
 
@@ -124,6 +124,7 @@ impl<R: BoundedQueue<Received>> Socket<R> {
         true
     }
 
+    /// How many items wait, and how many found no room.
     pub fn counts(&self) -> Closed
         ensures { result ≡ record { unread = length self.now.waiting; dropped = self.now.dropped } }
     {
@@ -147,5 +148,14 @@ impl<R: BoundedQueue<Received>> Socket<R> {
                 self.dropped += 1;
             }
         }
+    }
+}
+
+impl Socket<RingQueue<Received>> {
+    /// The item that waits with this many before it.
+    pub fn item_at(&self, place: usize) -> Option<&Received>
+        ensures { option_copied result ≡ slice_get self.now.waiting place }
+    {
+        self.queue.get(place)
     }
 }

@@ -1,17 +1,20 @@
-ghost use Rattle.std.specs.Prelude.{◌≡◌, ◌+◌, ◌<◌, ◌^◌, ◌==◌, All, IfSome, IfNone, IsSomeAnd, slice_get, length, true, false, Ok, ◌≢◌};
+ghost use Rattle.std.specs.Prelude.{◌≡◌, ◌+◌, ◌<◌, ◌^◌, ◌==◌, All, IfSome, IfNone, IsSomeAnd, slice_get, length, true, false, Ok, ◌≢◌, option_copied};
 ghost use Rattle.std.specs.List.{list_any};
+ghost use Rattle.std.specs.Option.{option_map};
 ghost use Rattle.can_bus.specs.Changes.{Receives, Sets, Refilters, Closes, Opens};
 ghost use Rattle.can_event.specs.Events.{with_option};
 ghost use Rattle.can_event.specs.Replies.{receive_reply};
-ghost use Rattle.can_bus.specs.Stats.{ReportsSocket};
+ghost use Rattle.can_bus.specs.Stats.{ReportsSocket, numbered_counts, waiting_at};
 
 use crate::socket::Socket;
 use crate::state::State;
 use can_arbiter::Arbiter;
-use can_event::{MAX_RX_CAPACITY, Opt, Pending, Received, Refusal, Reply, SocketId, SocketStats};
+use can_event::{
+    Closed, MAX_RX_CAPACITY, Opt, Pending, Received, Refusal, Reply, SocketId, SocketStats,
+};
 use can_filter::FilterSet;
 use can_frame::Iface;
-use can_queue::BoundedQueue;
+use can_queue::{BoundedQueue, RingQueue};
 use can_record::receive_reply;
 use std::alloc::Global;
 
@@ -126,6 +129,21 @@ impl<T: BoundedQueue<Pending>, R: BoundedQueue<Received>, A: Arbiter> State<T, R
         receive_reply(outcome, &room)
     }
 
+    /// How many sockets are open.
+    pub fn open_count(&self) -> usize
+        ensures { result ≡ length self.now.sockets }
+    {
+        self.sockets.len()
+    }
+
+    /// The number of the open socket with this many before it, and how many items wait there and found no room.
+    pub fn socket_at(&self, place: usize) -> Option<(SocketId, Closed)>
+        ensures { result ≡ option_map numbered_counts (slice_get self.now.sockets place) }
+    {
+        let socket = self.sockets.get(place)?;
+        Some((SocketId(socket.number()), socket.counts()))
+    }
+
     /// The counts of an open socket.
     pub fn socket_stats(&self, id: SocketId) -> Option<SocketStats>
         requires { All (λ v. v.taken + length v.waiting < 2 ^ 64) self.now.sockets }
@@ -142,5 +160,14 @@ impl<T: BoundedQueue<Pending>, R: BoundedQueue<Received>, A: Arbiter> State<T, R
             dropped: counts.dropped,
             taken,
         })
+    }
+}
+
+impl<T: BoundedQueue<Pending>, A: Arbiter> State<T, RingQueue<Received>, A> {
+    /// The item with this many before it that waits on the open socket with that many before it.
+    pub fn item_at(&self, place: usize, before: usize) -> Option<&Received>
+        ensures { option_copied result ≡ slice_get (waiting_at self.now.sockets place) before }
+    {
+        self.sockets.get(place)?.item_at(before)
     }
 }

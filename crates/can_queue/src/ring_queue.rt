@@ -1,4 +1,4 @@
-ghost use Rattle.std.specs.Prelude.{◌<◌, ◌≤◌, length};
+ghost use Rattle.std.specs.Prelude.{◌≡◌, ◌<◌, ◌≤◌, length, option_copied, slice_get};
 
 use crate::bounded_queue::{BoundedQueue, QueueError};
 use circular_buffer::HeapCircularBuffer;
@@ -7,13 +7,22 @@ use std::alloc::Global;
 /// A queue in a ring: one block that `with_capacity` takes and leaves as it is, round whose end the items
 /// go on.
 ///
-/// `try_push`, `pop`, `front` and `len` take constant time, `clear` a time that grows with the number of
+/// `try_push`, `pop`, `front`, `get` and `len` take constant time, `clear` a time that grows with the number of
 /// items that wait. A full ring gives the item back: it never overwrites one.
 #[derive(Drop)]
 pub struct RingQueue<T> {
     ring: HeapCircularBuffer<T>,
     ghost holds_some: { 0 < ring.capacity },
     ghost within: { length ring.items ≤ ring.capacity },
+}
+
+impl<T> RingQueue<T> {
+    /// Looks at the item that has this many before it.
+    pub fn get(&self, place: usize) -> Option<&T>
+        ensures { option_copied result ≡ slice_get self.now.ring.items place }
+    {
+        self.ring.get(place)
+    }
 }
 
 impl<T: Drop> BoundedQueue<T> for RingQueue<T> {
