@@ -38,4 +38,4 @@ pub use given::Given;
 pub use notice::Notice;
 pub use opening::{FirstBytes, Opening};
 pub use scribing::{Keeper, Scribe, ScrollKeeper};
-pub use serving::{Clock, serve, serve_long};
+pub use serving::{Clock, serve, serve_with};

@@ -5,10 +5,9 @@ use crate::clients::Clients;
 use crate::notice::Notice;
 use crate::scribing::{Discard, Keeper, Scribe};
 use crate::server::Server;
-use can_bus::LongEnd;
 use can_fault::FaultSource;
 use can_frame::Moment;
-use can_hub::{Buses, Hub, Leaves, ReturnedPasses};
+use can_hub::{Hub, Leaves, ReturnedPasses};
 use can_station::{BusName, Gate, Pass};
 use std::alloc::{AllocError, Global};
 use std::os::unix::net::UnixStream;
@@ -76,43 +75,7 @@ pub fn serve<
 ) -> Result<Vec<Vec<Pass<N>>>, AllocError>
     ensures { IfOk result (λ passes. length passes.items ≡ length hub.now) }
 {
-    serve_buses::<_, _, _, _, Discard, _>(rt, alloc, hub.buses(), acceptors, host, until, None)
-}
-
-/// Serves as `serve` does, over the buses of long runs, each of which needs a scribe: without one its sessions wait, once
-/// its tail is full. A session may have the pass of one
-/// that is over, so that there is no end to the sessions of a run; and it counts as one of its acceptor's only once it is raw.
-/// One that is raw after the last of these gets `too many sessions`.
-///
-/// The scribes go on until the other threads are over, and then give their keepers the last entries. `AllocError` as by
-/// `serve`; then they are over, too.
-pub fn serve_long<
-    N: BusName + Send + Sync,
-    F: FaultSource + Drop + Send,
-    G: Gate + Drop + Send + Sync,
-    C: Clock + Sync,
-    K: Keeper + Drop + Send,
-    R: Threads + Wait + time::Clock + Sync,
->(
-    rt: &R,
-    alloc: Global,
-    hub: &Hub<N, F, G, LongEnd>,
-    acceptors: &[Acceptor],
-    host: &C,
-    until: Option<&UnixStream>,
-    scribes: Vec<Scribe<'_, N, K>>,
-) -> Result<Vec<Vec<Pass<N>>>, AllocError>
-    ensures { IfOk result (λ passes. length passes.items ≡ length hub.now) }
-{
-    serve_buses(
-        rt,
-        alloc,
-        hub.buses(),
-        acceptors,
-        host,
-        until,
-        Some(scribes),
-    )
+    serve_with::<_, _, _, _, _, Discard, _>(rt, alloc, hub, acceptors, host, until, None)
 }
 
 /// A server over the buses of long runs, and its scribes that have no thread yet.
@@ -181,28 +144,36 @@ impl<
     }
 }
 
-/// Serves the sessions of all acceptors over these buses, which are those of long runs where there are scribes.
-fn serve_buses<
+/// Serves as `serve` does, with scribes where the buses are those of long runs, one for each: without its scribe the sessions
+/// of a bus wait, once its tail is full. Where there are scribes a session may have the pass of one that is over, so that
+/// there is no end to the sessions of a run; and it counts as one of its acceptor's only once it is raw. One that is raw after
+/// the last of these gets `too many sessions`.
+///
+/// The scribes go on until the other threads are over, and then give their keepers the last entries. `AllocError` as by
+/// `serve`; then they are over, too.
+pub fn serve_with<
     'x,
     N: BusName + Send + Sync,
     F: FaultSource + Drop + Send,
     G: Gate + Drop + Send + Sync,
+    L: Leaves,
     C: Clock + Sync,
     K: Keeper + Drop + Send,
     R: Threads + Wait + time::Clock + Sync,
 >(
     rt: &'x R,
     alloc: Global,
-    buses: &'x Buses<N, F, G>,
+    hub: &'x Hub<N, F, G, L>,
     acceptors: &'x [Acceptor],
     host: &'x C,
     until: Option<&'x UnixStream>,
     scribes: Option<Vec<Scribe<'x, N, K>>>,
 ) -> Result<Vec<Vec<Pass<N>>>, AllocError>
-    ensures { IfOk result (λ passes. length passes.items ≡ length buses.now) }
+    ensures { IfOk result (λ passes. length passes.items ≡ length hub.now) }
 {
+    let buses = hub.buses();
     let clients = Clients::new(alloc);
-    let returned = ReturnedPasses::new(alloc, buses.count(), most_passes(acceptors));
+    let returned = ReturnedPasses::new(alloc, hub.count(), most_passes(acceptors));
     let (Ok(clients), Ok(returned)) = (clients, returned) else {
         buses.stop_all(rt);
         return Err(AllocError);
@@ -234,7 +205,7 @@ fn serve_buses<
     };
     drop(server);
     served?;
-    Ok(returned.into_inner().into_lists(buses.count()))
+    Ok(returned.into_inner().into_lists(hub.count()))
 }
 
 /// The most passes that the sessions of these acceptors and a driver take of one bus.

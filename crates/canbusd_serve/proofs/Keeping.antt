@@ -142,14 +142,15 @@ whole_after {F} contents j a m b rest count have is counted record_gets record_s
 -- ---- all buses
 
 -- what was given to files is what was handed out to their scrolls, which is what was handed out of the histories
-pub given_first : {F : Type 0} (contents : F → Option (List ℕ)) (files : List (LiveFiles F)) (scrolls : List ScrollSeen) (settled : List (Settled LongJournal)) → AllGiven contents files scrolls → AllHanded handed_entries scrolls settled → AllGivenFirst contents files settled
-given_first contents [] [] [] given handed = tt
-given_first contents (f ∷ files) (s ∷ scrolls) (e ∷ settled) given handed =
-    (subst (λ (es : List Entry). HaveLines contents es f) handed.0 given.0, given_first contents files scrolls settled given.1 handed.1)
-given_first contents [] [] (e ∷ settled) given handed = absurd handed
-given_first contents [] (s ∷ scrolls) settled given handed = absurd given
-given_first contents (f ∷ files) [] settled given handed = absurd given
-given_first contents (f ∷ files) (s ∷ scrolls) [] given handed = absurd handed
+pub given_first : {F L : Type 0} (contents : F → Option (List ℕ)) (handed : L → List Entry) (files : List (LiveFiles F)) (scrolls : List ScrollSeen) (settled : List (Settled L)) → AllGiven contents files scrolls → AllHanded handed scrolls settled
+    → AllGivenFirst contents handed files settled
+given_first contents handed [] [] [] given same = tt
+given_first contents handed (f ∷ files) (s ∷ scrolls) (e ∷ settled) given same =
+    (subst (λ (es : List Entry). HaveLines contents es f) same.0 given.0, given_first contents handed files scrolls settled given.1 same.1)
+given_first contents handed [] [] (e ∷ settled) given same = absurd same
+given_first contents handed [] (s ∷ scrolls) settled given same = absurd given
+given_first contents handed (f ∷ files) [] settled given same = absurd given
+given_first contents handed (f ∷ files) (s ∷ scrolls) [] given same = absurd same
 
 -- one file more, which was given what was handed out to one scroll more
 pub given_push : {F : Type 0} (contents : F → Option (List ℕ)) (files : List (LiveFiles F)) (scrolls : List ScrollSeen) (f : LiveFiles F) (s : ScrollSeen) → AllGiven contents files scrolls → HaveLines contents s.entries f

@@ -1,4 +1,4 @@
-use Rattle.std.proofs.Common.{◌≡◌, ◌+◌, ◌<◌, ℕ, suc, take, get_or, slice_get, List, [], ◌∷◌, ◌++◌, length, All, Vec, Option, IsSomeAnd, Result, Ok, Err, IfErr, IsErrAnd, inl, refl, ap, ◌∙◌, sym, subst, arith}
+use Rattle.std.proofs.Common.{◌≡◌, ◌+◌, ◌<◌, ℕ, suc, take, get_or, slice_get, List, [], ◌∷◌, ◌++◌, length, All, Vec, Bool, false, IsTrue, Option, IsSomeAnd, OnOk, Result, Ok, Err, IfErr, IsErrAnd, inl, refl, ap, ◌∙◌, sym, subst, arith}
 use Rattle.std.proofs.lemmas.List.{take_more}
 use Rattle.std.proofs.lemmas.List.Elements.{All-cons}
 use Rattle.std.proofs.lemmas.Option.{slice_get-get_or}
@@ -13,12 +13,13 @@ use Rattle.can_hub.specs.Buses.{BusSeen}
 use Rattle.can_hub.specs.Settling.{AllConfigured, AllSettleIn}
 use Rattle.std.specs.List.{AllZip}
 use Rattle.canbusd_io.specs.Buses.{config_of}
+use Rattle.canbusd_io.specs.Files.{Took}
 use Rattle.canbusd_io.specs.declared.report.Report.{Report}
 use Rattle.canbusd_io.specs.declared.program_error.ProgramError.{ProgramError}
 use Rattle.canbusd_options.specs.declared.bus_word.BusWord.{BusWord}
 use Rattle.can_fault.specs.declared.fault_source.Perfect.{Perfect}
 use Rattle.canbusd_options.specs.declared.serve_options.ServeOptions.{ServeOptions}
-use Rattle.canbusd_serve.specs.Served.{AreAllBenches, AreBenches, AreConfigured, AreEnds, IsBenchOf, IsLegalEnd, IsOfBus, IsOfBuses, IsOfServer, IsServed, MakeBenches, Serves, journals}
+use Rattle.canbusd_serve.specs.Served.{AreAllBenches, AreBenches, AreConfigured, AreEnds, IsBenchOf, IsLegalEnd, IsOfBus, IsOfBuses, IsOfServer, IsServed, MakeBenches, Serves, end_lines, journals}
 
 -- The buses of a server, one after the other.
 
@@ -94,6 +95,13 @@ settles-ends left benches hub passes ends made each settled configured = record 
   legal = settles-legal left passes ends settled;
   configured = settles-configured left 0 benches ends (subst (λ (buses : List BusSeen). AllConfigured left buses ends) made configured);
 }
+
+-- what was put out of them, where no fault was reported
+pub put-lines : {W L T E : Type 0} (contents : W → Option (List ℕ)) (left : L → Journal) (old new : W) (r : Result T E) (a b : Bool) (lent buses : List BusWord) (own ends : List (Settled L)) → IfErr r (λ _. IsTrue a) → (IsTrue a → IsTrue b) → b ≡ false
+    → lent ≡ buses → own ≡ ends → OnOk r (Took contents old new (end_lines lent (journals left own))) → Took contents old new (end_lines buses (journals left ends))
+put-lines {L = L} contents left old new (Ok t) a b lent buses own ends told kept quiet same_buses same_ends put =
+    subst (λ (s : List (Settled L)). Took contents old new (end_lines buses (journals left s))) same_ends (subst (λ (w : List BusWord). Took contents old new (end_lines w (journals left own))) same_buses put)
+put-lines contents left old new (Err e) a b lent buses own ends told kept quiet same_buses same_ends put = let yes : IsTrue b = kept told in cc
 
 -- which are of the configurations that the words and the options give
 served-configured : (o : ServeOptions) (buses : List BusWord) (benches : List (Bench Perfect Open)) (ends : List Journal) → AreBenches o buses benches → AllZip (λ b j. j.config ≡ b.config) benches ends → AreConfigured o buses ends

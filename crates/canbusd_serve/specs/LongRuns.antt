@@ -1,7 +1,8 @@
 use Rattle.std.specs.Prelude.{◌≡◌, ℕ, false, List, [], length, reverse, All, IfSome, IsSome, Option, Some, None}
 use Rattle.std.specs.List.{AllZip}
+use Rattle.std.specs.declared.fs.File.{File}
 use Rattle.can_event.specs.declared.entry.Entry.{Entry}
-use Rattle.can_bus.specs.Long.{LongJournal, handed_entries, journal_of}
+use Rattle.can_bus.specs.Long.{LongJournal, journal_of}
 use Rattle.can_fault.specs.declared.fault_source.Perfect.{Perfect}
 use Rattle.can_hub.specs.declared.bench.Bench.{Bench}
 use Rattle.can_hub.specs.Buses.{BusSeen}
@@ -20,20 +21,13 @@ use Rattle.canbusd_options.specs.declared.recording.Recording.TheVariants as rec
 use Rattle.canbusd_options.specs.declared.serve_options.ServeOptions.{ServeOptions}
 use Rattle.canbusd_serve.specs.Served.{Serves, journals}
 use Rattle.canbusd_serve.specs.declared.live_files.LiveFiles.{LiveFiles}
-use Rattle.canbusd_serve.specs.declared.serve_job.Served.{Served}
-use Rattle.canbusd_serve.specs.declared.serve_job.Served.TheVariants as served
+use Rattle.canbusd_serve.specs.declared.serve_job.Run.{Run}
 
 -- The buses of long runs, and their files.
 
--- the buses that are served
-abbrev pub buses_in : {N : Type 0} → Served N → List BusSeen
-buses_in (served.Whole hub) = hub.now
-buses_in (served.Long hub scrolls) = hub.now
-
--- there is a scroll for each bus of a long run, to which nothing was handed out
-abbrev pub HasNewScrolls : {N : Type 0} → Served N → Type 0
-HasNewScrolls (served.Whole hub) = Unit {0}
-HasNewScrolls (served.Long hub scrolls) = AreNewScrolls 0 scrolls.items × (length scrolls.items ≡ length hub.now)
+-- there is a scroll for each of these buses, to which nothing was handed out
+abbrev pub HasNewScrolls : List BusSeen → List ScrollSeen → Type 0
+HasNewScrolls buses scrolls = AreNewScrolls 0 scrolls × (length scrolls ≡ length buses)
 
 -- a record is not over, if it is wanted
 abbrev pub IsRecordOpen : {F : Type 0} → Option (LiveRecord F) → Type 0
@@ -84,26 +78,25 @@ pub record HaveLines {F : Type 0} (contents : F → Option (List ℕ)) (entries 
 abbrev pub AllGiven : {F : Type 0} → (F → Option (List ℕ)) → List (LiveFiles F) → List ScrollSeen → Type 0
 AllGiven contents files scrolls = AllZip (λ f scroll. HaveLines contents scroll.entries f) files scrolls
 
--- the files of each bus of a long run were
-abbrev pub HasGiven :
-    {N F : Type 0} → (F → Option (List ℕ)) → Served N → List (LiveFiles F) → List ScrollSeen → Type 0
-HasGiven contents (served.Whole hub) files scrolls = Unit {0}
-HasGiven contents (served.Long hub new) files scrolls =
-    AllGiven contents files scrolls × (length scrolls ≡ length hub.now)
+-- there are the passes of each of these buses, and its files were given what was handed out to its scroll
+pub record IsRunOf {N : Type 0} (contents : File → Option (List ℕ)) (buses : List BusSeen)
+    (run : Run N) : Type 0 where
+  pub passes : length run.passes.items ≡ length buses
+  pub scrolls : length run.scrolls.items ≡ length buses
+  pub given : AllGiven contents run.files.items run.scrolls.items
 
 -- the files of each bus were given what was handed out of the history that it leaves, which are its first entries
 abbrev pub AllGivenFirst :
-    {F : Type 0} → (F → Option (List ℕ)) → List (LiveFiles F) → List (Settled LongJournal) → Type 0
-AllGivenFirst contents files settled = AllZip (λ f s. HaveLines contents (handed_entries s.history) f) files settled
+    {F L : Type 0} → (F → Option (List ℕ)) → (L → List Entry) → List (LiveFiles F) → List (Settled L) → Type 0
+AllGivenFirst contents handed files settled = AllZip (λ f s. HaveLines contents (handed s.history) f) files settled
 
 -- the files of each bus have no lines of entries
 abbrev pub AreBegun : {F : Type 0} → (F → Option (List ℕ)) → List (LiveFiles F) → Type 0
 AreBegun contents all = All (λ files. HaveLines contents [] files) all
 
--- there are such files for each bus of a long run
-abbrev pub HasFiles : {N F : Type 0} → (F → Option (List ℕ)) → Served N → List (LiveFiles F) → Type 0
-HasFiles contents (served.Whole hub) files = Unit {0}
-HasFiles contents (served.Long hub scrolls) files = AreBegun contents files × (length files ≡ length hub.now)
+-- there are such files for each of these buses
+abbrev pub HasFiles : {F : Type 0} → (F → Option (List ℕ)) → List BusSeen → List (LiveFiles F) → Type 0
+HasFiles contents buses files = AreBegun contents files × (length files ≡ length buses)
 
 -- the record of a bus is the text of this history, and its log has the lines of all frames that were tried in it,
 -- as far as they are wanted and not over, which they are only where a fault is noted

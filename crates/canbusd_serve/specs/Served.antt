@@ -7,7 +7,7 @@ use Rattle.can_bus.specs.Legal.{IsLegal}
 use Rattle.can_station.specs.declared.gate.Open.{Open}
 use Rattle.can_event.specs.declared.bus_config.BusConfig.{BusConfig}
 use Rattle.can_event.specs.Events.{IsConfig}
-use Rattle.can_record.specs.Journal.{Journal, Kept}
+use Rattle.can_record.specs.Journal.{Journal}
 use Rattle.can_station.specs.declared.pass.Settled.{Settled}
 use Rattle.can_bus.specs.declared.bus.BusFault.TheVariants.{BadConfig, NoMemory}
 use Rattle.can_hub.specs.declared.bench.Bench.{Bench}
@@ -128,10 +128,6 @@ IsListening contents address old new =
 abbrev pub AreConfigured : ServeOptions → List BusWord → List Journal → Type 0
 AreConfigured o buses ends =
     AllZip (λ bus j. j.config ≡ config_of o.settings (length (names_in bus.names.now))) buses ends
-
--- what a record says of its bus
-abbrev pub record_journal : Kept → Journal
-record_journal r = record { config = r.config; history = r.history }
 
 -- what is left of buses is of these
 abbrev pub journals : {L : Type 0} → (L → Journal) → List (Settled L) → List Journal

@@ -4,6 +4,7 @@ ghost use Rattle.canbusd_io.specs.Files.{Took};
 ghost use Rattle.canbusd_serve.specs.Served.{end_line, end_lines, journals};
 
 use can_bus::{LongEnd, Record};
+use can_server::Leaves;
 use can_station::Settled;
 use canbusd_io::{OUTPUT, Report, write_failure};
 use canbusd_options::BusWord;
@@ -11,31 +12,21 @@ use std::alloc::Global;
 use std::io::Write;
 
 /// What a bus leaves, which had a number of entries.
-pub trait Ended: Drop {
+pub trait Ended: Leaves {
     ghost use Rattle.std.specs.Prelude.{◌≡◌, length};
-    ghost use Rattle.can_record.specs.Journal.{Journal};
-
-    /// The configuration and the entries of the bus.
-    ghost journal: { Self → Journal };
 
     /// How many entries it had.
     fn count(&self) -> u64
-        ensures { result ≡ length (journal self.now).history };
+        ensures { result ≡ length (Self.journal self.now).history };
 }
 
 impl Ended for Record {
-    ghost journal = { λ r. record { config = r.config; history = r.history } };
-
     fn count(&self) -> u64 {
         self.len() as u64
     }
 }
 
 impl Ended for LongEnd {
-    ghost use Rattle.can_bus.specs.Long.{journal_of};
-
-    ghost journal = { journal_of };
-
     fn count(&self) -> u64 {
         self.len()
     }

@@ -1,4 +1,4 @@
-//! The files that a server of long runs writes while it serves.
+//! The files that a server writes while it serves, if its runs are long.
 ghost use Rattle.std.specs.Prelude.{◌≡◌, ◌++◌, [], length, reverse, All, IfErr, IfOk, IsSome, IsTrue};
 ghost use Rattle.can_bus.specs.Long.{handed_entries};
 ghost use Rattle.can_record_text.specs.Spelling.{end_words, entry_lines, spell};
@@ -7,11 +7,13 @@ ghost use Rattle.canbusd_io.specs.LiveLines.{LogHas, RecordHas};
 ghost use Rattle.canbusd_serve.specs.LongRuns.{AllGivenFirst, AreAllWhole, AreBegun, AreAllThere, AreThere, AreWhole, HaveLines, LogGets, LogStays, RecordGets, RecordStays};
 ghost use Rattle.canbusd_serve.specs.Served.{IsOfServing};
 
-use crate::serve_files::{draft_of, open_failure};
+use crate::serve_files::{drafts_of, open_failure};
 use can_bus::{LongEnd, PackedRecord};
 use can_frame::Names;
 use can_station::Settled;
-use canbusd_io::{LiveLog, LiveRecord, ProgramError, Report, Reporter, bus_config, read_names};
+use canbusd_io::{
+    Draft, LiveLog, LiveRecord, ProgramError, Report, Reporter, bus_config, read_names,
+};
 use canbusd_options::{BusWord, Recording, ServeOptions};
 use std::alloc::Global;
 use std::fs::{File, OpenFile};
@@ -113,8 +115,8 @@ impl<F: Write + OpenFile + Drop> LiveFiles<F> {
     }
 }
 
-/// The files of each bus, whose records have their first lines. Only once all are there the logs take the place of those of an
-/// earlier run; where one can't be made the others are removed again.
+/// The files of each bus that are written while it is served, whose records have their first lines. Only once all are there
+/// the logs take the place of those of an earlier run; where one can't be made the others are removed again.
 ///
 /// `CannotOpen`, with the folder, where it does not take one of the files.
 pub fn open_all<'a, H: Files<File = File>>(
@@ -183,6 +185,14 @@ fn remove_all<H: Files<File = File>>(rt: &H, all: &[LiveFiles<File>]) {
     }
 }
 
+// The folder that gets files while its server runs.
+fn live_folder<'a>(options: &ServeOptions<'a>) -> Option<&'a str> {
+    match options.recording {
+        Recording::Live | Recording::Never => options.folder,
+        Recording::AtEnd => None,
+    }
+}
+
 fn open_files<'a, H: Files<File = File>>(
     rt: &H,
     alloc: Global,
@@ -192,7 +202,7 @@ fn open_files<'a, H: Files<File = File>>(
     ensures begun { IfOk result (λ files. HaveLines ⟦<File as Write>⟧.contents [] files) }
     ensures fault { IfErr result (λ failure. IsOfServing failure.error) }
 {
-    let Some(folder) = options.folder else {
+    let Some(folder) = live_folder(options) else {
         return Ok(LiveFiles {
             record: None,
             log: None,
@@ -202,11 +212,12 @@ fn open_files<'a, H: Files<File = File>>(
     let Ok(names) = read_names(alloc, bus.names) else {
         return Err(Report::new(alloc, ProgramError::NoMemory));
     };
+    let drafts = drafts_of(rt, alloc, folder, &bus)?;
     let record = match options.recording {
-        Recording::Live => Some(open_record(rt, alloc, options, folder, bus, &names)?),
+        Recording::Live => Some(open_record(rt, alloc, options, folder, &drafts.record, &names)?),
         Recording::AtEnd | Recording::Never => None,
     };
-    match open_log(rt, alloc, options, folder, bus, names) {
+    match open_log(rt, alloc, options, folder, &drafts.log, names) {
         Ok(log) => Ok(LiveFiles {
             record,
             log: Some(log),
@@ -226,16 +237,15 @@ fn open_record<'a, H: Files<File = File>>(
     alloc: Global,
     options: &ServeOptions<'a>,
     folder: &'a str,
-    bus: BusWord<'a>,
+    draft: &Draft,
     names: &Names,
 ) -> Result<LiveRecord<File>, Report<'a>>
     ensures front { IfOk result (λ live. RecordHas ⟦<File as Write>⟧.contents live []) }
     ensures open { IfOk result (λ live. IsSome live.file.out) }
     ensures fault { IfErr result (λ failure. IsOfServing failure.error) }
 {
-    let draft = draft_of(rt, alloc, folder, &bus, "rec")?;
     let config = bus_config(options.settings, names);
-    LiveRecord::new(rt, alloc, &draft, config, options.is_synced).map_err(|error| open_failure(
+    LiveRecord::new(rt, alloc, draft, config, options.is_synced).map_err(|error| open_failure(
         alloc,
         folder,
         draft.draft(),
@@ -248,15 +258,14 @@ fn open_log<'a, H: Files<File = File>>(
     alloc: Global,
     options: &ServeOptions<'a>,
     folder: &'a str,
-    bus: BusWord<'a>,
+    draft: &Draft,
     names: Names,
 ) -> Result<LiveLog<File>, Report<'a>>
     ensures none { IfOk result (λ log. LogHas ⟦<File as Write>⟧.contents log []) }
     ensures open { IfOk result (λ log. IsSome log.file.out) }
     ensures fault { IfErr result (λ failure. IsOfServing failure.error) }
 {
-    let draft = draft_of(rt, alloc, folder, &bus, "log")?;
-    LiveLog::new(rt, alloc, &draft, names, options.is_synced).map_err(|error| open_failure(
+    LiveLog::new(rt, alloc, draft, names, options.is_synced).map_err(|error| open_failure(
         alloc,
         folder,
         draft.draft(),
@@ -277,7 +286,7 @@ pub fn finish_all<F: Write + OpenFile + Drop, H: Files, E: Write>(
     reporter: &mut Reporter<'_, E>,
 ) -> bool
     requires each { length buses.now ≡ length settled.now }
-    requires given { AllGivenFirst F.contents files.now settled.now }
+    requires given { AllGivenFirst F.contents handed_entries files.now settled.now }
     ensures told { IsTrue reporter.old.has_reported → IsTrue reporter.new.has_reported }
     ensures whole { AreAllWhole F.contents files.new settled.now }
     ensures there { IsTrue result → AreAllThere options.now files.new settled.now }

@@ -50,16 +50,15 @@ pub fn look_at_folder<'a, H: Files<File = File>>(
     ensures { IfErr result (λ failure. IsOfServing failure.error) }
 {
     for bus in &options.buses {
+        let Drafts { record, log } = drafts_of(rt, alloc, folder, bus)?;
         if !matches!(options.recording, Recording::Never) {
-            let draft = draft_of(rt, alloc, folder, bus, "rec")?;
-            if let Err(error) = draft.look_for_record(rt) {
-                return Err(open_failure(alloc, folder, draft.draft(), &error));
+            if let Err(error) = record.look_for_record(rt) {
+                return Err(open_failure(alloc, folder, record.draft(), &error));
             }
         }
         if !matches!(options.recording, Recording::AtEnd) {
-            let draft = draft_of(rt, alloc, folder, bus, "log")?;
-            if let Err(error) = draft.look(rt) {
-                return Err(open_failure(alloc, folder, draft.draft(), &error));
+            if let Err(error) = log.look(rt) {
+                return Err(open_failure(alloc, folder, log.draft(), &error));
             }
         }
     }
@@ -77,32 +76,41 @@ pub fn set_all_aside<'a, H: Files<File = File>, E: Write>(
     ensures { IfErr result (λ failure. IsOfServing failure.error) }
 {
     for bus in buses {
-        let draft = draft_of(rt, alloc, folder, bus, "rec")?;
-        match set_aside(rt, alloc, &draft) {
+        let Drafts { record, .. } = drafts_of(rt, alloc, folder, bus)?;
+        match set_aside(rt, alloc, &record) {
             Ok(Some(note)) => {
                 let _ = errors.write_all(note.as_bytes());
             }
             Ok(None) => {}
-            Err(error) => return Err(open_failure(alloc, folder, draft.draft(), &error)),
+            Err(error) => return Err(open_failure(alloc, folder, record.draft(), &error)),
         }
     }
     Ok(())
 }
 
-/// The file of a bus of this kind, which is to be written.
-pub fn draft_of<'a, H: Files>(
+/// The record and the log of a bus, which are to be written.
+#[derive(Drop)]
+pub struct Drafts {
+    pub record: Draft,
+    pub log: Draft,
+}
+
+/// The files of a bus in a folder. Nothing is written.
+pub fn drafts_of<'a, H: Files>(
     rt: &H,
     alloc: Global,
     folder: &str,
     bus: &BusWord<'_>,
-    kind: &str,
-) -> Result<Draft, Report<'a>>
+) -> Result<Drafts, Report<'a>>
     ensures { IfErr result (λ failure. IsOfServing failure.error) }
 {
-    let Ok(draft) = Draft::new(rt, alloc, folder, bus.first_name(), kind) else {
-        return Err(Report::new(alloc, ProgramError::NoMemory));
-    };
-    Ok(draft)
+    let name = bus.first_name();
+    let record = Draft::new(rt, alloc, folder, name, "rec");
+    let log = Draft::new(rt, alloc, folder, name, "log");
+    match (record, log) {
+        (Ok(record), Ok(log)) => Ok(Drafts { record, log }),
+        _ => Err(Report::new(alloc, ProgramError::NoMemory)),
+    }
 }
 
 /// How a folder is reported that does not take a file.
@@ -142,12 +150,8 @@ fn save_bus<H: Files, E: Write>(
 )
     ensures { IsTrue reporter.old.has_reported → IsTrue reporter.new.has_reported }
 {
-    let name = bus.first_name();
-    match (
-        Draft::new(rt, alloc, folder, name, "rec"),
-        Draft::new(rt, alloc, folder, name, "log"),
-    ) {
-        (Ok(rec), Ok(log)) => {
+    match drafts_of(rt, alloc, folder, bus) {
+        Ok(Drafts { record: rec, log }) => {
             rec.clear(rt);
             let saved = save_record_at(rt, alloc, rec.path(), rec.draft(), record);
             reporter.report(rec.keep(rt, alloc, saved));
@@ -155,6 +159,6 @@ fn save_bus<H: Files, E: Write>(
             let saved = save_log_at(rt, alloc, log.path(), log.draft(), *bus, record);
             reporter.report(log.keep_part(rt, alloc, saved));
         }
-        _ => reporter.report(Err(Report::new(alloc, ProgramError::NoMemory))),
+        Err(failure) => reporter.report(Err(failure)),
     }
 }

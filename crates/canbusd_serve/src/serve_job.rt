@@ -1,13 +1,12 @@
 ghost use Rattle.std.specs.Prelude.{◌≡◌, false, length, IfErr, IfOk, IsTrue, OnOk};
-ghost use Rattle.can_bus.specs.Long.{journal_of};
 ghost use Rattle.can_event.specs.Events.{IsConfig};
 ghost use Rattle.can_hub.specs.Benches.{NamedFrom};
 ghost use Rattle.can_hub.specs.HubBuses.{IsOfLongRuns};
 ghost use Rattle.canbusd_io.specs.declared.program_error.ProgramError.TheVariants as fault;
 ghost use Rattle.canbusd_io.specs.Files.{Took};
 ghost use Rattle.can_hub.specs.Settling.{AreNewScrolls};
-ghost use Rattle.canbusd_serve.specs.LongRuns.{AllGiven, AllGivenFirst, AreBegun, HasFiles, HasGiven, HasNewScrolls, ServesFiles, buses_in};
-ghost use Rattle.canbusd_serve.specs.Served.{AreAllBenches, AreEnds, IsBenchOf, IsHeardAt, IsListening, IsOfBus, IsOfHub, IsOfServer, IsOfServing, IsServed, Serves, journals, listening_line, record_journal};
+ghost use Rattle.canbusd_serve.specs.LongRuns.{AllGivenFirst, AreBegun, HasFiles, HasNewScrolls, IsRunOf, ServesFiles};
+ghost use Rattle.canbusd_serve.specs.Served.{AreAllBenches, AreEnds, IsBenchOf, IsHeardAt, IsListening, IsOfBus, IsOfHub, IsOfServer, IsOfServing, IsServed, Serves, journals, listening_line};
 
 use crate::buses_notes::buses_note;
 use crate::ends::put_ends;
@@ -17,11 +16,11 @@ use crate::listening::{Listening, leave, listen, listen_failure};
 use crate::live_files::{LiveFiles, finish_all, open_all};
 use crate::notices::first_name_at;
 use crate::serve_files::{lock_folder, look_at_folder, save_all, set_all_aside};
-use can_bus::{BusFault, LongEnd, TAIL_SIZE};
+use can_bus::{BusFault, LongEnd, Record, TAIL_SIZE};
 use can_fault::Perfect;
 use can_meter::MeterName;
 use can_roll::RollName;
-use can_server::{Acceptor, Bench, Hub, Scribe, ScrollKeeper, serve, serve_long};
+use can_server::{Acceptor, Bench, Hub, Keeper, Leaves, Scribe, ScrollKeeper, serve_with};
 use can_station::{Blanks, BusName, Open, Pass, Scroll, Settled};
 use canbusd_io::{
     INPUT, OUTPUT, ProgramError, Report, Reporter, bus_config, fixed_note, read_names, read_plan,
@@ -35,6 +34,7 @@ use std::marker::Brand;
 use std::net::{Net, Shutdown, TcpListener, TcpStream};
 use std::os::unix::net::UnixStream;
 use std::rt::Files;
+use std::slice::IterMut;
 use std::sync::atomic::{AtomicBool, Ordering};
 use std::sync::{Mutex, OnceLock, Wait};
 use std::thread;
@@ -95,14 +95,7 @@ pub fn run_serve<'a, H: ServerRuntime, R: Read + Drop + Send + 'static, W: Write
     Ok(!has_reported && !run.has_lost.load(Ordering::SeqCst))
 }
 
-// The buses that are served: of a hub that keeps their records, or of long runs, with the scroll of each.
-#[derive(Drop)]
-enum Served<'h, N: BusName> {
-    Whole(&'h Hub<N, Perfect, Open>),
-    Long(&'h Hub<N, Perfect, Open, LongEnd>, Vec<Scroll<N>>),
-}
-
-// What is there after serving: the passes of each bus, and in long runs its files with the scroll of what they were given.
+// What is there after serving: the passes of each bus, and its files with the scroll of what they were given.
 #[derive(Drop)]
 struct Run<N: RollName> {
     passes: Vec<Vec<Pass<N>>>,
@@ -179,7 +172,7 @@ impl<'r, 'a, H: ServerRuntime> ServerRun<'r, 'a, H> {
             → Serves W.contents self.now.options.now benches.items output.old output.new) }
         ensures fault { IfErr result (λ failure. IsOfHub IsConfig benches.items failure.error) }
     {
-        let settled = self.settle_whole::<N, R, W, E>(benches, input, output, errors)?;
+        let (settled, _) = self.settle::<N, Record, R, W, E>(benches, input, output, errors)?;
         let buses = &self.options.buses;
         let mut reporter = Reporter::new(errors);
         reporter.report(put_ends(self.alloc, buses, &settled, output));
@@ -210,7 +203,9 @@ impl<'r, 'a, H: ServerRuntime> ServerRun<'r, 'a, H> {
             output.old output.new end.1.items) }
         ensures fault { IfErr result (λ failure. IsOfHub IsOfLongRuns benches.items failure.error) }
     {
-        let (settled, mut files) = self.settle_live::<N, R, W, E>(benches, input, output, errors)?;
+        let (settled, mut files) = self.settle::<N, LongEnd, R, W, E>(
+            benches, input, output, errors,
+        )?;
         let buses = &self.options.buses;
         let mut reporter = Reporter::new(errors);
         reporter.report(put_ends(self.alloc, buses, &settled, output));
@@ -226,9 +221,11 @@ impl<'r, 'a, H: ServerRuntime> ServerRun<'r, 'a, H> {
         Ok((reporter.has_reported() || !are_there, files))
     }
 
-    // Serves the buses that are made of these, and settles them.
-    fn settle_whole<
+    // Serves the buses that are made of these, and settles them: what they leave, and the files that were written
+    // meanwhile.
+    fn settle<
         N: BusName + Send + Sync,
+        L: Leaves,
         R: Read + Drop + Send + 'static,
         W: Write,
         E: Write + Send,
@@ -238,50 +235,18 @@ impl<'r, 'a, H: ServerRuntime> ServerRun<'r, 'a, H> {
         input: R,
         output: &mut W,
         errors: &mut E,
-    ) -> Result<Vec<Settled>, Report<'a>>
-        requires named { NamedFrom N.roll N.meter 0 benches.items }
-        requires each { length benches.items ≡ length self.now.options.now.buses.items }
-        ensures ends { IfOk result (λ settled.
-            AreEnds benches.items (journals record_journal settled.items)) }
-        ensures listening { OnOk result
-            (IsListening W.contents self.now.options.now.address.now output.old output.new) }
-        ensures fault { IfErr result (λ failure. IsOfHub IsConfig benches.items failure.error) }
-    {
-        let hub = match Hub::<N, Perfect, Open>::new(self.alloc, benches) {
-            Ok(hub) => hub,
-            Err(fault) => return Err(self.hub_failure(fault)),
-        };
-        let Run { passes, .. } = self.serve_hub(Served::Whole(&hub), input, output, errors)?;
-        match hub.settle(self.rt, self.alloc, passes) {
-            Ok(settled) => Ok(settled),
-            Err(foreign) => Err(self.wrong_station(foreign.bus)),
-        }
-    }
-
-    // Serves the buses of long runs that are made of these, and settles them: what they leave, and their files.
-    fn settle_live<
-        N: BusName + Send + Sync,
-        R: Read + Drop + Send + 'static,
-        W: Write,
-        E: Write + Send,
-    >(
-        &self,
-        benches: Vec<Bench<Perfect, Open>>,
-        input: R,
-        output: &mut W,
-        errors: &mut E,
-    ) -> Result<(Vec<Settled<LongEnd>>, Vec<LiveFiles<File>>), Report<'a>>
+    ) -> Result<(Vec<Settled<L>>, Vec<LiveFiles<File>>), Report<'a>>
         requires named { NamedFrom N.roll N.meter 0 benches.items }
         requires each { length benches.items ≡ length self.now.options.now.buses.items }
         ensures ends { IfOk result (λ end.
-            AreEnds benches.items (journals journal_of end.0.items)) }
+            AreEnds benches.items (journals L.journal end.0.items)) }
         ensures handed { IfOk result (λ end.
-            AllGivenFirst ⟦<File as Write>⟧.contents end.1.items end.0.items) }
+            AllGivenFirst ⟦<File as Write>⟧.contents L.handed end.1.items end.0.items) }
         ensures listening { OnOk result
             (IsListening W.contents self.now.options.now.address.now output.old output.new) }
-        ensures fault { IfErr result (λ failure. IsOfHub IsOfLongRuns benches.items failure.error) }
+        ensures fault { IfErr result (λ failure. IsOfHub L.limits benches.items failure.error) }
     {
-        let made = Hub::<N, Perfect, Open, LongEnd>::new_long(self.alloc, benches, TAIL_SIZE);
+        let made = Hub::<N, Perfect, Open, L>::make(self.alloc, benches, TAIL_SIZE);
         let (hub, scrolls) = match made {
             Ok(hub) => hub,
             Err(fault) => return Err(self.hub_failure(fault)),
@@ -290,7 +255,7 @@ impl<'r, 'a, H: ServerRuntime> ServerRun<'r, 'a, H> {
             passes,
             files,
             scrolls,
-        } = self.serve_hub(Served::Long(&hub, scrolls), input, output, errors)?;
+        } = self.serve_hub(&hub, scrolls, input, output, errors)?;
         match hub.settle_scrolls(self.rt, self.alloc, passes, scrolls) {
             Ok(settled) => Ok((settled, files)),
             Err(fault) => Err(self.wrong_station(fault.bus)),
@@ -317,22 +282,21 @@ impl<'r, 'a, H: ServerRuntime> ServerRun<'r, 'a, H> {
     // Listens, and serves the buses of a hub.
     fn serve_hub<
         N: BusName + Send + Sync,
+        L: Leaves,
         R: Read + Drop + Send + 'static,
         W: Write,
         E: Write + Send,
     >(
         &self,
-        hub: Served<'_, N>,
+        hub: &Hub<N, Perfect, Open, L>,
+        scrolls: Vec<Scroll<N>>,
         input: R,
         output: &mut W,
         errors: &mut E,
     ) -> Result<Run<N>, Report<'a>>
-        requires each { length (buses_in hub) ≡ length self.now.options.now.buses.items }
-        requires scrolls { HasNewScrolls hub }
-        ensures passes { IfOk result (λ run.
-            length run.passes.items ≡ length (buses_in hub.entry)) }
-        ensures given { IfOk result (λ run.
-            HasGiven ⟦<File as Write>⟧.contents hub.entry run.files.items run.scrolls.items) }
+        requires each { length hub.now ≡ length self.now.options.now.buses.items }
+        requires scrolls { HasNewScrolls hub.now scrolls.items }
+        ensures run { IfOk result (IsRunOf ⟦<File as Write>⟧.contents hub.now) }
         ensures listening { OnOk result
             (IsListening W.contents self.now.options.now.address.now output.old output.new) }
         ensures fault { IfErr result (λ failure. IsOfServing failure.error) }
@@ -345,7 +309,7 @@ impl<'r, 'a, H: ServerRuntime> ServerRun<'r, 'a, H> {
             heard,
             file,
         } = listening;
-        let served = self.serve_acceptors(hub, &acceptors, &heard, input, output, errors);
+        let served = self.serve_acceptors(hub, scrolls, &acceptors, &heard, input, output, errors);
         leave(self.rt, file);
         served
     }
@@ -353,25 +317,24 @@ impl<'r, 'a, H: ServerRuntime> ServerRun<'r, 'a, H> {
     // Looks at what the server needs besides, puts out where it listens, and serves.
     fn serve_acceptors<
         N: BusName + Send + Sync,
+        L: Leaves,
         R: Read + Drop + Send + 'static,
         W: Write,
         E: Write + Send,
     >(
         &self,
-        hub: Served<'_, N>,
+        hub: &Hub<N, Perfect, Open, L>,
+        scrolls: Vec<Scroll<N>>,
         acceptors: &[Acceptor],
         heard: &str,
         input: R,
         output: &mut W,
         errors: &mut E,
     ) -> Result<Run<N>, Report<'a>>
-        requires each { length (buses_in hub) ≡ length self.now.options.now.buses.items }
-        requires scrolls { HasNewScrolls hub }
+        requires each { length hub.now ≡ length self.now.options.now.buses.items }
+        requires scrolls { HasNewScrolls hub.now scrolls.items }
         requires heard { IsHeardAt self.now.options.now.address.now heard.now }
-        ensures passes { IfOk result (λ run.
-            length run.passes.items ≡ length (buses_in hub.entry)) }
-        ensures given { IfOk result (λ run.
-            HasGiven ⟦<File as Write>⟧.contents hub.entry run.files.items run.scrolls.items) }
+        ensures run { IfOk result (IsRunOf ⟦<File as Write>⟧.contents hub.now) }
         ensures listening { OnOk result
             (IsListening W.contents self.now.options.now.address.now output.old output.new) }
         ensures fault { IfErr result (λ failure. IsOfServing failure.error) }
@@ -381,27 +344,10 @@ impl<'r, 'a, H: ServerRuntime> ServerRun<'r, 'a, H> {
         } else {
             None
         };
-        let files = self.open_files(&hub, errors)?;
-        put_listening(self.alloc, heard, output)?;
-        self.serve_until(hub, files, acceptors, until, errors)
-    }
-
-    // Takes the folder, and opens the files of long runs.
-    fn open_files<N: BusName, E: Write>(
-        &self,
-        hub: &Served<'_, N>,
-        errors: &mut E,
-    ) -> Result<Vec<LiveFiles<File>>, Report<'a>>
-        requires { length (buses_in hub.now) ≡ length self.now.options.now.buses.items }
-        ensures files { IfOk result (λ files.
-            HasFiles ⟦<File as Write>⟧.contents hub.now files.items) }
-        ensures fault { IfErr result (λ failure. IsOfServing failure.error) }
-    {
         self.take_folder(errors)?;
-        match hub {
-            Served::Whole(_) => Ok(Vec::new(self.alloc)),
-            Served::Long(_, _) => open_all(self.rt, self.alloc, self.options),
-        }
+        let files = open_all(self.rt, self.alloc, self.options)?;
+        put_listening(self.alloc, heard, output)?;
+        self.serve_until(hub, scrolls, files, acceptors, until, errors)
     }
 
     // Locks the folder, looks whether it takes the files, and sets aside what was left there of records that are to be
@@ -424,20 +370,18 @@ impl<'r, 'a, H: ServerRuntime> ServerRun<'r, 'a, H> {
         }
     }
 
-    fn serve_until<N: BusName + Send + Sync, E: Write + Send>(
+    fn serve_until<N: BusName + Send + Sync, L: Leaves, E: Write + Send>(
         &self,
-        hub: Served<'_, N>,
+        hub: &Hub<N, Perfect, Open, L>,
+        scrolls: Vec<Scroll<N>>,
         files: Vec<LiveFiles<File>>,
         acceptors: &[Acceptor],
         until: Option<UnixStream>,
         errors: &mut E,
     ) -> Result<Run<N>, Report<'a>>
-        requires files { HasFiles ⟦<File as Write>⟧.contents hub files.items }
-        requires scrolls { HasNewScrolls hub }
-        ensures passes { IfOk result (λ run.
-            length run.passes.items ≡ length (buses_in hub.entry)) }
-        ensures given { IfOk result (λ run.
-            HasGiven ⟦<File as Write>⟧.contents hub.entry run.files.items run.scrolls.items) }
+        requires scrolls { HasNewScrolls hub.now scrolls.items }
+        requires files { HasFiles ⟦<File as Write>⟧.contents hub.now files.items }
+        ensures run { IfOk result (IsRunOf ⟦<File as Write>⟧.contents hub.now) }
         ensures fault { IfErr result (λ failure. IsOfServing failure.error) }
     {
         let host = Host {
@@ -448,54 +392,25 @@ impl<'r, 'a, H: ServerRuntime> ServerRun<'r, 'a, H> {
             has_lost: &self.has_lost,
             start: self.options.timing.and_then(|_| Start::now(self.rt)),
         };
-        let served = match hub {
-            Served::Whole(hub) => self.serve_whole(hub, acceptors, &host, until),
-            Served::Long(hub, scrolls) => self.serve_long(
-                hub, files, scrolls, acceptors, &host, until,
-            ),
-        };
-        match served {
+        match self.serve_kept(hub, scrolls, files, acceptors, &host, until) {
             Ok(run) => Ok(run),
             Err(_) => Err(Report::new(self.alloc, ProgramError::NoMemory)),
         }
     }
 
-    // Serves buses that keep their records.
-    fn serve_whole<N: BusName + Send + Sync, E: Write + Send>(
+    // Serves the buses, in long runs each with a scribe that writes its files.
+    fn serve_kept<N: BusName + Send + Sync, L: Leaves, E: Write + Send>(
         &self,
-        hub: &Hub<N, Perfect, Open>,
-        acceptors: &[Acceptor],
-        host: &Host<'_, 'a, '_, H, E>,
-        until: Option<UnixStream>,
-    ) -> Result<Run<N>, AllocError>
-        ensures { IfOk result (λ run. length run.passes.items ≡ length hub.now) }
-    {
-        let passes = serve(self.rt, self.alloc, hub, acceptors, host, until.as_ref())?;
-        Ok(Run {
-            passes,
-            files: Vec::new(self.alloc),
-            scrolls: Vec::new(self.alloc),
-        })
-    }
-
-    // Serves the buses of long runs, each with a scribe that writes its files.
-    fn serve_long<N: BusName + Send + Sync, E: Write + Send>(
-        &self,
-        hub: &Hub<N, Perfect, Open, LongEnd>,
-        files: Vec<LiveFiles<File>>,
+        hub: &Hub<N, Perfect, Open, L>,
         scrolls: Vec<Scroll<N>>,
+        files: Vec<LiveFiles<File>>,
         acceptors: &[Acceptor],
         host: &Host<'_, 'a, '_, H, E>,
         until: Option<UnixStream>,
     ) -> Result<Run<N>, AllocError>
-        requires files { length files.items ≡ length hub.now }
-        requires begun { AreBegun ⟦<File as Write>⟧.contents files.items }
-        requires scrolls { AreNewScrolls 0 scrolls.items }
-        requires each { length scrolls.items ≡ length hub.now }
-        ensures passes { IfOk result (λ run. length run.passes.items ≡ length hub.now) }
-        ensures given { IfOk result (λ run.
-            AllGiven ⟦<File as Write>⟧.contents run.files.items run.scrolls.items) }
-        ensures each { IfOk result (λ run. length run.scrolls.items ≡ length hub.now) }
+        requires scrolls { HasNewScrolls hub.now scrolls.items }
+        requires files { HasFiles ⟦<File as Write>⟧.contents hub.now files.items }
+        ensures { IfOk result (IsRunOf ⟦<File as Write>⟧.contents hub.now) }
     {
         let mut run = Run {
             passes: Vec::new(self.alloc),
@@ -503,18 +418,11 @@ impl<'r, 'a, H: ServerRuntime> ServerRun<'r, 'a, H> {
             scrolls: Vec::with_capacity(self.alloc, hub.count())?,
         };
         let mut kept = keepers_of(self.alloc, host, files, scrolls)?;
-        let patience = Duration::from_millis(u64::from(self.options.flush_ms));
         // With a name of its own the iterator lends each keeper for as long as there are scribes.
         let each = kept.iter_mut();
-        let mut scribes = Vec::new(self.alloc);
-        for kept in each {
-            let scribe = Scribe::new(self.alloc, TAIL_SIZE, patience, kept)?;
-            let Ok(()) = scribes.push(scribe) else {
-                return Err(AllocError);
-            };
-        }
+        let scribes = scribes_of(self.alloc, self.options, each)?;
         let until = until.as_ref();
-        run.passes = serve_long(self.rt, self.alloc, hub, acceptors, host, until, scribes)?;
+        run.passes = serve_with(self.rt, self.alloc, hub, acceptors, host, until, scribes)?;
         for kept in kept {
             let (keeper, scroll) = kept.into_parts();
             run.files.push_reserved(keeper.kept.into_files());
@@ -566,6 +474,26 @@ fn keepers_of<'o, 'h, 'a, 'l, N: BusName, F: Write + OpenFile + Drop, H: Wait + 
         kept.push(ScrollKeeper::new(keeper, scroll))?;
     }
     Ok(kept)
+}
+
+// The scribes of long runs, one for each of these keepers.
+fn scribes_of<'k, N: BusName, K: Keeper + Drop>(
+    alloc: Global,
+    options: &ServeOptions<'_>,
+    kept: IterMut<'k, ScrollKeeper<N, K>>,
+) -> Result<Option<Vec<Scribe<'k, N, K>>>, AllocError> {
+    if options.recording == Recording::AtEnd {
+        return Ok(None);
+    }
+    let patience = Duration::from_millis(u64::from(options.flush_ms));
+    let mut scribes = Vec::new(alloc);
+    for kept in kept {
+        let scribe = Scribe::new(alloc, TAIL_SIZE, patience, kept)?;
+        let Ok(()) = scribes.push(scribe) else {
+            return Err(AllocError);
+        };
+    }
+    Ok(Some(scribes))
 }
 
 // Reads an input to its end, and then shuts a stream down, which ends the server: `--until-eof`.

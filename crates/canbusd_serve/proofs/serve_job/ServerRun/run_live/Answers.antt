@@ -1,4 +1,4 @@
-use Rattle.std.proofs.Common.{◌≡◌, ◌∷◌, ◌++◌, ◌∙◌, ℕ, suc, List, [], Bool, false, true, Result, Ok, Err, IfErr, IsTrue, OnOk, ap, drop, length, refl, rules, subst, sym, take}
+use Rattle.std.proofs.Common.{◌≡◌, ◌∷◌, ◌++◌, ◌∙◌, ℕ, suc, List, [], false, true, ap, drop, length, refl, rules, subst, sym, take}
 use Rattle.std.specs.List.{AllZip}
 use Rattle.std.proofs.KnownBytes.{Appends-trans}
 use Rattle.std.proofs.Math.Seq.{take-append_seam}
@@ -6,17 +6,11 @@ use Rattle.std.specs.declared.fs.File.{File}
 use Rattle.std.specs.declared.io.traits.Write.{contents-default}
 use Rattle.can_bus.specs.Long.{LongJournal, journal_of}
 use Rattle.can_station.specs.declared.pass.Settled.{Settled}
-use Rattle.canbusd_io.specs.Files.{Took}
-use Rattle.canbusd_options.specs.declared.bus_word.BusWord.{BusWord}
 use Rattle.canbusd_serve.specs.LongRuns.{AreAllThere, AreAllWhole, ServesFiles}
-use Rattle.canbusd_serve.specs.Served.{end_lines, journals}
+use Rattle.canbusd_serve.specs.Served.{journals}
 use Rattle.canbusd_serve.specs.declared.live_files.LiveFiles.{LiveFiles}
+use Rattle.canbusd_serve.proofs.Serving.{put-lines}
 use Rattle.canbusd_serve.proofs.serve_job.ServerRun.run_live.Goals as goal
-
--- what holds of an outcome without a fault, where none was reported
-unreported : {T E : Type 0} (r : Result T E) (a b : Bool) (P : Type 0) → IfErr r (λ _. IsTrue a) → (IsTrue a → IsTrue b) → b ≡ false → OnOk r P → P
-unreported (Ok t) a b P told kept quiet p = p
-unreported (Err e) a b P told kept quiet p = let yes : IsTrue b = kept told in cc
 
 zip_length : {A B : Type 0} (R : A → B → Type 0) (xs : List A) (ys : List B) → AllZip R xs ys → length xs ≡ length ys
 zip_length R [] [] all = refl
@@ -40,9 +34,8 @@ returns-clause-served g c = λ quiet.
     let whole = subst (λ (s : List (Settled LongJournal)). AreAllWhole kept new s) c.deref-4.ensures.value c.finish_all-are_there.ensures.whole in
     let there = subst (λ (s : List (Settled LongJournal)). AreAllThere o new s) c.deref-4.ensures.value (c.finish_all-are_there.ensures.there both.1) in
     let each : length new ≡ old.len = zip_length _ new settled whole ∙ sym (zip_length _ old.items settled c.in_ok-settled.ensures.handed) ∙ sym old.ok.0 in
-    let put = unreported c.put_ends.result _ _ _ c.report.ensures.reported c.finish_all-are_there.ensures.told (sym c.has_reported.ensures ∙ both.0) c.put_ends.ensures in
-    let lines = subst (λ (s : List (Settled LongJournal)). Took g.W.Write.contents c.settle_live.new.output c.put_ends.new.output (end_lines o.buses.items (journals journal_of s))) c.deref-2.ensures.value
-    (subst (λ (b : List BusWord). Took g.W.Write.contents c.settle_live.new.output c.put_ends.new.output (end_lines b (journals journal_of c.deref-2.result.now))) c.deref.ensures.value put) in
+    let lines = put-lines g.W.Write.contents journal_of c.settle.new.output c.put_ends.new.output c.put_ends.result _ _ _ o.buses.items _ settled c.report.ensures.reported c.finish_all-are_there.ensures.told (sym c.has_reported.ensures ∙ both.0)
+    c.deref.ensures.value c.deref-2.ensures.value c.put_ends.ensures in
     subst (λ (f : List (LiveFiles File)). ServesFiles g.W.Write.contents kept o c.args.benches.items c.args.output.now c.put_ends.new.output f) (sym (written new old.items old.len each)) (record {
       serves = record {
         ends = journals journal_of settled;

@@ -13,23 +13,23 @@ use Rattle.std.specs.contracts.fs.File as file_row
 use Rattle.std.specs.contracts.fs.FileWrite.TheImpl as written
 use Rattle.canbusd_serve.proofs.Crossing.{keeper_send}
 use Rattle.canbusd_serve.proofs.Keeping.{given_push}
-use Rattle.canbusd_serve.proofs.serve_job.ServerRun.serve_long.Goals as goal
+use Rattle.canbusd_serve.proofs.serve_job.ServerRun.serve_kept.Goals as goal
 
-pub serve_long-requires-send-K : goal.serve_long-requires-send-K
-serve_long-requires-send-K g c κs within =
+pub serve_with-requires-send-K : goal.serve_with-requires-send-K
+serve_with-requires-send-K g c κs within =
     let shared : IsSync (param 0 g.row.H) = search (sendable, c.type_bounds.sync-H) depth 20 in
-    let sent : IsSend (param 3 g.row.E) = search (sendable, c.type_bounds.send-E) depth 20 in
-    param_send 4 _ (arg_send _ yes _ (keeper_send _ _ _ _ file_row.the_row (param 0 g.row.H) (param 3 g.row.E) written.ghosts file.the_send shared sent))
+    let sent : IsSend (param 4 g.row.E) = search (sendable, c.type_bounds.send-E) depth 20 in
+    param_send 5 _ (arg_send _ yes _ (keeper_send _ _ _ _ file_row.the_row (param 0 g.row.H) (param 4 g.row.E) written.ghosts file.the_send shared sent))
 
-pub loop-kept-2-preserved : goal.loop-kept-2-preserved
-loop-kept-2-preserved g c =
-    let i = c.loop-kept-2.invariant in
-    let steps = c.in-Some-kept.ensures.steps in
+pub loop-kept-preserved : goal.loop-kept-preserved
+loop-kept-preserved g c =
+    let i = c.loop-kept.invariant in
+    let steps = c.in-Some.ensures.steps in
     let files = c.push_reserved.ensures in
-    let scrolls = c.push_reserved-in-loop-kept-2.ensures in
+    let scrolls = c.push_reserved-in-loop-kept.ensures in
     let own = c.into_parts-keeper in
-    let old_files = c.loop-kept-2.run.files.items in
-    let old_scrolls = c.loop-kept-2.run.scrolls.items in
+    let old_files = c.loop-kept.run.files.items in
+    let old_scrolls = c.loop-kept.run.scrolls.items in
     let f : LiveFiles File = c.into_files.result in
     let s : ScrollSeen = own.result.1 in
     let more_files : length (old_files ++ f ∷ []) ≡ length old_files + 1 = length-append old_files (f ∷ []) in
