@@ -1,0 +1,80 @@
+use Rattle.std.specs.Prelude.{ℕ, ◌-◌, List, [], ◌∷◌, ◌++◌, length, map, take, codes, decimal, if◌then◌else◌}
+use Rattle.std.specs.List.{flat_map, range_with_len}
+use Rattle.can_event.specs.declared.bus_config.BusConfig.{BusConfig}
+use Rattle.can_event.specs.declared.entry.Entry.{Entry}
+use Rattle.can_event.specs.declared.received.Received.{Received}
+use Rattle.can_record_text.specs.declared.version.Version.{Version}
+use Rattle.can_record_text.specs.Spelling.{spell, entry_line, bus_words, end_words}
+use Rattle.can_bus.specs.Counters.{counts_of}
+use Rattle.can_bus.specs.Sockets.{open_sockets}
+use Rattle.can_events.specs.Brought.{is_step, put_to, dropped_by, lost_by}
+use Rattle.can_events.specs.Words.{counts_part, lost_part, named, put_word, dropped_words}
+
+-- The text of a record's events: each entry's line with what the entry brought about (own choice).
+
+-- the error counts that the entry changed, by interface
+abbrev pub counts_parts : BusConfig → List Entry → Entry → List ℕ
+counts_parts c past e =
+    flat_map (λ i. counts_part i (counts_of c past i) (counts_of c (e ∷ past) i)) (range_with_len 0 16)
+
+-- how many frames bus off took out of the transmit queues, by interface
+abbrev pub lost_parts : BusConfig → List Entry → Entry → List ℕ
+lost_parts c past e = flat_map (λ i. lost_part i (lost_by past e i)) (range_with_len 0 c.ifaces)
+
+-- a word for each item that was queued to socket s
+abbrev pub put_words : ℕ → List Received → List (List ℕ)
+put_words s items = map (λ (r : Received). put_word s r.item) items
+
+-- the items that were queued, by socket
+abbrev pub put_part : BusConfig → List Entry → Entry → List ℕ
+put_part c past e =
+    named (codes "put") (flat_map (λ s. put_words s (put_to c past e s)) (open_sockets past))
+
+-- how many items found no room, by socket
+abbrev pub dropped_part : BusConfig → List Entry → Entry → List ℕ
+dropped_part c past e =
+    named (codes "dropped") (flat_map (λ s. dropped_words s (dropped_by c past e s)) (open_sockets past))
+
+-- what an entry brought about: nothing where it is of no attempt and no restart
+unfoldable pub parts_of : BusConfig → List Entry → Entry → List ℕ
+parts_of c past e =
+    if is_step e.event
+    then counts_parts c past e ++ lost_parts c past e ++ put_part c past e ++ dropped_part c past e
+    else []
+
+-- a line without the LF at its end
+abbrev pub unended : List ℕ → List ℕ
+unended line = take (length line - 1) line
+
+-- a line, and before its LF what the entry brought about
+unfoldable pub with_parts : BusConfig → List Entry → Entry → List ℕ → List ℕ
+with_parts c past e line = unended line ++ parts_of c past e ++ 10 ∷ []
+
+-- the line of an entry in the record, with what the entry brought about
+abbrev pub events_line : BusConfig → List Entry → Entry → List ℕ
+events_line c past e = with_parts c past e (entry_line e [])
+
+-- the lines of a history, the oldest entry first
+abbrev pub events_lines : BusConfig → List Entry → List ℕ
+events_lines c [] = []
+events_lines c (e ∷ past) = events_lines c past ++ events_line c past e
+
+-- the first line: the version of the format
+abbrev pub first_line : List ℕ
+first_line = codes "canbus events 1" ++ 10 ∷ []
+
+-- the text up to a history's last entry: the second line is the bus's, as the record has it
+abbrev pub events_front : Version → BusConfig → List Entry → List ℕ
+events_front v c past = first_line ++ spell (bus_words v c) [] ++ events_lines c past
+
+-- the last line of a record's text that is cut off: how many entries there were
+abbrev pub cut_words : ℕ → List (List ℕ)
+cut_words count = codes "cut" ∷ decimal count ∷ []
+
+-- the text of a history's events
+abbrev pub events_text : Version → BusConfig → List Entry → List ℕ
+events_text v c past = events_front v c past ++ spell (end_words (length past)) []
+
+-- the same where the record's text is cut off after these entries
+abbrev pub cut_events_text : Version → BusConfig → List Entry → List ℕ
+cut_events_text v c past = events_front v c past ++ spell (cut_words (length past)) []

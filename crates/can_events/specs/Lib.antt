@@ -1,0 +1,4 @@
+pub mod Brought
+pub mod Words
+pub mod EventsText
+pub mod inner

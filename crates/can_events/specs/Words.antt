@@ -1,0 +1,40 @@
+use Rattle.std.specs.Prelude.{ℕ, ◌==◌, ◌&&◌, List, [], ◌∷◌, ◌++◌, codes, decimal, if◌then◌else◌}
+use Rattle.std.specs.List.{flat_map}
+use Rattle.can_confine.specs.Confinement.{ErrorCounts}
+use Rattle.can_frame.specs.declared.item.Item.{Item}
+use Rattle.can_frame.specs.declared.item.Item.TheVariants as item
+use Rattle.can_frame.specs.FrameText.{frame_spelling}
+
+-- How the parts of a line are written: what an entry brought about (own choice).
+
+-- words, a space before each
+unfoldable pub parted : List (List ℕ) → List ℕ
+parted words = flat_map (λ (w : List ℕ). 32 ∷ w) words
+
+-- a part: a semicolon and its words
+abbrev pub part : List (List ℕ) → List ℕ
+part words = 59 ∷ parted words
+
+-- a part that begins with this name, and is there where a word follows the name
+abbrev pub named : List ℕ → List (List ℕ) → List ℕ
+named name [] = []
+named name (w ∷ ws) = part (name ∷ w ∷ ws)
+
+-- the error counts of interface i after an entry that changed them
+unfoldable pub counts_part : ℕ → ErrorCounts → ErrorCounts → List ℕ
+counts_part i before after =
+    if (before.tec == after.tec) && (before.rec == after.rec) then []
+    else part (codes "counts" ∷ decimal i ∷ decimal after.tec ∷ decimal after.rec ∷ [])
+
+-- how many frames interface i lost, where it lost any
+unfoldable pub lost_part : ℕ → ℕ → List ℕ
+lost_part i n = if n == 0 then [] else part (codes "lost" ∷ decimal i ∷ decimal n ∷ [])
+
+-- an item that was put to socket s: the socket, and after a colon the item where it is an error message frame
+abbrev pub put_word : ℕ → Item → List ℕ
+put_word s (item.Data f) = decimal s
+put_word s (item.Error e) = decimal s ++ 58 ∷ frame_spelling (item.Error e)
+
+-- how many items found no room at socket s, where any did: the socket, a colon and the number
+abbrev pub dropped_words : ℕ → ℕ → List (List ℕ)
+dropped_words s n = if n == 0 then [] else (decimal s ++ 58 ∷ decimal n) ∷ []

@@ -1,0 +1,3 @@
+pub mod Seen
+pub use Rattle.can_events.specs.Brought
+pub use Rattle.can_events.specs.Words

@@ -1,0 +1,130 @@
+ghost use Rattle.std.specs.Prelude.{◌≡◌, ◌++◌, ◌∷◌, [], List, OnOk, IfOk, replicate, true};
+ghost use Rattle.can_bus.specs.Lean.{IsAfter};
+ghost use Rattle.can_confine.specs.Confinement.{at_start};
+ghost use Rattle.can_event.specs.declared.entry.Entry.{Entry};
+ghost use Rattle.can_events.specs.Brought.{is_step};
+ghost use Rattle.can_events.specs.EventsText.{unended, with_parts};
+ghost use Rattle.can_events.specs.inner.Seen.{HasSeen, seen_in, told_parts};
+
+use crate::parts::{put_all_counts, put_all_lost, put_queued, put_refused};
+use can_bus::{LeanRingBus, RingState};
+use can_confine::Counters;
+use can_event::Closed;
+use std::alloc::{AllocError, Global};
+use std::marker::Model;
+
+/// What a bus was like before an entry, as far as an entry can change it.
+///
+/// `look` before an attempt or a restart, then the bus's answer, then `put_line`. Memory is taken once, by `new`.
+#[derive(Drop)]
+pub struct Before {
+    /// The error counters of all 16 places.
+    counters: [Counters; 16],
+    /// How many frames each interface had lost.
+    lost: Vec<u64>,
+    /// Of each open socket how many items waited, and how many had found no room.
+    sockets: Vec<Closed>,
+}
+
+impl Model for Before {
+    ghost use Rattle.can_events.specs.inner.Seen.{Seen};
+
+    ghost Value = { Seen };
+
+    ghost view = { λ b. record {
+      counters = b.counters;
+      lost = b.lost.items;
+      sockets = b.sockets.items;
+    } };
+}
+
+impl Before {
+    /// What has seen no bus yet. It takes memory for 64 sockets.
+    pub fn new(alloc: Global) -> Result<Before, AllocError>
+        ensures { IfOk result (λ b. b
+            ≡ record { counters = replicate 16 at_start; lost = []; sockets = [] }) }
+    {
+        Ok(Before {
+            counters: [Counters::zero(); 16],
+            lost: Vec::with_capacity(alloc, 16)?,
+            sockets: Vec::with_capacity(alloc, 64)?,
+        })
+    }
+
+    /// Looks at a bus.
+    pub fn look(&mut self, bus: &LeanRingBus) -> Result<(), AllocError>
+        ensures { (past : List Entry) → IsAfter bus.now past →
+            OnOk result (HasSeen bus.now.config past self.new) }
+    {
+        self.see(bus.state())
+    }
+
+    // Looks at what a bus keeps.
+    fn see(&mut self, state: &RingState) -> Result<(), AllocError>
+        ensures { OnOk result (self.new ≡ seen_in state.now) }
+    {
+        self.counters = state.counters();
+        see_lost(&mut self.lost, state)?;
+        see_sockets(&mut self.sockets, state)
+    }
+
+    /// The line of an attempt or a restart, as it is in the record, and before its LF what the entry brought about. The
+    /// bus was looked at before it.
+    pub fn put_line(
+        &self,
+        out: &mut Vec<u8>,
+        bus: &LeanRingBus,
+        line: &[u8],
+    ) -> Result<(), AllocError>
+        ensures { (past : List Entry) (e : Entry) → HasSeen bus.now.config past self.now →
+            IsAfter bus.now (e ∷ past) → is_step e.event ≡ true →
+            OnOk result (out.new.items ≡ out.old.items ++
+            with_parts bus.now.config past e line.now) }
+    {
+        put_unended(out, line)?;
+        self.put_parts(out, bus.state())?;
+        out.extend_from_slice(b"\n")?;
+        Ok(())
+    }
+
+    // What has changed since.
+    fn put_parts(&self, out: &mut Vec<u8>, state: &RingState) -> Result<(), AllocError>
+        ensures { OnOk result (out.new.items ≡ out.old.items ++ told_parts self.now state.now) }
+    {
+        put_all_counts(out, &self.counters, &state.counters())?;
+        put_all_lost(out, &self.lost, state)?;
+        put_queued(out, &self.sockets, state)?;
+        put_refused(out, &self.sockets, state)
+    }
+}
+
+/// How many frames each interface has lost.
+fn see_lost(lost: &mut Vec<u64>, state: &RingState) -> Result<(), AllocError>
+    ensures { OnOk result (lost.new.items ≡ (seen_in state.now).lost) }
+{
+    lost.clear();
+    for i in 0..state.iface_count() {
+        lost.push(state.lost_at(i).unwrap())?;
+    }
+    Ok(())
+}
+
+/// Of each open socket how many items wait there, and how many have found no room.
+fn see_sockets(sockets: &mut Vec<Closed>, state: &RingState) -> Result<(), AllocError>
+    ensures { OnOk result (sockets.new.items ≡ (seen_in state.now).sockets) }
+{
+    sockets.clear();
+    for place in 0..state.open_count() {
+        let (_, counts) = state.socket_at(place).unwrap();
+        sockets.push(counts)?;
+    }
+    Ok(())
+}
+
+/// A line without its LF.
+fn put_unended(out: &mut Vec<u8>, line: &[u8]) -> Result<(), AllocError>
+    ensures { OnOk result (out.new.items ≡ out.old.items ++ unended line.now) }
+{
+    let end = line.len().saturating_sub(1);
+    out.extend_from_slice(&line[..end])
+}

@@ -1,0 +1,14 @@
+//! The text of a record's events: the line of each entry, with what the entry brought about. That is the error counts
+//! that it changed, the frames that bus off lost, and the items that found room at sockets, and those that found none.
+//!
+//! `Before` looks at a bus before an entry, and writes the entry's line after it. `specs/EventsText.antt` says what the
+//! text of a whole history is.
+#![tactic(auto)]
+
+pub mod before;
+pub mod fronts;
+mod parts;
+mod words;
+
+pub use before::Before;
+pub use fronts::first_line;
