@@ -64,6 +64,7 @@ NO_JOB = [
     "serve --log run.log can0",
     "audit",
     "audit --cut",
+    "audit --events=1 run.rec",
 ]
 # Words that are taken: what is reported is of the bus.
 A_JOB = [

@@ -319,6 +319,21 @@ def test_an_audit_without_memory(refusing):
     print(summed(runs))
 
 
+def test_events_without_memory(refusing):
+    """an audit's: they are as ever, or the fault follows whole lines of them"""
+    Bench(refusing, ["can0,can1"], COMMANDS)
+    words = ["audit", "--events", "run.rec"]
+    ample, asked = refusing.run(words)
+    assert ample.returncode == 0 and ample.stdout.count("; put ") > 1
+    for first, last in windows(asked):
+        done, _ = refusing.run(words, "", first, last)
+        if done.returncode == 0:
+            assert (done.stdout, done.stderr) == (ample.stdout, ample.stderr), f"at {first}: {done}"
+        else:
+            assert done.stderr == NO_MEMORY and ample.stdout.startswith(done.stdout), f"at {first}: {done}"
+            assert done.stdout[-1:] in ("", "\n"), f"at {first}: {done}"
+
+
 def crosses(server, source, target):
     """Whether a frame crosses a bus. Its driver may have been refused memory."""
     with contextlib.closing(plain(server, source)) as sender, contextlib.closing(plain(server, target)) as receiver:

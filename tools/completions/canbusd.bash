@@ -13,7 +13,7 @@ _canbusd() {
     1,*) _canbusd_offer "bench serve audit $package help --help --version" ;;
     *,audit)
         case $text in
-        -*) _canbusd_offer "--cut --help" ;;
+        -*) _canbusd_offer "--cut --events --help" ;;
         *) compopt -o default ;;
         esac
         ;;

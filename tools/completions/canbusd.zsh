@@ -66,6 +66,7 @@ _canbusd() {
     audit)
         _arguments '(- *)--help[show the help]' \
             '--cut[audit a record that is cut off]' \
+            '--events[write what each entry brought about]' \
             '*:record:_files'
         ;;
     restbus | convert | report | replay) _arguments '*:file:_files' ;;

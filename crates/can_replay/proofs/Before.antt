@@ -4,7 +4,7 @@ use Rattle.can_event.specs.declared.bus_config.BusConfig.{BusConfig}
 use Rattle.can_event.specs.declared.entry.Entry.{Entry}
 use Rattle.can_bus.specs.Legal.{IsLegal}
 use Rattle.can_bus.proofs.LifeFacts.{legal-before}
-use Rattle.can_replay.specs.Histories.{before, IsHistory}
+use Rattle.can_replay.specs.Histories.{before}
 
 -- A list of entries is read one after another: the history grows by one.
 
@@ -15,8 +15,8 @@ before_more es k e lt read =
 pub before_all : (es : List Entry) (k : ℕ) → length es ≤ k → before es k ≡ reverse es
 before_all es k le = ap reverse (take_all k es le)
 
--- what stood before a history's last entries is a history too
-pub history-before : (c : BusConfig) (es : List Entry) (k : ℕ) → IsHistory c (reverse es) → IsHistory c (before es k)
-history-before c es k h =
+-- what comes before a legal history's last entries is legal too
+pub legal_front : (c : BusConfig) (es : List Entry) (k : ℕ) → IsLegal c (reverse es) → IsLegal c (before es k)
+legal_front c es k h =
     let split : reverse es ≡ reverse (drop k es) ++ before es k = ap reverse (sym (take-append-drop k es)) ∙ reverse-append (take k es) (drop k es) in
-    record { proper = h.proper; legal = legal-before c (reverse (drop k es)) (before es k) (subst (IsLegal c) split h.legal) }
+    legal-before c (reverse (drop k es)) (before es k) (subst (IsLegal c) split h)

@@ -23,7 +23,10 @@ use Rattle.can_replay.specs.declared.text_fault.TextFault.{TextFault}
 use Rattle.can_replay.specs.declared.text_fault.TextFault.TheVariants as found
 use Rattle.can_replay.specs.declared.text_fault.WrongLine.{WrongLine}
 use Rattle.can_replay.specs.TextAudits.{EndsNoLine, FaultsUncut, IsCutText, IsFrontOf, IsLegalText, IsLine, IsUncut, IsWrongCut, IsWrongText, MayFollow, Reports, ReportsCut}
-use Rattle.can_replay.specs.inner.EntryAudits.{IsGoing, IsSettled, so_far}
+use Rattle.can_replay.specs.EventTexts.{IsOff, IsReached, IsWhole}
+use Rattle.can_replay.specs.declared.text_fault.Cut.{Cut}
+use Rattle.can_replay.specs.declared.text_fault.Cut.TheVariants as cut
+use Rattle.can_replay.specs.inner.EntryAudits.{IsBegun, IsGoing, IsSettled, so_far}
 use Rattle.can_replay.specs.inner.Steps.{IsUnended, IsEndLine}
 use Rattle.can_replay.proofs.LineEnds.{cut_bus, cut_end, lacks_bus, lacks_end, lacks_entry, torn_bus, torn_first}
 use Rattle.can_replay.proofs.Uncut.{ended_uncut, second_uncut, version_uncut}
@@ -34,7 +37,7 @@ front_alone : (v : Version) (c : BusConfig) → front_lines v c (entry_lines [] 
 unfolding entry_lines
 front_alone v c = refl
 
-pub begun : (v : Version) (c : BusConfig) (line rest : List ℕ) (bus : Lean) (needs : Needs) → HasBusLine v c → line ≡ spell (bus_words v c) [] ++ rest → IsAfter bus [] → bus.config ≡ c → needs ≡ no_needs → IsLine line
+begun : (v : Version) (c : BusConfig) (line rest : List ℕ) (bus : Lean) (needs : Needs) → HasBusLine v c → line ≡ spell (bus_words v c) [] ++ rest → IsAfter bus [] → bus.config ≡ c → needs ≡ no_needs → IsLine line
     → IsGoing (first_line v ++ line) (record { version = v; config = c; bus = bus; count = 0; needs = needs; wrong = None; is_ended = false })
 begun v c line rest bus needs good is_after new config nothing is = record {
   read = record {
@@ -47,6 +50,16 @@ begun v c line rest bus needs good is_after new config nothing is = record {
   };
   config = λ going. config;
   is_after = λ going none. new;
+}
+
+pub begun_at : (v : Version) (c : BusConfig) (line rest : List ℕ) (bus : Lean) (needs : Needs) → HasBusLine v c → line ≡ spell (bus_words v c) [] ++ rest → IsAfter bus [] → bus.config ≡ c → needs ≡ no_needs → IsLine line
+    → IsBegun v line (record { version = v; config = c; bus = bus; count = 0; needs = needs; wrong = None; is_ended = false })
+unfolding begun
+begun_at v c line rest bus needs good is_after new config nothing is = record {
+  going = begun v c line rest bus needs good is_after new config nothing is;
+  none = refl;
+  legal = refl;
+  is_line = cut_bus v c line rest is good is_after;
 }
 
 pub no_bus : (v : Version) (line after : List ℕ) → LacksBus v line → MayFollow line after → IsFirstWrong (first_line v ++ (line ++ after)) 2
@@ -136,7 +149,7 @@ end_lacks line old mid (Err why) kept going few lacks h = λ text after g is may
 
 -- ---- the text has ended
 
-nothing_lacks : (v : Version) (c : BusConfig) → LacksEntry v c []
+pub nothing_lacks : (v : Version) (c : BusConfig) → LacksEntry v c []
 nothing_lacks v c e more good is = none-some e (sym nothing_is_none ∙ ap entry_at is ∙ entry_again v c e more good)
 
 nothing_ends : (n : ℕ) → LacksEnd n []
@@ -177,6 +190,14 @@ all_legal text b g end needed none = record {
   counted = g.read.counted;
 }
 
+pub whole_at : (text : List ℕ) (b : EntryAudit) (g : IsGoing text b) → b.is_ended ≡ true → is_needless b.version b.needs ≡ false → b.wrong ≡ None → IsWhole text b g b.count
+whole_at text b g end needed none = record {
+  whole = is_text text b g end needed;
+  version = version_is b.version b.config g.read.entries g.read.good (ap (is_needless b.version) (sym g.read.needs) ∙ needed);
+  legal = none;
+  counted = g.read.counted;
+}
+
 pub one_wrong : (text : List ℕ) (b : EntryAudit) (w : WrongLine) (g : IsGoing text b) → b.is_ended ≡ true → is_needless b.version b.needs ≡ false → b.wrong ≡ Some w → IsWrongText text w
 one_wrong text b w g end needed some = record {
   config = b.config;
@@ -204,6 +225,10 @@ cut_legal text torn b g going h none = record {
   legal = subst (IsSettled b.config g.read.entries) none g.read.settled;
   counted = g.read.counted;
 }
+
+pub off_at : (text torn : List ℕ) (b : EntryAudit) (g : IsGoing text b) → b.is_ended ≡ false → EndsNoLine torn → b.wrong ≡ None → IsOff text torn b g b.count
+unfolding front_is
+off_at text torn b g going h none = record { front = front_is text torn b g going h; version = refl; legal = none; counted = g.read.counted }
 
 pub cut_wrong : (text torn : List ℕ) (b : EntryAudit) (w : WrongLine) → IsGoing text b → b.is_ended ≡ false → EndsNoLine torn → b.wrong ≡ Some w → IsWrongCut (text ++ torn) w
 cut_wrong text torn b w g going h some = record {

@@ -7,3 +7,5 @@ pub mod Uncut
 pub mod TextAnswering
 pub mod Taking
 pub mod Ending
+pub mod GoingOn
+pub mod EventLines

@@ -53,7 +53,7 @@ words_through (w ∷ ws) rest h some = spell_through w ws rest h
 same_line : (line after whole l : List ℕ) → MayFollow line after → line ++ after ≡ whole → take_through 10 whole ≡ l → line ≡ l
 same_line line after whole l may is through = sym may ∙ ap (take_through 10) is ∙ through
 
-event_words_then : (e : Entry) → entry_words e ≢ []
+pub event_words_then : (e : Entry) → entry_words e ≢ []
 event_words_then e is = append_cons_some (event_words e.event) (codes "=") (reply_words e.reply) is
   where
     append_cons_some : (xs : List (List ℕ)) (y : List ℕ) (ys : List (List ℕ)) → xs ++ y ∷ ys ≡ [] → ⊥

@@ -36,20 +36,20 @@ use Rattle.can_replay.proofs.LineEnds.{cut_entry}
 
 -- ---- the first wrong entry, and entries behind it
 
-there_more : (es : List Entry) (e d : Entry) (k : ℕ) → slice_get es k ≡ Some d → slice_get (es ++ e ∷ []) k ≡ Some d
-there_more es e d k there =
+there_more : (es more : List Entry) (d : Entry) (k : ℕ) → slice_get es k ≡ Some d → slice_get (es ++ more) k ≡ Some d
+there_more es more d k there =
     let below = slice_get_within es k d there in
-    slice_get-get_or (es ++ e ∷ []) k d (omega (arith, below, length-append es (e ∷ []))) ∙ ap Some (get_or_append_left es (e ∷ []) d k below ∙ get_or_from_slice_get es k d d there)
+    slice_get-get_or (es ++ more) k d (omega (arith, below, length-append es more)) ∙ ap Some (get_or_append_left es more d k below ∙ get_or_from_slice_get es k d d there)
 
-told_more : (c : BusConfig) (es : List Entry) (e : Entry) (k : ℕ) (legal : Option Reply) → IsToldWrong c es k legal → IsToldWrong c (es ++ e ∷ []) k legal
-told_more c es e k legal t =
+pub told_more : (c : BusConfig) (es more : List Entry) (k : ℕ) (legal : Option Reply) → IsToldWrong c es k legal → IsToldWrong c (es ++ more) k legal
+told_more c es more k legal t =
     let f = t.first in
     let below = slice_get_within es k f.entry f.there in
-    let same : before es k ≡ before (es ++ e ∷ []) k = ap reverse (sym (take-append-le k es (e ∷ []) (omega (arith, below)))) in
+    let same : before es k ≡ before (es ++ more) k = ap reverse (sym (take-append-le k es more (omega (arith, below)))) in
     record {
       first = record {
         entry = f.entry;
-        there = there_more es e f.entry k f.there;
+        there = there_more es more f.entry k f.there;
         legal_before = subst (IsLegal c) same f.legal_before;
         wrong = subst (λ (h : List Entry). (c.limit ≤ k) ⊎ (f.entry.reply ≢ legal_reply c h f.entry.event)) same f.wrong;
       };
@@ -58,7 +58,7 @@ told_more c es e k legal t =
 
 wrong_more : (c : BusConfig) (es : List Entry) (e : Entry) (w : WrongLine) → IsWrongIn c es w → IsWrongIn c (es ++ e ∷ []) w
 unfolding told_more
-wrong_more c es e w h = record { told = told_more c es e w.place w.legal h.told; entry = h.entry; limit = h.limit }
+wrong_more c es e w h = record { told = told_more c es (e ∷ []) w.place w.legal h.told; entry = h.entry; limit = h.limit }
 
 pub settled_more : (c : BusConfig) (es : List Entry) (e : Entry) (o : Option WrongLine) → (o ≡ None → ⊥) → IsSettled c es o → IsSettled c (es ++ e ∷ []) o
 settled_more c es e None some h = absurd (some refl)

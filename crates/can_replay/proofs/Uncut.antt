@@ -102,7 +102,7 @@ line_uncut p after (fault.BadLine n) end wrong = (wrong after, first_uncut p aft
 
 -- ---- a text that has its end
 
-words_end : (w : List ℕ) (ws : List (List ℕ)) → (q : List ℕ) × ((rest : List ℕ) → spell (w ∷ ws) rest ≡ q ++ 10 ∷ rest)
+pub words_end : (w : List ℕ) (ws : List (List ℕ)) → (q : List ℕ) × ((rest : List ℕ) → spell (w ∷ ws) rest ≡ q ++ 10 ∷ rest)
 words_end w [] = (w, λ rest. refl)
 words_end w (v ∷ vs) =
     let last = words_end v vs in

@@ -1,4 +1,5 @@
 pub mod Audits
+pub mod EventTexts
 pub mod Histories
 pub mod Replies
 pub mod TextAudits

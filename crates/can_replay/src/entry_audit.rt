@@ -1,8 +1,10 @@
 ghost use Rattle.std.specs.Prelude.{◌≡◌, ◌↔◌, ◌+◌, ◌-◌, ◌^◌, ◌<◌, ◌++◌, Err, IfErr, IfOk, IsSome, IsTrue, List, None, OnOk, Some, false, true, ℕ};
 ghost use Rattle.can_record_text.specs.Spelling.{first_line, both_needs};
 ghost use Rattle.can_record_text.specs.inner.Reading.{SeemsToBe};
+ghost use Rattle.can_replay.specs.declared.text_fault.WrongLine.{WrongLine as AWrongLine};
+ghost use Rattle.can_replay.specs.EventTexts.{IsReached, IsWhole, is_legal_yet};
 ghost use Rattle.can_replay.specs.TextAudits.{EndsNoLine, FailsAfter, FailsNext, IsLine, TakesOn, Reports, ReportsCut};
-ghost use Rattle.can_replay.specs.inner.EntryAudits.{IsGoing};
+ghost use Rattle.can_replay.specs.inner.EntryAudits.{IsBegun, IsGoing};
 ghost use Rattle.can_replay.specs.inner.Steps.{ReportsWrong, IsUnended, IsEndLine, Takes};
 
 use crate::text_fault::{Cut, TextFault, WrongLine};
@@ -38,8 +40,7 @@ impl EntryAudit {
         version: Version,
         line: &[u8],
     ) -> Result<EntryAudit, ReadFault>
-        ensures taken { IfOk result (λ audit.
-            IsLine line.now → IsGoing (first_line version ++ line.now) audit) }
+        ensures taken { IfOk result (λ audit. IsLine line.now → IsBegun version line.now audit) }
         ensures fault { IfErr result (FailsAfter (first_line version) line.now) }
     {
         let config = match read_bus(&mut rooms.long, version, line) {
@@ -292,9 +293,26 @@ impl EntryAudit {
         self.is_ended
     }
 
+    /// Whether the end was not taken, and no entry is wrong so far.
+    pub fn is_legal_yet(&self) -> bool
+        ensures { result ≡ is_legal_yet self.now }
+    {
+        !self.is_ended && self.wrong.is_none()
+    }
+
+    /// The bus that was given the entries as long as they were legal.
+    pub fn bus(&self) -> &LeanRingBus
+        ensures { result.now ≡ self.now.bus }
+    {
+        &self.bus
+    }
+
     /// The text has ended.
     pub fn finish(self) -> Result<usize, TextFault>
-        ensures { (text : List ℕ) → IsGoing text self → Reports text result }
+        ensures found { (text : List ℕ) → IsGoing text self → Reports text result }
+        ensures whole { (text : List ℕ) (g : IsGoing text self) →
+            IfOk result (IsWhole text self g) }
+        ensures wrong { (w : AWrongLine) → result ≡ Err (TextFault.Wrong w) → self.wrong ≡ Some w }
     {
         let EntryAudit {
             version,
@@ -318,8 +336,11 @@ impl EntryAudit {
 
     /// The text has ended, maybe before its end: these bytes follow the lines that were taken, and end no line.
     pub fn finish_cut(self, torn: &[u8]) -> Result<Cut, TextFault>
-        ensures { (text : List ℕ) →
+        ensures found { (text : List ℕ) →
             IsGoing text self → EndsNoLine torn.now → ReportsCut (text ++ torn.now) result }
+        ensures reached { (text : List ℕ) (g : IsGoing text self) → EndsNoLine torn.now →
+            IfOk result (IsReached text torn.now self g) }
+        ensures wrong { (w : AWrongLine) → result ≡ Err (TextFault.Wrong w) → self.wrong ≡ Some w }
     {
         if self.is_ended {
             self.finish_whole(torn)
@@ -331,7 +352,10 @@ impl EntryAudit {
     // The same of a text that has its end, which nothing may follow.
     fn finish_whole(self, torn: &[u8]) -> Result<Cut, TextFault>
         requires { self.is_ended ≡ true }
-        ensures { (text : List ℕ) → IsGoing text self → ReportsCut (text ++ torn.now) result }
+        ensures found { (text : List ℕ) → IsGoing text self → ReportsCut (text ++ torn.now) result }
+        ensures reached { (text : List ℕ) (g : IsGoing text self) →
+            IfOk result (IsReached text torn.now self g) }
+        ensures wrong { (w : AWrongLine) → result ≡ Err (TextFault.Wrong w) → self.wrong ≡ Some w }
     {
         if !torn.is_empty() {
             return Err(TextFault::Read(ReadFault::BadLine(u64::from(self.count) + 4)));
@@ -345,8 +369,11 @@ impl EntryAudit {
     // The same of a text without its end.
     fn finish_off(self, torn: &[u8]) -> Result<Cut, TextFault>
         requires { self.is_ended ≡ false }
-        ensures { (text : List ℕ) →
+        ensures found { (text : List ℕ) →
             IsGoing text self → EndsNoLine torn.now → ReportsCut (text ++ torn.now) result }
+        ensures reached { (text : List ℕ) (g : IsGoing text self) → EndsNoLine torn.now →
+            IfOk result (IsReached text torn.now self g) }
+        ensures wrong { (w : AWrongLine) → result ≡ Err (TextFault.Wrong w) → self.wrong ≡ Some w }
     {
         let EntryAudit { count, wrong, .. } = self;
         match wrong {

@@ -6,11 +6,12 @@
 //! `TextAudit` takes the text of a record line by line, and holds neither the text nor the record. It answers what
 //! `read_record` and then `audit` would of the whole text: the first line that is wrong, and where there is none the first
 //! entry that is, with the reply that would be legal. Of a text that is cut off, as a run that was killed leaves it, it
-//! says how many entries it has.
+//! says how many entries it has. An audit with events also writes what each entry brought about, in the lines of can_events.
 #![tactic(auto)]
 
 pub mod audits;
 mod entry_audit;
+mod events_text;
 pub mod laws;
 mod same;
 pub mod text_audit;

@@ -1,17 +1,21 @@
-ghost use Rattle.std.specs.Prelude.{◌≡◌, ◌++◌, [], Err, IfErr, IfOk, List, OnOk, ℕ};
+ghost use Rattle.std.specs.Prelude.{◌≡◌, ◌++◌, [], Err, IfErr, IfOk, List, OnOk, Some, false, true, ℕ};
+ghost use Rattle.can_events.specs.EventsText.{first_line as events_first_line};
 ghost use Rattle.can_record_text.specs.declared.fault.ReadFault.{ReadFault as AFault};
 ghost use Rattle.can_record_text.specs.RecordFaults.{LacksFirst};
 ghost use Rattle.can_record_text.specs.Spelling.{first_line};
 ghost use Rattle.can_record_text.specs.Texts.{StartsWith};
+ghost use Rattle.can_replay.specs.declared.text_fault.WrongLine.{WrongLine as AWrongLine};
+ghost use Rattle.can_replay.specs.EventTexts.{Completes, EndsCutEvents, EndsEvents, HasWritten, has_events, held_events, wrong_so_far};
 ghost use Rattle.can_replay.specs.TextAudits.{AreTaken, EndsNoLine, FailsAfter, FailsNext, HasFailed, IsLine, TakesOn, Reports, ReportsCut, first_taken, has_end_line};
 
 use crate::entry_audit::EntryAudit;
+use crate::events_text::EventsText;
 use crate::text_fault::{Cut, TextFault};
 use can_record_text::ReadFault;
 use can_record_text::lines::read_version;
 use can_record_text::rooms::Rooms;
 use can_record_text::version::Version;
-use std::alloc::Global;
+use std::alloc::{AllocError, Global};
 
 /// How far the lines of a text have come.
 #[derive(Drop)]
@@ -30,20 +34,65 @@ enum Phase {
 ///
 /// Contracts name the text so far, as the lines that were taken make it. A line is cut after its LF, and one without
 /// LF is the text's last. After a fault each call answers that fault.
+///
+/// An audit with events also writes what the entries brought about, as far as they are legal. It holds of that what was
+/// not cleared.
 #[derive(Drop)]
 pub struct TextAudit {
     phase: Phase,
     rooms: Rooms,
+    events: Option<EventsText>,
 }
 
 impl TextAudit {
     /// An audit that was given nothing yet.
     pub fn new(alloc: Global) -> TextAudit
-        ensures { AreTaken [] result }
+        ensures taken { AreTaken [] result }
+        ensures written { HasWritten [] [] result }
+        ensures none { held_events result.events ≡ [] }
+        ensures events { has_events result.events ≡ false }
     {
         TextAudit {
             phase: Phase::Start,
             rooms: Rooms::new(alloc),
+            events: None,
+        }
+    }
+
+    /// The same with events. Memory is taken for what they are compared with.
+    pub fn with_events(alloc: Global) -> Result<TextAudit, AllocError>
+        ensures written { IfOk result (λ audit. HasWritten [] [] audit) }
+        ensures none { IfOk result (λ audit. held_events audit.events ≡ []) }
+        ensures events { IfOk result (λ audit. has_events audit.events ≡ true) }
+    {
+        Ok(TextAudit {
+            phase: Phase::Start,
+            rooms: Rooms::new(alloc),
+            events: Some(EventsText::new(alloc)?),
+        })
+    }
+
+    /// What the entries brought about and was not cleared, in whole lines: before the first one those of the format and of
+    /// the bus. Nothing of a wrong entry, nor of what follows it.
+    pub fn events(&self) -> &[u8]
+        ensures { result.now ≡ held_events self.now.events }
+    {
+        match &self.events {
+            Some(events) => events.text(),
+            None => b"",
+        }
+    }
+
+    /// Clears what the entries so far brought about.
+    pub fn clear_events(&mut self)
+        ensures phase { self.new.phase ≡ self.old.phase }
+        ensures events { has_events self.new.events ≡ has_events self.old.events }
+        ensures none { held_events self.new.events ≡ [] }
+        ensures written { (text cleared : List ℕ) → HasWritten text cleared self.old →
+            HasWritten text (cleared ++ held_events self.old.events) self.new }
+    {
+        if let Some(events) = &mut self.events {
+            events.clear();
         }
     }
 
@@ -56,6 +105,11 @@ impl TextAudit {
         ensures fault { IfErr result (FailsNext AreTaken self.old line.now) }
         ensures failed { IfErr result (λ why. HasFailed why self.new) }
         ensures again { (why : AFault) → HasFailed why self.old → result ≡ Err why }
+        ensures written { OnOk result ((cleared : List ℕ) →
+            TakesOn (λ text audit. HasWritten text cleared audit) self.old self.new line.now) }
+        ensures held { IfErr result
+            (λ why. held_events self.new.events ≡ held_events self.old.events) }
+        ensures events { has_events self.new.events ≡ has_events self.old.events }
     {
         match self.take(alloc, line) {
             Ok(()) => Ok(()),
@@ -68,6 +122,7 @@ impl TextAudit {
     fn fail(&mut self, why: ReadFault) -> Result<(), ReadFault>
         ensures failed { HasFailed why self.new }
         ensures returned { result ≡ Err why }
+        ensures events { self.new.events ≡ self.old.events }
     {
         self.phase = Phase::Failed(why);
         Err(why)
@@ -78,6 +133,11 @@ impl TextAudit {
         ensures taken { OnOk result (TakesOn AreTaken self.old self.new line.now) }
         ensures fault { IfErr result (FailsNext AreTaken self.old line.now) }
         ensures again { (why : AFault) → HasFailed why self.old → result ≡ Err why }
+        ensures written { OnOk result ((cleared : List ℕ) →
+            TakesOn (λ text audit. HasWritten text cleared audit) self.old self.new line.now) }
+        ensures held { IfErr result
+            (λ why. held_events self.new.events ≡ held_events self.old.events) }
+        ensures events { has_events self.new.events ≡ has_events self.old.events }
     {
         match &mut self.phase {
             Phase::Start => self.take_first(line),
@@ -85,7 +145,10 @@ impl TextAudit {
                 let version = *version;
                 self.take_second(alloc, version, line)
             }
-            Phase::Entries(audit) => audit.carry(alloc, &mut self.rooms, line),
+            Phase::Entries(audit) => match &mut self.events {
+                None => audit.carry(alloc, &mut self.rooms, line),
+                Some(events) => events.carry(alloc, audit, &mut self.rooms, line),
+            },
             Phase::Failed(why) => Err(*why),
         }
     }
@@ -95,6 +158,9 @@ impl TextAudit {
     fn take_first(&mut self, line: &[u8]) -> Result<(), ReadFault>
         ensures taken { OnOk result (IsLine line.now → AreTaken line.now self.new) }
         ensures fault { IfErr result (FailsAfter [] line.now) }
+        ensures written { OnOk result (IsLine line.now → (cleared : List ℕ) →
+            Completes self.old.events cleared [] → HasWritten line.now cleared self.new) }
+        ensures events { self.new.events ≡ self.old.events }
     {
         self.phase = Phase::Front(first_version(line)?);
         Ok(())
@@ -106,8 +172,16 @@ impl TextAudit {
         ensures taken { OnOk result
             (IsLine line.now → AreTaken (first_line version ++ line.now) self.new) }
         ensures fault { IfErr result (FailsAfter (first_line version) line.now) }
+        ensures written { OnOk result (IsLine line.now → (cleared : List ℕ) →
+            Completes self.old.events cleared [] →
+            HasWritten (first_line version ++ line.now) cleared self.new) }
+        ensures held { IfErr result
+            (λ why. held_events self.new.events ≡ held_events self.old.events) }
+        ensures events { has_events self.new.events ≡ has_events self.old.events }
     {
-        self.phase = Phase::Entries(EntryAudit::read(alloc, &mut self.rooms, version, line)?);
+        let audit = EntryAudit::read(alloc, &mut self.rooms, version, line)?;
+        begin_events(&mut self.events, line)?;
+        self.phase = Phase::Entries(audit);
         Ok(())
     }
 
@@ -115,6 +189,10 @@ impl TextAudit {
     pub fn finish(self) -> Result<usize, TextFault>
         ensures told { (text : List ℕ) → AreTaken text self → Reports text result }
         ensures again { (why : AFault) → HasFailed why self → result ≡ Err (TextFault.Read why) }
+        ensures events { (text cleared : List ℕ) → HasWritten text cleared self →
+            IfOk result (EndsEvents self.events text cleared) }
+        ensures wrong { (w : AWrongLine) → result ≡ Err (TextFault.Wrong w) →
+            wrong_so_far self.phase ≡ Some w }
     {
         let TextAudit { phase, .. } = self;
         match phase {
@@ -133,6 +211,11 @@ impl TextAudit {
         ensures told { (text : List ℕ) →
             AreTaken text self → EndsNoLine torn.now → ReportsCut (text ++ torn.now) result }
         ensures again { (why : AFault) → HasFailed why self → result ≡ Err (TextFault.Read why) }
+        ensures events { (text cleared : List ℕ) → HasWritten text cleared self →
+            EndsNoLine torn.now →
+            IfOk result (EndsCutEvents self.events (text ++ torn.now) cleared) }
+        ensures wrong { (w : AWrongLine) → result ≡ Err (TextFault.Wrong w) →
+            wrong_so_far self.phase ≡ Some w }
     {
         let TextAudit { phase, .. } = self;
         match phase {
@@ -162,6 +245,23 @@ impl TextAudit {
             Phase::Entries(audit) => audit.has_end_line(),
             _ => false,
         }
+    }
+}
+
+// Writes what comes before the events of entries, where there are any: the second line of the text is this one.
+fn begin_events(events: &mut Option<EventsText>, line: &[u8]) -> Result<(), ReadFault>
+    ensures begun { OnOk result ((cleared : List ℕ) → Completes events.old cleared [] →
+        Completes events.new cleared (events_first_line ++ line.now)) }
+    ensures held { IfErr result (λ why. held_events events.new ≡ held_events events.old) }
+    ensures memory { IfErr result (λ why. why ≡ ReadFault.NoMemory) }
+    ensures kind { has_events events.new ≡ has_events events.old }
+{
+    match events {
+        None => Ok(()),
+        Some(text) => match text.begin(line) {
+            Ok(()) => Ok(()),
+            Err(_) => Err(ReadFault::NoMemory),
+        },
     }
 }
 

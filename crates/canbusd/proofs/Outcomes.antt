@@ -8,14 +8,14 @@ use Rattle.canbusd.specs.Outcomes.{IsDone}
 
 -- A job that was done, and what is written after it.
 
--- an audit whose line was written stays so
-whole-kept : (text : List ℕ) (old mid new : Option (List ℕ)) → IsAudited text old mid → Keeps mid new → IsAudited text old new
-whole-kept text old mid new done kept = record { config = done.config; entries = done.entries; whole = done.whole; legal = done.legal; wrote = Appends-kept old mid new _ done.wrote kept }
+-- an audit whose text was written stays so
+whole-kept : (has : Bool) (text : List ℕ) (old mid new : Option (List ℕ)) → IsAudited has text old mid → Keeps mid new → IsAudited has text old new
+whole-kept has text old mid new done kept = record { config = done.config; entries = done.entries; whole = done.whole; legal = done.legal; wrote = Appends-kept old mid new _ done.wrote kept }
 
-audited-kept : (is_cut : Bool) (text : List ℕ) (old mid new : Option (List ℕ)) → IsAuditedBy is_cut text old mid → Keeps mid new → IsAuditedBy is_cut text old new
-audited-kept false text old mid new done kept = whole-kept text old mid new done kept
-audited-kept true text old mid new (inl done) kept = inl (whole-kept text old mid new done kept)
-audited-kept true text old mid new (inr done) kept = inr (record { config = done.config; entries = done.entries; front = done.front; legal = done.legal; wrote = Appends-kept old mid new _ done.wrote kept })
+audited-kept : (is_cut has : Bool) (text : List ℕ) (old mid new : Option (List ℕ)) → IsAuditedBy is_cut has text old mid → Keeps mid new → IsAuditedBy is_cut has text old new
+audited-kept false has text old mid new done kept = whole-kept has text old mid new done kept
+audited-kept true has text old mid new (inl done) kept = inl (whole-kept has text old mid new done kept)
+audited-kept true has text old mid new (inr done) kept = inr (record { config = done.config; entries = done.entries; front = done.front; legal = done.legal; wrote = Appends-kept old mid new _ done.wrote kept })
 
 -- it stays done where what was put out stays
 pub done-kept : {W : Type 0} (contents : W → Option (List ℕ)) (j : Job) (input : Option (List ℕ)) (old mid new : W) → IsDone contents j input old mid → Keeps (contents mid) (contents new) → IsDone contents j input old new
@@ -27,7 +27,7 @@ done-kept contents (job.Bench o) input old mid new done kept = record {
   flushed = Keeps-trans (contents done.written) (contents mid) (contents new) done.flushed kept;
   strict = done.strict;
 }
-done-kept contents (job.Audit o) input old mid new done kept = (done.0, audited-kept o.is_cut done.0 (contents old) (contents mid) (contents new) done.1 kept)
+done-kept contents (job.Audit o) input old mid new done kept = (done.0, audited-kept o.is_cut o.has_events done.0 (contents old) (contents mid) (contents new) done.1 kept)
 done-kept contents (job.Serve o) input old mid new done kept = record {
   named = done.named;
   ends = done.ends;

@@ -11,11 +11,11 @@ use Rattle.canbusd_serve.specs.Served.{IsServed}
 -- What a command line comes to that ends with status 0 (own choice).
 
 -- a job was done over the rest of an input, and what it puts out was written: the bench that its options
--- describe, an audit of a text that is a legal record's, or its front where it may be cut off, or a server whose
--- records are legal
+-- describe, an audit of a text that is a legal record's, or its front where it may be cut off, with its events where
+-- they are asked for, or a server whose records are legal
 abbrev pub IsDone : {W : Type 0} → (W → Option (List ℕ)) → Job → Option (List ℕ) → W → W → Type 0
 IsDone contents (job.Bench o) input old new = IsBenched contents o input old new
-IsDone contents (job.Audit o) input old new = AuditsFiles o.is_cut contents old new
+IsDone contents (job.Audit o) input old new = AuditsFiles o.is_cut o.has_events contents old new
 IsDone contents (job.Serve o) input old new = IsServed contents o old new
 
 -- the job that words ask for was done

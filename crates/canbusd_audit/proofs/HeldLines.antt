@@ -1,5 +1,5 @@
 -- The lines that a reader holds.
-use Rattle.std.proofs.Common.{◌≡◌, ◌≢◌, ◌+◌, ◌-◌, ◌<◌, ℕ, List, [], ◌∷◌, ◌++◌, All, length, take, drop, Option, Some, None, Err, append_assoc, arith, eqb-true, eq-eqb, get_or, get_or-take, length-take-le, sym, ap, subst, ◌∙◌}
+use Rattle.std.proofs.Common.{◌≡◌, ◌≢◌, ◌+◌, ◌-◌, ◌<◌, ℕ, List, [], ◌∷◌, ◌++◌, All, length, take, drop, Option, Some, None, Err, append_assoc, arith, eqb-true, eq-eqb, get_or, get_or-take, length-take-le, refl, sym, ap, subst, ◌∙◌}
 use Rattle.std.proofs.Math.Seq.{take-add}
 use Rattle.std.proofs.Transfers.{StopsAt-take}
 use Rattle.std.proofs.BufReadLemmas.{through_part}
@@ -7,14 +7,15 @@ use Rattle.std.proofs.lemmas.List.{take-append-drop, take_more}
 use Rattle.std.proofs.lemmas.List.Elements.{All-from_get_or}
 use Rattle.std.specs.Io.{IsEmptyOrEndsWith, StartsWith, StopsAt}
 use Rattle.std.specs.Io.KnownBytes.{Consumes}
-use Rattle.std.specs.Prelude.{IfSome}
+use Rattle.std.specs.Prelude.{IfSome, IsSome}
 use Rattle.memchr.specs.Find.{IsFirstByte, is_byte}
 use Rattle.can_record_text.specs.declared.fault.ReadFault.{ReadFault}
 use Rattle.can_record_text.specs.RecordFaults.{Reads}
 use Rattle.can_replay.specs.declared.text_audit.TextAudit.{TextAudit}
+use Rattle.can_replay.specs.EventTexts.{HasWritten}
 use Rattle.can_replay.specs.TextAudits.{AreTaken, EndsLine, FaultsUncut, IsLine, MayFollow}
 use Rattle.can_replay.proofs.Uncut.{line_uncut}
-use Rattle.canbusd_audit.specs.Audited.{GoesOn, IsAtFault, IsWrongNext}
+use Rattle.canbusd_audit.specs.Audited.{GoesOn, HoldsBefore, IsAtFault, IsWrongNext, StopsAfter, TakesMore}
 use Rattle.canbusd_audit.proofs.Underway.{more_read}
 
 -- ---- a line that is cut behind its LF, which is the first one
@@ -59,14 +60,13 @@ module _ (held : List ℕ) (len place : ℕ) (text : List ℕ) where
   with_more after = sym (append_assoc (text ++ take len held) line after) ∙ ap (λ (x : List ℕ). x ++ after) one_more ∙ append_assoc text (take (len + (place + 1)) held) after
 
 -- a line more was taken
-pub takes_more : (held : List ℕ) (len place : ℕ) (old now new : TextAudit) → IsFirstByte (is_byte 10) (drop len held) (Some place) → ((text : List ℕ) → AreTaken text old → AreTaken (text ++ take len held) now)
-    → ((text : List ℕ) → AreTaken text now → IsLine (take (place + 1) (drop len held)) → AreTaken (text ++ take (place + 1) (drop len held)) new)
-    → (text : List ℕ) → AreTaken text old → AreTaken (text ++ take (len + (place + 1)) held) new
-takes_more held len place old now new found taken step text start =
-    subst (λ (x : List ℕ). AreTaken x new) (one_more held len place text) (step (text ++ take len held) (taken text start) (is_line (drop len held) place found))
+pub takes_more : (held : List ℕ) (len place : ℕ) (old now new : TextAudit) → IsFirstByte (is_byte 10) (drop len held) (Some place) → TakesMore old (take len held) now
+    → ((events text : List ℕ) → HasWritten text events now → IsLine (take (place + 1) (drop len held)) → HasWritten (text ++ take (place + 1) (drop len held)) events new) → TakesMore old (take (len + (place + 1)) held) new
+takes_more held len place old now new found taken step text events start =
+    subst (λ (x : List ℕ). HasWritten x events new) (one_more held len place text) (step events (text ++ take len held) (taken text events start) (is_line (drop len held) place found))
 
 -- the line is at fault
-pub fails_in : (held : List ℕ) (len place : ℕ) (old now : TextAudit) (why : ReadFault) → IsFirstByte (is_byte 10) (drop len held) (Some place) → ((text : List ℕ) → AreTaken text old → AreTaken (text ++ take len held) now)
+pub fails_in : (held : List ℕ) (len place : ℕ) (old now : TextAudit) (why : ReadFault) → IsFirstByte (is_byte 10) (drop len held) (Some place) → TakesMore old (take len held) now
     → ((text after : List ℕ) → AreTaken text now → IsLine (take (place + 1) (drop len held)) → MayFollow (take (place + 1) (drop len held)) after → Reads (text ++ (take (place + 1) (drop len held) ++ after)) (Err why))
     → IsWrongNext old held why
 fails_in held len place old now why found taken step =
@@ -77,32 +77,32 @@ fails_in held len place old now why found taken step =
       rest = drop (len + (place + 1)) held;
       begins = sym (take-append-drop (len + (place + 1)) held);
       ended = (take len held ++ end.0, take-add len (place + 1) held ∙ ap (λ (x : List ℕ). take len held ++ x) end.1 ∙ sym (append_assoc (take len held) end.0 (10 ∷ [])));
-      wrong = λ text after start.
-          subst (λ (x : List ℕ). Reads x (Err why)) (with_more held len place text after) (step (text ++ take len held) after (taken text start) (is_line left place found) (may_follow left place found after));
+      wrong = λ text events after start.
+          subst (λ (x : List ℕ). Reads x (Err why)) (with_more held len place text after) (step (text ++ take len held) after (taken text events start).taken (is_line left place found) (may_follow left place found after));
     }
 
 -- ---- what a reader shows
 
-pub goes_on_by : (old new : Option (List ℕ)) (before after : TextAudit) (bytes : List ℕ) → Consumes old new bytes → ((text : List ℕ) → AreTaken text before → AreTaken (text ++ bytes) after) → GoesOn old new before after
-goes_on_by old new before after bytes consumed taken = λ first u.
-    record { text = u.text ++ bytes; consumed = more_read first old new u.text bytes u.consumed consumed; taken = taken u.text u.taken }
+pub goes_on_by : (old new : Option (List ℕ)) (before after : TextAudit) (bytes : List ℕ) → Consumes old new bytes → TakesMore before bytes after → GoesOn old new before after
+goes_on_by old new before after bytes consumed taken = λ first events u.
+    record { text = u.text ++ bytes; consumed = more_read first old new u.text bytes u.consumed consumed; written = taken u.text events u.written }
 
 -- it begins with lines that are at fault
-held_fault : (text held after : List ℕ) (audit : TextAudit) (why : ReadFault) → AreTaken text audit → IsWrongNext audit held why → FaultsUncut (text ++ (held ++ after)) why
-held_fault text held after audit why taken w =
+held_fault : (text events held after : List ℕ) (audit : TextAudit) (why : ReadFault) → HasWritten text events audit → IsWrongNext audit held why → FaultsUncut (text ++ (held ++ after)) why
+held_fault text events held after audit why written w =
     let whole : (text ++ w.lines) ++ (w.rest ++ after) ≡ text ++ (held ++ after) =
     append_assoc text w.lines (w.rest ++ after) ∙ ap (λ (x : List ℕ). text ++ x) (sym (append_assoc w.lines w.rest after) ∙ ap (λ (x : List ℕ). x ++ after) (sym w.begins)) in
     let ended : EndsLine (text ++ w.lines) = (text ++ w.ended.0, ap (λ (x : List ℕ). text ++ x) w.ended.1 ∙ sym (append_assoc text w.ended.0 (10 ∷ []))) in
     subst (λ (x : List ℕ). FaultsUncut x why) whole
-    (line_uncut (text ++ w.lines) (w.rest ++ after) why ended (λ more. subst (λ (x : List ℕ). Reads x (Err why)) (sym (append_assoc text w.lines more)) (w.wrong text more taken)))
+    (line_uncut (text ++ w.lines) (w.rest ++ after) why ended (λ more. subst (λ (x : List ℕ). Reads x (Err why)) (sym (append_assoc text w.lines more)) (w.wrong text events more written)))
 
 at_fault : (old : Option (List ℕ)) (audit : TextAudit) (why : ReadFault) (held : List ℕ) → IfSome old (λ xs. StartsWith xs held) → IsWrongNext audit held why → IsAtFault old audit why
-at_fault None audit why held shows fails None u = (u.text ++ (held ++ []), tt, held_fault u.text held [] audit why u.taken fails)
-at_fault None audit why held shows fails (Some all) u = absurd u.consumed
-at_fault (Some xs) audit why held shows fails None u = (u.text ++ (held ++ []), tt, held_fault u.text held [] audit why u.taken fails)
-at_fault (Some xs) audit why held shows fails (Some all) u =
+at_fault None audit why held shows fails None events u = (u.text ++ (held ++ []), tt, held_fault u.text events held [] audit why u.written fails)
+at_fault None audit why held shows fails (Some all) events u = absurd u.consumed
+at_fault (Some xs) audit why held shows fails None events u = (u.text ++ (held ++ []), tt, held_fault u.text events held [] audit why u.written fails)
+at_fault (Some xs) audit why held shows fails (Some all) events u =
     let split : held ++ drop (length held) xs ≡ xs = ap (λ (x : List ℕ). x ++ drop (length held) xs) (sym shows) ∙ take-append-drop (length held) xs in
-    (u.text ++ (held ++ drop (length held) xs), ap (λ (x : List ℕ). u.text ++ x) split ∙ sym u.consumed, held_fault u.text held (drop (length held) xs) audit why u.taken fails)
+    (u.text ++ (held ++ drop (length held) xs), ap (λ (x : List ℕ). u.text ++ x) split ∙ sym u.consumed, held_fault u.text events held (drop (length held) xs) audit why u.written fails)
 
 pub may_be_at_fault : (old : Option (List ℕ)) (audit : TextAudit) (found : Option ReadFault) (why : ReadFault) (held : List ℕ) → found ≡ Some why → IfSome old (λ xs. StartsWith xs held)
     → IfSome found (λ why. IsWrongNext audit held why) → IsAtFault old audit why
@@ -110,3 +110,10 @@ may_be_at_fault old audit None why held is shows fails = absurd cc
 may_be_at_fault old audit (Some w) why held is shows fails =
     let same : w ≡ why = cc in
     at_fault old audit why held shows (subst (λ (x : ReadFault). IsWrongNext audit held x) same fails)
+
+-- the lines before a fault were taken
+pub stops_after : (old new : Option (List ℕ)) (before after : TextAudit) (bytes : List ℕ) (found : Option ReadFault) (why : ReadFault) → found ≡ Some why → Consumes old new bytes → (IsSome found → HoldsBefore before bytes after) → StopsAfter old new before after
+stops_after old new before after bytes None why is consumed holds = absurd cc
+stops_after old new before after bytes (Some w) why is consumed holds =
+    let h = holds refl in
+    (h.0, goes_on_by old new before h.0 bytes consumed h.1, h.2, h.3)

@@ -1,3 +1,4 @@
 pub mod HeldLines
+pub mod Fronts
 pub mod Telling
 pub mod Underway

@@ -1,9 +1,10 @@
 -- What is told of a text that has ended.
-use Rattle.std.proofs.Common.{◌≡◌, ◌<◌, ℕ, inl, inr, Bool, true, false, nat_le, List, [], ◌∷◌, ◌++◌, Option, Some, None, Result, Ok, Err, IfErr, OnOk, arith, get_or, if◌then◌else◌, length, map, refl, rules, sym, ◌∙◌, subst}
+use Rattle.std.proofs.Common.{◌≡◌, ◌⊎◌, ◌<◌, ℕ, inl, inr, Bool, true, false, nat_le, List, [], ◌∷◌, ◌++◌, Option, Some, None, Result, Ok, Err, IfErr, IfOk, OnOk, ap, append-nil, arith, get_or, if◌then◌else◌, length, map, refl, rules, sym, ◌∙◌, subst}
 use Rattle.std.specs.Result.{IsErrAnd}
 use denote.Ref.{Bor}
 use Rattle.std.specs.List.{Contains}
 use Rattle.std.specs.Io.KnownBytes.{Appends}
+use Rattle.std.proofs.KnownBytes.{Appends-nil, Appends-trans}
 use Rattle.std.proofs.lemmas.List.{get_or-map, length-map}
 use Rattle.std.proofs.lemmas.List.Elements.{All-get_or}
 use Rattle.std.proofs.lemmas.Option.{get_or_from_slice_get, slice_get_within}
@@ -23,14 +24,19 @@ use Rattle.can_replay.specs.declared.text_fault.Cut.TheVariants as cut
 use Rattle.can_replay.specs.declared.text_fault.TextFault.{TextFault}
 use Rattle.can_replay.specs.declared.text_fault.TextFault.TheVariants as found
 use Rattle.can_replay.specs.declared.text_fault.WrongLine.{WrongLine}
-use Rattle.can_replay.specs.TextAudits.{AreTaken, EndsNoLine, Reports, ReportsCut}
+use Rattle.can_replay.specs.EventTexts.{EndsCutEvents, EndsEvents, HasWritten, end_line, has_events, held_events, wrong_so_far}
+use Rattle.can_replay.specs.EventTexts.{cut_line as cut_end_line}
+use Rattle.can_replay.specs.TextAudits.{AreTaken, EndsNoLine, IsCutText, IsLegalText, Reports, ReportsCut}
 use Rattle.can_replay.specs.inner.EntryAudits.{IsWrongIn}
+use Rattle.can_replay.specs.declared.events_text.EventsText.{EventsText}
 use Rattle.can_replay.specs.declared.text_audit.TextAudit.{TextAudit}
 use Rattle.canbusd_io.specs.declared.report.Report.{Report}
 use Rattle.canbusd_io.specs.declared.program_error.ProgramError.{ProgramError}
 use Rattle.canbusd_io.specs.declared.program_error.ProgramError.TheVariants as fault
 use Rattle.canbusd_io.specs.Files.{IsOfFile}
-use Rattle.canbusd_audit.specs.Audited.{AuditsFiles, Faults, FaultsBy, FaultsCut, FaultsFiles, FaultsInput, FaultsLast, FaultsLine, FaultsWhole, FitsLines, HasNote, IsAudited, IsAuditedBy, IsBlamedCut, IsCutWritten, IsInputTaken, IsOfFiles, IsTextIn, IsTold, IsWritten, TakesLast, cut_line, entries_line}
+use Rattle.canbusd_audit.specs.Audited.{Audits, AuditsBy, AuditsCut, AuditsFiles, Faults, FaultsBy, FaultsCut, FaultsFiles, FaultsInput, FaultsLast, FaultsLine, FaultsWhole, FitsLines, HasNote, IsAudited, IsAuditedBy, IsAuditedCut, IsBlamedCut, IsCutWritten, IsInputTaken, IsOfFiles, IsOfSomeLine, IsQuiet, IsTextIn, IsTold, IsWritten, Leaves, LeavesFront, Puts, StopsEvents, TakesLast, cut_line, entries_line, last_cut_line, last_line}
+use Rattle.canbusd_audit.proofs.Fronts.{Names, leaves_front, names_line, names_told, none_more}
+use Rattle.canbusd_audit.proofs.Underway.{puts_more}
 
 -- a reply that is told is the legal one
 told-lawful : (past_limit : Bool) (law r : Reply) → Some r ≡ (if past_limit then None else Some law) → r ≡ law
@@ -61,9 +67,47 @@ noted_cut text (Err (found.Read why)) h = tt
 noted_cut text (Err (found.Wrong w)) (inl h) = fits (version_of h.config h.entries) h.config h.entries w h.whole.0 h.wrong
 noted_cut text (Err (found.Wrong w)) (inr h) = fits h.front.version h.config h.entries w h.front.good h.wrong
 
-written : (text : List ℕ) (r : Result ℕ TextFault) (old new : Option (List ℕ)) → Reports text r → IsWritten r old new → IsAudited text old new
-written text (Ok count) old new h wrote = record { config = h.config; entries = h.entries; whole = h.whole; legal = h.legal; wrote = subst (λ (n : ℕ). Appends old new (entries_line n)) h.counted wrote }
-written text (Err why) old new h wrote = absurd wrote
+-- the last line of a legal record's audit was written, after its events where there are any
+whole_written : {W : Type 0} (has : Bool) (held : Option EventsText) (contents : W → Option (List ℕ)) (start out new : W) (text events : List ℕ) (count : ℕ) → has ≡ has_events held → held_events held ≡ [] → Puts has contents start out events
+    → EndsEvents held text events count → IsLegalText text count → Appends (contents out) (contents new) (last_line has count) → IsAudited has text (contents start) (contents new)
+whole_written {W = W} false held contents start out new text events count kind none put ends h wrote = record {
+  config = h.config;
+  entries = h.entries;
+  whole = h.whole;
+  legal = h.legal;
+  wrote = subst (λ (w : W). Appends (contents w) (contents new) (entries_line (length h.entries))) put (subst (λ (n : ℕ). Appends (contents out) (contents new) (entries_line n)) h.counted wrote);
+}
+whole_written true None contents start out new text events count kind none put ends h wrote = absurd cc
+whole_written true (Some e) contents start out new text events count kind none put ends h wrote =
+    let all : events ++ end_line count ≡ (events ++ e.text.items) ++ end_line count = ap (λ (x : List ℕ). x ++ end_line count) (sym (ap (λ (x : List ℕ). events ++ x) none ∙ append-nil events)) in
+    record {
+      config = ends.config;
+      entries = ends.entries;
+      whole = ends.whole;
+      legal = ends.legal;
+      wrote = subst (Appends (contents start) (contents new)) (all ∙ ends.are) (Appends-trans (contents start) (contents out) (contents new) events (end_line count) put wrote);
+    }
+
+-- the same of a record that is cut off
+off_written : {W : Type 0} (has : Bool) (held : Option EventsText) (contents : W → Option (List ℕ)) (start out new : W) (text events : List ℕ) (count : ℕ) → has ≡ has_events held → held_events held ≡ [] → Puts has contents start out events
+    → EndsCutEvents held text events (cut.Off count) → IsCutText text count → Appends (contents out) (contents new) (last_cut_line has count) → IsAuditedCut has text (contents start) (contents new)
+off_written {W = W} false held contents start out new text events count kind none put ends h wrote = record {
+  config = h.config;
+  entries = h.entries;
+  front = h.front;
+  legal = h.legal;
+  wrote = subst (λ (w : W). Appends (contents w) (contents new) (cut_line (length h.entries))) put (subst (λ (n : ℕ). Appends (contents out) (contents new) (cut_line n)) h.counted wrote);
+}
+off_written true None contents start out new text events count kind none put ends h wrote = absurd cc
+off_written true (Some e) contents start out new text events count kind none put ends h wrote =
+    let all : events ++ cut_end_line count ≡ (events ++ e.text.items) ++ cut_end_line count = ap (λ (x : List ℕ). x ++ cut_end_line count) (sym (ap (λ (x : List ℕ). events ++ x) none ∙ append-nil events)) in
+    record {
+      config = ends.config;
+      entries = ends.entries;
+      front = ends.front;
+      legal = ends.legal;
+      wrote = subst (Appends (contents start) (contents new)) (all ∙ ends.are) (Appends-trans (contents start) (contents out) (contents new) events (cut_end_line count) put wrote);
+    }
 
 told : (text : List ℕ) (r : Result ℕ TextFault) (why : ProgramError) → Reports text r → IsTold r why → Faults text why
 told text (Ok count) why h is = subst (Faults text) (sym is) (record { config = h.config; entries = h.entries; whole = h.whole; says = tt })
@@ -71,11 +115,6 @@ told text (Err (found.Read what)) why h is = subst (Faults text) (sym is) h
 told text (Err (found.Wrong w)) why h is = subst (Faults text) (sym is) (record { config = h.config; entries = h.entries; whole = h.whole; says = h.wrong.told.first })
 
 -- the same of a text that may be cut off
-written_cut : (text : List ℕ) (r : Result Cut TextFault) (old new : Option (List ℕ)) → ReportsCut text r → IsCutWritten r old new → IsAuditedBy true text old new
-written_cut text (Ok (cut.Whole count)) old new h wrote = inl (written text (Ok count) old new h wrote)
-written_cut text (Ok (cut.Off count)) old new h wrote = inr (record { config = h.config; entries = h.entries; front = h.front; legal = h.legal; wrote = subst (λ (n : ℕ). Appends old new (cut_line n)) h.counted wrote })
-written_cut text (Err why) old new h wrote = absurd wrote
-
 told_cut : (text : List ℕ) (r : Result Cut TextFault) (why : ProgramError) → ReportsCut text r → IsTold r why → FaultsBy true text why
 told_cut text (Ok (cut.Whole count)) why h is = inl (subst (FaultsWhole text) (sym is) (record { config = h.config; entries = h.entries; whole = h.whole; says = tt }))
 told_cut text (Ok (cut.Off count)) why h is = inr (subst (IsBlamedCut text) (sym is) (record { config = h.config; entries = h.entries; front = h.front; says = tt }))
@@ -96,54 +135,121 @@ plain text why h = h
 pub line_told : (first : Option (List ℕ)) (why : ProgramError) → FaultsLine first why → FaultsInput first why
 line_told first why h = (h.0, h.1, plain h.0 why h.2)
 
-pub all_written : (first old new : Option (List ℕ)) (torn : List ℕ) (before audit : TextAudit) (found : Result ℕ TextFault) (r : Result (Unit {0}) Report) → IsInputTaken first before torn → TakesLast before torn audit
-    → ((text : List ℕ) → AreTaken text audit → Reports text found) → OnOk r (IsWritten found old new) → OnOk r ((text : List ℕ) × IsTextIn first text × IsAudited text old new)
-all_written first old new torn before audit found (Ok u) t last tells h = (t.lines ++ torn, t.is_text, written (t.lines ++ torn) found old new (tells (t.lines ++ torn) (last t.lines t.taken)) h)
-all_written first old new torn before audit found (Err why) t last tells h = tt
+-- all lines of a text were taken, and their events put out
+pub record IsReady {W : Type 0} (first : Option (List ℕ)) (audit : TextAudit) (torn : List ℕ) (contents : W → Option (List ℕ)) (start out : W) : Type 0 where
+  pub text : List ℕ
+  pub events : List ℕ
+  pub is_text : IsTextIn first (text ++ torn)
+  pub written : HasWritten text events audit
+  pub none_held : held_events audit.events ≡ []
+  pub put : Puts (has_events audit.events) contents start out events
 
-pub all_told : (first : Option (List ℕ)) (torn : List ℕ) (before audit : TextAudit) (found : Result ℕ TextFault) (r : Result (Unit {0}) Report) → IsInputTaken first before torn → TakesLast before torn audit
+pub ready : {W : Type 0} (first : Option (List ℕ)) (audit : TextAudit) (torn : List ℕ) (contents : W → Option (List ℕ)) (start out : W) → IsInputTaken first audit torn contents start out → IsReady first audit torn contents start out
+ready first audit torn contents start out t = record { text = t.lines; events = t.events; is_text = t.is_text; written = t.written; none_held = t.none_held; put = t.put }
+
+-- the last line too, if there is one
+pub ready_last : {W : Type 0} (first : Option (List ℕ)) (before after last : TextAudit) (torn : List ℕ) (contents : W → Option (List ℕ)) (start out new : W) → IsInputTaken first before torn contents start out → TakesLast before torn after
+    → has_events after.events ≡ has_events before.events → has_events last.events ≡ has_events after.events → ((text events : List ℕ) → HasWritten text events after → HasWritten text (events ++ held_events after.events) last)
+    → held_events last.events ≡ [] → Puts (has_events after.events) contents out new (held_events after.events) → IsReady first last [] contents start new
+ready_last first before after last torn contents start out new t takes kind kind_too written none put = record {
+  text = t.lines ++ torn;
+  events = t.events ++ held_events after.events;
+  is_text = subst (IsTextIn first) (sym (append-nil (t.lines ++ torn))) t.is_text;
+  written = written (t.lines ++ torn) t.events (takes t.lines t.events t.written);
+  none_held = none;
+  put = subst (λ (b : Bool). Puts b contents start new (t.events ++ held_events after.events)) (sym kind_too)
+      (puts_more (has_events after.events) contents start out new t.events (held_events after.events) (subst (λ (b : Bool). Puts b contents start out t.events) (sym kind) t.put) put);
+}
+
+-- what was put out, of an audit of this kind
+put_as : {W : Type 0} (has : Bool) (first : Option (List ℕ)) (audit : TextAudit) (torn : List ℕ) (contents : W → Option (List ℕ)) (start out : W) (t : IsReady first audit torn contents start out) → has ≡ has_events audit.events → Puts has contents start out t.events
+put_as has first audit torn contents start out t kind = subst (λ (b : Bool). Puts b contents start out t.events) (sym kind) t.put
+
+pub all_written : {W : Type 0} (has : Bool) (first : Option (List ℕ)) (audit : TextAudit) (contents : W → Option (List ℕ)) (start out new : W) (found : Result ℕ TextFault) (r : Result (Unit {0}) Report) → has ≡ has_events audit.events
+    → IsReady first audit [] contents start out → ((text : List ℕ) → AreTaken text audit → Reports text found) → ((text events : List ℕ) → HasWritten text events audit → IfOk found (EndsEvents audit.events text events))
+    → OnOk r (IsWritten has found (contents out) (contents new)) → OnOk r (Audits has first contents start new)
+all_written has first audit contents start out new (Ok count) (Ok u) kind t tells ends h = (
+  t.text,
+  subst (IsTextIn first) (append-nil t.text) t.is_text,
+  whole_written has audit.events contents start out new t.text t.events count kind t.none_held (put_as has first audit [] contents start out t kind)
+      (ends t.text t.events t.written) (tells t.text t.written.taken) h,
+)
+all_written has first audit contents start out new (Err what) (Ok u) kind t tells ends h = absurd h
+all_written has first audit contents start out new found (Err why) kind t tells ends h = tt
+
+pub all_told : {W : Type 0} (first : Option (List ℕ)) (audit : TextAudit) (contents : W → Option (List ℕ)) (start out : W) (found : Result ℕ TextFault) (r : Result (Unit {0}) Report) → IsReady first audit [] contents start out
     → ((text : List ℕ) → AreTaken text audit → Reports text found) → IfErr r (λ failure. IsTold found failure.error) → IfErr r (λ failure. FaultsInput first failure.error)
-all_told first torn before audit found (Ok u) t last tells h = tt
-all_told first torn before audit found (Err failure) t last tells h = (t.lines ++ torn, t.is_text, told (t.lines ++ torn) found failure.error (tells (t.lines ++ torn) (last t.lines t.taken)) h)
+all_told first audit contents start out found (Ok u) t tells h = tt
+all_told first audit contents start out found (Err failure) t tells h = (t.text, subst (IsTextIn first) (append-nil t.text) t.is_text, told t.text found failure.error (tells t.text t.written.taken) h)
+
+-- what was written before the text's fault was found
+all_left : {W : Type 0} (has : Bool) (first : Option (List ℕ)) (audit : TextAudit) (torn : List ℕ) (contents : W → Option (List ℕ)) (start out new : W) (why : ProgramError) → has ≡ has_events audit.events → IsReady first audit torn contents start out
+    → Names why audit.phase → IsQuiet why out new → Leaves has first why contents start new
+all_left has first audit torn contents start out new why kind t names (inl is) = inl is
+all_left has first audit torn contents start out new why kind t names (inr same) =
+    inr (subst (LeavesFront has first why contents start) (sym same)
+    (leaves_front has first t.text torn t.events audit why contents start out kind t.written names t.is_text
+    (none_more has contents start out t.events (held_events audit.events) t.none_held (put_as has first audit torn contents start out t kind))))
+
+pub left : {W A : Type 0} (has : Bool) (first : Option (List ℕ)) (audit : TextAudit) (torn : List ℕ) (contents : W → Option (List ℕ)) (start out new : W) (what : Result A TextFault) (r : Result (Unit {0}) Report) → has ≡ has_events audit.events
+    → IsReady first audit torn contents start out → ((w : WrongLine) → what ≡ Err (found.Wrong w) → wrong_so_far audit.phase ≡ Some w) → IfErr r (λ failure. IsTold what failure.error) → IfErr r (λ failure. IsQuiet failure.error out new)
+    → IfErr r (λ failure. Leaves has first failure.error contents start new)
+left has first audit torn contents start out new what (Ok u) kind t wrong tells quiet = tt
+left has first audit torn contents start out new what (Err failure) kind t wrong tells quiet =
+    all_left has first audit torn contents start out new failure.error kind t (names_told what failure.error audit.phase wrong tells) quiet
 
 -- the last line is at fault
-pub last_told : (first : Option (List ℕ)) (torn : List ℕ) (audit : TextAudit) (why : ProgramError) → IsInputTaken first audit torn → FaultsLast audit torn why → FaultsInput first why
-last_told first torn audit why t h = (t.lines ++ torn, t.is_text, h t.lines t.taken)
+pub last_told : {W : Type 0} (first : Option (List ℕ)) (torn : List ℕ) (audit : TextAudit) (contents : W → Option (List ℕ)) (start out : W) (why : ProgramError) → IsInputTaken first audit torn contents start out → FaultsLast audit torn why → FaultsInput first why
+last_told first torn audit contents start out why t h = (t.lines ++ torn, t.is_text, h t.lines t.written.taken)
 
 -- the same of a text that may be cut off
-pub cut_written : (first old new : Option (List ℕ)) (torn : List ℕ) (audit : TextAudit) (found : Result Cut TextFault) (r : Result (Unit {0}) Report) → IsInputTaken first audit torn → ((text : List ℕ) → AreTaken text audit → EndsNoLine torn → ReportsCut (text ++ torn) found)
-    → OnOk r (IsCutWritten found old new) → OnOk r ((text : List ℕ) × IsTextIn first text × IsAuditedBy true text old new)
-cut_written first old new torn audit found (Ok u) t tells h = (t.lines ++ torn, t.is_text, written_cut (t.lines ++ torn) found old new (tells t.lines t.taken t.unended) h)
-cut_written first old new torn audit found (Err why) t tells h = tt
+pub cut_written : {W : Type 0} (has : Bool) (first : Option (List ℕ)) (audit : TextAudit) (torn : List ℕ) (contents : W → Option (List ℕ)) (start out new : W) (found : Result Cut TextFault) (r : Result (Unit {0}) Report) → has ≡ has_events audit.events
+    → IsReady first audit torn contents start out → EndsNoLine torn → ((text : List ℕ) → AreTaken text audit → EndsNoLine torn → ReportsCut (text ++ torn) found)
+    → ((text events : List ℕ) → HasWritten text events audit → EndsNoLine torn → IfOk found (EndsCutEvents audit.events (text ++ torn) events))
+    → OnOk r (IsCutWritten has found (contents out) (contents new)) → OnOk r (AuditsCut has first contents start new)
+cut_written has first audit torn contents start out new (Ok (cut.Whole count)) (Ok u) kind t unended tells ends h = (
+  t.text ++ torn,
+  t.is_text,
+  inl (whole_written has audit.events contents start out new (t.text ++ torn) t.events count kind t.none_held (put_as has first audit torn contents start out t kind)
+      (ends t.text t.events t.written unended) (tells t.text t.written.taken unended) h),
+)
+cut_written has first audit torn contents start out new (Ok (cut.Off count)) (Ok u) kind t unended tells ends h = (
+  t.text ++ torn,
+  t.is_text,
+  inr (off_written has audit.events contents start out new (t.text ++ torn) t.events count kind t.none_held (put_as has first audit torn contents start out t kind)
+      (ends t.text t.events t.written unended) (tells t.text t.written.taken unended) h),
+)
+cut_written has first audit torn contents start out new (Err what) (Ok u) kind t unended tells ends h = absurd h
+cut_written has first audit torn contents start out new found (Err why) kind t unended tells ends h = tt
 
-pub all_told_cut : (first : Option (List ℕ)) (torn : List ℕ) (audit : TextAudit) (found : Result Cut TextFault) (r : Result (Unit {0}) Report) → IsInputTaken first audit torn → ((text : List ℕ) → AreTaken text audit → EndsNoLine torn → ReportsCut (text ++ torn) found)
-    → IfErr r (λ failure. IsTold found failure.error) → IfErr r (λ failure. FaultsCut first failure.error)
-all_told_cut first torn audit found (Ok u) t tells h = tt
-all_told_cut first torn audit found (Err failure) t tells h = (t.lines ++ torn, t.is_text, told_cut (t.lines ++ torn) found failure.error (tells t.lines t.taken t.unended) h)
+pub all_told_cut : {W : Type 0} (first : Option (List ℕ)) (audit : TextAudit) (torn : List ℕ) (contents : W → Option (List ℕ)) (start out : W) (found : Result Cut TextFault) (r : Result (Unit {0}) Report) → IsReady first audit torn contents start out → EndsNoLine torn
+    → ((text : List ℕ) → AreTaken text audit → EndsNoLine torn → ReportsCut (text ++ torn) found) → IfErr r (λ failure. IsTold found failure.error) → IfErr r (λ failure. FaultsCut first failure.error)
+all_told_cut first audit torn contents start out found (Ok u) t unended tells h = tt
+all_told_cut first audit torn contents start out found (Err failure) t unended tells h = (t.text ++ torn, t.is_text, told_cut (t.text ++ torn) found failure.error (tells t.text t.written.taken unended) h)
 
 -- ---- the same of files
 
-pub files_written : {W : Type 0} (is_cut : Bool) (first : Option (List ℕ)) (contents : W → Option (List ℕ)) (old new : W) (r : Result (Unit {0}) Report) → is_cut ≡ false
-    → OnOk r ((text : List ℕ) × IsTextIn first text × IsAudited text (contents old) (contents new)) → OnOk r (AuditsFiles is_cut contents old new)
-files_written true first contents old new r is h = absurd cc
-files_written false first contents old new (Ok u) is h = (h.0, h.2)
-files_written false first contents old new (Err why) is h = tt
+pub files_written : {W : Type 0} (is_cut has : Bool) {by : Bool} (first : Option (List ℕ)) (contents : W → Option (List ℕ)) (old new : W) (r : Result (Unit {0}) Report) → is_cut ≡ by → OnOk r (AuditsBy by has first contents old new)
+    → OnOk r (AuditsFiles is_cut has contents old new)
+files_written is_cut has {by} first contents old new (Ok u) is h = (h.0, subst (λ (b : Bool). IsAuditedBy b has h.0 (contents old) (contents new)) (sym is) h.2)
+files_written is_cut has {by} first contents old new (Err why) is h = tt
 
-pub cut_files_written : {W : Type 0} (is_cut : Bool) (first : Option (List ℕ)) (contents : W → Option (List ℕ)) (old new : W) (r : Result (Unit {0}) Report) → is_cut ≡ true
-    → OnOk r ((text : List ℕ) × IsTextIn first text × IsAuditedBy true text (contents old) (contents new)) → OnOk r (AuditsFiles is_cut contents old new)
-cut_files_written false first contents old new r is h = absurd cc
-cut_files_written true first contents old new (Ok u) is h = (h.0, h.2)
-cut_files_written true first contents old new (Err why) is h = tt
+-- of the text that they hold nothing is known
+front_of_some : {W : Type 0} (has : Bool) (first : Option (List ℕ)) (why : ProgramError) (contents : W → Option (List ℕ)) (old new : W) → LeavesFront has first why contents old new → LeavesFront has None why contents old new
+front_of_some false first why contents old new h = h
+front_of_some true first why contents old new h = (h.0, tt, h.2)
 
-pub files_told : (is_cut : Bool) (paths : List (List ℕ)) (first : Option (List ℕ)) (r : Result (Unit {0}) Report) → is_cut ≡ false → IfErr r (λ failure. FaultsInput first failure.error) → IfErr r (λ failure. FaultsFiles is_cut paths failure.error)
-files_told true paths first r is h = absurd cc
-files_told false paths first (Ok u) is h = tt
-files_told false paths first (Err failure) is h = inr (h.0, h.2)
+pub files_left : {W : Type 0} (has : Bool) (first : Option (List ℕ)) (contents : W → Option (List ℕ)) (old new : W) (r : Result (Unit {0}) Report) → IfErr r (λ failure. Leaves has first failure.error contents old new)
+    → IfErr r (λ failure. Leaves has None failure.error contents old new)
+files_left has first contents old new (Ok u) h = tt
+files_left has first contents old new (Err failure) (inl is) = inl is
+files_left has first contents old new (Err failure) (inr h) = inr (front_of_some has first failure.error contents old new h)
 
-pub cut_files_told : (is_cut : Bool) (paths : List (List ℕ)) (first : Option (List ℕ)) (r : Result (Unit {0}) Report) → is_cut ≡ true → IfErr r (λ failure. FaultsCut first failure.error) → IfErr r (λ failure. FaultsFiles is_cut paths failure.error)
-cut_files_told false paths first r is h = absurd cc
-cut_files_told true paths first (Ok u) is h = tt
-cut_files_told true paths first (Err failure) is h = inr (h.0, h.2)
+-- before any line was read
+pub nothing_left : {W : Type 0} (has : Bool) (first : Option (List ℕ)) (why : ProgramError) (contents : W → Option (List ℕ)) (out : W) → Leaves has first why contents out out
+nothing_left false first why contents out = inr refl
+nothing_left true None why contents out = inr ([], tt, inl (Appends-nil (contents out)))
+nothing_left true (Some all) why contents out = inr (all, refl, inl (Appends-nil (contents out)))
 
 -- a failure is passed on
 pub passed_on : {A : Type 0} (P : Report → Type 0) (failure : Report) (r : Result A Report) → IsErrAnd r (λ x. x ≡ failure) → P failure → IfErr r P
@@ -166,3 +272,58 @@ of_file named i d why low is =
 pub of_memory : (named : List (Bor (List ℕ))) (i : ℕ) (why : ProgramError) → i < length named → why ≡ fault.NoMemory → IsOfFiles (paths_of named) why
 of_memory [] i why low is = absurd (omega arith)
 of_memory (path ∷ more) i why low is = (path.now, (0, omega arith, refl), subst (IsOfFile path.now) (sym is) tt)
+
+-- ---- one of two faults
+
+-- a fault of the writer, or what a fault says of a text
+abbrev pub Either : Bool → (ProgramError → Type 0) → Report → Type 0
+Either has says failure = StopsEvents has failure.error ⊎ says failure.error
+
+pub or_text : {A : Type 0} (has : Bool) (says : ProgramError → Type 0) (r : Result A Report) → IfErr r (λ failure. says failure.error) → IfErr r (Either has says)
+or_text has says (Ok a) h = tt
+or_text has says (Err failure) h = inr h
+
+pub or_more : {A : Type 0} (has : Bool) (says other : ProgramError → Type 0) (r : Result A Report) → ((why : ProgramError) → says why → other why) → IfErr r (Either has says) → IfErr r (Either has other)
+or_more has says other (Ok a) turn h = tt
+or_more has says other (Err failure) turn (inl is) = inl is
+or_more has says other (Err failure) turn (inr h) = inr (turn failure.error h)
+
+pub line_or : (has : Bool) (first : Option (List ℕ)) (failure : Report) → Either has (FaultsLine first) failure → Either has (FaultsInput first) failure
+line_or has first failure (inl is) = inl is
+line_or has first failure (inr h) = inr (line_told first failure.error h)
+
+cut_line_told : (first : Option (List ℕ)) (why : ProgramError) → FaultsLine first why → FaultsCut first why
+cut_line_told first why h = (h.0, h.1, inl h.2)
+
+pub line_or_cut : (has : Bool) (first : Option (List ℕ)) (failure : Report) → Either has (FaultsLine first) failure → Either has (FaultsCut first) failure
+line_or_cut has first failure (inl is) = inl is
+line_or_cut has first failure (inr h) = inr (cut_line_told first failure.error h)
+
+-- no memory for an audit
+pub memory_told : (first : Option (List ℕ)) (why : ProgramError) → why ≡ fault.NoMemory → FaultsInput first why
+memory_told None why is = ([], tt, subst (Faults []) (sym is) tt)
+memory_told (Some all) why is = (all, refl, subst (Faults all) (sym is) tt)
+
+pub memory_told_cut : (first : Option (List ℕ)) (why : ProgramError) → why ≡ fault.NoMemory → FaultsCut first why
+memory_told_cut None why is = ([], tt, inl (subst (FaultsWhole []) (sym is) tt))
+memory_told_cut (Some all) why is = (all, refl, inl (subst (FaultsWhole all) (sym is) tt))
+
+-- the writer
+pub writer_left : {W : Type 0} (has : Bool) (first : Option (List ℕ)) (why : ProgramError) (contents : W → Option (List ℕ)) (start out : W) → StopsEvents has why → Leaves has first why contents start out
+writer_left has first why contents start out stops = inl stops.1
+
+-- the last line is at fault, whose events are none
+pub last_left : {W : Type 0} (has : Bool) (first : Option (List ℕ)) (audit : TextAudit) (torn : List ℕ) (contents : W → Option (List ℕ)) (start out : W) (why : ProgramError) → has ≡ has_events audit.events → IsInputTaken first audit torn contents start out
+    → IsOfSomeLine why → Leaves has first why contents start out
+last_left has first audit torn contents start out why kind t line =
+    all_left has first audit torn contents start out out why kind (ready first audit torn contents start out t) (names_line line.0 why audit.phase line.1) (inr refl)
+
+-- ---- the same of files
+
+pub files_told : (is_cut has : Bool) (paths : List (List ℕ)) (first : Option (List ℕ)) (r : Result (Unit {0}) Report) → is_cut ≡ false → IfErr r (Either has (FaultsInput first)) → IfErr r (Either has (FaultsFiles is_cut paths))
+files_told true has paths first r is h = absurd cc
+files_told false has paths first r is h = or_more has (FaultsInput first) (FaultsFiles false paths) r (λ why k. inr (k.0, k.2)) h
+
+pub cut_files_told : (is_cut has : Bool) (paths : List (List ℕ)) (first : Option (List ℕ)) (r : Result (Unit {0}) Report) → is_cut ≡ true → IfErr r (Either has (FaultsCut first)) → IfErr r (Either has (FaultsFiles is_cut paths))
+cut_files_told false has paths first r is h = absurd cc
+cut_files_told true has paths first r is h = or_more has (FaultsCut first) (FaultsFiles true paths) r (λ why k. inr (k.0, k.2)) h

@@ -5,18 +5,20 @@ use Rattle.std.specs.Io.{StopsAt, appended_bytes}
 use Rattle.std.specs.Io.BufRead.{take_through}
 use Rattle.std.specs.Io.KnownBytes.{Consumes, IsAtEnd}
 use Rattle.std.proofs.BufReadLemmas.{through_part}
+use Rattle.std.proofs.KnownBytes.{Appends-trans}
 use Rattle.std.proofs.lemmas.List.{append-nil}
 use Rattle.std.proofs.lemmas.List.Elements.{All-cons, All-head, All-nil, All-tail, All-take}
 use Rattle.can_record_text.specs.declared.fault.ReadFault.{ReadFault}
 use Rattle.can_record_text.specs.RecordFaults.{Reads}
 use Rattle.can_replay.specs.declared.text_audit.TextAudit.{TextAudit}
+use Rattle.can_replay.specs.EventTexts.{HasWritten, has_events, held_events}
 use Rattle.can_replay.specs.TextAudits.{AreTaken, EndsLine, EndsNoLine, FaultsUncut, IsLine, MayFollow}
 use Rattle.can_replay.proofs.LineEnds.{nothing_more}
 use Rattle.can_replay.proofs.Uncut.{line_uncut}
 use Rattle.canbusd_io.specs.declared.program_error.ProgramError.{ProgramError}
 use Rattle.canbusd_io.specs.declared.program_error.ProgramError.TheVariants as fault
 use Rattle.canbusd_io.specs.Files.{IsOfReading}
-use Rattle.canbusd_audit.specs.Audited.{Faults, FaultsLast, FaultsLine, FaultsWhole, IsAtFault, IsBefore, IsInputTaken, IsNextLine, IsOfLine, IsRead, IsTextIn, IsUnderway}
+use Rattle.canbusd_audit.specs.Audited.{Faults, FaultsLast, FaultsLine, FaultsWhole, IsAtFault, IsBefore, IsInputTaken, IsNextLine, IsOfLine, IsPut, IsRead, IsTextIn, IsUnderway, Puts}
 
 pub more_read : (a b c : Option (List ℕ)) (x y : List ℕ) → Consumes a b x → Consumes b c y → Consumes a c (x ++ y)
 more_read None b c x y h k = tt
@@ -25,13 +27,33 @@ more_read (Some xs) (Some ys) None x y h k = absurd k
 more_read (Some xs) (Some ys) (Some zs) x y h k = h ∙ ap (λ (z : List ℕ). x ++ z) k ∙ sym (append_assoc x y zs)
 
 -- a line more was taken
-pub goes_on : (first now after : Option (List ℕ)) (line : List ℕ) (old new : TextAudit) → IsUnderway first now old → IsRead now after line
-    → ((text : List ℕ) → AreTaken text old → IsLine line → AreTaken (text ++ line) new) → IsUnderway first after new
-goes_on first now after line old new u read step = record {
+pub goes_on : (first now after : Option (List ℕ)) (line events : List ℕ) (old new : TextAudit) → IsUnderway first now old events → IsRead now after line
+    → ((cleared text : List ℕ) → HasWritten text cleared old → IsLine line → HasWritten (text ++ line) cleared new) → IsUnderway first after new events
+goes_on first now after line events old new u read step = record {
   text = u.text ++ line;
   consumed = more_read first now after u.text line u.consumed read.consumed;
-  taken = step u.text u.taken read.is_line;
+  written = step events u.text u.written read.is_line;
 }
+
+-- events more were put out
+pub puts_more : {W : Type 0} (has : Bool) (contents : W → Option (List ℕ)) (a b c : W) (xs ys : List ℕ) → Puts has contents a b xs → Puts has contents b c ys → Puts has contents a c (xs ++ ys)
+puts_more false contents a b c xs ys h k = k ∙ h
+puts_more true contents a b c xs ys h k = Appends-trans (contents a) (contents b) (contents c) xs ys h k
+
+pub put_more : {W : Type 0} (first now : Option (List ℕ)) (audit next : TextAudit) (contents : W → Option (List ℕ)) (start out new : W) → has_events next.events ≡ has_events audit.events
+    → ((text events : List ℕ) → HasWritten text events audit → HasWritten text (events ++ held_events audit.events) next) → Puts (has_events audit.events) contents out new (held_events audit.events)
+    → IsPut first now audit contents start out → IsPut first now next contents start new
+put_more first now audit next contents start out new has written put p = record {
+  events = p.events ++ held_events audit.events;
+  underway = record { text = p.underway.text; consumed = p.underway.consumed; written = written p.underway.text p.events p.underway.written };
+  put = subst (λ (b : Bool). Puts b contents start new (p.events ++ held_events audit.events)) (sym has) (puts_more (has_events audit.events) contents start out new p.events (held_events audit.events) p.put put);
+}
+
+-- the same lines and events, of an audit that has gone on
+pub put_on : {W : Type 0} (first now after : Option (List ℕ)) (audit next : TextAudit) (contents : W → Option (List ℕ)) (start out : W) → has_events next.events ≡ has_events audit.events
+    → ((events : List ℕ) → IsUnderway first now audit events → IsUnderway first after next events) → IsPut first now audit contents start out → IsPut first after next contents start out
+put_on first now after audit next contents start out has goes p =
+    record { events = p.events; underway = goes p.events p.underway; put = subst (λ (b : Bool). Puts b contents start out p.events) (sym has) p.put }
 
 text_is : (first now : Option (List ℕ)) (text : List ℕ) → Consumes first now text → IsAtEnd now → IsTextIn first text
 text_is None now text h end = tt
@@ -39,11 +61,15 @@ text_is (Some all) None text h end = absurd h
 text_is (Some all) (Some rest) text h end = sym (h ∙ ap (λ (x : List ℕ). text ++ x) end ∙ append-nil text)
 
 -- the text has ended
-pub ends : (first now : Option (List ℕ)) (audit : TextAudit) → IsUnderway first now audit → IsAtEnd now → IsInputTaken first audit []
-ends first now audit u end = record {
-  lines = u.text;
-  is_text = subst (IsTextIn first) (sym (append-nil u.text)) (text_is first now u.text u.consumed end);
-  taken = u.taken;
+pub ends : {W : Type 0} (first now : Option (List ℕ)) (audit : TextAudit) (contents : W → Option (List ℕ)) (start out : W) → held_events audit.events ≡ [] → IsPut first now audit contents start out → IsAtEnd now
+    → IsInputTaken first audit [] contents start out
+ends first now audit contents start out none p end = record {
+  lines = p.underway.text;
+  events = p.events;
+  is_text = subst (IsTextIn first) (sym (append-nil p.underway.text)) (text_is first now p.underway.text p.underway.consumed end);
+  written = p.underway.written;
+  none_held = none;
+  put = p.put;
   unended = All-nil (λ b. b ≢ 10);
 }
 
@@ -53,8 +79,17 @@ text_then (Some all) None text line h is = absurd h
 text_then (Some all) (Some rest) text line h is = sym (h ∙ ap (λ (x : List ℕ). text ++ x) (sym is))
 
 -- the same with bytes that end no line
-pub ends_torn : (first now : Option (List ℕ)) (audit : TextAudit) (torn : List ℕ) → IsUnderway first now audit → IsTextIn now torn → EndsNoLine torn → IsInputTaken first audit torn
-ends_torn first now audit torn u is unended = record { lines = u.text; is_text = text_then first now u.text torn u.consumed is; taken = u.taken; unended = unended }
+pub ends_torn : {W : Type 0} (first now : Option (List ℕ)) (audit : TextAudit) (contents : W → Option (List ℕ)) (start out : W) (torn : List ℕ) → held_events audit.events ≡ [] → IsPut first now audit contents start out → IsTextIn now torn
+    → EndsNoLine torn → IsInputTaken first audit torn contents start out
+ends_torn first now audit contents start out torn none p is unended = record {
+  lines = p.underway.text;
+  events = p.events;
+  is_text = text_then first now p.underway.text torn p.underway.consumed is;
+  written = p.underway.written;
+  none_held = none;
+  put = p.put;
+  unended = unended;
+}
 
 -- ---- a line that ends in LF
 
@@ -77,13 +112,13 @@ line_fault text line rest audit why taken is end step =
     subst (λ (x : List ℕ). FaultsUncut x why) (append_assoc text line rest)
     (line_uncut (text ++ line) rest why ended (λ more. subst (λ (x : List ℕ). Reads x (Err why)) (sym (append_assoc text line more)) (step text more taken is (follows line more is end))))
 
-fails : (first now after : Option (List ℕ)) (line : List ℕ) (audit : TextAudit) (why : ReadFault) → IsUnderway first now audit → IsRead now after line
+fails : (first now after : Option (List ℕ)) (line events : List ℕ) (audit : TextAudit) (why : ReadFault) → IsUnderway first now audit events → IsRead now after line
     → ((text rest : List ℕ) → AreTaken text audit → IsLine line → MayFollow line rest → Reads (text ++ (line ++ rest)) (Err why)) → FaultsLine first (fault.Record why)
-fails None now after line audit why u read step = (u.text ++ (line ++ []), tt, line_fault u.text line [] audit why u.taken read.is_line read.ended step)
-fails (Some all) None after line audit why u read step = absurd u.consumed
-fails (Some all) (Some xs) None line audit why u read step = absurd read.consumed
-fails (Some all) (Some xs) (Some rest) line audit why u read step =
-    (u.text ++ (line ++ rest), sym (u.consumed ∙ ap (λ (x : List ℕ). u.text ++ x) read.consumed), line_fault u.text line rest audit why u.taken read.is_line read.ended step)
+fails None now after line events audit why u read step = (u.text ++ (line ++ []), tt, line_fault u.text line [] audit why u.written.taken read.is_line read.ended step)
+fails (Some all) None after line events audit why u read step = absurd u.consumed
+fails (Some all) (Some xs) None line events audit why u read step = absurd read.consumed
+fails (Some all) (Some xs) (Some rest) line events audit why u read step =
+    (u.text ++ (line ++ rest), sym (u.consumed ∙ ap (λ (x : List ℕ). u.text ++ x) read.consumed), line_fault u.text line rest audit why u.written.taken read.is_line read.ended step)
 
 of_reading : (text : List ℕ) (why : ProgramError) → IsOfReading why → Faults text why
 of_reading text fault.Read h = tt
@@ -101,15 +136,15 @@ stops None why h = ([], tt, reading_whole [] why h)
 stops (Some all) why h = (all, refl, reading_whole all why h)
 
 -- a line was at fault, or the reader failed behind it
-pub fails_so : (first now after : Option (List ℕ)) (line : List ℕ) (audit : TextAudit) (what : ReadFault) (why : ProgramError) → IsOfLine what why → IsUnderway first now audit → IsRead now after line
+pub fails_so : (first now after : Option (List ℕ)) (line events : List ℕ) (audit : TextAudit) (what : ReadFault) (why : ProgramError) → IsOfLine what why → IsUnderway first now audit events → IsRead now after line
     → ((text rest : List ℕ) → AreTaken text audit → IsLine line → MayFollow line rest → Reads (text ++ (line ++ rest)) (Err what)) → FaultsLine first why
-fails_so first now after line audit what why (inl is) u read step = subst (FaultsLine first) (sym is) (fails first now after line audit what u read step)
-fails_so first now after line audit what why (inr h) u read step = stops first why h
+fails_so first now after line events audit what why (inl is) u read step = subst (FaultsLine first) (sym is) (fails first now after line events audit what u read step)
+fails_so first now after line events audit what why (inr h) u read step = stops first why h
 
 -- the same of a line that the reader still holds
-pub fails_held : (first now : Option (List ℕ)) (audit : TextAudit) (what : ReadFault) (why : ProgramError) → IsOfLine what why → IsUnderway first now audit → IsAtFault now audit what → FaultsLine first why
-fails_held first now audit what why (inl is) u fault = subst (FaultsLine first) (sym is) (fault first u)
-fails_held first now audit what why (inr h) u fault = stops first why h
+pub fails_held : (first now : Option (List ℕ)) (audit : TextAudit) (events : List ℕ) (what : ReadFault) (why : ProgramError) → IsOfLine what why → IsUnderway first now audit events → IsAtFault now audit what → FaultsLine first why
+fails_held first now audit events what why (inl is) u fault = subst (FaultsLine first) (sym is) (fault first events u)
+fails_held first now audit events what why (inr h) u fault = stops first why h
 
 -- ---- one line
 

@@ -7,8 +7,12 @@ use Rattle.can_event.specs.declared.entry.Entry.{Entry}
 use Rattle.can_event.specs.declared.reply.Reply.{Reply}
 use Rattle.can_event.specs.Spelled.{FitsReply}
 use Rattle.can_bus.specs.Legal.{IsLegal}
+use Rattle.can_events.specs.EventsText.{cut_events_text, events_front, events_text}
 use Rattle.can_record_text.specs.declared.fault.ReadFault.{ReadFault}
+use Rattle.can_record_text.specs.declared.version.Version.{Version}
 use Rattle.can_record_text.specs.RecordFaults.{IsTextOf, Reads}
+use Rattle.can_record_text.specs.Spelling.{entry_lines, front_lines, version_of}
+use Rattle.can_record_text.specs.Values.{HasLines}
 use Rattle.can_replay.specs.Audits.{IsFirstWrong}
 use Rattle.can_replay.specs.declared.text_fault.Cut.{Cut}
 use Rattle.can_replay.specs.declared.text_fault.Cut.TheVariants as cut
@@ -16,6 +20,9 @@ use Rattle.can_replay.specs.declared.text_fault.TextFault.{TextFault}
 use Rattle.can_replay.specs.declared.text_fault.TextFault.TheVariants as found
 use Rattle.can_replay.specs.declared.text_fault.WrongLine.{WrongLine}
 use Rattle.can_replay.specs.declared.text_audit.TextAudit.{TextAudit}
+use Rattle.can_replay.specs.EventTexts.{HasWritten, end_line, has_events, held_events}
+use Rattle.can_replay.specs.EventTexts.{cut_line as cut_end_line}
+use Rattle.can_replay.specs.Histories.{before}
 use Rattle.can_replay.specs.TextAudits.{AreTaken, EndsLine, EndsNoLine, FaultsUncut, IsFrontOf, IsLine, MayFollow}
 use Rattle.canbusd_io.specs.declared.program_error.ProgramError.{ProgramError}
 use Rattle.canbusd_io.specs.declared.program_error.ProgramError.TheVariants as fault
@@ -29,34 +36,45 @@ use Rattle.canbusd_audit.specs.declared.buffered.Buffered.TheVariants as held
 abbrev pub entries_line : ℕ → List ℕ
 entries_line n = codes "ok " ++ decimal n ++ codes " entries" ++ 10 ∷ []
 
--- the text is that of a legal history, and how many entries it has was written
-pub record IsAudited (text : List ℕ) (old new : Option (List ℕ)) : Type 0 where
+-- what an audit writes of a legal record: how many entries it has, or with events what they brought about
+abbrev pub audit_text : Bool → BusConfig → List Entry → List ℕ
+audit_text false c entries = entries_line (length entries)
+audit_text true c entries = events_text (version_of c entries) c (reverse entries)
+
+-- the text is that of a legal history, and that of its audit was written, with events or without
+pub record IsAudited (with_events : Bool) (text : List ℕ) (old new : Option (List ℕ)) : Type 0 where
   pub config : BusConfig
   pub entries : List Entry
   pub whole : IsTextOf text config entries
   pub legal : IsLegal config (reverse entries)
-  pub wrote : Appends old new (entries_line (length entries))
+  pub wrote : Appends old new (audit_text with_events config entries)
 
 -- the line that says how many entries a record has that is cut off
 abbrev pub cut_line : ℕ → List ℕ
 cut_line n = codes "ok " ++ decimal n ++ codes " entries, then cut off" ++ 10 ∷ []
 
--- the text is cut off, and as far as it reaches that of a legal history; how many entries it has was written
-pub record IsAuditedCut (text : List ℕ) (old new : Option (List ℕ)) : Type 0 where
+-- what an audit writes of a legal record in this version that is cut off
+abbrev pub cut_audit_text : Bool → Version → BusConfig → List Entry → List ℕ
+cut_audit_text false v c entries = cut_line (length entries)
+cut_audit_text true v c entries = cut_events_text v c (reverse entries)
+
+-- the text is cut off, and as far as it reaches that of a legal history; that of its audit was written
+pub record IsAuditedCut (with_events : Bool) (text : List ℕ) (old new : Option (List ℕ)) : Type 0 where
   pub config : BusConfig
   pub entries : List Entry
   pub front : IsFrontOf text config entries
   pub legal : IsLegal config (reverse entries)
-  pub wrote : Appends old new (cut_line (length entries))
+  pub wrote : Appends old new (cut_audit_text with_events front.version config entries)
 
 -- the text was audited: as a whole one, or where it may be cut off as either
-abbrev pub IsAuditedBy : Bool → List ℕ → Option (List ℕ) → Option (List ℕ) → Type 0
-IsAuditedBy false text old new = IsAudited text old new
-IsAuditedBy true text old new = IsAudited text old new ⊎ IsAuditedCut text old new
+abbrev pub IsAuditedBy : (is_cut with_events : Bool) → List ℕ → Option (List ℕ) → Option (List ℕ) → Type 0
+IsAuditedBy false with_events text old new = IsAudited with_events text old new
+IsAuditedBy true with_events text old new = IsAudited with_events text old new ⊎ IsAuditedCut with_events text old new
 
 -- a text that files may hold was audited, one that may be cut off or not
-abbrev pub AuditsFiles : {W : Type 0} → Bool → (W → Option (List ℕ)) → W → W → Type 0
-AuditsFiles is_cut contents old new = (text : List ℕ) × IsAuditedBy is_cut text (contents old) (contents new)
+abbrev pub AuditsFiles : {W : Type 0} → (is_cut with_events : Bool) → (W → Option (List ℕ)) → W → W → Type 0
+AuditsFiles is_cut with_events contents old new =
+    (text : List ℕ) × IsAuditedBy is_cut with_events text (contents old) (contents new)
 
 -- a fault came before anything was written, but for one of the writer
 abbrev pub IsQuiet : {W : Type 0} → ProgramError → W → W → Type 0
@@ -105,14 +123,19 @@ abbrev pub IsTextIn : Option (List ℕ) → List ℕ → Type 0
 IsTextIn None text = Unit {0}
 IsTextIn (Some all) text = text ≡ all
 
--- the text that a reader had is that of a legal history, and how many entries it has was written
-abbrev pub Audits : {W : Type 0} → Option (List ℕ) → (W → Option (List ℕ)) → W → W → Type 0
-Audits input contents old new = (text : List ℕ) × IsTextIn input text × IsAudited text (contents old) (contents new)
+-- the text that a reader had was audited
+abbrev pub AuditsBy : {W : Type 0} → (is_cut with_events : Bool) → Option (List ℕ) → (W → Option (List ℕ)) → W → W
+    → Type 0
+AuditsBy is_cut with_events input contents old new =
+    (text : List ℕ) × IsTextIn input text × IsAuditedBy is_cut with_events text (contents old) (contents new)
 
--- the same of a text that may be cut off
-abbrev pub AuditsCut : {W : Type 0} → Option (List ℕ) → (W → Option (List ℕ)) → W → W → Type 0
-AuditsCut input contents old new =
-    (text : List ℕ) × IsTextIn input text × IsAuditedBy true text (contents old) (contents new)
+-- the same of a whole text
+abbrev pub Audits : {W : Type 0} → Bool → Option (List ℕ) → (W → Option (List ℕ)) → W → W → Type 0
+Audits with_events input contents old new = AuditsBy false with_events input contents old new
+
+-- the same of one that may be cut off
+abbrev pub AuditsCut : {W : Type 0} → Bool → Option (List ℕ) → (W → Option (List ℕ)) → W → W → Type 0
+AuditsCut with_events input contents old new = AuditsBy true with_events input contents old new
 
 -- what a fault says of the text that a reader had
 abbrev pub FaultsInput : Option (List ℕ) → ProgramError → Type 0
@@ -126,6 +149,10 @@ FaultsLine input why = (text : List ℕ) × IsTextIn input text × FaultsWhole t
 abbrev pub FaultsCut : Option (List ℕ) → ProgramError → Type 0
 FaultsCut input why = (text : List ℕ) × IsTextIn input text × FaultsBy true text why
 
+-- with events the writer may fail before the text was read, which says nothing of the text
+abbrev pub StopsEvents : Bool → ProgramError → Type 0
+StopsEvents with_events why = (with_events ≡ true) × (why ≡ fault.Write)
+
 -- a fault of one of the files with these paths
 abbrev pub IsOfFiles : List (List ℕ) → ProgramError → Type 0
 IsOfFiles paths why = (path : List ℕ) × Contains paths path × IsOfFile path why
@@ -134,24 +161,73 @@ IsOfFiles paths why = (path : List ℕ) × Contains paths path × IsOfFile path 
 abbrev pub FaultsFiles : Bool → List (List ℕ) → ProgramError → Type 0
 FaultsFiles is_cut paths why = IsOfFiles paths why ⊎ ((text : List ℕ) × FaultsBy is_cut text why)
 
--- the lines of the text that a reader had were taken, up to bytes that end no line
-pub record IsInputTaken (input : Option (List ℕ)) (audit : TextAudit) (torn : List ℕ) : Type 0 where
+-- these events were written; an audit without events leaves the writer as it was
+abbrev pub Puts : {W : Type 0} → Bool → (W → Option (List ℕ)) → W → W → List ℕ → Type 0
+Puts false contents old new events = new ≡ old
+Puts true contents old new events = Appends (contents old) (contents new) events
+
+-- where a fault names a wrong entry, it is the one after this many
+abbrev pub IsAfter : ProgramError → ℕ → Type 0
+IsAfter (fault.WrongEntry k) count = count ≡ k
+IsAfter _ count = Unit {0}
+
+-- the entries that a text begins with were read up to a fault, and the events were written of those before the first
+-- wrong one, or of all
+pub record IsFrontWritten (text : List ℕ) (why : ProgramError) (old new : Option (List ℕ)) : Type 0 where
+  pub version : Version
+  pub config : BusConfig
+  pub entries : List Entry
+  pub rest : List ℕ
+  pub count : ℕ
+  pub good : HasLines version config entries
+  pub begins : text ≡ front_lines version config (entry_lines entries rest)
+  pub legal : IsLegal config (before entries count)
+  pub last : (count ≡ length entries) ⊎ IsFirstWrong config entries count
+  pub names : IsAfter why count
+  pub wrote : Appends old new (events_front version config (before entries count))
+
+-- what a fault of the text that a reader had leaves: an audit without events has written nothing, one with events those
+-- of the legal entries before it, or nothing where a text does not begin as that of a record
+abbrev pub LeavesFront : {W : Type 0} → Bool → Option (List ℕ) → ProgramError → (W → Option (List ℕ)) → W → W → Type 0
+LeavesFront false input why contents old new = new ≡ old
+LeavesFront true input why contents old new =
+    (text : List ℕ) × IsTextIn input text
+    × (Appends (contents old) (contents new) [] ⊎ IsFrontWritten text why (contents old) (contents new))
+
+-- the same of any fault; that of the writer says nothing
+abbrev pub Leaves : {W : Type 0} → Bool → Option (List ℕ) → ProgramError → (W → Option (List ℕ)) → W → W → Type 0
+Leaves with_events input why contents old new =
+    (why ≡ fault.Write) ⊎ LeavesFront with_events input why contents old new
+
+-- the lines of the text that a reader had were taken, up to bytes that end no line, and their events written
+pub record IsInputTaken {W : Type 0} (input : Option (List ℕ)) (audit : TextAudit) (torn : List ℕ)
+    (contents : W → Option (List ℕ)) (old new : W) : Type 0 where
   pub lines : List ℕ
+  pub events : List ℕ
   pub is_text : IsTextIn input (lines ++ torn)
-  pub taken : AreTaken lines audit
+  pub written : HasWritten lines events audit
+  pub none_held : held_events audit.events ≡ []
+  pub put : Puts (has_events audit.events) contents old new events
   pub unended : EndsNoLine torn
+
+-- an audit takes these lines too
+abbrev pub TakesMore : TextAudit → List ℕ → TextAudit → Type 0
+TakesMore before lines after =
+    (text events : List ℕ) → HasWritten text events before → HasWritten (text ++ lines) events after
 
 -- bytes that end no line were taken as the last line, if there are any
 abbrev pub TakesLast : TextAudit → List ℕ → TextAudit → Type 0
-TakesLast before torn after = (lines : List ℕ) → AreTaken lines before → AreTaken (lines ++ torn) after
+TakesLast before torn after = TakesMore before torn after
 
 -- they are at fault
 abbrev pub FaultsLast : TextAudit → List ℕ → ProgramError → Type 0
 FaultsLast audit torn why = (lines : List ℕ) → AreTaken lines audit → Faults (lines ++ torn) why
 
--- an audit takes these lines too
-abbrev pub TakesMore : TextAudit → List ℕ → TextAudit → Type 0
-TakesMore before lines after = (text : List ℕ) → AreTaken text before → AreTaken (text ++ lines) after
+-- an audit holds the events of these lines, after which it found a fault
+abbrev pub HoldsBefore : TextAudit → List ℕ → TextAudit → Type 0
+HoldsBefore before lines after =
+    (last : TextAudit) × TakesMore before lines last × (has_events last.events ≡ has_events before.events)
+    × (held_events after.events ≡ held_events last.events)
 
 -- bytes begin with whole lines that are at fault after the lines that were taken, whatever follows them
 pub record IsWrongNext (audit : TextAudit) (next : List ℕ) (why : ReadFault) : Type 0 where
@@ -159,11 +235,15 @@ pub record IsWrongNext (audit : TextAudit) (next : List ℕ) (why : ReadFault) :
   pub rest : List ℕ
   pub begins : next ≡ lines ++ rest
   pub ended : EndsLine lines
-  pub wrong : (text after : List ℕ) → AreTaken text audit → Reads (text ++ (lines ++ after)) (Err why)
+  pub wrong : (text events after : List ℕ) → HasWritten text events audit → Reads (text ++ (lines ++ after)) (Err why)
 
 -- the fault of a line, or one of reading or of memory
 abbrev pub IsOfLine : ReadFault → ProgramError → Type 0
 IsOfLine what why = (why ≡ fault.Record what) ⊎ IsOfReading why
+
+-- the fault of some line
+abbrev pub IsOfSomeLine : ProgramError → Type 0
+IsOfSomeLine why = (what : ReadFault) × IsOfLine what why
 
 -- what a reader has left may follow the line, where it is known
 abbrev pub IsBefore : Option (List ℕ) → List ℕ → Option (List ℕ) → Type 0
@@ -182,27 +262,41 @@ abbrev pub IsNextLine : Bool → Option (List ℕ) → Option (List ℕ) → Lis
 IsNextLine true old new line = IsRead old new line
 IsNextLine false old new line = IsTextIn old line × EndsNoLine line
 
--- the lines of a text were read and taken
-pub record IsUnderway (first now : Option (List ℕ)) (audit : TextAudit) : Type 0 where
+-- the lines of a text were read and taken, and these events of theirs cleared
+pub record IsUnderway (first now : Option (List ℕ)) (audit : TextAudit) (events : List ℕ) : Type 0 where
   pub text : List ℕ
   pub consumed : Consumes first now text
-  pub taken : AreTaken text audit
+  pub written : HasWritten text events audit
+
+-- the same, and these events were put out
+pub record IsPut {W : Type 0} (first now : Option (List ℕ)) (audit : TextAudit) (contents : W → Option (List ℕ))
+    (old new : W) : Type 0 where
+  pub events : List ℕ
+  pub underway : IsUnderway first now audit events
+  pub put : Puts (has_events audit.events) contents old new events
 
 -- from lines that were taken before, a reader and an audit went on to these
 abbrev pub GoesOn : Option (List ℕ) → Option (List ℕ) → TextAudit → TextAudit → Type 0
-GoesOn old new before after = (first : Option (List ℕ)) → IsUnderway first old before → IsUnderway first new after
+GoesOn old new before after =
+    (first : Option (List ℕ)) (events : List ℕ) → IsUnderway first old before events → IsUnderway first new after events
 
 -- after the lines that were taken, what a reader has left is at fault so
 abbrev pub IsAtFault : Option (List ℕ) → TextAudit → ReadFault → Type 0
 IsAtFault now audit why =
-    (first : Option (List ℕ)) → IsUnderway first now audit
+    (first : Option (List ℕ)) (events : List ℕ) → IsUnderway first now audit events
     → (text : List ℕ) × IsTextIn first text × FaultsUncut text why
+
+-- a reader and an audit went on to lines before a fault, whose events the audit holds
+abbrev pub StopsAfter : Option (List ℕ) → Option (List ℕ) → TextAudit → TextAudit → Type 0
+StopsAfter old new before after =
+    (last : TextAudit) × GoesOn old new before last × (has_events last.events ≡ has_events before.events)
+    × (held_events after.events ≡ held_events last.events)
 
 -- what a reader held was taken by an audit
 abbrev pub BecomesOf : Buffered → Option (List ℕ) → Option (List ℕ) → TextAudit → TextAudit → Type 0
 BecomesOf held.End old new before after = IsAtEnd old × (after ≡ before)
 BecomesOf held.Lines old new before after = GoesOn old new before after
-BecomesOf (held.Wrong why) old new before after = IsAtFault old before why
+BecomesOf (held.Wrong why) old new before after = IsAtFault old before why × StopsAfter old new before after
 
 -- a wrong entry has a line, and so has its event with the legal reply
 pub record FitsLines (w : WrongLine) : Type 0 where
@@ -214,16 +308,26 @@ abbrev pub HasNote : TextFault → Type 0
 HasNote (found.Read why) = Unit {0}
 HasNote (found.Wrong w) = FitsLines w
 
--- how many entries a legal record has was written
-abbrev pub IsWritten : Result ℕ TextFault → Option (List ℕ) → Option (List ℕ) → Type 0
-IsWritten (Ok count) old new = Appends old new (entries_line count)
-IsWritten (Err why) old new = ⊥
+-- the last line that an audit writes of a record with so many entries
+abbrev pub last_line : Bool → ℕ → List ℕ
+last_line false count = entries_line count
+last_line true count = end_line count
+
+-- the same of a record that is cut off
+abbrev pub last_cut_line : Bool → ℕ → List ℕ
+last_cut_line false count = cut_line count
+last_cut_line true count = cut_end_line count
+
+-- the last line of a legal record's audit was written
+abbrev pub IsWritten : Bool → Result ℕ TextFault → Option (List ℕ) → Option (List ℕ) → Type 0
+IsWritten with_events (Ok count) old new = Appends old new (last_line with_events count)
+IsWritten with_events (Err why) old new = ⊥
 
 -- the same of a record that may be cut off
-abbrev pub IsCutWritten : Result Cut TextFault → Option (List ℕ) → Option (List ℕ) → Type 0
-IsCutWritten (Ok (cut.Whole count)) old new = Appends old new (entries_line count)
-IsCutWritten (Ok (cut.Off count)) old new = Appends old new (cut_line count)
-IsCutWritten (Err why) old new = ⊥
+abbrev pub IsCutWritten : Bool → Result Cut TextFault → Option (List ℕ) → Option (List ℕ) → Type 0
+IsCutWritten with_events (Ok (cut.Whole count)) old new = Appends old new (last_line with_events count)
+IsCutWritten with_events (Ok (cut.Off count)) old new = Appends old new (last_cut_line with_events count)
+IsCutWritten with_events (Err why) old new = ⊥
 
 -- a fault is that of the text
 abbrev pub IsToldFault : TextFault → ProgramError → Type 0

@@ -1,7 +1,10 @@
-ghost use Rattle.std.specs.Prelude.{IfErr, OnOk, map};
-ghost use Rattle.canbusd_audit.specs.Audited.{Audits, AuditsCut, AuditsFiles, FaultsCut, FaultsFiles, FaultsInput, IsOfFiles, IsQuiet};
+ghost use Rattle.std.specs.Prelude.{◌≡◌, ◌⊎◌, [], IfErr, IfOk, None, OnOk, map};
+ghost use Rattle.can_replay.specs.EventTexts.{HasWritten, has_events as audit_has_events, held_events};
+ghost use Rattle.canbusd_io.specs.declared.program_error.ProgramError.TheVariants as told;
+ghost use Rattle.canbusd_audit.specs.Audited.{Audits, AuditsCut, AuditsFiles, FaultsCut, FaultsFiles, FaultsInput, IsOfFiles, Leaves, StopsEvents};
 
 use crate::ends::{tell_cut, tell_end};
+use crate::events::put_events;
 use crate::joined::Joined;
 use crate::line_taking::{take_last, take_lines};
 use can_replay::TextAudit;
@@ -12,7 +15,7 @@ use std::io::{BufRead, BufReader, Write};
 use std::rt::Files;
 
 /// Audits the record whose text the files of the options have, one after another, and writes how many entries it has
-/// where it is a legal history.
+/// where it is a legal history, or with events what they brought about, as far as they are legal.
 pub fn audit_files<'a, H: Files, W: Write, E: Write>(
     rt: &H,
     alloc: Global,
@@ -20,11 +23,14 @@ pub fn audit_files<'a, H: Files, W: Write, E: Write>(
     output: &mut W,
     errors: &mut E,
 ) -> Result<(), Report<'a>>
-    ensures legal { OnOk result (AuditsFiles options.now.is_cut W.contents output.old output.new) }
+    ensures legal { OnOk result
+        (AuditsFiles options.now.is_cut options.now.has_events W.contents output.old output.new) }
     ensures fault { IfErr result (λ failure.
+        StopsEvents options.now.has_events failure.error ⊎
         FaultsFiles options.now.is_cut (map (λ file. file.now) options.now.files.items)
         failure.error) }
-    ensures quiet { IfErr result (λ failure. IsQuiet failure.error output.old output.new) }
+    ensures written { IfErr result (λ failure.
+        Leaves options.now.has_events None failure.error W.contents output.old output.new) }
 {
     let files = open_files(rt, alloc, &options.files)?;
     let Ok(name) = joined_name(alloc, &options.files) else {
@@ -33,10 +39,27 @@ pub fn audit_files<'a, H: Files, W: Write, E: Write>(
     let Ok(mut input) = BufReader::new(alloc, Joined::new(files)) else {
         return Err(Report::new(alloc, ProgramError::NoMemory));
     };
+    let has_events = options.has_events;
     if options.is_cut {
-        audit_cut_lines(alloc, &name, &mut input, output, errors)
+        audit_cut_lines(alloc, &name, &mut input, has_events, output, errors)
     } else {
-        audit_lines(alloc, &name, &mut input, output)
+        audit_lines(alloc, &name, &mut input, has_events, output)
+    }
+}
+
+// An audit that was given nothing yet, with events or without.
+fn new_audit<'a>(alloc: Global, has_events: bool) -> Result<TextAudit, Report<'a>>
+    ensures written { IfOk result (λ audit. HasWritten [] [] audit) }
+    ensures none { IfOk result (λ audit. held_events audit.events ≡ []) }
+    ensures events { IfOk result (λ audit. audit_has_events audit.events ≡ has_events) }
+    ensures fault { IfErr result (λ failure. failure.error ≡ told.NoMemory) }
+{
+    if !has_events {
+        return Ok(TextAudit::new(alloc));
+    }
+    match TextAudit::with_events(alloc) {
+        Ok(audit) => Ok(audit),
+        Err(_) => Err(Report::new(alloc, ProgramError::NoMemory)),
     }
 }
 
@@ -71,25 +94,31 @@ fn joined_name(alloc: Global, paths: &[&str]) -> Result<String, AllocError> {
 }
 
 /// Audits the record of a text, which the file with this path has, and writes how many entries it has where it is a
-/// legal history.
+/// legal history, or with events what they brought about, as far as they are legal.
 ///
-/// The text is read line by line and once, so it may come through a pipe. Neither it nor its record is held.
+/// The text is read line by line and once, so it may come through a pipe. Neither it nor its record is held, nor more of
+/// the events than those of the lines that one read gave.
 pub fn audit_lines<'a, R: BufRead, W: Write>(
     alloc: Global,
     path: &str,
     input: &mut R,
+    has_events: bool,
     output: &mut W,
 ) -> Result<(), Report<'a>>
-    ensures legal { OnOk result (Audits (R.remaining input.old) W.contents output.old output.new) }
-    ensures fault { IfErr result (λ failure. FaultsInput (R.remaining input.old) failure.error) }
-    ensures quiet { IfErr result (λ failure. IsQuiet failure.error output.old output.new) }
+    ensures legal { OnOk result
+        (Audits has_events (R.remaining input.old) W.contents output.old output.new) }
+    ensures fault { IfErr result (λ failure.
+        StopsEvents has_events failure.error ⊎ FaultsInput (R.remaining input.old) failure.error) }
+    ensures written { IfErr result (λ failure.
+        Leaves has_events (R.remaining input.old) failure.error W.contents output.old output.new) }
 {
-    let mut audit = TextAudit::new(alloc);
+    let mut audit = new_audit(alloc, has_events)?;
     let mut torn = Vec::new(alloc);
-    let lines = take_lines(alloc, path, input, &mut audit, &mut torn)?;
+    let lines = take_lines(alloc, path, input, &mut audit, &mut torn, output)?;
     take_last(alloc, path, lines, &mut audit, &torn)?;
+    put_events(alloc, &mut audit, output)?;
     let first = audit.first_line();
-    tell_end(alloc, path, first, audit.finish(), output)
+    tell_end(alloc, path, first, audit.finish(), has_events, output)
 }
 
 /// The same of a text that may be cut off, as a run that was killed leaves it: writes how many entries it has, and
@@ -98,18 +127,21 @@ pub fn audit_cut_lines<'a, R: BufRead, W: Write, E: Write>(
     alloc: Global,
     path: &str,
     input: &mut R,
+    has_events: bool,
     output: &mut W,
     errors: &mut E,
 ) -> Result<(), Report<'a>>
     ensures legal { OnOk result
-        (AuditsCut (R.remaining input.old) W.contents output.old output.new) }
-    ensures fault { IfErr result (λ failure. FaultsCut (R.remaining input.old) failure.error) }
-    ensures quiet { IfErr result (λ failure. IsQuiet failure.error output.old output.new) }
+        (AuditsCut has_events (R.remaining input.old) W.contents output.old output.new) }
+    ensures fault { IfErr result (λ failure.
+        StopsEvents has_events failure.error ⊎ FaultsCut (R.remaining input.old) failure.error) }
+    ensures written { IfErr result (λ failure.
+        Leaves has_events (R.remaining input.old) failure.error W.contents output.old output.new) }
 {
-    let mut audit = TextAudit::new(alloc);
+    let mut audit = new_audit(alloc, has_events)?;
     let mut torn = Vec::new(alloc);
-    take_lines(alloc, path, input, &mut audit, &mut torn)?;
+    take_lines(alloc, path, input, &mut audit, &mut torn, output)?;
     let first = audit.first_line();
     let found = audit.finish_cut(&torn);
-    tell_cut(alloc, path, first, found, &torn, output, errors)
+    tell_cut(alloc, path, first, found, &torn, has_events, output, errors)
 }

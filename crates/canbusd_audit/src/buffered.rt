@@ -1,5 +1,6 @@
-ghost use Rattle.std.specs.Prelude.{◌≡◌, ◌≤◌, IfOk, IfSome, IsNone, length, take};
-ghost use Rattle.canbusd_audit.specs.Audited.{BecomesOf, IsWrongNext, TakesMore};
+ghost use Rattle.std.specs.Prelude.{◌≡◌, ◌≤◌, IfOk, IfSome, IsNone, IsSome, OnErr, length, take};
+ghost use Rattle.can_replay.specs.EventTexts.{has_events};
+ghost use Rattle.canbusd_audit.specs.Audited.{BecomesOf, HoldsBefore, IsWrongNext, TakesMore};
 
 use can_record_text::ReadFault;
 use can_replay::TextAudit;
@@ -26,8 +27,10 @@ pub fn take_held<R: BufRead>(
     audit: &mut TextAudit,
     lines: &mut u64,
 ) -> io::Result<Buffered>
-    ensures { IfOk result (λ held.
+    ensures became { IfOk result (λ held.
         BecomesOf held (R.remaining input.old) (R.remaining input.new) audit.old audit.new) }
+    ensures failed { OnErr result (audit.new ≡ audit.old) }
+    ensures events { has_events audit.new.events ≡ has_events audit.old.events }
 {
     let held = match input.fill_buf() {
         Ok(held) => held,
@@ -66,6 +69,8 @@ fn carry_held(
     ensures within { result.0 ≤ length held.now }
     ensures taken { IsNone result.1 → TakesMore audit.old (take result.0 held.now) audit.new }
     ensures fault { IfSome result.1 (λ why. IsWrongNext audit.old held.now why) }
+    ensures before { IsSome result.1 → HoldsBefore audit.old (take result.0 held.now) audit.new }
+    ensures events { has_events audit.new.events ≡ has_events audit.old.events }
 {
     let mut len = 0;
     while let Some(place) = memchr(b'\n', &held[len..]) {

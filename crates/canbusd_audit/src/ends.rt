@@ -1,7 +1,7 @@
 ghost use Rattle.std.specs.Prelude.{◌≡◌, IfErr, OnOk};
 ghost use Rattle.std.specs.Io.KnownBytes.{Appends};
 ghost use Rattle.canbusd_io.specs.declared.program_error.ProgramError.TheVariants as told;
-ghost use Rattle.canbusd_audit.specs.Audited.{FitsLines, HasNote, IsCutWritten, IsQuiet, IsTold, IsWritten, cut_line};
+ghost use Rattle.canbusd_audit.specs.Audited.{FitsLines, HasNote, IsCutWritten, IsQuiet, IsTold, IsWritten, last_cut_line, last_line};
 
 use crate::notes::{record_note, with_cut_note};
 use crate::wrong_entries::wrong_note;
@@ -12,29 +12,48 @@ use std::alloc::Global;
 use std::io::Write;
 
 /// Reports what was found of a text that has ended and begins with this line: writes how many entries a legal record
-/// has.
+/// has, or with events their last line.
 pub fn tell_end<'a, W: Write>(
     alloc: Global,
     path: &str,
     first: &[u8],
     found: Result<usize, TextFault>,
+    has_events: bool,
     output: &mut W,
 ) -> Result<(), Report<'a>>
     requires { IfErr found HasNote }
-    ensures legal { OnOk result (IsWritten found (W.contents output.old) (W.contents output.new)) }
+    ensures legal { OnOk result
+        (IsWritten has_events found (W.contents output.old) (W.contents output.new)) }
     ensures fault { IfErr result (λ failure. IsTold found failure.error) }
     ensures quiet { IfErr result (λ failure. IsQuiet failure.error output.old output.new) }
 {
     match found {
-        Ok(count) => writeln!(output, "ok {count} entries").map_err(|error| write_failure(
-            alloc, OUTPUT, &error,
-        )),
+        Ok(count) => write_count(alloc, count, has_events, output),
         Err(TextFault::Read(fault)) => {
             let failure = text_failure(alloc, path, first, b"", fault);
             Err(with_cut_note(alloc, failure, fault))
         }
         Err(TextFault::Wrong(wrong)) => Err(wrong_failure(alloc, path, &wrong)),
     }
+}
+
+// Writes how many entries a whole record has.
+fn write_count<'a, W: Write>(
+    alloc: Global,
+    count: usize,
+    has_events: bool,
+    output: &mut W,
+) -> Result<(), Report<'a>>
+    ensures legal { OnOk result
+        (Appends (W.contents output.old) (W.contents output.new) (last_line has_events count)) }
+    ensures fault { IfErr result (λ failure. failure.error ≡ told.Write) }
+{
+    let written = if has_events {
+        writeln!(output, "end {count}")
+    } else {
+        writeln!(output, "ok {count} entries")
+    };
+    written.map_err(|error| write_failure(alloc, OUTPUT, &error))
 }
 
 /// The same of a text that may be cut off, before these bytes.
@@ -44,18 +63,19 @@ pub fn tell_cut<'a, W: Write, E: Write>(
     first: &[u8],
     found: Result<Cut, TextFault>,
     torn: &[u8],
+    has_events: bool,
     output: &mut W,
     errors: &mut E,
 ) -> Result<(), Report<'a>>
     requires { IfErr found HasNote }
     ensures legal { OnOk result
-        (IsCutWritten found (W.contents output.old) (W.contents output.new)) }
+        (IsCutWritten has_events found (W.contents output.old) (W.contents output.new)) }
     ensures fault { IfErr result (λ failure. IsTold found failure.error) }
     ensures quiet { IfErr result (λ failure. IsQuiet failure.error output.old output.new) }
 {
     match found {
-        Ok(Cut::Whole(count)) => tell_end(alloc, path, first, Ok(count), output),
-        Ok(Cut::Off(count)) => tell_off(alloc, count, torn, output, errors),
+        Ok(Cut::Whole(count)) => write_count(alloc, count, has_events, output),
+        Ok(Cut::Off(count)) => tell_off(alloc, count, torn, has_events, output, errors),
         Err(TextFault::Read(fault)) => Err(text_failure(alloc, path, first, torn, fault)),
         Err(TextFault::Wrong(wrong)) => Err(wrong_failure(alloc, path, &wrong)),
     }
@@ -66,11 +86,12 @@ fn tell_off<'a, W: Write, E: Write>(
     alloc: Global,
     count: usize,
     torn: &[u8],
+    has_events: bool,
     output: &mut W,
     errors: &mut E,
 ) -> Result<(), Report<'a>>
     ensures legal { OnOk result
-        (Appends (W.contents output.old) (W.contents output.new) (cut_line count)) }
+        (Appends (W.contents output.old) (W.contents output.new) (last_cut_line has_events count)) }
     ensures fault { IfErr result (λ failure. failure.error ≡ told.Write) }
 {
     if !torn.is_empty() {
@@ -80,9 +101,12 @@ fn tell_off<'a, W: Write, E: Write>(
             "note: {bytes} bytes of a line without its end were not looked at"
         );
     }
-    writeln!(output, "ok {count} entries, then cut off").map_err(|error| write_failure(
-        alloc, OUTPUT, &error,
-    ))
+    let written = if has_events {
+        writeln!(output, "cut {count}")
+    } else {
+        writeln!(output, "ok {count} entries, then cut off")
+    };
+    written.map_err(|error| write_failure(alloc, OUTPUT, &error))
 }
 
 // What is reported of a text that is no record's, and ends in these bytes without LF.

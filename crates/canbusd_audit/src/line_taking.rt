@@ -1,41 +1,53 @@
-ghost use Rattle.std.specs.Prelude.{◌≡◌, ◌≢◌, ◌-◌, [], IfErr, IfOk, IsTrue, OnOk, Some, false, length, slice_get};
-ghost use Rattle.can_replay.specs.TextAudits.{AreTaken, EndsNoLine};
-ghost use Rattle.canbusd_audit.specs.Audited.{FaultsLast, FaultsLine, IsInputTaken, IsNextLine, IsOfLine, TakesLast};
+ghost use Rattle.std.specs.Prelude.{◌≡◌, ◌≢◌, ◌-◌, ◌⊎◌, [], IfErr, IfOk, IsTrue, OnOk, Some, false, length, slice_get};
+ghost use Rattle.can_replay.specs.EventTexts.{HasWritten, has_events, held_events};
+ghost use Rattle.can_replay.specs.TextAudits.{EndsNoLine};
+ghost use Rattle.canbusd_audit.specs.Audited.{FaultsLast, FaultsLine, IsInputTaken, IsNextLine, IsOfLine, IsOfSomeLine, Leaves, StopsEvents, TakesLast};
 ghost use Rattle.canbusd_io.specs.Files.{IsOfReading};
 
 use crate::buffered::{Buffered, take_held};
+use crate::events::put_events;
 use crate::notes::{record_note, with_cut_note};
 use can_record_text::ReadFault;
 use can_replay::TextAudit;
 use canbusd_io::{ProgramError, Report, read_failure, utf8_note};
 use std::alloc::Global;
-use std::io::BufRead;
+use std::io::{BufRead, Write};
 use std::str;
 
-/// Takes the lines of an input to its end: how many there were. The bytes after the last LF are left.
+/// Takes the lines of an input to its end: how many there were. The bytes after the last LF are left. After each read the
+/// events of an audit that has them are written.
 ///
 /// Where a line is at fault, what follows is read all the same: an input that is no UTF-8 text is reported as such,
 /// wherever it is not.
-pub fn take_lines<'a, R: BufRead>(
+pub fn take_lines<'a, R: BufRead, W: Write>(
     alloc: Global,
     path: &str,
     input: &mut R,
     audit: &mut TextAudit,
     torn: &mut Vec<u8>,
+    output: &mut W,
 ) -> Result<u64, Report<'a>>
-    requires { AreTaken [] audit.old }
-    ensures taken { OnOk result (IsInputTaken (R.remaining input.old) audit.new torn.new.items) }
-    ensures fault { IfErr result (λ failure. FaultsLine (R.remaining input.old) failure.error) }
+    requires written { HasWritten [] [] audit.old }
+    requires none { held_events audit.old.events ≡ [] }
+    ensures taken { OnOk result (IsInputTaken (R.remaining input.old) audit.new torn.new.items
+        W.contents output.old output.new) }
+    ensures fault { IfErr result (λ failure.
+        StopsEvents (has_events audit.old.events) failure.error ⊎
+        FaultsLine (R.remaining input.old) failure.error) }
+    ensures written { IfErr result (λ failure. Leaves (has_events audit.old.events)
+        (R.remaining input.old) failure.error W.contents output.old output.new) }
+    ensures events { has_events audit.new.events ≡ has_events audit.old.events }
 {
     let mut lines = 0;
     for _ in 0..u64::MAX {
         match take_held(alloc, input, audit, &mut lines) {
-            Ok(Buffered::Lines) => {}
+            Ok(Buffered::Lines) => put_events(alloc, audit, output)?,
             Ok(Buffered::End) => {
                 torn.clear();
                 return Ok(lines);
             }
             Ok(Buffered::Wrong(fault)) => {
+                put_events(alloc, audit, output)?;
                 return Err(held_failure(alloc, path, lines, input, torn, fault));
             }
             Err(error) => return Err(read_failure(alloc, path, &error)),
@@ -47,7 +59,7 @@ pub fn take_lines<'a, R: BufRead>(
         }
         lines = lines.saturating_add(1);
         match audit.carry(alloc, torn) {
-            Ok(()) => {}
+            Ok(()) => put_events(alloc, audit, output)?,
             Err(fault) => {
                 return Err(line_failure(alloc, path, lines, input, torn, fault));
             }
@@ -67,6 +79,8 @@ pub fn take_last<'a>(
     requires { EndsNoLine torn.now }
     ensures taken { OnOk result (TakesLast audit.old torn.now audit.new) }
     ensures fault { IfErr result (λ failure. FaultsLast audit.old torn.now failure.error) }
+    ensures line { IfErr result (λ failure. IsOfSomeLine failure.error) }
+    ensures events { has_events audit.new.events ≡ has_events audit.old.events }
 {
     if torn.is_empty() {
         return Ok(());

@@ -234,3 +234,5 @@ pub record AreAuditOptions (rows : List Row) (o : AuditOptions) : Type 0 where
   pub files : map (λ file. file.now) o.files.items ≡ files_given rows
   pub cut : one_of (codes "cut") rows ≡ Some (codes "true") → o.is_cut ≡ true
   pub whole : one_of (codes "cut") rows ≡ Some (codes "false") → o.is_cut ≡ false
+  pub events : one_of (codes "events") rows ≡ Some (codes "true") → o.has_events ≡ true
+  pub plain : one_of (codes "events") rows ≡ Some (codes "false") → o.has_events ≡ false

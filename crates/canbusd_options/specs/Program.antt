@@ -70,9 +70,11 @@ serve_app =
     (flag_rule (codes "verbose")))
     (words_rule (codes "BUS"))
 
--- `audit FILE..`, with its option
+-- `audit FILE..`, with its options
 abbrev pub audit_app : App
-audit_app = with_rule (with_rule (new_app (codes "audit")) (flag_rule (codes "cut"))) (words_rule (codes "FILE"))
+audit_app =
+    with_rule (with_rule (with_rule (new_app (codes "audit")) (flag_rule (codes "cut"))) (flag_rule (codes "events")))
+    (words_rule (codes "FILE"))
 
 -- a command that has a version, and needs a command below it
 abbrev pub with_commands : App → App

@@ -10,6 +10,8 @@ use std::alloc::{AllocError, Global};
 
 const CUT: &str = "cut";
 
+const EVENTS: &str = "events";
+
 const FILE: &str = "FILE";
 
 /// The words of `canbusd audit`.
@@ -19,6 +21,8 @@ pub struct AuditOptions<'a> {
     pub files: Vec<&'a str>,
     /// Whether the text may be cut off.
     pub is_cut: bool,
+    /// Whether what the entries brought about is written.
+    pub has_events: bool,
 }
 
 #[tactic(auto, using(crate::proofs::Rules::flag_in_rows))]
@@ -31,6 +35,7 @@ pub fn audit_options<'a>(
     Ok(AuditOptions {
         files: files_given(alloc, audit)?,
         is_cut: audit.get_flag(CUT),
+        has_events: audit.get_flag(EVENTS),
     })
 }
 
@@ -51,6 +56,7 @@ pub fn audit_command<'a>(alloc: Global) -> Result<Command<'a>, AllocError>
         .about("Check that a record is a legal history of a bus")
         .after_help(AUDIT_HELP)
         .arg(cut_option(alloc))?
+        .arg(events_option(alloc))?
         .arg(files_argument(alloc))
 }
 
@@ -62,6 +68,16 @@ fn cut_option<'a>(alloc: Global) -> Arg<'a>
         .long(CUT)
         .action(ArgAction::SetTrue)
         .help("Audit a record that is cut off, as far as it reaches")
+}
+
+fn events_option<'a>(alloc: Global) -> Arg<'a>
+    ensures rule { rule_of result ≡ flag_rule (codes "events") }
+    ensures local { result.global ≡ false }
+{
+    Arg::new(alloc, EVENTS)
+        .long(EVENTS)
+        .action(ArgAction::SetTrue)
+        .help("Write each legal entry with what it brought about")
 }
 
 fn files_argument<'a>(alloc: Global) -> Arg<'a>

@@ -117,9 +117,18 @@ Several FILEs are read as one text. With --cut the text may end before its last 
 killed: then it prints `ok N entries, then cut off` where the N entries that are there are right. A torn last line is
 no entry; a note on standard error says how many bytes it has.
 
+With --events it prints, in place of `ok N entries`, each entry with what it brought about: error counts, lost frames, and
+for each socket what was queued and how much found no room. The last line is `end N`, or `cut N` of a record that is cut
+off. Before a fault it prints the entries before it. docs/RECORD.md has the grammar.
+
 Example, with what it writes:
   $ printf '%s\\n' 'session 1' 'feed 1 < open can0 >< rawmode >' | canbusd bench --record run.rec can0
   1 < hi >
   1 < ok >< ok >
   $ canbusd audit run.rec
-  ok 1 entries";
+  ok 1 entries
+  $ canbusd audit --events run.rec
+  canbus events 1
+  bus 1 always 0000 10 1000000
+  open 0 256 = socket 0
+  end 1";

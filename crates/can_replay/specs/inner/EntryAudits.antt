@@ -1,10 +1,10 @@
-use Rattle.std.specs.Prelude.{◌≡◌, ℕ, Bool, true, false, List, [], length, reverse, Option, Some, None}
+use Rattle.std.specs.Prelude.{◌≡◌, ℕ, Bool, true, false, List, [], ◌++◌, length, reverse, Option, Some, None}
 use Rattle.can_event.specs.declared.bus_config.BusConfig.{BusConfig}
 use Rattle.can_event.specs.declared.entry.Entry.{Entry}
 use Rattle.can_bus.specs.Lean.{IsAfter}
 use Rattle.can_bus.specs.Legal.{IsLegal}
 use Rattle.can_record_text.specs.declared.version.Version.{Version}
-use Rattle.can_record_text.specs.Spelling.{entry_lines, front_lines, all_needs, text_in}
+use Rattle.can_record_text.specs.Spelling.{bus_words, entry_lines, first_line, front_lines, all_needs, spell, text_in}
 use Rattle.can_record_text.specs.Values.{HasLines}
 use Rattle.can_replay.specs.Audits.{IsToldWrong}
 use Rattle.can_replay.specs.declared.entry_audit.EntryAudit.{EntryAudit}
@@ -42,3 +42,10 @@ pub record IsGoing (text : List ℕ) (b : EntryAudit) : Type 0 where
   pub read : IsRead text b
   pub config : b.is_ended ≡ false → b.bus.config ≡ b.config
   pub is_after : b.is_ended ≡ false → b.wrong ≡ None → IsAfter b.bus (reverse read.entries)
+
+-- the first two lines were read
+pub record IsBegun (v : Version) (line : List ℕ) (b : EntryAudit) : Type 0 where
+  pub going : IsGoing (first_line v ++ line) b
+  pub none : going.read.entries ≡ []
+  pub legal : b.wrong ≡ None
+  pub is_line : line ≡ spell (bus_words b.version b.config) []

@@ -1,12 +1,21 @@
-use Rattle.std.proofs.Common.{◌≡◌, ◌+◌, ◌-◌, ◌++◌, ℕ, List, Some, Err, arith, drop, length, length-drop, subst, take, take_all}
+use Rattle.std.proofs.Common.{◌≡◌, ◌+◌, ◌-◌, ◌++◌, ◌∙◌, [], ℕ, List, Some, Err, arith, append-nil, drop, length, length-drop, refl, subst, sym, take, take_all}
 use Rattle.memchr.specs.Find.{IsFirstByte, is_byte}
 use Rattle.can_record_text.specs.RecordFaults.{Reads}
+use Rattle.can_replay.specs.EventTexts.{HasWritten}
 use Rattle.can_replay.specs.TextAudits.{AreTaken, IsLine, MayFollow}
+use Rattle.canbusd_audit.specs.Audited.{TakesMore}
 use Rattle.canbusd_audit.proofs.HeldLines.{fails_in, takes_more}
 use Rattle.canbusd_audit.proofs.buffered.carry_held.Goals as goal
 
 whole_rest : (xs : List ℕ) (n : ℕ) → take (length xs - n) (drop n xs) ≡ drop n xs
 whole_rest xs n = take_all _ _ (omega (arith, length-drop n xs))
+
+pub loop-place-init : goal.loop-place-init
+loop-place-init c = record {
+  within = omega arith;
+  taken = λ text events start. subst (λ (x : List ℕ). HasWritten x events c.args.audit.now) (sym (append-nil text)) start;
+  events = refl;
+}
 
 pub returns-in-Err-clause-fault : goal.returns-in-Err-clause-fault
 returns-in-Err-clause-fault c =
@@ -18,6 +27,9 @@ returns-in-Err-clause-fault c =
     fails_in held len place c.args.audit.now c.loop-place.audit c.in-Err.fault found c.loop-place.invariant.taken
     (subst (λ (n : ℕ). (text after : List ℕ) → AreTaken text c.loop-place.audit → IsLine (take n (drop len held)) → MayFollow (take n (drop len held)) after → Reads (text ++ (take n (drop len held) ++ after)) (Err c.in-Err.fault)) size c.in-Err.ensures.fault)
 
+pub returns-in-Err-clause-before : goal.returns-in-Err-clause-before
+returns-in-Err-clause-before c = λ some. (c.loop-place.audit, c.loop-place.invariant.taken, c.loop-place.invariant.events, c.in-Err.ensures.held)
+
 pub loop-place-preserved : goal.loop-place-preserved
 loop-place-preserved c =
     let held = c.args.held.now in
@@ -28,7 +40,8 @@ loop-place-preserved c =
     let end : len + (place + 1) ≡ len + place + 1 = omega arith in
     record {
       within = omega (arith, found.0.high, length-drop len held);
-      taken = subst (λ (n : ℕ). (text : List ℕ) → AreTaken text c.args.audit.now → AreTaken (text ++ take n held) c.carry.new.self) end
+      taken = subst (λ (n : ℕ). TakesMore c.args.audit.now (take n held) c.carry.new.self) end
           (takes_more held len place c.args.audit.now c.loop-place.audit c.carry.new.self found c.loop-place.invariant.taken
-          (subst (λ (n : ℕ). (text : List ℕ) → AreTaken text c.loop-place.audit → IsLine (take n (drop len held)) → AreTaken (text ++ take n (drop len held)) c.carry.new.self) size c.in-Ok.ensures.taken));
+          (subst (λ (n : ℕ). (events text : List ℕ) → HasWritten text events c.loop-place.audit → IsLine (take n (drop len held)) → HasWritten (text ++ take n (drop len held)) events c.carry.new.self) size c.in-Ok.ensures.written));
+      events = c.carry.ensures.events ∙ c.loop-place.invariant.events;
     }

@@ -1,12 +1,26 @@
-use Rattle.std.proofs.Common.{subst, sym}
-use Rattle.canbusd_audit.specs.Audited.{FaultsLast}
+use Rattle.std.proofs.Common.{◌≡◌, ◌++◌, ◌∙◌, [], List, ℕ, ap, append-nil, eqb-true, length, subst, sym}
+use Rattle.std.proofs.lemmas.List.{nil_from_length}
+use Rattle.can_replay.specs.EventTexts.{HasWritten}
+use Rattle.canbusd_audit.specs.Audited.{FaultsLast, IsOfLine}
 use Rattle.canbusd_audit.proofs.Underway.{fails_last, last_line, some_of}
 use Rattle.canbusd_audit.proofs.line_taking.take_last.Goals as goal
 
 pub returns-in-Ok-clause-taken : goal.returns-in-Ok-clause-taken
 returns-in-Ok-clause-taken c =
     let torn = c.args.torn.now in
-    λ lines taken. c.in-Ok.ensures.taken lines taken (last_line torn (some_of torn c.if-is_empty.ensures) c.requires)
+    λ lines events written. c.in-Ok.ensures.written events lines written (last_line torn (some_of torn c.if-is_empty.ensures) c.requires)
+
+pub returns-then-is_empty-clause-taken : goal.returns-then-is_empty-clause-taken
+returns-then-is_empty-clause-taken c =
+    let torn = c.args.torn.now in
+    let none : torn ≡ [] = nil_from_length torn (eqb-true (length torn) 0 (sym c.if-is_empty.ensures)) in
+    λ lines events written. subst (λ (x : List ℕ). HasWritten x events c.args.audit.now) (sym (ap (λ (x : List ℕ). lines ++ x) none ∙ append-nil lines)) written
+
+pub returns-then-has_end_line-clause-line : goal.returns-then-has_end_line-clause-line
+returns-then-has_end_line-clause-line c = (c.in-Err.fault, c.torn_failure-failure.ensures)
+
+pub returns-else-has_end_line-clause-line : goal.returns-else-has_end_line-clause-line
+returns-else-has_end_line-clause-line c = (c.in-Err.fault, subst (IsOfLine c.in-Err.fault) (sym c.with_cut_note.ensures) c.torn_failure-failure.ensures)
 
 pub returns-then-has_end_line-clause-fault : goal.returns-then-has_end_line-clause-fault
 returns-then-has_end_line-clause-fault c =

@@ -7,5 +7,6 @@ use Rattle.canbusd_options.proofs.audit_options.audit_command.Goals as goal
 pub returns : goal.returns
 returns c =
     let base : app_of c.after_help.result ≡ new_app (codes "audit") = rw (c.after_help.ensures, c.about.ensures) c.new.ensures.app in
-    IfOk-weaker c.arg-2.result _ _ (λ last adds. added _ _ _ _ _ adds c.files_argument.ensures.local c.files_argument.ensures.rule
-    (added _ _ _ _ _ c.in_ok-arg.ensures c.cut_option.ensures.local c.cut_option.ensures.rule base)) c.arg-2.ensures
+    IfOk-weaker c.arg-3.result _ _ (λ last adds. added _ _ _ _ _ adds c.files_argument.ensures.local c.files_argument.ensures.rule
+    (added _ _ _ _ _ c.in_ok-arg-2.ensures c.events_option.ensures.local c.events_option.ensures.rule
+    (added _ _ _ _ _ c.in_ok-arg.ensures c.cut_option.ensures.local c.cut_option.ensures.rule base))) c.arg-3.ensures

@@ -7,4 +7,6 @@ returns c = record {
   files = c.in_ok-files_given.ensures;
   cut = λ on. c.get_flag.ensures.value (flag_in_rows c.args.audit.now (codes "cut") ∙ on);
   whole = λ off. c.get_flag.ensures.other (flag_in_rows c.args.audit.now (codes "cut") ∙ off);
+  events = λ on. c.get_flag-2.ensures.value (flag_in_rows c.args.audit.now (codes "events") ∙ on);
+  plain = λ off. c.get_flag-2.ensures.other (flag_in_rows c.args.audit.now (codes "events") ∙ off);
 }

@@ -11,6 +11,14 @@ returns-clause-taken c = λ is.
     let v = c.in_ok-first_version.field-0 in
     cut_first v c.args.line.now (drop (length (first_line v)) c.args.line.now) is c.in_ok-first_version.ensures.found
 
+pub returns-clause-written : goal.returns-clause-written
+returns-clause-written c = λ is cleared complete.
+    let v = c.in_ok-first_version.field-0 in
+    record {
+      taken = cut_first v c.args.line.now (drop (length (first_line v)) c.args.line.now) is c.in_ok-first_version.ensures.found;
+      complete = complete;
+    }
+
 pub returns-in_err-first_version-clause-fault : goal.returns-in_err-first_version-clause-fault
 returns-in_err-first_version-clause-fault c =
     let line = c.args.line.now in

@@ -1,0 +1,161 @@
+"""`canbusd audit --events`: what it writes of records whose events are known by the rules, text for text.
+
+Each kind of part, records that are cut off, wrong entries and lines, several files, a record that is followed through a
+pipe, and a writer that fails. test_memory.py refuses it memory.
+"""
+
+import os
+import subprocess
+
+import pytest
+
+from commands import run_line
+from serving import WAIT, program
+
+# Two interfaces that report faults. Socket 0 asks for error message frames and has room; socket 1, at interface 1, has
+# room for one item; socket 2 is there too, and asks for no error message frames.
+RECORD = """canbus record 1
+bus 2 always 0003 10 100
+open 0 256 = socket 0
+open 1 1 = socket 1
+open 1 9 = socket 2
+option 0 errmask 1FFFFFFF = ok
+option 1 errmask 1FFFFFFF = ok
+send 0 123#01FF = number 0
+attempt 0.000001 global-bit = tried 0 0 123#01FF destroyed 0000 0000
+attempt 0.000002 good = tried 0 0 123#01FF done 0002 0000
+receive 2 = data 0 0 123#01FF 0.000002
+attempt 0.000003 good = idle
+end 10
+"""
+# The transmitter counts 8, the receiver 1; the good attempt takes 1 off each. The one item that socket 1 has room for is
+# the error message frame of the first attempt.
+FAULT = "; counts 0 8 0; counts 1 0 1; put 0:20000088#0000810A00000000 1:20000088#0000040000000000"
+DONE = "; counts 0 7 0; counts 1 0 0; put 2; dropped 1:1"
+EVENTS = (
+    RECORD.replace("canbus record", "canbus events")
+    .replace("destroyed 0000 0000\n", f"destroyed 0000 0000{FAULT}\n")
+    .replace("done 0002 0000\n", f"done 0002 0000{DONE}\n")
+)
+# After 31 destroyed attempts a transmitter has counted 248, and the next one takes it to bus off; what it has to send is
+# lost. A call brings it back.
+FAULTS = "".join(
+    f"attempt 0.0000{number:02} global-bit = tried 0 0 123# destroyed 0000 0000\n" for number in range(1, 32)
+)
+BUS_OFF = f"""canbus record 1
+bus 2 always 0000 10 100
+open 0 256 = socket 0
+option 0 errmask 00000140 = ok
+send 0 123# = number 0
+send 0 124# = number 1
+{FAULTS}attempt 0.000032 global-bit = tried 0 0 123# destroyed 0000 0001
+attempt 0.000033 good = idle
+restart 0 0.000034 = ok
+end 38
+"""
+
+
+def audited(record, folder, *options):
+    """The status, the output and the errors of an audit with events."""
+    (folder / "run.rec").write_text(record)
+    return run_line(" ".join(["audit", "--events", *options, "run.rec"]), cwd=folder)
+
+
+def front(text, lines):
+    """The first lines of a text."""
+    return "".join(text.splitlines(True)[:lines])
+
+
+def test_each_kind_of_part(tmp_path):
+    """counts, what is queued, and what finds no room"""
+    assert audited(RECORD, tmp_path) == (0, EVENTS, "")
+    assert audited(RECORD, tmp_path, "--cut") == (0, EVENTS, "")
+
+
+def test_bus_off(tmp_path):
+    """losses, error message frames of it, and the counts after a restart"""
+    status, written, errors = audited(BUS_OFF, tmp_path)
+    lines = written.splitlines()
+    assert (status, errors) == (0, "") and lines[:6] == ["canbus events 1", *BUS_OFF.splitlines()[1:6]]
+    off, restart = BUS_OFF.splitlines()[37], BUS_OFF.splitlines()[39]
+    assert lines[37] == f"{off}; counts 0 256 0; counts 1 0 32; lost 0 2; put 0:20000040#0000000000000000"
+    assert lines[38:] == [
+        "attempt 0.000033 good = idle",
+        f"{restart}; counts 0 0 0; put 0:20000100#0000000000000000",
+        "end 38",
+    ]
+
+
+def test_a_record_that_is_cut_off(tmp_path):
+    """after an entry, and within a line"""
+    assert audited(front(RECORD, 9), tmp_path, "--cut") == (0, front(EVENTS, 9) + "cut 7\n", "")
+    note = "note: 13 bytes of a line without its end were not looked at\n"
+    torn = front(RECORD, 9) + "attempt 0.000"
+    assert audited(torn, tmp_path, "--cut") == (0, front(EVENTS, 9) + "cut 7\n", note)
+    assert audited(front(RECORD, 2), tmp_path, "--cut") == (0, front(EVENTS, 2) + "cut 0\n", "")
+
+
+@pytest.mark.parametrize(
+    "old, new, lines",
+    [
+        ("done 0002 0000", "done 0000 0000", 9),  # a wrong entry
+        ("open 1 1 = socket 1", "open 1 1 = socket 2", 3),
+        ("100\n", "7\n", 9),  # past the limit
+        ("receive 2 = data", "receive 2 = date", 10),  # a line that is none
+        ("bus 2", "bus 17", 0),
+        ("record 1", "record 9", 0),
+        ("end 10\n", "end 9\n", 12),
+        ("end 10\n", "", 12),  # nothing where the end has to be
+        ("end 10\n", "end 10\nend 10\n", 12),
+        (
+            "record 1\nbus 2 always 0003 10 100\n",
+            "record 3\nbus 2 always 0003 10 100 0\n",
+            12,
+        ),  # version 3 without need
+    ],
+)
+def test_before_a_fault(old, new, lines, tmp_path):
+    """the lines before it are written, and the fault is that of an audit without events"""
+    record = RECORD.replace(old, new)
+    status, written, errors = audited(record, tmp_path)
+    assert (status, "", errors) == run_line("audit run.rec", cwd=tmp_path) and status == 1
+    assert written.splitlines()[2:] == EVENTS.splitlines()[2:lines]
+    assert written.splitlines()[:2] == (["canbus events 1", record.splitlines()[1]] if lines else [])
+
+
+def test_a_wrong_entry_before_a_wrong_line(tmp_path):
+    """the line is reported, and nothing is written of what follows the entry"""
+    record = RECORD.replace("done 0002 0000", "done 0000 0000").replace("receive 2 = data", "receive 2 = date")
+    status, written, errors = audited(record, tmp_path)
+    assert (status, written) == (1, front(EVENTS, 9)) and errors.startswith("canbusd: line 11: bad line\n")
+
+
+def test_several_files(tmp_path):
+    """they are one text, also where one ends within a line"""
+    (tmp_path / "a.rec").write_text(RECORD[:333])
+    (tmp_path / "b.rec").write_text(RECORD[333:])
+    assert run_line("audit --events a.rec b.rec", cwd=tmp_path) == (0, EVENTS, "")
+
+
+def test_a_record_that_is_followed():
+    """the events of what is written to a pipe come before it ends"""
+    words = [program(), "audit", "--events", "--cut", "/dev/stdin"]
+    pipes = {"stdin": subprocess.PIPE, "stdout": subprocess.PIPE}
+    with subprocess.Popen(words, bufsize=0, **pipes) as running:
+        read = b""
+        for line, events in zip(RECORD.splitlines(True)[:-1], EVENTS.splitlines(True)):
+            running.stdin.write(line.encode())
+            while not line.startswith("canbus") and not read.endswith(events.encode()):
+                read += os.read(running.stdout.fileno(), 4096)
+        running.stdin.close()
+        read += running.stdout.read()
+        assert running.wait(WAIT) == 0 and read.decode() == front(EVENTS, 12) + "cut 10\n"
+
+
+def test_a_writer_that_fails(tmp_path):
+    """at once: what it did not take is not written later"""
+    (tmp_path / "run.rec").write_text(RECORD)
+    with open("/dev/full", "wb") as full:
+        words = [program(), "audit", "--events", "run.rec"]
+        done = subprocess.run(words, stdout=full, stderr=subprocess.PIPE, text=True, cwd=tmp_path, check=False)
+    assert done.returncode == 1 and done.stderr.startswith("canbusd: write fault\n")
