@@ -1,4 +1,4 @@
-"""Damaged records, and what `canbusd audit` says of each beside an independent replay, that of the Python package.
+"""Damaged records, and what `canbusd audit` says of each beside the independent model of record_events.py.
 
 Each byte of the record in docs/RECORD.md is changed, to 30 others or, with --all-bytes, to all 255; it is cut at
 each byte, and audited with and without `--cut`. So is one with an automatic restart, whose text is version 2, one with FD
@@ -14,8 +14,8 @@ import subprocess
 
 import pytest
 
-from canbusd._record_text import REFUSALS
-from canbusd.record import audit
+from record_events import audit
+from record_text import REFUSALS
 from serving import ROOT, WAIT
 
 SEEN = b"0123459AFRfr#= .-:\n\r\t\0x\x7f\x80\xff"

@@ -1,7 +1,7 @@
 """Servers whose logs and records are written while they run, and those without a record.
 
 Servers under load are killed at random moments (10, with the slow tests 200): what they leave is audited by
-`audit --cut` and by the replay of the Python package, and has at least what clients knew twice `--flush` before.
+`audit --cut` and by the independent model of record_events.py, and has at least what clients knew twice `--flush` before.
 Disks fill, stop, fail or are slow (failing_disk.c, compiled with cc and loaded with the program), or can't be written.
 After 20 million entries memory is what it was when both blocks of the bus were full, 100,000 sessions leave nothing,
 and a server under a steady load (--minutes) ends with a record that is right. What a record has is compared with that
@@ -25,8 +25,8 @@ import time
 
 import pytest
 
-from canbusd.record import audit
 from commands import call
+from record_events import audit
 from serving import ROOT, WAIT, Pair, Plain, come_true, plain, program, serving, serving_alone, turns, writes_live
 
 pytestmark = pytest.mark.skipif("not writes_live()", reason="the program is older than `serve --record`")
@@ -51,7 +51,7 @@ def run(*words, **more):
 
 
 def cut_audit(path, is_replayed=True):
-    """How many entries a record has that was cut off, by the audit, which the replay confirms; and whether it was."""
+    """How many entries a record has that was cut off, by the audit, which the model confirms; and whether it was."""
     status, said, errors = run("audit", "--cut", path)
     assert status == 0, f"{said}{errors}"
     if is_replayed:

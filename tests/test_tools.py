@@ -10,7 +10,6 @@ import sys
 import pytest
 
 from canbusd.record import read_record
-from canbusd.replay import Replay
 from commands import BROWSER, call, example, examples, is_clean
 from random_benches import Maker
 from serving import ROOT, program
@@ -68,7 +67,7 @@ def test_replay(tmp_path):
         )
         if done.returncode:
             continue
-        run = Replay(read_record(os.path.join(tmp_path, "run.rec")))
+        run = read_record(os.path.join(tmp_path, "run.rec")).replay
         replayed = list(numbers_replayed(run))
         for numbers in numbers_asked(done.stdout.decode("utf-8", "replace"), len(sessions)):
             assert numbers in replayed, f"{numbers} is none of {replayed}"

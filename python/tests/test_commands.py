@@ -460,7 +460,7 @@ def test_replay_of_a_record(record):
     record.write_text(record.read_text().replace("done 0002", "done 0000"))
     status, written, said = call("replay", record)
     assert (status, written) == (1, "")
-    assert re.fullmatch(r"canbusd replay: .*can0\.rec: entry \d+: wrong: `tried .*`; legal is `tried .*`\n", said)
+    assert re.fullmatch(r"canbusd replay: .*can0\.rec: entry \d+: wrong: `attempt .*`; legal is: attempt .*\n", said)
 
 
 def test_a_record_that_is_cut_off(record):
@@ -470,7 +470,7 @@ def test_a_record_that_is_cut_off(record):
     for command in ("replay", "report"):
         status, written, said = call(command, cut)
         assert (status, written) == (1, "") and re.fullmatch(
-            r"canbusd \w+: .*: line \d+: cut off before its end\n", said
+            r"canbusd \w+: .*: line \d+: bad line: .*the text ends here, in a line without LF; .*\n", said
         )
     assert call("replay", "--cut", cut) == (0, whole.replace(" entries", " entries, then cut off"), "")
     assert call("replay", "--cut", record) == (0, whole, "")

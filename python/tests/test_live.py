@@ -87,17 +87,16 @@ def test_entries_are_read_and_replayed_once(tmp_path):
     assert [attempt.outcome for attempt in attempts] == ["done"]
     size = path.stat().st_size
     path.write_text("x" * size + "send 0 124# = number 1\nattempt 0.000003 good = tried 0 1 124# done 0002 0000\n")
-    assert [attempt.frame for attempt in live.attempts()] == ["123#01FF", "124#"]
-    assert live.record().lines[-1].startswith("attempt 0.000003") and len(attempts) == 1
+    assert [attempt.frame for attempt in live.attempts()] == ["123#01FF", "124#"] and len(attempts) == 1
 
 
 @pytest.mark.parametrize(
     "text, fault",
     [
-        ("", "its first line is not"),
-        ("canbus record 4\n", "line 2: the line of the bus is missing"),
-        ("".join([*FRONT, "open 0 1 = socket 0\nx\n"]), "line 4: no entry of a record: x"),
-        (LIVE + "x\n", "line 11: text after the line `end 7`"),
+        ("", "^bad version"),
+        ("canbus record 4\n", "^line 2: bad line"),
+        ("".join([*FRONT, "open 0 1 = socket 0\nx\n"]), "^line 4: bad line: `x`"),
+        (LIVE + "x\n", "^line 11: bad line"),
     ],
 )
 def test_a_record_that_is_wrong_is_so_each_time(tmp_path, text, fault):
@@ -113,10 +112,9 @@ def test_an_entry_that_is_wrong_is_so_each_time(tmp_path):
     path = tmp_path / "can0.rec.new"
     path.write_text(LIVE.replace("done 0002", "done 0000"))
     live = LiveRecord(tmp_path / "can0.rec", ["a", "b"])
-    assert len(live.record().lines) == 7
-    for _ in range(2):
+    for ask in (live.attempts, live.record, live.attempts):
         with pytest.raises(BadRecord, match="^entry 4: wrong"):
-            live.attempts()
+            ask()
 
 
 @pytest.mark.parametrize(

@@ -1,14 +1,16 @@
-"""Records: what docs/RECORD.md says of them, and their replay."""
+"""Records: what docs/RECORD.md says of them, and what happened in their runs."""
 
 import re
 from pathlib import Path
 
 import pytest
 
-from canbusd._record_text import TextReader, parse_text
+from canbusd._events import BLOCK, Events
+from canbusd._program import ProgramNotFound
 from canbusd.bench import Bench
 from canbusd.frames import Frame
-from canbusd.record import Attempt, BadRecord, Item, Record, audit, parse_record, read_record
+from canbusd.record import Attempt, BadRecord, Item, audit, attempts_of, parse_record, read_record
+from canbusd.replay import Replay
 
 ROOT = Path(__file__).parents[2]
 # The worked example of docs/RECORD.md.
@@ -246,19 +248,49 @@ def test_who_took_part():
 
 
 @pytest.mark.parametrize("size", [1, 7, 100])
-def test_a_text_that_is_read_in_parts(monkeypatch, size):
-    whole = parse_text(RESTARTED.encode())
-    monkeypatch.setattr("canbusd._record_text.BLOCK", size)
-    assert parse_text(RESTARTED.encode()) == whole
-    for text, said in (
-        (RESTARTED.replace("open 0", "open 16").encode(), "line 3: bad line"),
-        (RESTARTED.encode() + b"x", f"line {RESTARTED.count(chr(10)) + 1}: bad line"),
-        # A byte that is none of a text goes before lines that are wrong.
-        (RESTARTED.replace("open 0", "open 16").encode() + b"\xff", "read fault"),
+def test_events_that_are_read_in_parts(monkeypatch, size):
+    whole = parse_record(RESTARTED.encode())
+    monkeypatch.setattr("canbusd._events.BLOCK", size)
+    record = parse_record(RESTARTED.encode())
+    assert record == whole and (record.attempts, record.items) == (whole.attempts, whole.items)
+    # A byte that is none of a text goes before lines that are wrong.
+    with pytest.raises(BadRecord) as fault:
+        parse_record(RESTARTED.replace("open 0", "open 16").encode() + b"\xff\n")
+    assert fault.value.verdict == "read fault"
+
+
+def test_why_a_record_is_refused():
+    """The program's words, in one line."""
+    for text, words in (
+        (
+            EXAMPLE.replace("123#01FF done", "123#01FF lastbit"),
+            r"entry 3: wrong: `attempt .* lastbit .*`; legal is: .* done .*",
+        ),
+        (EXAMPLE.replace("10 100", "10 6"), "entry 6: wrong: `close 1 = .*`; line 2 allows at most 6 entries"),
+        (EXAMPLE.replace("open 1 1", "open 1 1 1"), "line 4: bad line: `open 1 1 1 = .*`; a line is .*"),
+        (EXAMPLE[:-6], "line 10: bad line: .*the text ends here.*"),
+        ("x" * 300000, "bad version: `x+ ?..`; the first line of a record is canbus record 1 or 2, .*"),
     ):
-        with pytest.raises(BadRecord) as fault:
-            parse_text(text)
-        assert fault.value.verdict == said
+        with pytest.raises(BadRecord, match=f"^{words}$"):
+            parse_record(text.encode())
+
+
+def test_a_program_that_is_another(monkeypatch, tmp_path):
+    """An older one has no events; one may be killed, or write another version."""
+    program = tmp_path / "canbusd"
+    monkeypatch.setenv("CANBUSD", str(program))
+    for script, words in (
+        (
+            "echo \"error: unexpected argument '--events' found\" >&2; exit 2",
+            "canbusd does not fit this package: error: .*",
+        ),
+        ("kill -9 $$", "canbusd does not fit this package: status -9"),
+        ("echo canbus events 2", "which reads `canbus events 1`, not `canbus events 2`"),
+    ):
+        program.write_text(f"#!/bin/sh\n{script}\n")
+        program.chmod(0o755)
+        with pytest.raises(ProgramNotFound, match=words):
+            parse_record(EXAMPLE.encode())
 
 
 @pytest.mark.parametrize("text", [EXAMPLE, WITH_FD, LIVE], ids=["1", "3", "4"])
@@ -312,20 +344,56 @@ def test_names_in_the_log_of_a_run_that_was_killed(tmp_path, ending):
 
 
 @pytest.mark.parametrize("text", [EXAMPLE, LIVE, LIVE_RESTARTED, LIVE_WITH_FD], ids=["1", "4", "restarted", "fd"])
-def test_a_text_that_is_read_and_replayed_as_it_grows(text):
+@pytest.mark.parametrize("many", [1, 2])
+def test_a_text_that_is_read_as_it_grows(text, many):
     """Line by line, or two at a time, it is what it is at once."""
-    lines = text.splitlines()
-    for many in (1, 2):
-        reader, attempts = TextReader(), []
-        reader.take(lines[:2])
-        record = Record(**vars(reader.bus), names=("a", "b"))
-        for first in range(2, len(lines), many):
-            reader.take(lines[first : first + many])
-            steps = len(record.replay.steps)
-            record.replay.go_on()
-            attempts += record.attempts_from(steps)
-        assert reader.is_ended and reader.finish() == parse_text(text.encode())
-        whole = parse_record(text.encode(), names="a,b")
-        assert attempts == whole.attempts and record.items == whole.items
-    with pytest.raises(BadRecord, match=f"^line {len(lines) + 1}: text after the line `{lines[-1]}`$"):
-        reader.take(["open 0 1 = socket 9"])
+    lines, run, attempts = text.encode().splitlines(True), Replay(), []
+    with Events(cut=True) as events:
+        for first in range(0, len(lines), many):
+            steps, is_last = len(run.steps), first + many >= len(lines)
+            for found in events.lines(b"".join(lines[first : first + many]), is_last):
+                run.take(found)
+            attempts += attempts_of(run, ("a", "b"), steps)
+            assert run.is_whole == is_last and run.entries == min(max(first + many - 2, 0), len(lines) - 3)
+    assert attempts == parse_record(text.encode(), names="a,b").attempts
+
+
+def test_a_text_that_is_larger_than_a_pipe():
+    """Its events are read while it is handed in: at once, and by halves."""
+    count = BLOCK // 16
+    front, lines = "canbus record 1\nbus 1 always 0000 10 16777216\n", "open 0 0 = bad-capacity\n" * count
+    assert len(parse_record(f"{front}{lines}end {count}\n".encode()).lines) == count
+    run = Replay()
+    with Events(cut=True) as events:
+        for text in (front + lines, lines):
+            for found in events.lines(text.encode(), is_last=False):
+                run.take(found)
+    assert run.entries == 2 * count
+
+
+# Sockets 1 and 2 have room for one item; only socket 1 takes error message frames.
+DROPPED = """\
+canbus record 1
+bus 2 always 0003 10 100
+open 0 256 = socket 0
+open 1 1 = socket 1
+open 1 1 = socket 2
+option 1 errmask 00000088 = ok
+send 0 123# = number 0
+send 0 124# = number 1
+send 0 125# = number 2
+attempt 0.000001 good = tried 0 0 123# done 0002 0000
+attempt 0.000002 good = tried 0 1 124# done 0002 0000
+attempt 0.000003 global-bit = tried 0 2 125# destroyed 0000 0000
+attempt 0.000004 good = tried 0 2 125# done 0002 0000
+end 11
+"""
+
+
+def test_items_that_found_no_room():
+    """What they were is known where only the frame can come: without a fault, and where no error message frame does."""
+    items = [(item.socket, item.frame and str(item.frame), item.fate) for item in parse_record(DROPPED.encode()).items]
+    assert items == [
+        (1, "123#", "waiting"), (2, "123#", "waiting"), (1, "124#", "dropped"), (2, "124#", "dropped"),
+        (1, None, "dropped"), (1, None, "dropped"), (2, "125#", "dropped"),
+    ]  # fmt: skip

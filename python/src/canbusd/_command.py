@@ -70,10 +70,8 @@ def add_record(parser: argparse.ArgumentParser) -> None:
 
 
 def replayed(path: str, names: Optional[str], cut: bool = False) -> Record:
-    """The record in this file, which was replayed."""
+    """The record in this file, with what happened in its run."""
     try:
-        record = read_record(path, names, cut)
-        assert record.replay
-        return record
+        return read_record(path, names, cut)
     except BadRecord as fault:
         raise BadRecord(f"{path}: {fault}") from None

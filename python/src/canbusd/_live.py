@@ -1,15 +1,15 @@
 """Logs and records that a server writes while it runs: what there is of them, of which each line is read once."""
 
 import contextlib
-import dataclasses
 import threading
 from collections.abc import Iterator, Sequence
 from pathlib import Path
 from typing import TYPE_CHECKING, BinaryIO, Optional
 
-from canbusd._record_text import BadRecord, TextReader, decoded
+from canbusd._events import BadRecord, Events
 from canbusd.log import message_of
-from canbusd.record import Attempt, Record
+from canbusd.record import Attempt, Record, attempts_of, parse_record
+from canbusd.replay import Replay
 
 if TYPE_CHECKING:
     from can.message import Message
@@ -30,14 +30,24 @@ class GrowingFile:
         # Where the first line begins that was not taken.
         self._place = 0
 
-    def lines(self) -> Iterator[str]:
-        """Yields the whole lines that were not taken yet, without their LF."""
+    def text(self, first: int = 0) -> bytes:
+        """Returns its whole lines from this place on."""
         with self._opened() as file:
-            file.seek(self._place)
+            file.seek(first)
             whole, lf, _ = file.read().rpartition(b"\n")
-        for line in decoded(whole + lf).split("\n")[:-1]:
-            yield line
-            self._place += len(line.encode()) + 1
+        return whole + lf
+
+    def take(self) -> bytes:
+        """Takes the whole lines that were not taken yet."""
+        text = self.text(self._place)
+        self._place += len(text)
+        return text
+
+    def lines(self) -> Iterator[str]:
+        """Yields the whole lines that were not taken yet, without their LF; each is taken once the next is asked for."""
+        for line in self.text(self._place).splitlines(True):
+            yield line[:-1].decode(errors="replace")
+            self._place += len(line)
 
     def _opened(self) -> BinaryIO:
         for path in self._paths[:-1]:
@@ -67,43 +77,42 @@ class LiveRecord:
 
     def __init__(self, path: Path, names: Sequence[str]) -> None:
         self._file, self._names = GrowingFile(path.with_name(f"{path.name}.new"), path), tuple(names)
-        self._reader = TextReader()
-        # The record whose lines are the reader's.
-        self._growing: Optional[Record] = None
+        # The audit of what was taken of it, and what that says of the run.
+        self._events: Optional[Events] = None
+        self._run = Replay()
         self._attempts: list[Attempt] = []
         self._fault: Optional[BadRecord] = None
         self._lock = threading.Lock()
 
     def record(self) -> Record:
         """Returns the record as far as it was written."""
-        with self._lock:
-            self._read()
-            text = self._reader.finish(cut=True)
-            return Record(**vars(dataclasses.replace(text, lines=list(text.lines))), names=self._names)
+        return parse_record(self._file.text(), names=self._names, cut=True)
 
     def attempts(self) -> list[Attempt]:
-        """Returns the attempts that were written so far; only the entries since the last call are replayed."""
+        """Returns the attempts that were written so far; only the entries since the last call are read."""
         with self._lock:
-            self._read(replays=True)
+            if self._fault is not None:
+                raise self._fault
+            try:
+                self._read()
+            except BadRecord as fault:
+                self._fault = fault
+                raise
+            if self._run.bus is None:
+                # It says why this is no record yet.
+                parse_record(self._file.text(), cut=True)
             return list(self._attempts)
 
-    def _read(self, replays: bool = False) -> None:
-        """Reads what was added, and replays it; a line or an entry that is wrong is so each time."""
-        if self._fault is not None:
-            raise self._fault
-        try:
-            self._reader.take(self._file.lines())
-            if replays:
-                self._replay()
-        except BadRecord as fault:
-            self._fault = fault
-            raise
-
-    def _replay(self) -> None:
-        if self._growing is None:
-            self._growing = Record(**vars(self._reader.finish(cut=True)), names=self._names)
-            first = 0
-        else:
-            first = len(self._growing.replay.steps)
-            self._growing.replay.go_on()
-        self._attempts += self._growing.attempts_from(first)
+    def _read(self) -> None:
+        """Reads what was added, with what it brought about; a line or an entry that is wrong is so each time."""
+        text = self._file.take()
+        if not text or self._run.is_whole:
+            return
+        if self._events is None:
+            self._events = Events(cut=True)
+        first = len(self._run.steps)
+        last_line = text[text.rfind(b"\n", 0, -1) + 1 :]
+        is_last = last_line.startswith(b"end ")
+        for lines in self._events.lines(text, is_last, lambda: parse_record(self._file.text(), cut=True)):
+            self._run.take(lines)
+        self._attempts += attempts_of(self._run, self._names, first)

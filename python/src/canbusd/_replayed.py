@@ -1,10 +1,8 @@
-"""What a bus is made of, as a replay keeps it: sockets, interfaces, and the frames that they are to send."""
+"""What a bus is made of, as the events of its run leave it: its line, its interfaces and its sockets."""
 
 from collections import deque
+from dataclasses import dataclass
 from typing import Optional
-
-from canbusd._steps import WireFrame
-from canbusd.frames import passes_filters
 
 #: The least counts of an interface that is bus off, error passive, and warned.
 OFF, PASSIVE, WARNING = 256, 128, 96
@@ -15,39 +13,42 @@ def severity(count: int) -> int:
     return (count >= WARNING) + (count >= PASSIVE) + (count >= OFF)
 
 
+@dataclass(frozen=True)
+class Bus:
+    """The configuration of a bus."""
+
+    #: How many interfaces it has.
+    ifaces: int
+    #: Whether a silent node acknowledges each frame.
+    always: bool
+    #: The set of interfaces that report faults, bit i for interface i.
+    reporting: int
+    tx_capacity: int
+    limit: int
+    #: In which attempt after bus off an interface is restarted; 0 where none is.
+    auto_restart: int
+
+
+def bus_of(line: str) -> Bus:
+    """Returns the bus of the second line of a record."""
+    _, ifaces, acknowledged, reporting, tx_capacity, limit, *restart = line.split(" ")
+    # Version 1 has no last number.
+    auto_restart = int(restart[0]) if restart else 0
+    return Bus(int(ifaces), acknowledged == "always", int(reporting, 16), int(tx_capacity), int(limit), auto_restart)
+
+
 class Socket:
-    """A raw socket: its filters, its options, and what waits in it."""
+    """A raw socket, and what waits in it."""
 
     def __init__(self, number: int, iface: int, capacity: int) -> None:
         self.number, self.iface, self.capacity = number, iface, capacity
+        #: The last step before it was closed, -1 where there was none; None of one that is open.
         self.closed_after: Optional[int] = None
-        self.filters = [(0, 0)]
-        # By the identifier word: whether a frame passes them.
-        self.passed: dict[int, bool] = {}
-        self.options = {"loopback": 1, "recvown": 0, "join": 0, "errmask": 0, "fd": 0}
-        # The places of the items that wait, and the words of a reply with each.
-        self.queue: deque[tuple[int, list[str]]] = deque()
+        #: Whether error message frames come to it.
+        self.takes_errors = False
+        #: The places of the items that wait.
+        self.queue: deque[int] = deque()
         self.queued = self.dropped = self.taken = 0
-
-    def passes(self, frame: WireFrame) -> bool:
-        """Whether a frame passes the filters, and an FD frame the option for such."""
-        if frame.is_fd and not self.options["fd"]:
-            return False
-        found = self.passed.get(frame.word)
-        if found is None:
-            found = passes_filters(frame.word, self.filters, bool(self.options["join"]))
-            self.passed[frame.word] = found
-        return found
-
-
-class Pending:
-    """A frame in a transmit queue, and how it takes part in arbitration: with the number of its interface."""
-
-    __slots__ = ("number", "frame", "socket", "loops_back", "contender")
-
-    def __init__(self, number: int, frame: WireFrame, socket: Socket, loops_back: int) -> None:
-        self.number, self.frame, self.socket, self.loops_back = number, frame, socket, loops_back
-        self.contender = socket.iface, frame
 
 
 class Interface:
@@ -55,32 +56,15 @@ class Interface:
 
     def __init__(self) -> None:
         self.tec = self.rec = 0
-        self.waiting: deque[Pending] = deque()
-        self.sent = self.done = self.lost = self.refused = 0
-        # How many attempts there were since it went bus off; None where it is not off.
-        self.attempts_off: Optional[int] = None
+        #: The frames that wait.
+        self.waiting: deque[str] = deque()
+        self.done = self.lost = self.refused = 0
 
-    def is_off(self) -> bool:
-        """Whether it is bus off."""
-        return self.tec >= OFF
-
-    def is_passive(self) -> bool:
-        """Whether it is error passive."""
-        return self.state() == 2
+    @property
+    def sent(self) -> int:
+        """How many frames came into its queue."""
+        return self.done + self.lost + len(self.waiting)
 
     def state(self) -> int:
         """0 active, 1 warning, 2 passive, 3 off."""
         return severity(max(self.tec, self.rec))
-
-    def restart(self) -> None:
-        """Back from bus off."""
-        self.tec = self.rec = 0
-        self.attempts_off = None
-
-    def receive_error(self) -> None:
-        """Counts a fault that it saw as a receiver."""
-        self.rec = min(self.rec + 1, 255)
-
-    def good_reception(self) -> None:
-        """Counts a frame that it received."""
-        self.rec = 127 if self.rec > 127 else max(self.rec - 1, 0)

@@ -2,6 +2,7 @@
 
 import bisect
 import functools
+import itertools
 from array import array
 from collections.abc import Sequence
 from dataclasses import dataclass
@@ -16,9 +17,16 @@ DONE, LASTBIT, DESTROYED, NOACK, RESTART, IDLE = range(6)
 FATES = ("taken", "waiting", "unread", "dropped")
 TAKEN, WAITING, UNREAD, DROPPED = range(4)
 
+KIND_NUMBERS = {kind: number for number, kind in enumerate(KINDS)}
+
 T = TypeVar("T")
 #: The transmit and receive error count of an interface.
 Counts = tuple[int, int]
+#: Who took part in arbitration with which frame, where they were several.
+Met = tuple[tuple[int, str], ...]
+#: A step: the words of its line, its entry and attempt, how many frames waited, who was hit, who took part, the place of
+#: the counts after it, and how many attempts were idle before it.
+Row = tuple[Sequence[str], int, int, tuple[int, ...], int, Met, int, int]
 
 
 class Places(dict[T, int]):
@@ -33,6 +41,17 @@ class Places(dict[T, int]):
         place = self[value] = len(self.all)
         self.all.append(value)
         return place
+
+
+class Sets(dict[str, int]):
+    """The sets that a record spells, each once."""
+
+    def __missing__(self, text: str) -> int:
+        found = self[text] = int(text, 16)
+        return found
+
+
+SETS = Sets()
 
 
 class WireFrame:
@@ -133,31 +152,34 @@ class Steps(Sequence[Step]):
     def __len__(self) -> int:
         return len(self.kinds)
 
-    def extend(self, steps: Sequence[Step]) -> None:
+    def extend(self, rows: Sequence[Row]) -> None:
         """Adds these steps."""
-        self.kinds.extend([KINDS.index(step.kind) for step in steps])
-        self.ifaces.extend([step.iface for step in steps])
-        self.entries.extend([step.entry for step in steps])
-        self.moments.extend([micros_of(step.moment) for step in steps])
-        self.attempts.extend([step.attempt for step in steps])
-        self.numbers.extend([step.number for step in steps])
-        self.idle.extend([step.idle for step in steps])
-        self.frames.extend([self.texts[step.text] for step in steps])
-        self.verdicts.extend([self.verdict_texts[step.verdict] for step in steps])
-        self.counts.extend([self.count_lists[tuple(step.counts)] for step in steps])
-        self.waiting.extend([self.waiting_lists[tuple(step.waiting)] for step in steps])
-        self.accepted.extend([members(step.accepted) for step in steps])
-        self.off.extend([members(step.off) for step in steps])
-        self.hit.extend([members(step.hit) for step in steps])
-        for step in steps:
-            self._meet(step.contenders if len(step.contenders) > 1 else ())
+        if not rows:
+            return
+        words, entries, attempts, waiting, hit, met, counts, idle = zip(*rows)
+        _, moments, verdicts, _, _, ifaces, numbers, texts, kinds, accepted, off = zip(*words)
+        self.kinds.extend(map(KIND_NUMBERS.__getitem__, kinds))
+        self.entries.extend(entries)
+        self.moments.extend(map(int, " ".join(moments).replace(".", "").split(" ")))
+        self.ifaces.extend(map(int, ifaces))
+        self.attempts.extend(attempts)
+        self.numbers.extend(map(int, numbers))
+        self.frames.extend(map(self.texts.__getitem__, texts))
+        self.verdicts.extend(map(self.verdict_texts.__getitem__, verdicts))
+        self.accepted.extend(map(SETS.__getitem__, accepted))
+        self.off.extend(map(SETS.__getitem__, off))
+        self.hit.extend(hit)
+        self.counts.extend(counts)
+        self.waiting.extend(map(self.waiting_lists.__getitem__, waiting))
+        self.idle.extend(idle)
+        self._meet(met)
 
-    def _meet(self, met: Sequence[tuple[int, WireFrame]]) -> None:
-        self.met.append(len(met))
-        self.met_from.append(len(self.met_ifaces))
-        for iface, frame in met:
+    def _meet(self, met: Sequence[Met]) -> None:
+        self.met_from.extend(itertools.accumulate(map(len, met[:-1]), initial=len(self.met_ifaces)))
+        self.met.extend(map(len, met))
+        for iface, text in itertools.chain.from_iterable(met):
             self.met_ifaces.append(iface)
-            self.met_frames.append(self.texts[frame.text])
+            self.met_frames.append(self.texts[text])
 
     @overload
     def __getitem__(self, place: int) -> Step:
@@ -259,11 +281,6 @@ def micros_of(moment: str) -> int:
 def moment_of(micros: int) -> str:
     """Returns the moment as a record spells it."""
     return f"{micros // 1000000}.{micros % 1000000:06}"
-
-
-def members(numbers: Sequence[int]) -> int:
-    """Returns a set of interfaces, bit i for interface i."""
-    return sum(1 << number for number in numbers) if numbers else 0
 
 
 @functools.lru_cache(maxsize=1024)

@@ -4,7 +4,7 @@ import os
 import re
 from typing import TYPE_CHECKING, Optional, Union
 
-from canbusd._record_text import RecordText
+from canbusd._steps import RESTART, Steps, moment_of
 from canbusd._text import shown
 from canbusd.frames import Frame
 
@@ -42,12 +42,13 @@ def log_beside(path: Path) -> Optional[str]:
     return log if log != os.fspath(path) and os.path.isfile(log) else None
 
 
-def names_in_log(record: RecordText, log: Path) -> dict[int, str]:
+def names_in_log(steps: Steps, log: Path) -> dict[int, str]:
     """The names of the interfaces that won an attempt; none where the log is of another run.
 
     A log has a line for each tried attempt: `(MOMENT) NAME FRAME`, with the winner's name.
     """
-    tried = ((event[1], int(reply[1])) for event, reply in record.entries() if reply[0] == "tried")
+    columns = zip(steps.kinds, steps.moments, steps.ifaces)
+    tried = ((moment_of(moment), winner) for kind, moment, winner in columns if kind != RESTART)
     names: dict[int, str] = {}
     with open(log, encoding="ascii", errors="replace") as file:
         # A line of a run that was killed may be torn.

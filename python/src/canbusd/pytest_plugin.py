@@ -269,7 +269,7 @@ class Runs:
             record = read_record(left, names, cut=left != path)
             facts["story"] = _summary.story(record)
             if record.is_cut:
-                cut = f"{left} is cut off after {len(record.lines)} entries: `--cut` of the tools reads it"
+                cut = f"{left} is cut off after {record.replay.entries} entries: `--cut` of the tools reads it"
                 facts["record"] = [cut]
             facts["states"] = _summary.table(_summary.interfaces(record))
             if self._keep != "none":

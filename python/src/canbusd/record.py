@@ -3,21 +3,22 @@
     record = read_record("can0.rec")
     assert [attempt.outcome for attempt in record.attempts] == ["destroyed", "done"]
 
-Nothing of this asks the program: a record is replayed by the rules of the bus, in canbusd.replay.
+The program says what each entry of a record brought about, and refuses one that is not legal.
 """
 
 import functools
 import os
 from collections.abc import Sequence
-from dataclasses import dataclass
+from dataclasses import dataclass, field
 from typing import Optional, Union
 
-from canbusd._record_text import BadRecord, RecordText, parse_text
+from canbusd._events import BadRecord, Events
+from canbusd._replayed import Bus
 from canbusd._steps import FATES, KINDS, RESTART, moment_of, numbers_in
 from canbusd._text import NAME, times
 from canbusd.frames import Frame
 from canbusd.log import log_beside, names_in_log
-from canbusd.replay import Replay
+from canbusd.replay import UNKNOWN, Replay
 
 __all__ = ["Attempt", "BadRecord", "Item", "Record", "audit", "fault_named", "parse_record", "read_record"]
 
@@ -55,86 +56,90 @@ class Item:
     interface: str
     #: The number of the socket, from 0 in the order in which they were opened.
     socket: int
-    #: The interface that sent the frame; of an error message frame the one where it was made.
+    #: The interface that sent the frame; of an error message frame, or without a frame, the one where it was made.
     sender: str
-    frame: Frame
+    #: None of a dropped item where it may have been the frame or an error message frame.
+    frame: Optional[Frame]
     #: `taken`, `waiting` at the end of the run, `unread` when the socket was closed, or `dropped` for want of room.
     fate: str
 
 
 @dataclass(frozen=True)
-class Record(RecordText):
+class Record(Bus):
     """The record of a run: the configuration of its bus, the lines of its entries, and the names of its interfaces."""
 
+    #: The text of the record, without what follows its last LF.
+    text: bytes = field(repr=False)
+    #: Whether it ends before its line `end`.
+    is_cut: bool
     names: tuple[str, ...]
+    #: What happened in the run.
+    replay: Replay = field(repr=False, compare=False)
 
     @functools.cached_property
-    def replay(self) -> Replay:
-        """The replay of the record, made when it is first asked for.
-
-        It raises BadRecord at the first entry that breaks the rules of the bus.
-        """
-        return Replay(self)
+    def lines(self) -> list[str]:
+        """The lines of the entries."""
+        return self.text.decode().split("\n")[2 : 2 + self.replay.entries]
 
     @property
     def attempts(self) -> list[Attempt]:
         """The attempts of the run; of the idle ones only those that restarted an interface."""
-        return self.attempts_from(0)
-
-    def attempts_from(self, first: int) -> list[Attempt]:
-        """Returns the attempts of the steps of the replay from this number on, which is the first of an entry."""
-        steps = self.replay.steps
-        restarts: dict[int, list[int]] = {}
-        for place in steps.places_of(RESTART, first):
-            restarts.setdefault(steps.entries[place], []).append(steps.ifaces[place])
-        attempts: list[Attempt] = []
-        last = -1
-        for place in range(first, len(steps)):
-            entry = steps.entries[place]
-            again = restarts.get(entry, ()) if restarts else ()
-            if steps.kinds[place] != RESTART:
-                attempts.append(self.attempt_at(place, again))
-            elif entry != last and self.lines[entry].startswith("attempt "):
-                moment = float(moment_of(steps.moments[place]))
-                fault = fault_named(self.lines[entry].split(" ")[2], self.names)
-                attempts.append(Attempt(moment, "", 0, "", "idle", fault, (), (), self.named(again)))
-            last = entry
-        return attempts
-
-    def attempt_at(self, place: int, restarted: Sequence[int] = ()) -> Attempt:
-        """Returns the attempt that is this step of the replay, with the interfaces that were restarted in its end."""
-        steps = self.replay.steps
-        return Attempt(
-            float(moment_of(steps.moments[place])),
-            self.names[steps.ifaces[place]],
-            steps.numbers[place],
-            steps.text(place),
-            KINDS[steps.kinds[place]],
-            fault_named(steps.verdict(place), self.names),
-            self.named(numbers_in(steps.accepted[place])),
-            self.named(numbers_in(steps.off[place])),
-            self.named(restarted),
-        )
+        return attempts_of(self.replay, self.names)
 
     @property
     def items(self) -> list[Item]:
-        """What each socket received or lost, in the order in which the interfaces handed it out."""
-        run, items, texts = self.replay, self.replay.items, self.replay.texts.all
-        steps = run.steps
-        return [
-            Item(
-                self.names[run.sockets[socket].iface],
-                socket,
-                self.names[run.sockets[socket].iface if error else steps.ifaces[step]],
-                Frame.parse(texts[error or steps.frames[step]], float(moment_of(steps.moments[step]))),
-                FATES[fate],
-            )
-            for socket, step, error, fate in zip(items.sockets, items.steps, items.errors, items.fates)
-        ]
+        """What each socket received or lost: by the attempts, and of one by the sockets."""
+        items = self.replay.items
+        return list(map(self._item, items.sockets, items.steps, items.errors, items.fates))
 
-    def named(self, numbers: Sequence[int]) -> tuple[str, ...]:
-        """Returns the names of these interfaces."""
-        return tuple(self.names[number] for number in numbers)
+    def _item(self, socket: int, step: int, error: int, fate: int) -> Item:
+        run, steps = self.replay, self.replay.steps
+        text = run.texts.all[error or steps.frames[step]]
+        frame = None if text == UNKNOWN else Frame.parse(text, float(moment_of(steps.moments[step])))
+        iface = run.sockets[socket].iface
+        return Item(self.names[iface], socket, self.names[iface if error else steps.ifaces[step]], frame, FATES[fate])
+
+
+def attempts_of(run: Replay, names: Sequence[str], first: int = 0) -> list[Attempt]:
+    """Returns the attempts of the steps of a run from this number on, which is the first of an entry."""
+    steps = run.steps
+    restarts: dict[int, list[int]] = {}
+    for place in steps.places_of(RESTART, first):
+        restarts.setdefault(steps.entries[place], []).append(steps.ifaces[place])
+    attempts: list[Attempt] = []
+    last = -1
+    for place in range(first, len(steps)):
+        entry = steps.entries[place]
+        again = restarts.get(entry, ()) if restarts else ()
+        if steps.kinds[place] != RESTART:
+            attempts.append(attempt_at(run, names, place, again))
+        elif entry != last and entry in run.idle_verdicts:
+            moment = float(moment_of(steps.moments[place]))
+            fault = fault_named(run.idle_verdicts[entry], names)
+            attempts.append(Attempt(moment, "", 0, "", "idle", fault, (), (), named(again, names)))
+        last = entry
+    return attempts
+
+
+def attempt_at(run: Replay, names: Sequence[str], place: int, restarted: Sequence[int] = ()) -> Attempt:
+    """Returns the attempt that is this step of a run, with the interfaces that were restarted in its end."""
+    steps = run.steps
+    return Attempt(
+        float(moment_of(steps.moments[place])),
+        names[steps.ifaces[place]],
+        steps.numbers[place],
+        steps.text(place),
+        KINDS[steps.kinds[place]],
+        fault_named(steps.verdict(place), names),
+        named(numbers_in(steps.accepted[place]), names),
+        named(numbers_in(steps.off[place]), names),
+        named(restarted, names),
+    )
+
+
+def named(numbers: Sequence[int], names: Sequence[str]) -> tuple[str, ...]:
+    """Returns the names of these interfaces."""
+    return tuple(names[number] for number in numbers)
 
 
 def read_record(path: Path, names: Optional[Sequence[str]] = None, cut: bool = False) -> Record:
@@ -153,24 +158,29 @@ def parse_record(
     data: bytes, path: Optional[Path] = None, names: Optional[Sequence[str]] = None, cut: bool = False
 ) -> Record:
     """Returns the record that these bytes spell, as read_record does; `path` says beside which file a log may be."""
-    text = parse_text(data, cut)
-    return Record(**vars(text), names=names_of(text, path, names))
+    run = Replay()
+    with Events(cut) as events:
+        for lines in events.lines(data):
+            run.take(lines)
+    assert run.bus is not None
+    text = data[: data.rfind(b"\n") + 1]
+    return Record(**vars(run.bus), text=text, is_cut=not run.is_whole, names=names_of(run, path, names), replay=run)
 
 
-def names_of(record: RecordText, path: Optional[Path], given: Optional[Sequence[str]]) -> tuple[str, ...]:
+def names_of(run: Replay, path: Optional[Path], given: Optional[Sequence[str]]) -> tuple[str, ...]:
     """The names of the interfaces: those given, else those in the log beside the record, else their numbers."""
     if given is not None:
         names = given.split(",") if isinstance(given, str) else given
-        if len(names) != record.ifaces:
+        if len(names) != len(run.ifaces):
             raise BadRecord(
-                f"its bus has {times(record.ifaces, 'interface')}, and these names are given: {','.join(names)}"
+                f"its bus has {times(len(run.ifaces), 'interface')}, and these names are given: {','.join(names)}"
             )
         if len(set(names)) != len(names) or not all(map(NAME.fullmatch, names)):
             raise BadRecord(f"no names of interfaces, or the same twice: {','.join(names)}")
         return tuple(names)
     log = log_beside(path) if path is not None else None
-    winners = names_in_log(record, log) if log else {}
-    return tuple(winners.get(number, f"interface {number}") for number in range(record.ifaces))
+    winners = names_in_log(run.steps, log) if log else {}
+    return tuple(winners.get(number, f"interface {number}") for number in range(len(run.ifaces)))
 
 
 def members_of(verdict: str, names: Sequence[str]) -> list[str]:
@@ -189,16 +199,14 @@ def audit(data: bytes, cut: bool = False) -> str:
     """Returns what `canbusd audit`, or with `cut` `canbusd audit --cut`, has to say first of these bytes.
 
     It is `ok 7 entries`, maybe with `, then cut off`, or `canbusd: ` and the fault: `entry 3: wrong`, `line 5: bad
-    line`, `bad version`, `read fault`. It is found by the replay and without the program.
+    line`, `bad version`, `read fault`.
     """
     try:
-        record = parse_record(data, cut=cut)
-        assert record.replay
-        return verdict_of(record)
+        return verdict_of(parse_record(data, cut=cut))
     except BadRecord as fault:
         return f"canbusd: {fault.verdict}"
 
 
-def verdict_of(record: RecordText) -> str:
+def verdict_of(record: Record) -> str:
     """Returns what an audit says of a record whose entries are right."""
-    return f"ok {len(record.lines)} entries{', then cut off' if record.is_cut else ''}"
+    return f"ok {record.replay.entries} entries{', then cut off' if record.is_cut else ''}"

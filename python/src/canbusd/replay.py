@@ -1,379 +1,266 @@
-"""Replays the events of a record by the rules of docs/DEFINITIONS.md, and keeps what happened.
+"""What happened in a run: its steps, its items, its interfaces and its sockets, by the lines of its events.
 
-This is the independent oracle: a second implementation of the rules, to which the tests hold the proved program. The
-program is not asked, and nothing of it is used: each reply in the record is compared with the one that the rules give,
-so a replay to the end of a record is an audit. What only shows a run, such as names and attempts, is in canbusd.record.
+The program has the rules, and says in these lines what each entry of a record brought about. Here is kept what they say,
+and what follows of it: which frames wait, who takes part in arbitration, and what became of each item.
 """
 
-from collections.abc import Sequence
+from collections.abc import Callable, Iterable
 from typing import Optional
 
-from canbusd._record_text import BadRecord, RecordText
-from canbusd._replayed import Interface, Pending, Socket, severity
-from canbusd._steps import (
-    DROPPED,
-    TAKEN,
-    UNREAD,
-    WAITING,
-    Counts,
-    Items,
-    Places,
-    Step,
-    Steps,
-    WireFrame,
-    members,
-)
-from canbusd.frames import error_frame
+from canbusd._program import ProgramNotFound
+from canbusd._replayed import OFF, Bus, Interface, Socket, bus_of
+from canbusd._steps import DROPPED, TAKEN, UNREAD, WAITING, Counts, Items, Met, Places, Row, Steps, numbers_in
 
-MOST_SOCKETS = 64
-# After how many steps these are put into their columns.
-MOST_FRESH = 1000
-# The bytes 2 and 3 of a fault's error message frame: by the verdict at the winner, and by the local fault at who is
-# hit.
-AT_THE_WINNER = {"global-bit": (0x81, 0x0A), "global-form": (0x82, 0x1B), "local": (0x81, 0x00)}
-AT_THE_HIT = {"stuff": (0x04, 0x0A), "crc": (0x00, 0x08), "form": (0x02, 0x1B)}
-# A change of state's byte 1, by the severity of a side: active, warning, passive.
-TRANSMIT_CODES, RECEIVE_CODES = (0x40, 0x08, 0x20), (0x40, 0x04, 0x10)
+FIRST_LINE = "canbus events 1"
+#: In place of the text of an item that found no room, where no line says what it was.
+UNKNOWN = "?"
+#: How many words an attempt has that tried a frame and restarted nobody.
+TRIED = 11
 
 
 class Replay:
-    """The replay of a record: its steps, its items, and its interfaces and sockets as they are in the end."""
+    """A run, as far as the lines of its events were taken."""
 
-    def __init__(self, record: RecordText) -> None:
-        self.record = record
-        self.ifaces = [Interface() for _ in range(record.ifaces)]
+    def __init__(self) -> None:
+        #: The configuration of the bus, once its line was taken.
+        self.bus: Optional[Bus] = None
+        self.ifaces: list[Interface] = []
         self.sockets: list[Socket] = []
         #: Frames of steps and error message frames, by their places; the first is no frame.
         self.texts = Places("")
         self.steps, self.items = Steps(self.texts), Items()
-        self.open_sockets: list[list[Socket]] = [[] for _ in self.ifaces]
-        self.frames: dict[str, WireFrame] = {}
-        #: What bus off took out of a transmit queue, by the step.
-        self.lost: dict[int, list[Pending]] = {}
+        #: The number and the frame of all that bus off took out of a transmit queue, by the step.
+        self.lost: dict[int, list[tuple[int, str]]] = {}
         #: The last steps before sends were refused, by the interface and the reply, `no-buffers` or `bus-off`.
         self.refused: dict[tuple[int, str], list[int]] = {}
-        self.counts: tuple[Counts, ...] = ((0, 0),) * record.ifaces
+        #: The verdicts of idle attempts that restarted interfaces, by their entries.
+        self.idle_verdicts: dict[int, str] = {}
         self.attempts = self.idle = 0
-        # The numbers of the last step, and of the one that was begun last.
-        self.last, self.begun = -1, 0
-        # How many attempts were idle since the last step.
+        #: How many attempts were idle since the last step.
         self.idle_since = 0
-        self.moment = ""
-        # Steps that are not in the columns yet.
-        self.fresh: list[Step] = []
-        # How many entries were replayed.
+        #: How many entries were taken.
         self.entries = 0
-        self.go_on()
+        #: Whether its last line was taken.
+        self.is_whole = False
+        # Open sockets, by their numbers in lines.
+        self._open: dict[str, Socket] = {}
+        # Of each interface the error counts, with the place of all these, and how many frames wait; of those that have some
+        # the first.
+        self._counts: list[Counts] = []
+        self._counts_place = 0
+        self._waiting: list[int] = []
+        self._heads: dict[int, str] = {}
+        # The interfaces that are not bus off, bit i for interface i.
+        self._on = 0
+        # How many steps there were; those of them that are not in the columns yet.
+        self._count = 0
+        self._fresh: list[Row] = []
 
-    def go_on(self) -> None:
-        """Replays the entries that the record has more than before: of one that is written while its run goes on."""
-        calls = {name[3:]: getattr(self, name) for name in dir(self) if name.startswith("on_")}
-        for event, reply in self.record.entries(self.entries):
-            if self.entries >= self.record.limit:
-                raise wrong(self.entries, f"past the limit of {self.record.limit} entries")
-            legal: list[str] = calls[event[0]](self.entries, *event[1:])
-            if legal != reply:
-                raise wrong(self.entries, f"wrong: `{' '.join(reply)}`; legal is `{' '.join(legal)}`")
+    def take(self, lines: Iterable[str]) -> None:
+        """Takes these lines, which follow those before."""
+        # By the first letters of a line: there are millions.
+        calls: dict[str, Callable[[str], object]] = {
+            "can": self._begin,
+            "bus": self._make_bus,
+            "ope": self._open_socket,
+            "clo": self._close_socket,
+            "opt": self._set_option,
+            "sen": self._send,
+            "rec": self._receive,
+            "att": self._attempt,
+            "res": self._restart,
+            "fil": str,
+            "end": self._end,
+            "cut": self._end,
+        }
+        for line in lines:
+            calls[line[:3]](line)
             self.entries += 1
-            if len(self.fresh) >= MOST_FRESH:
-                self.keep()
-        self.keep()
+        self.steps.extend(self._fresh)
+        self._fresh.clear()
 
-    def keep(self) -> None:
-        """Puts the steps that have happened into their columns."""
-        self.steps.extend(self.fresh)
-        self.fresh.clear()
+    def _begin(self, line: str) -> None:
+        if line != FIRST_LINE:
+            raise ProgramNotFound(f"the program does not fit this package, which reads `{FIRST_LINE}`, not `{line}`")
+        # It is no entry, and neither are the next one and the last one.
+        self.entries -= 1
 
-    def frame(self, text: str) -> WireFrame:
-        """The frame of this text, one for all places where it is."""
-        if text not in self.frames:
-            self.frames[text] = WireFrame(text)
-        return self.frames[text]
+    def _make_bus(self, line: str) -> None:
+        self.entries -= 1
+        self.bus = bus_of(line)
+        count = self.bus.ifaces
+        self.ifaces = [Interface() for _ in range(count)]
+        self._counts, self._waiting, self._on = [(0, 0)] * count, [0] * count, (1 << count) - 1
+        self._counts_place = self.steps.count_lists[tuple(self._counts)]
 
-    def open_socket(self, number: str) -> Optional[Socket]:
-        """The socket of this number, if it is open."""
-        place = int(number)
-        if place < len(self.sockets):
-            socket = self.sockets[place]
-            return socket if socket.closed_after is None else None
-        return None
+    def _end(self, line: str) -> None:
+        self.entries -= 1
+        self.is_whole = line.startswith("end ")
 
-    # Calls of sockets: each returns the words of its reply.
+    # Calls of sockets.
 
-    def on_open(self, _entry: int, iface: str, capacity: str) -> list[str]:
-        """A socket is opened."""
-        if int(iface) >= len(self.ifaces):
-            return ["no-interface"]
-        if not 1 <= int(capacity) <= 65536:
-            return ["bad-capacity"]
-        if sum(map(len, self.open_sockets)) == MOST_SOCKETS:
-            return ["too-many-sockets"]
-        socket = Socket(len(self.sockets), int(iface), int(capacity))
-        self.sockets.append(socket)
-        self.open_sockets[int(iface)].append(socket)
-        return ["socket", str(socket.number)]
+    def _open_socket(self, line: str) -> None:
+        _, iface, capacity, _, reply, *number = line.split(" ")
+        if reply == "socket":
+            socket = self._open[number[0]] = Socket(len(self.sockets), int(iface), int(capacity))
+            self.sockets.append(socket)
 
-    def on_close(self, _entry: int, number: str) -> list[str]:
-        """A socket is closed; what waits in it stays unread."""
-        socket = self.open_socket(number)
-        if socket is None:
-            return ["no-socket"]
-        for item, _ in socket.queue:
-            self.items.end(item, UNREAD, self.last + 1)
-        unread = len(socket.queue)
-        socket.queue.clear()
-        socket.closed_after = self.last
-        self.open_sockets[socket.iface].remove(socket)
-        return ["closed", str(unread), str(socket.dropped)]
+    def _close_socket(self, line: str) -> None:
+        _, number, _, reply, *_ = line.split(" ")
+        if reply == "closed":
+            socket = self._open.pop(number)
+            for item in socket.queue:
+                self.items.end(item, UNREAD, self._count)
+            socket.queue.clear()
+            socket.closed_after = self._count - 1
 
-    def on_filters(self, _entry: int, number: str, _count: str, *words: str) -> list[str]:
-        """A socket gets other filters."""
-        socket = self.open_socket(number)
-        if socket is None:
-            return ["no-socket"]
-        numbers = [int(word, 16) for word in words]
-        socket.filters = list(zip(numbers[::2], numbers[1::2]))
-        socket.passed.clear()
-        return ["ok"]
+    def _set_option(self, line: str) -> None:
+        _, number, option, value, _, reply = line.split(" ")
+        if option == "errmask" and reply == "ok":
+            self._open[number].takes_errors = int(value, 16) > 0
 
-    def on_option(self, _entry: int, number: str, kind: str, value: str) -> list[str]:
-        """An option of a socket is set."""
-        socket = self.open_socket(number)
-        if socket is None:
-            return ["no-socket"]
-        socket.options[kind] = int(value, 16)
-        socket.passed.clear()
-        return ["ok"]
+    def _send(self, line: str) -> None:
+        words = line.split(" ")
+        text, reply = words[2], words[4]
+        if reply == "number":
+            iface = self._open[words[1]].iface
+            waiting = self.ifaces[iface].waiting
+            if not waiting:
+                self._heads[iface] = text
+            waiting.append(text)
+            self._waiting[iface] += 1
+        elif reply in ("bus-off", "no-buffers"):
+            iface = self._open[words[1]].iface
+            self.ifaces[iface].refused += reply == "no-buffers"
+            self.refused.setdefault((iface, reply), []).append(self._count - 1)
 
-    def on_send(self, _entry: int, number: str, text: str) -> list[str]:
-        """A frame goes into a transmit queue."""
-        socket = self.open_socket(number)
-        if socket is None:
-            return ["no-socket"]
-        frame, iface = self.frame(text), self.ifaces[socket.iface]
-        if frame.is_fd and not socket.options["fd"]:
-            return ["fd-off"]
-        if iface.is_off():
-            return self.refuse(socket.iface, "bus-off")
-        if len(iface.waiting) == self.record.tx_capacity:
-            iface.refused += 1
-            return self.refuse(socket.iface, "no-buffers")
-        iface.waiting.append(Pending(iface.sent, frame, socket, socket.options["loopback"]))
-        iface.sent += 1
-        return ["number", str(iface.sent - 1)]
+    def _receive(self, line: str) -> None:
+        words = line.split(" ", 4)
+        if len(words) > 4:
+            socket = self._open[words[1]]
+            self.items.end(socket.queue.popleft(), TAKEN, self._count)
+            socket.taken += 1
 
-    def refuse(self, number: int, reply: str) -> list[str]:
-        """Keeps that a send was refused."""
-        self.refused.setdefault((number, reply), []).append(self.last)
-        return [reply]
+    # Attempts and restarts.
 
-    def on_receive(self, _entry: int, number: str) -> list[str]:
-        """A socket takes its oldest item."""
-        socket = self.open_socket(number)
-        if socket is None:
-            return ["no-socket"]
-        if not socket.queue:
-            return ["none"]
-        item, reply = socket.queue.popleft()
-        self.items.end(item, TAKEN, self.last + 1)
-        socket.taken += 1
-        return reply
+    def _attempt(self, line: str) -> None:
+        event, _, parts = line.partition("; ")
+        words = event.split(" ")
+        if len(words) != TRIED:
+            self._restart_after(words, parts)
+            return
+        iface, kind, verdict = int(words[5]), words[8], words[2]
+        waiting = tuple(self._waiting)
+        met = tuple(sorted(self._heads.items())) if len(self._heads) > 1 else ()
+        hit = int(verdict[-4:], 16) & self._on & ~(1 << iface) if ":" in verdict else 0
+        if kind == "done":
+            self.ifaces[iface].done += 1
+            self._leave(iface)
+        if parts:
+            self._take_parts(parts, kind == "done" and verdict == "good")
+        self._add(words, waiting, hit, met)
+        self.attempts += 1
 
-    def on_restart(self, entry: int, number: str, moment: str) -> list[str]:
-        """An interface is restarted by hand."""
-        if int(number) >= len(self.ifaces):
-            return ["no-interface"]
-        if not self.ifaces[int(number)].is_off():
-            return ["not-bus-off"]
-        self.restart(entry, int(number), moment)
-        return ["ok"]
-
-    def restart(self, entry: int, number: int, moment: str) -> None:
-        """Restarts an interface."""
-        step = self.begin("restart", entry, moment, number)
-        self.ifaces[number].restart()
-        self.count_errors()
-        self.post_error(number, 0x100, bytes(8))
-        self.end(step)
-
-    # Attempts.
-
-    def on_attempt(self, entry: int, moment: str, verdict: str) -> list[str]:
-        """An attempt, and the restarts in its end."""
-        due = self.count_attempt()
-        reply = self.attempt(entry, moment, verdict)
-        for number in due:
-            self.restart(entry, number, moment)
-        return [*reply, "restarted", spelled_set(due)] if due else reply
-
-    def count_attempt(self) -> list[int]:
-        """One attempt more for each interface that is off; those that it restarts in the end."""
-        due = []
-        for number, iface in enumerate(self.ifaces):
-            if iface.attempts_off is not None:
-                iface.attempts_off += 1
-                if iface.attempts_off == self.record.auto_restart:
-                    due.append(number)
-        return due
-
-    def attempt(self, entry: int, moment: str, verdict: str) -> list[str]:
-        """The frame that wins arbitration is tried."""
-        contenders = [iface.waiting[0].contender for iface in self.ifaces if iface.waiting and not iface.is_off()]
-        if not contenders:
+    def _restart_after(self, words: list[str], parts: str) -> None:
+        """An attempt that was idle, or that restarted interfaces in its end."""
+        restarted = int(words[-1], 16) if words[-2] == "restarted" else 0
+        if words[4] == "tried":
+            own = self._parts_of(parts, ~restarted)
+            self._attempt("; ".join([" ".join(words[:TRIED]), *([own] if own else [])]))
+        else:
             self.idle += 1
             self.idle_since += 1
-            return ["idle"]
-        # Of equal bits the first, which is the lower number, wins.
-        winner = min(contenders, key=lambda contender: contender[1].bits)[0]
-        sent = self.ifaces[winner].waiting[0]
-        step = self.begin("", entry, moment, winner)
-        step.number, step.text, step.contenders = sent.number, sent.frame.text, contenders
-        step.verdict = verdict
-        before = self.counts
-        receivers = [i for i, iface in enumerate(self.ifaces) if i != winner and not iface.is_off()]
-        self.judge(step, receivers)
-        self.leave_queue(step)
-        self.post_frame(step, sent)
-        if self.count_errors() or self.record.reporting:
-            for number in range(len(self.ifaces)):
-                self.post_fault(step, number, number in receivers)
-                self.post_state(number, before[number])
-        self.end(step)
-        return [
-            "tried",
-            str(winner),
-            str(step.number),
-            step.text,
-            step.kind,
-            spelled_set(step.accepted),
-            spelled_set(step.off),
-        ]
+            if restarted:
+                self.idle_verdicts[self.entries] = words[2]
+        for number in numbers_in(restarted):
+            self._bring_back(str(number), words[1], self._parts_of(parts, 1 << number))
 
-    def judge(self, step: Step, receivers: list[int]) -> None:
-        """What becomes of an attempt, and of the error counters."""
-        winner, verdict = self.ifaces[step.iface], step.verdict.split(":")
-        if len(verdict) > 1:
-            named = int(verdict[1], 16)
-            step.hit = [i for i in receivers if named >> i & 1]
-        unhurt = [i for i in receivers if i not in step.hit]
-        wrong_ones: Sequence[int] = step.hit
-        good_ones: Sequence[int] = ()
-        if verdict[0].startswith("global") or not all(self.ifaces[i].is_passive() for i in step.hit):
-            step.kind, wrong_ones = "destroyed", receivers
-            winner.tec += 8
-        elif not self.record.always and not unhurt:
-            step.kind = "noack"
-            winner.tec += 0 if winner.is_passive() else 8
+    def _restart(self, line: str) -> None:
+        event, _, parts = line.partition("; ")
+        _, number, moment, _, reply = event.split(" ")
+        if reply == "ok":
+            self._bring_back(number, moment, parts)
+
+    def _bring_back(self, number: str, moment: str, parts: str) -> None:
+        """An interface is restarted."""
+        words = ["", moment, "", "", "", number, "0", "", "restart", "0000", "0000"]
+        waiting = tuple(self._waiting)
+        self._take_parts(parts, is_good=False)
+        self._add(words, waiting, 0, ())
+
+    def _add(self, words: list[str], waiting: tuple[int, ...], hit: int, met: Met) -> None:
+        """Adds a step that has happened."""
+        row = words, self.entries, self.attempts, waiting, hit, met, self._counts_place, self.idle_since
+        self._fresh.append(row)
+        self._count += 1
+        self.idle_since = 0
+
+    def _leave(self, iface: int) -> None:
+        """The first frame that waits at an interface leaves its queue."""
+        waiting = self.ifaces[iface].waiting
+        waiting.popleft()
+        self._waiting[iface] -= 1
+        if waiting:
+            self._heads[iface] = waiting[0]
         else:
-            step.kind = "lastbit" if verdict[0] == "lastbit" else "done"
-            step.accepted = good_ones = unhurt
-            winner.tec = winner.tec + 8 if step.kind == "lastbit" else max(winner.tec - 1, 0)
-        for i in wrong_ones:
-            self.ifaces[i].receive_error()
-        for i in good_ones:
-            self.ifaces[i].good_reception()
-        step.off = (step.iface,) if winner.is_off() else ()
+            del self._heads[iface]
 
-    def leave_queue(self, step: Step) -> None:
-        """A frame that is done leaves its queue; a winner that goes off loses all of its frames."""
-        winner = self.ifaces[step.iface]
-        if step.kind == "done":
-            winner.waiting.popleft()
-            winner.done += 1
-        if step.off:
-            winner.lost += len(winner.waiting)
-            self.lost[self.begun] = list(winner.waiting)
-            winner.waiting.clear()
-            winner.attempts_off = 0
+    def _parts_of(self, parts: str, members: int) -> str:
+        """What the parts of an entry say of a set of interfaces, bit i for interface i."""
+        found = []
+        for part in parts.split("; ") if parts else ():
+            name, *words = part.split(" ")
+            if name in ("put", "dropped"):
+                words = [word for word in words if members >> self._open[word.partition(":")[0]].iface & 1]
+            elif not members >> int(words[0]) & 1:
+                words = []
+            found += [" ".join([name, *words])] if words else []
+        return "; ".join(found)
 
-    def post_frame(self, step: Step, sent: Pending) -> None:
-        """Puts the frame to the sockets where it was accepted, and looped back."""
-        looped = [step.iface] if step.kind == "done" and sent.loops_back else []
-        reply = ["data", str(step.iface), str(step.number), step.text, step.moment]
-        for number in sorted([*step.accepted, *looped]):
-            for socket in self.open_sockets[number]:
-                if socket.passes(sent.frame) and (socket is not sent.socket or socket.options["recvown"]):
-                    self.put(socket, reply)
+    def _take_parts(self, parts: str, is_good: bool) -> None:
+        """Takes what a step brought about; `is_good` says whether it was done without a fault."""
+        # Nor is there an error message frame then, where no count changed.
+        is_good = is_good and not parts.startswith("counts")
+        for part in parts.split("; "):
+            name, *words = part.split(" ")
+            if name == "put":
+                for word in words:
+                    self._put(word)
+            elif name == "dropped":
+                for word in words:
+                    self._drop(word, is_good)
+            elif name == "counts":
+                self._count_errors(*map(int, words))
+            else:
+                self._lose(*map(int, words))
 
-    def post_fault(self, step: Step, number: int, is_receiver: bool) -> None:
-        """An error message frame for the fault that an interface saw in the attempt, where faults are reported."""
-        kind, _, local = step.verdict.partition(":")[0].partition("-")
-        place = None
-        if not self.record.reporting >> number & 1:
-            return
-        if number == step.iface:
-            if step.kind == "destroyed":
-                place = AT_THE_WINNER[f"{kind}-{local}" if kind == "global" else "local"]
-            elif step.kind != "done":
-                place = (0x80, 0x19) if step.kind == "noack" else (0x82, 0x1A)
-        elif number in step.hit:
-            place = AT_THE_HIT[local]
-        elif step.kind == "destroyed" and is_receiver:
-            place = (0x04, 0x00)
-        if place:
-            nobody = step.kind == "noack" and number == step.iface
-            self.post_error(number, 0x0A0 if nobody else 0x088, (0, 0, *place, 0, 0, 0, 0))
+    def _count_errors(self, iface: int, tec: int, rec: int) -> None:
+        one, self._counts[iface] = self.ifaces[iface], (tec, rec)
+        one.tec, one.rec = tec, rec
+        self._counts_place = self.steps.count_lists[tuple(self._counts)]
+        self._on = self._on & ~(1 << iface) | (tec < OFF) << iface
 
-    def post_state(self, number: int, before: Counts) -> None:
-        """An error message frame for a change of an interface's state."""
-        iface = self.ifaces[number]
-        if iface.state() == severity(max(before)):
-            return
-        if iface.is_off():
-            self.post_error(number, 0x040, bytes(8))
-            return
-        transmit, receive = severity(iface.tec), severity(iface.rec)
-        code = (TRANSMIT_CODES[transmit] if transmit >= receive else 0) | (
-            RECEIVE_CODES[receive] if receive >= transmit else 0
-        )
-        self.post_error(number, 0x204, (0, code, 0, 0, 0, 0, iface.tec, iface.rec))
+    def _lose(self, place: int, count: int) -> None:
+        """Bus off takes all frames out of a transmit queue."""
+        iface = self.ifaces[place]
+        self.lost[self._count] = list(enumerate(iface.waiting, iface.done + iface.lost))
+        iface.lost += count
+        for _ in range(count):
+            self._leave(place)
 
-    def post_error(self, number: int, error_class: int, data: Sequence[int]) -> None:
-        """Puts an error message frame to the sockets that ask for its class."""
-        text = error_frame(error_class, data)
-        for socket in self.open_sockets[number]:
-            if socket.options["errmask"] & error_class:
-                self.put(socket, ["error", str(number), text, self.moment], self.texts[text])
+    def _put(self, word: str) -> None:
+        """An item is queued to a socket: the frame of the step, or the error message frame of this word."""
+        number, _, error = word.partition(":")
+        socket = self._open[number]
+        socket.queue.append(len(self.items))
+        socket.queued += 1
+        self.items.add(socket.number, self._count, self.texts[error], WAITING)
 
-    def put(self, socket: Socket, reply: list[str], error: int = 0) -> None:
-        """Puts an item to a socket, which drops it for want of room; `error` is the place of an error message frame."""
-        has_room = len(socket.queue) < socket.capacity
-        item = self.items.add(socket.number, self.begun, error, WAITING if has_room else DROPPED)
-        if has_room:
-            socket.queue.append((item, reply))
-            socket.queued += 1
-        else:
+    def _drop(self, word: str, is_frame: bool) -> None:
+        """Items find no room at a socket; `is_frame` says whether only the frame of the step can be one."""
+        number, count = word.split(":")
+        socket = self._open[number]
+        error = self.texts[UNKNOWN if socket.takes_errors and not is_frame else ""]
+        for _ in range(int(count)):
+            self.items.add(socket.number, self._count, error, DROPPED)
             socket.dropped += 1
-
-    def begin(self, kind: str, entry: int, moment: str, iface: int) -> Step:
-        """A new step."""
-        self.moment = moment
-        self.begun = self.last + 1
-        waiting = [len(one.waiting) for one in self.ifaces]
-        idle, self.idle_since = self.idle_since, 0
-        return Step(kind, entry, moment, iface, self.attempts, 0, "", "", (), (), (), [], (), waiting, idle)
-
-    def count_errors(self) -> bool:
-        """Takes the error counts of the interfaces; whether one has changed."""
-        counts = tuple((iface.tec, iface.rec) for iface in self.ifaces)
-        if counts == self.counts:
-            return False
-        self.counts = counts
-        return True
-
-    def end(self, step: Step) -> None:
-        """Keeps a step that has happened."""
-        step.counts = self.counts
-        self.fresh.append(step)
-        self.last = self.begun
-        self.attempts += step.kind != "restart"
-
-
-def wrong(entry: int, message: str) -> BadRecord:
-    """The fault of the entry of this number, from 0."""
-    return BadRecord(f"entry {entry}: {message}", f"entry {entry}: wrong")
-
-
-def spelled_set(numbers: Sequence[int]) -> str:
-    """A set of interfaces as a record spells it."""
-    return f"{members(numbers):04X}"

@@ -31,7 +31,7 @@ from canbusd._replayed import Socket
 from canbusd._report_wire import wire_of
 from canbusd._steps import IDLE, KINDS, RESTART, Items, Places, WireFrame
 from canbusd._wire import Rates
-from canbusd.replay import Replay
+from canbusd.replay import UNKNOWN, Replay
 from canbusd.signals import Database
 from canbusd.story import Event, events_of, facts_of, heading_of, verdict_words
 
@@ -257,10 +257,21 @@ def decoded_of(texts: Iterable[str], database: Optional[Database]) -> Json:
     messages: Json = {}
     signals: Json = {}
     for place, text in enumerate(texts):
-        decoded = database.decode(Frame.parse(text)) if database is not None and text else None
+        is_frame = text not in ("", UNKNOWN)
+        decoded = database.decode(Frame.parse(text)) if database is not None and is_frame else None
         if decoded is not None:
             messages[str(place)], signals[str(place)] = decoded.message, decoded.signals
     return {"messages": messages, "signals": signals}
+
+
+def meanings_of(texts: Iterable[str]) -> dict[int, str]:
+    """What error message frames say, and items that no line names, by their places."""
+    unknown = {UNKNOWN: "a frame or an error message frame"}
+    return {
+        place: unknown.get(text) or meaning(text)
+        for place, text in enumerate(texts)
+        if text in unknown or (text and is_error(text))
+    }
 
 
 def event_of(event: Event, places: Sequence[int]) -> Column:
@@ -270,10 +281,7 @@ def event_of(event: Event, places: Sequence[int]) -> Column:
 
 def lost_frames(run: Replay, places: Sequence[int]) -> Json:
     """The number and text of each frame that bus off took out of a transmit queue, by the place of the step."""
-    return {
-        str(places[step]): [[sent.number, run.texts[sent.frame.text]] for sent in lost]
-        for step, lost in run.lost.items()
-    }
+    return {str(places[step]): [[number, run.texts[text]] for number, text in lost] for step, lost in run.lost.items()}
 
 
 def fault_of(fault: str, names: Sequence[str]) -> str:
@@ -321,7 +329,7 @@ def data_of(
         "socket": fullest_socket(run),
         "bits": bits_of(run),
         "texts": texts,
-        "meanings": {place: meaning(text) for place, text in enumerate(texts) if text and is_error(text)},
+        "meanings": meanings_of(texts),
         **decoded_of(texts, database),
         "verdicts": [fault_of(fault, names) for fault in verdicts],
     }

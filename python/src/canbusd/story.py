@@ -203,7 +203,7 @@ def facts_of(run: Replay) -> str:
     facts = [f"{times(run.attempts, 'attempt')}: {joined(outcomes)}"] if outcomes else []
     facts += [times(run.idle, "idle attempt")] if run.idle else []
     facts += [times(counts["restart"], "restart")] if counts["restart"] else []
-    end = ", which is cut off" if run.record.is_cut else ""
+    end = ", which is cut off" if not run.is_whole else ""
     return ". ".join([*facts, f"{times(run.entries, 'entry', 'entries')} in the record{end}."])
 
 

@@ -1,4 +1,4 @@
-"""Replays a record by the rules of the bus, and lists its attempts and restarts."""
+"""Replays a record, and lists its attempts and restarts."""
 
 import argparse
 import itertools
@@ -8,17 +8,18 @@ from collections.abc import Iterator, Sequence
 
 from canbusd._command import add_record, replayed
 from canbusd._slots import Load, load_of, load_words, overlaps_of, slots_of
-from canbusd._steps import RESTART
+from canbusd._steps import RESTART, moment_of
 from canbusd.commands import add_rates, rates_of
-from canbusd.record import Attempt, Record, verdict_of
+from canbusd.record import Attempt, Record, attempt_at, verdict_of
 
 EPILOG = """\
-The program is not asked: this is an audit by a second implementation of the rules. The last line is that of
-`canbusd audit`, `ok N entries`; a record that breaks the rules is refused with its first wrong line or entry.
+The program audits the record, and says what each entry brought about. The last line is that of `canbusd audit`, `ok N
+entries`; a record that breaks the rules is refused with its first wrong line or entry.
 
 With --json each line is an object. Its `type` is `attempt` or `item`, which is a frame that an interface handed to a
 socket; the others are the fields of canbusd.Attempt and canbusd.Item, and `attempt`, the number of the attempt that is
-meant, as in a fault script: null where nothing was tried.
+meant, as in a fault script: null where nothing was tried. The frame of an item that was dropped is null where it may have
+been an error message frame.
 
 With --bitrate each attempt takes the time of its bits, and none may begin before the one before it is over: the moment
 of an attempt is the end of the frame that it tries, as in a record of `canbusd bench --bitrate`. Attempts that overlap
@@ -90,20 +91,20 @@ def objects_of(record: Record) -> Iterator[dict[str, object]]:
     steps = record.replay.steps
     for item, step in zip(record.items, record.replay.items.steps):
         number = None if steps.kinds[step] == RESTART else steps.attempts[step]
-        moment, frame = item.frame.timestamp, str(item.frame)
+        moment, frame = float(moment_of(steps.moments[step])), None if item.frame is None else str(item.frame)
         yield {"type": "item", "attempt": number, "timestamp": moment, **vars(item), "frame": frame}
 
 
 def lines_of(record: Record) -> Iterator[str]:
     """Yields a line for each step, with the state of who sent or came back where that changed."""
-    names = record.names
-    for place, step in enumerate(record.replay.steps):
+    run, names = record.replay, record.names
+    for place, step in enumerate(run.steps):
         counts = step.counts[step.iface]
         after = f"counts {counts[0]}/{counts[1]}"
         if step.kind == "restart":
             yield f"({step.moment}) {names[step.iface]} restarted, {after}"
         else:
-            yield f"({step.moment}) {names[step.iface]} {step.text} {words_of(record.attempt_at(place))}, {after}"
+            yield f"({step.moment}) {names[step.iface]} {step.text} {words_of(attempt_at(run, names, place))}, {after}"
 
 
 def words_of(attempt: Attempt) -> str:

@@ -18,7 +18,7 @@ from canbusd.rules import deciders
 EPILOG = """\
 The page is one file, which needs no network. It has a time line with a lane for each interface: its attempts, state,
 error counters and queue; the chosen attempt in detail, with its arbitration bit by bit; and lists of events, attempts
-and items, which follow it. The record is replayed by the rules of the bus, and one that breaks them is refused. With the
+and items, which follow it. A record that breaks the rules of the bus is refused. With the
 script of faults of the run the page says which of its rules gave an attempt its fault.
 
 With --bitrate each attempt takes the time of its bits, and its moment is the end of the frame that it tries, as in a

@@ -87,12 +87,9 @@ VERSIONS = {
 
 
 class BadRecord(ValueError):
-    """Why a file is not the record of a run.
+    """Why bytes are not the record of a run; `verdict` is what `canbusd audit` says of it, such as `line 5: bad line`."""
 
-    `verdict` is what `canbusd audit` says of it, such as `line 5: bad line`; None where it is not asked that.
-    """
-
-    def __init__(self, message: str, verdict: Optional[str] = None) -> None:
+    def __init__(self, message: str, verdict: str) -> None:
         super().__init__(message)
         self.verdict = verdict
 

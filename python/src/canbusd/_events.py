@@ -1,0 +1,130 @@
+"""What the program says of a record: the lines of `canbusd audit --events`, docs/RECORD.md, or why it refuses it."""
+
+import contextlib
+import os
+import select
+import subprocess
+import weakref
+from collections.abc import Callable, Iterator
+from types import TracebackType
+from typing import Optional
+
+from canbusd._program import ProgramNotFound, find_program
+
+# How many bytes are read at once.
+BLOCK = 1 << 20
+# After how many milliseconds without a line somebody looks whether one will come.
+SILENCE = 1000
+
+
+class BadRecord(ValueError):
+    """Why a file is not the record of a run.
+
+    `verdict` is what `canbusd audit` says of it, such as `line 5: bad line`; None where it is not asked that.
+    """
+
+    def __init__(self, message: str, verdict: Optional[str] = None) -> None:
+        super().__init__(message)
+        self.verdict = verdict
+
+
+class Events:
+    """An audit of a record that is handed in at once, or piece by piece as it is written.
+
+    With `cut` the record may end before its line `end`.
+    """
+
+    def __init__(self, cut: bool = False) -> None:
+        self._program = find_program()
+        words = [self._program, "audit", "--events", *(["--cut"] if cut else []), "/dev/stdin"]
+        pipe = subprocess.PIPE
+        self._process = subprocess.Popen(words, bufsize=0, stdin=pipe, stdout=pipe, stderr=pipe)
+        assert self._process.stdin is not None and self._process.stdout is not None
+        self._input, self._output = self._process.stdin, self._process.stdout
+        # A write takes what has room: the program may wait until its own output is read.
+        os.set_blocking(self._input.fileno(), False)
+        # How many lines were handed in, how many came, and what was written of one that has not ended.
+        self._handed = self._came = 0
+        self._rest = ""
+        self.close = weakref.finalize(self, end, self._process)
+
+    def __enter__(self) -> "Events":
+        return self
+
+    def __exit__(
+        self,
+        kind: Optional[type[BaseException]],
+        fault: Optional[BaseException],
+        traceback: Optional[TracebackType],
+    ) -> None:
+        self.close()
+
+    def lines(
+        self, text: bytes, is_last: bool = True, doubt: Callable[[], object] = lambda: None
+    ) -> Iterator[list[str]]:
+        """Yields the lines of the events, without their LF, of these lines of the record.
+
+        They have a line each: the first one with the second, and `end` once this `is_last`. BadRecord at the first that is
+        wrong, of which the program says so once it has read all: before that, `doubt` is called after a second without a line.
+        """
+        unwritten = memoryview(text)
+        self._handed += text.count(b"\n")
+        waiting = select.poll()
+        waiting.register(self._output, select.POLLIN)
+        waiting.register(self._input, select.POLLOUT)
+        while is_last or unwritten or self._came < self._handed > 1:
+            ready = waiting.poll(SILENCE)
+            if not ready:
+                doubt()
+            for descriptor, _ in ready:
+                if descriptor != self._output.fileno():
+                    unwritten = unwritten[self._write(unwritten) :]
+                    if not unwritten:
+                        waiting.unregister(descriptor)
+                    if is_last and not unwritten:
+                        self._input.close()
+                    continue
+                block = os.read(descriptor, BLOCK)
+                *lines, self._rest = f"{self._rest}{block.decode()}".split("\n")
+                self._came += len(lines)
+                yield lines
+                if not block:
+                    self._check_status()
+                    return
+
+    def _write(self, text: memoryview) -> int:
+        """Hands text to the program; returns how much it took, all of it where it has ended at a fault."""
+        try:
+            return os.write(self._input.fileno(), text)
+        except BrokenPipeError:
+            return len(text)
+
+    def _check_status(self) -> None:
+        """Waits for the end of the program; BadRecord where it refused the record."""
+        assert self._process.stderr is not None
+        said = self._process.stderr.read().decode(errors="replace")
+        status = self._process.wait()
+        if status == 1:
+            raise fault_of(said)
+        if status:
+            words = said.strip() or f"status {status}"
+            raise ProgramNotFound(f"{self._program} does not fit this package: {words}")
+
+
+def end(process: "subprocess.Popen[bytes]") -> None:
+    """Ends a program, if it still runs, and frees what it has."""
+    process.kill()
+    for stream in (process.stdin, process.stdout, process.stderr):
+        if stream is not None:
+            with contextlib.suppress(BrokenPipeError):
+                stream.close()
+    process.wait()
+
+
+def fault_of(said: str) -> BadRecord:
+    """The fault that an audit reports: its verdict, then `  /dev/stdin:5: LINE`, and in further lines why."""
+    verdict, *notes = said.removeprefix("canbusd: ").splitlines() or [""]
+    words = [note.strip() for note in notes]
+    if words:
+        words[0] = f"`{words[0].partition(': ')[2]}`"
+    return BadRecord(": ".join([verdict, *(["; ".join(words)] if words else [])]), verdict)
