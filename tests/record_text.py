@@ -6,6 +6,7 @@ from collections.abc import Iterable, Iterator
 from dataclasses import dataclass
 from typing import Optional
 
+from canbusd._replayed import Bus
 from canbusd._text import shown
 from canbusd.frames import ERROR_FRAME, FD_FRAME, FLAGGED_FRAME, FRAME, flags_in, is_fd
 
@@ -100,19 +101,9 @@ def bad_line(number: int, message: str) -> BadRecord:
 
 
 @dataclass(frozen=True)
-class RecordText:
+class RecordText(Bus):
     """What the text of a record spells: the configuration of its bus, and the lines of its entries."""
 
-    #: How many interfaces the bus has.
-    ifaces: int
-    #: Whether a silent node acknowledges each frame.
-    always: bool
-    #: The set of interfaces that report faults, bit i for interface i.
-    reporting: int
-    tx_capacity: int
-    limit: int
-    #: In which attempt after bus off an interface is restarted; 0 where none is.
-    auto_restart: int
     lines: list[str]
     #: Whether the text ends before its line `end`.
     is_cut: bool

@@ -13,33 +13,8 @@ from random_benches import Maker
 from record_events import events_of
 from record_text import BadRecord, parse_text
 from serving import WAIT, program
+from test_audit_events import EVENTS, RECORD
 
-# By the rules: socket 1 has room for one item, which the fault of the first attempt is; socket 2 takes no error message
-# frames.
-RECORD = """\
-canbus record 1
-bus 2 always 0003 10 100
-open 0 256 = socket 0
-open 1 1 = socket 1
-open 1 9 = socket 2
-option 0 errmask 1FFFFFFF = ok
-option 1 errmask 1FFFFFFF = ok
-send 0 123#01FF = number 0
-attempt 0.000001 global-bit = tried 0 0 123#01FF destroyed 0000 0000
-attempt 0.000002 good = tried 0 0 123#01FF done 0002 0000
-receive 2 = data 0 0 123#01FF 0.000002
-attempt 0.000003 good = idle
-end 10
-"""
-EVENTS = (
-    RECORD.replace("record", "events")
-    .replace(
-        "destroyed 0000 0000",
-        "destroyed 0000 0000; counts 0 8 0; counts 1 0 1; "
-        "put 0:20000088#0000810A00000000 1:20000088#0000040000000000",
-    )
-    .replace("done 0002 0000", "done 0002 0000; counts 0 7 0; counts 1 0 0; put 2; dropped 1:1")
-)
 # Two interfaces at 248 each lose what they have to send with bus off; in the second attempt after that one is back.
 BUS_OFF = [
     "canbus record 2",
