@@ -128,3 +128,11 @@ def test_words():
     assert status == 0 and "tests" in listed.splitlines()
     status, written, said = call(SCRIPT, "nothing")
     assert (status, written) == (2, "") and "no part nothing; there are " in said
+
+
+def test_kinds(outside):
+    """each part is of one kind, and no part is named beside a kind"""
+    assert [*outside.PARTS] == [name for parts in outside.KINDS.values() for name in parts]
+    assert {name for name in outside.PARTS if "quiet" in name} == {*outside.KINDS["quiet"]}
+    status, written, said = call(SCRIPT, "--only", "still", "types")
+    assert (status, written) == (2, "") and "--only takes no part beside it" in said
