@@ -8,7 +8,7 @@ use Rattle.can_bus.specs.State.{SocketState}
 use Rattle.can_bus.specs.Stats.{numbered_counts, waiting_in}
 use Rattle.can_events.specs.EventsText.{put_words}
 use Rattle.can_events.specs.Words.{parted, put_word}
-use Rattle.can_events.specs.inner.Seen.{dropped_in, item_in, put_in}
+use Rattle.can_events.specs.inner.Seen.{counts_in, dropped_in, item_in, put_in}
 use Rattle.can_events.proofs.Lists.{no_words, word_more}
 
 -- The items of a socket, and where a socket or an item is not there, that there is nothing to write.
@@ -24,6 +24,11 @@ no_put (Some v) seen h = cc
 pub no_item : (s : ℕ) (o : Option Received) → None ≡ o → item_in s o ≡ []
 no_item s None h = refl
 no_item s (Some r) h = cc
+
+-- the counts of a socket are what is seen of it
+pub counts_seen : (o : Option SocketState) (p : SocketId × Closed) → Some p ≡ option_map numbered_counts o → Some p.1 ≡ option_map counts_in o
+counts_seen None p h = cc
+counts_seen (Some v) p h = cc
 
 -- an item is written, and those after it are left
 item_next : (s : ℕ) (items : List Received) (k : ℕ) (text new : List ℕ) → new ≡ text ++ parted (item_in s (slice_get items k)) → new ++ parted (put_words s (drop (suc k) items)) ≡ text ++ parted (put_words s (drop k items))

@@ -1,9 +1,9 @@
-use Rattle.std.proofs.Common.{◌≡◌, ◌≢◌, ℕ, zero, suc, ◌+◌, ◌<◌, ◌==◌, List, [], ◌∷◌, ◌++◌, length, map, take, slice_get, if◌then◌else◌, get_or, Option, Some, refl, sym, ap, ◌∙◌, append_assoc, arith}
+use Rattle.std.proofs.Common.{◌≡◌, ◌≢◌, ℕ, zero, suc, ◌+◌, ◌<◌, ◌≤◌, ◌==◌, Bool, true, false, List, [], ◌∷◌, ◌++◌, length, map, set, take, slice_get, if◌then◌else◌, get_or, Option, Some, refl, sym, ap, ◌∙◌, append_assoc, arith}
 use Rattle.std.specs.List.{flat_map, range_with_len}
 use Rattle.std.specs.Option.{option_map}
 use Rattle.std.proofs.lemmas.Grind.{flat_map-append}
 use Rattle.std.proofs.lemmas.Bool.{eq-eqb, ne_eqb, cond-true, cond-false}
-use Rattle.std.proofs.lemmas.List.{append-nil, flat_map_more, length-append, take_more}
+use Rattle.std.proofs.lemmas.List.{append-nil, flat_map_more, get_or-take, length-append, length-map, length-take-le, take_all, take_more, take_more_set}
 use Rattle.std.proofs.lemmas.Option.{slice_get_read, slice_get_within, slice_get-map, get_or_from_slice_get}
 use Rattle.can_attempt.proofs.Places.{range_more}
 use Rattle.can_events.specs.Words.{named, parted}
@@ -22,6 +22,22 @@ more {A = A} f start now new i before next =
     ∙ ap (λ (x : List A). x ++ f i) before
     ∙ flat_map_more f start (range_with_len 0 i) i
     ∙ ap (λ (ns : List ℕ). start ++ flat_map f ns) (sym (range_next i))
+
+-- where nothing is written at a number, the end of what is written stays
+pub end_next : {A : Type 0} (f : ℕ → List A) (end next i : ℕ) (is_later : Bool) → next ≡ (if is_later then i + 1 else end) → (is_later ≡ false → f i ≡ []) → flat_map f (range_with_len 0 end) ≡ flat_map f (range_with_len 0 i) → flat_map f (range_with_len 0 next) ≡ flat_map f (range_with_len 0 (i + 1))
+end_next f end next i true is none same = ap (λ (n : ℕ). flat_map f (range_with_len 0 n)) is
+end_next {A = A} f end next i false is none same =
+    let now = flat_map f (range_with_len 0 i) in
+    let longer : now ++ f i ≡ flat_map f (range_with_len 0 (i + 1)) = more f [] now (now ++ f i) i refl refl in
+    ap (λ (n : ℕ). flat_map f (range_with_len 0 n)) is
+    ∙ same
+    ∙ sym (append-nil now)
+    ∙ ap (λ (x : List A). now ++ x) (sym (none refl))
+    ∙ longer
+
+pub end_within : (end next i : ℕ) (is_later : Bool) → next ≡ (if is_later then i + 1 else end) → end ≤ i → next ≤ i + 1
+end_within end next i true is within = omega (arith, is)
+end_within end next i false is within = omega (arith, is, within)
 
 -- ---- words
 
@@ -44,6 +60,9 @@ more_words f start now new i before next =
 pub no_words : (text : List ℕ) (ws : List (List ℕ)) → ws ≡ [] → text ≡ text ++ parted ws
 unfolding parted
 no_words text ws none = sym (append-nil text) ∙ ap (λ (vs : List (List ℕ)). text ++ parted vs) (sym none)
+
+pub no_part : (name text : List ℕ) (ws : List (List ℕ)) → ws ≡ [] → text ≡ text ++ named name ws
+no_part name text ws none = sym (append-nil text) ∙ ap (λ (vs : List (List ℕ)). text ++ named name vs) (sym none)
 
 -- a word is written, and the others are left
 pub word_more : (text new : List ℕ) (w : List ℕ) (ws : List (List ℕ)) → new ≡ text ++ parted (w ∷ []) → new ++ parted ws ≡ text ++ parted (w ∷ ws)
@@ -99,6 +118,23 @@ taken_next {Y = Y} f xs now new i y before at next =
     ∙ ap (λ (z : Y). take i (map f xs) ++ z ∷ []) (sym (get_or_from_slice_get (map f xs) i y y there))
     ∙ sym (take_more (map f xs) i y within)
 
+-- a loop that puts one more of a list in its place
+pub taken_set : {X Y : Type 0} (f : X → Y) (xs : List X) (now new : List Y) (i : ℕ) (y : Y) → length now ≡ length xs → take i now ≡ take i (map f xs) → Some y ≡ option_map f (slice_get xs i) → new ≡ set now i y → take (i + 1) new ≡ take (i + 1) (map f xs)
+taken_set {Y = Y} f xs now new i y long before at next =
+    let there : slice_get (map f xs) i ≡ Some y = slice_get-map f xs i ∙ sym at in
+    let within : i < length (map f xs) = slice_get_within (map f xs) i y there in
+    let few : i < length now = omega (arith, within, length-map xs f, long) in
+    ap (λ (ys : List Y). take (i + 1) ys) next
+    ∙ take_more_set now i y few
+    ∙ taken_next f xs (take i now) (take i now ++ y ∷ []) i y before at refl
+
+-- the list is whole
+pub taken_all : {X Y : Type 0} (f : X → Y) (xs : List X) (now : List Y) (i : ℕ) → length now ≡ length xs → length xs ≤ i → take i now ≡ take i (map f xs) → now ≡ map f xs
+taken_all f xs now i long ended same =
+    sym (take_all i now (omega (arith, long, ended)))
+    ∙ same
+    ∙ take_all i (map f xs) (omega (arith, length-map xs f, ended))
+
 -- ---- the same of functions that agree
 
 pub same_each : {X A : Type 0} (f g : X → List A) (xs : List X) → ((x : X) → f x ≡ g x) → flat_map f xs ≡ flat_map g xs
@@ -129,3 +165,9 @@ by_place w d f g [] = refl
 by_place {A = A} w d f g (x ∷ xs) =
     ap (λ (y : List A). w (Some (g x)) (f x) ++ y)
     (later (λ p. w (slice_get (g x ∷ map g xs) p) (get_or (f x ∷ map f xs) p d)) 0 (length (map f xs)) ∙ by_place w d f g xs)
+
+-- what is written of the first places of a list
+pub first_places : {K A : Type 0} (w : ℕ → K → List A) (d : K) (ks : List K) (n : ℕ) → n ≤ length ks → flat_map (λ p. w p (get_or (take n ks) p d)) (range_with_len 0 (length (take n ks))) ≡ flat_map (λ p. w p (get_or ks p d)) (range_with_len 0 n)
+first_places {K = K} w d ks n few =
+    ap (λ (m : ℕ). flat_map (λ p. w p (get_or (take n ks) p d)) (range_with_len 0 m)) (length-take-le n ks few)
+    ∙ same_below (λ p. w p (get_or (take n ks) p d)) (λ p. w p (get_or ks p d)) 0 n n (omega arith) (λ p below. ap (λ (k : K). w p k) (get_or-take n ks p d below))

@@ -1,4 +1,4 @@
-ghost use Rattle.std.specs.Prelude.{◌≡◌, ◌++◌, ◌∷◌, [], List, OnOk, IfOk, replicate, true};
+ghost use Rattle.std.specs.Prelude.{◌≡◌, ◌++◌, ◌∷◌, [], List, OnOk, IfOk, length, replicate, true};
 ghost use Rattle.can_bus.specs.Lean.{IsAfter};
 ghost use Rattle.can_confine.specs.Confinement.{at_start};
 ghost use Rattle.can_event.specs.declared.entry.Entry.{Entry};
@@ -6,6 +6,7 @@ ghost use Rattle.can_events.specs.Brought.{is_step};
 ghost use Rattle.can_events.specs.EventsText.{unended, with_parts};
 ghost use Rattle.can_events.specs.inner.Seen.{HasSeen, seen_in, told_parts};
 
+use crate::changed::changed_sockets;
 use crate::parts::{put_all_counts, put_all_lost, put_queued, put_refused};
 use can_bus::{LeanRingBus, RingState};
 use can_confine::Counters;
@@ -93,13 +94,26 @@ impl Before {
     {
         put_all_counts(out, &self.counters, &state.counters())?;
         put_all_lost(out, &self.lost, state)?;
-        put_queued(out, &self.sockets, state)?;
-        put_refused(out, &self.sockets, state)
+        let ends = changed_sockets(&self.sockets, state);
+        put_queued(out, &self.sockets[..ends.queued], state)?;
+        put_refused(out, &self.sockets[..ends.refused], state)
     }
 }
 
 /// How many frames each interface has lost.
 fn see_lost(lost: &mut Vec<u64>, state: &RingState) -> Result<(), AllocError>
+    ensures { OnOk result (lost.new.items ≡ (seen_in state.now).lost) }
+{
+    if lost.len() != state.iface_count() {
+        return see_lost_anew(lost, state);
+    }
+    see_lost_again(lost, state);
+    Ok(())
+}
+
+/// The same where there was another number of interfaces.
+#[inline(never)]
+fn see_lost_anew(lost: &mut Vec<u64>, state: &RingState) -> Result<(), AllocError>
     ensures { OnOk result (lost.new.items ≡ (seen_in state.now).lost) }
 {
     lost.clear();
@@ -109,8 +123,30 @@ fn see_lost(lost: &mut Vec<u64>, state: &RingState) -> Result<(), AllocError>
     Ok(())
 }
 
+/// The same where there are as many interfaces.
+fn see_lost_again(lost: &mut [u64], state: &RingState)
+    requires { length lost.old ≡ length state.now.interfaces }
+    ensures { lost.new ≡ (seen_in state.now).lost }
+{
+    for i in 0..state.iface_count() {
+        lost[i] = state.lost_at(i).unwrap();
+    }
+}
+
 /// Of each open socket how many items wait there, and how many have found no room.
 fn see_sockets(sockets: &mut Vec<Closed>, state: &RingState) -> Result<(), AllocError>
+    ensures { OnOk result (sockets.new.items ≡ (seen_in state.now).sockets) }
+{
+    if sockets.len() != state.open_count() {
+        return see_sockets_anew(sockets, state);
+    }
+    see_sockets_again(sockets, state);
+    Ok(())
+}
+
+/// The same where another number of them was open.
+#[inline(never)]
+fn see_sockets_anew(sockets: &mut Vec<Closed>, state: &RingState) -> Result<(), AllocError>
     ensures { OnOk result (sockets.new.items ≡ (seen_in state.now).sockets) }
 {
     sockets.clear();
@@ -119,6 +155,17 @@ fn see_sockets(sockets: &mut Vec<Closed>, state: &RingState) -> Result<(), Alloc
         sockets.push(counts)?;
     }
     Ok(())
+}
+
+/// The same where as many of them were open.
+fn see_sockets_again(sockets: &mut [Closed], state: &RingState)
+    requires { length sockets.old ≡ length state.now.sockets }
+    ensures { sockets.new ≡ (seen_in state.now).sockets }
+{
+    for place in 0..state.open_count() {
+        let (_, counts) = state.socket_at(place).unwrap();
+        sockets[place] = counts;
+    }
 }
 
 /// A line without its LF.

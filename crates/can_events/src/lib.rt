@@ -6,6 +6,7 @@
 #![tactic(auto)]
 
 pub mod before;
+mod changed;
 pub mod fronts;
 mod parts;
 mod words;

@@ -48,6 +48,9 @@ pub(crate) fn put_queued(
     ensures { OnOk result (out.new.items ≡ out.old.items ++
         named (codes "put") (told_put before.now state.now.sockets)) }
 {
+    if before.is_empty() {
+        return Ok(());
+    }
     let start = out.len();
     out.extend_from_slice(b"; put")?;
     let end = out.len();
@@ -65,6 +68,9 @@ pub(crate) fn put_refused(
     ensures { OnOk result (out.new.items ≡ out.old.items ++
         named (codes "dropped") (told_dropped before.now state.now.sockets)) }
 {
+    if before.is_empty() {
+        return Ok(());
+    }
     let start = out.len();
     out.extend_from_slice(b"; dropped")?;
     let end = out.len();

@@ -1,7 +1,14 @@
 use Rattle.std.proofs.Common.{◌≡◌, ◌==◌, ℕ, length, take, codes, if◌then◌else◌, ap, ◌∙◌, arith}
-use Rattle.can_events.specs.inner.Seen.{told_put}
-use Rattle.can_events.proofs.Lists.{part_whole}
+use Rattle.std.specs.List.{flat_map, range_with_len}
+use Rattle.can_events.specs.inner.Seen.{told_put, told_put_at}
+use Rattle.can_events.proofs.Lists.{no_part, part_whole}
 use Rattle.can_events.proofs.parts.put_queued.Goals as goal
+
+pub returns-then-is_empty : goal.returns-then-is_empty
+unfolding told_put
+returns-then-is_empty c =
+    let none : length c.args.before.now ≡ 0 = grind (arith, c.is_empty.ensures, c.if-is_empty.true) in
+    no_part (codes "put") c.args.out.now.items _ (ap (λ (n : ℕ). flat_map (told_put_at c.args.before.now c.args.state.now.sockets) (range_with_len 0 n)) none)
 
 pub returns : goal.returns
 returns c =

@@ -1,4 +1,4 @@
-use Rattle.std.proofs.Common.{◌≡◌, List, ℕ, ◌++◌, codes, ap, ◌∙◌}
+use Rattle.std.proofs.Common.{◌≡◌, List, ℕ, ◌++◌, codes, take, sym, ap, ◌∙◌}
 use Rattle.std.proofs.lemmas.Result.{on_ok_weaker}
 use Rattle.can_confine.specs.Confinement.{ErrorCounts}
 use Rattle.can_event.specs.declared.reply.Closed.{Closed}
@@ -21,12 +21,22 @@ returns c =
     let lost : c.deref.result.now ≡ seen.lost = c.deref.ensures.value ∙ ap (λ (s : Seen). s.lost) c.self.view_is in
     let sockets : c.deref-2.result.now ≡ seen.sockets = c.deref-2.ensures.value ∙ ap (λ (s : Seen). s.sockets) c.self.view_is in
     let again : c.deref-3.result.now ≡ seen.sockets = c.deref-3.ensures.value ∙ ap (λ (s : Seen). s.sockets) c.self.view_is in
+    let last : c.deref-4.result.now ≡ seen.sockets = c.deref-4.ensures.value ∙ ap (λ (s : Seen). s.sockets) c.self.view_is in
+    let ends = c.changed_sockets-ends in
+    let queued : told_put (take ends.result.queued c.deref-3.result.now) kept.sockets ≡ told_put seen.sockets kept.sockets =
+    ap (λ (ks : List Closed). told_put (take ends.result.queued ks) kept.sockets) (again ∙ sym sockets)
+    ∙ ends.ensures.queued
+    ∙ ap (λ (ks : List Closed). told_put ks kept.sockets) sockets in
+    let refused : told_dropped (take ends.result.refused c.deref-4.result.now) kept.sockets ≡ told_dropped seen.sockets kept.sockets =
+    ap (λ (ks : List Closed). told_dropped (take ends.result.refused ks) kept.sockets) (last ∙ sym sockets)
+    ∙ ends.ensures.refused
+    ∙ ap (λ (ks : List Closed). told_dropped ks kept.sockets) sockets in
     let first : t1 ≡ t0 ++ told_counts seen.counters kept.nodes.counters =
     c.in_ok-put_all_counts.ensures
     ∙ ap (λ (ks : List ErrorCounts). t0 ++ told_counts ks c.counters.result) counters
     ∙ ap (λ (ks : List ErrorCounts). t0 ++ told_counts seen.counters ks) c.counters.ensures in
     let second : t2 ≡ t1 ++ told_lost seen.lost kept.interfaces = c.in_ok-put_all_lost.ensures ∙ ap (λ (ns : List ℕ). t1 ++ told_lost ns kept.interfaces) lost in
-    let third : t3 ≡ t2 ++ named (codes "put") (told_put seen.sockets kept.sockets) = c.in_ok-put_queued.ensures ∙ ap (λ (ks : List Closed). t2 ++ named (codes "put") (told_put ks kept.sockets)) sockets in
+    let third : t3 ≡ t2 ++ named (codes "put") (told_put seen.sockets kept.sockets) = c.in_ok-put_queued.ensures ∙ ap (λ (ws : List (List ℕ)). t2 ++ named (codes "put") ws) queued in
     on_ok_weaker c.put_refused.result
-    (λ last. four t0 t1 t2 t3 t4 (told_counts seen.counters kept.nodes.counters) (told_lost seen.lost kept.interfaces) (named (codes "put") (told_put seen.sockets kept.sockets)) (named (codes "dropped") (told_dropped seen.sockets kept.sockets)) first second third (last ∙ ap (λ (ks : List Closed). t3 ++ named (codes "dropped") (told_dropped ks kept.sockets)) again))
+    (λ fourth. four t0 t1 t2 t3 t4 (told_counts seen.counters kept.nodes.counters) (told_lost seen.lost kept.interfaces) (named (codes "put") (told_put seen.sockets kept.sockets)) (named (codes "dropped") (told_dropped seen.sockets kept.sockets)) first second third (fourth ∙ ap (λ (ws : List (List ℕ)). t3 ++ named (codes "dropped") ws) refused))
     c.put_refused.ensures
