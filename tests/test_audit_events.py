@@ -37,6 +37,23 @@ EVENTS = (
     .replace("destroyed 0000 0000\n", f"destroyed 0000 0000{FAULT}\n")
     .replace("done 0002 0000\n", f"done 0002 0000{DONE}\n")
 )
+# The same at 500,000 bits a second. To its last data bit 123#01FF has 35 bits and 3 stuff bits; after the bit error
+# follow a flag of 6 bits, 6 of the other one's, a delimiter of 8 and an intermission of 3. With 15 bits of CRC, 2 stuff
+# bits and 10 bits to the end of frame it has 65 bits, and the intermission follows a frame that is done.
+TIMED = EVENTS.replace(f"{FAULT}\n", f"{FAULT}; wire 130000 122000 65 0\n").replace(
+    f"{DONE}\n", f"{DONE}; wire 130000 136000 65 0\n"
+)
+# An FD frame with 8 bytes 00 and the bit rate switch: 17 bits to its BRS bit and 10 after its CRC at the nominal bit
+# rate, and at the other one ESI, 4 bits of length, 64 of data, 13 stuff bits, and 27 of stuff count, CRC and fixed stuff
+# bits.
+SWITCHED = """canbus record 5
+bus 1 always 0000 10 100 0
+open 0 256 = socket 0
+option 0 fd 1 = ok
+send 0 124##10000000000000000 = number 0
+attempt 0.000001 good = tried 0 0 124##10000000000000000 done 0000 0000
+end 4
+"""
 # After 31 destroyed attempts a transmitter has counted 248, and the next one takes it to bus off; what it has to send is
 # lost. A call brings it back.
 FAULTS = "".join(
@@ -70,6 +87,27 @@ def test_each_kind_of_part(tmp_path):
     """counts, what is queued, and what finds no room"""
     assert audited(RECORD, tmp_path) == (0, EVENTS, "")
     assert audited(RECORD, tmp_path, "--cut") == (0, EVENTS, "")
+
+
+def test_what_attempts_take_of_the_wire(tmp_path):
+    """with bit rates, after all other parts, of what tried a frame; nothing else changes"""
+    status, written, errors = audited(RECORD, tmp_path, "--bitrate", "500000")
+    assert (status, errors) == (0, "") and written == TIMED
+    assert audited(RECORD, tmp_path, "--cut", "--bitrate", "500000", "--dbitrate", "2000000") == (0, TIMED, "")
+    half = TIMED.replace("wire 130000 122000", "wire 260000 244000").replace("wire 130000 136000", "wire 260000 272000")
+    assert audited(RECORD, tmp_path, "--bitrate", "250000") == (0, half, "")
+
+
+def test_both_bit_rates(tmp_path):
+    """an FD frame that switches has bits at both; a third of a nanosecond is rounded up"""
+    status, written, errors = audited(SWITCHED, tmp_path, "--bitrate", "500000", "--dbitrate", "2000000")
+    assert (status, errors) == (0, "") and written.splitlines()[-2].endswith(
+        "done 0000 0000; wire 108500 114500 27 109"
+    )
+    slow = audited(SWITCHED, tmp_path, "--bitrate", "500000")[1]
+    assert slow.splitlines()[-2].endswith("done 0000 0000; wire 272000 278000 27 109")
+    thirds = audited(SWITCHED, tmp_path, "--bitrate", "300000", "--dbitrate", "3000000")[1]
+    assert thirds.splitlines()[-2].endswith("done 0000 0000; wire 126334 136334 27 109")
 
 
 def test_bus_off(tmp_path):

@@ -65,6 +65,13 @@ NO_JOB = [
     "audit",
     "audit --cut",
     "audit --events=1 run.rec",
+    "audit --events --bitrate",
+    "audit --events --bitrate= run.rec",
+    "audit --events --bitrate 1000001 run.rec",
+    "audit --events --bitrate +500000 run.rec",
+    "audit --events --bitrate 500000 --dbitrate 20000001 run.rec",
+    "audit --events --bitrate 500000 --bitrate 500000 run.rec",
+    "audit --cut --bitrate 500000 run.rec",
 ]
 # Words that are taken: what is reported is of the bus.
 A_JOB = [
@@ -105,6 +112,18 @@ REFUSED = [
         "error: invalid value '499999' for '--dbitrate': not a number from 500000 to 20000000 in decimal digits\n",
     ),
     ("serve --dbitrate 500000 can0", "error: '--dbitrate' needs '--bitrate'\n"),
+    ("audit --bitrate 500000 run.rec", "error: '--bitrate' needs '--events'\n"),
+    ("audit --bitrate 500000 --dbitrate 500000 run.rec", "error: '--bitrate' needs '--events'\n"),
+    ("audit --dbitrate 500000 run.rec", "error: '--dbitrate' needs '--bitrate'\n"),
+    ("audit --events --dbitrate 500000 run.rec", "error: '--dbitrate' needs '--bitrate'\n"),
+    (
+        "audit --events --bitrate 4999 run.rec",
+        "error: invalid value '4999' for '--bitrate': not a number from 5000 to 1000000 in decimal digits\n",
+    ),
+    (
+        "audit --events --bitrate 500000 --dbitrate 499999 run.rec",
+        "error: invalid value '499999' for '--dbitrate': not a number from 500000 to 20000000 in decimal digits\n",
+    ),
     (
         "bench --txqueue ten can0",
         "error: invalid value 'ten' for '--txqueue': not a number from 1 to 1024 in decimal digits\n",

@@ -32,6 +32,7 @@ TYPED = [
     ("canbusd audit --c", "ut "),
     ("canbusd audit --cut ru", "n.rec "),
     ("canbusd audit --cut logs/kept.rec ru", "n.rec "),
+    ("canbusd audit --events --bitrate 500000 ru", "n.rec "),
     ("canbusd bench --ack pe", "ers "),
     ("canbusd bench --ack=pe", "ers "),
     ("canbusd bench --ack=always --rep", "ort "),
@@ -72,6 +73,8 @@ OPTIONS = [
     ("canbusd serve --bitr", "ate"),
     ("canbusd serve --db", "itrate"),
     ("canbusd serve --auto-restart=5 --pa", "ce"),
+    ("canbusd audit --bitr", "ate"),
+    ("canbusd audit --db", "itrate"),
 ]
 
 
@@ -204,7 +207,7 @@ def test_completion_in_fish():
             assert offers == ([word] if wanted else []), f"`{typed}` is offered {offers} {done.stderr}"
 
 
-@pytest.mark.parametrize("command", ["bench", "serve"])
+@pytest.mark.parametrize("command", ["bench", "serve", "audit"])
 @pytest.mark.parametrize("shell, spelling", [("bash", "--{}"), ("zsh", "--{}"), ("fish", "-l {} ")])
 def test_options_of_the_help(program, command, shell, spelling):
     """each option of the help is completed in each shell"""

@@ -12,8 +12,9 @@ _canbusd() {
     *,*[\<\>]*,*) compopt -o default ;;
     1,*) _canbusd_offer "bench serve audit $package help --help --version" ;;
     *,audit)
-        case $text in
-        -*) _canbusd_offer "--cut --events --help" ;;
+        case $before,$text in
+        --bitrate,* | --dbitrate,*) ;;
+        *,-*) _canbusd_offer "--cut --events --bitrate --dbitrate --help" ;;
         *) compopt -o default ;;
         esac
         ;;

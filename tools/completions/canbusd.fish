@@ -36,6 +36,8 @@ complete -c canbusd -n "__fish_seen_subcommand_from restbus convert report repla
 complete -c canbusd -n "__fish_seen_subcommand_from audit" -F
 complete -c canbusd -n "__fish_seen_subcommand_from audit" -l cut -d "Audit a record that is cut off"
 complete -c canbusd -n "__fish_seen_subcommand_from audit" -l events -d "Write what each entry brought about"
+complete -c canbusd -n "__fish_seen_subcommand_from audit" -x -l bitrate -d "Bits a second, for what attempts take on the wire"
+complete -c canbusd -n "__fish_seen_subcommand_from audit" -x -l dbitrate -d "Bits a second of the data of FD frames"
 complete -c canbusd -n $runs -a "(__canbusd_scripts)"
 complete -c canbusd -n $runs -x -l ack -a "always peers" -d "Who acknowledges frames"
 complete -c canbusd -n $runs -l report -d "Make error message frames for each fault"

@@ -67,6 +67,8 @@ _canbusd() {
         _arguments '(- *)--help[show the help]' \
             '--cut[audit a record that is cut off]' \
             '--events[write what each entry brought about]' \
+            '--bitrate=[bits a second, for what attempts take on the wire]:bits:' \
+            '--dbitrate=[bits a second of the data of FD frames]:bits:' \
             '*:record:_files'
         ;;
     restbus | convert | report | replay) _arguments '*:file:_files' ;;

@@ -97,12 +97,13 @@ part_whole name text front all new (v ∷ ws) named_is all_is new_is =
 pub read_at : {X : Type 0} (xs : List X) (i : ℕ) (x d : X) → i < length xs → x ≡ get_or xs i x → get_or xs i d ≡ x
 read_at xs i x d lt is = get_or_from_slice_get xs i x d (slice_get_read xs (length xs) i x refl lt is)
 
+-- what is written in two steps
+pub two : (t t1 t2 a b : List ℕ) → t1 ≡ t ++ a → t2 ≡ t1 ++ b → t2 ≡ t ++ (a ++ b)
+two t t1 t2 a b e1 e2 = e2 ∙ ap (λ (x : List ℕ). x ++ b) e1 ∙ append_assoc t a b
+
 -- what is written in three steps
 pub three : (t t1 t2 t3 a b c : List ℕ) → t1 ≡ t ++ a → t2 ≡ t1 ++ b → t3 ≡ t2 ++ c → t3 ≡ t ++ (a ++ b ++ c)
-three t t1 t2 t3 a b c e1 e2 e3 =
-    e3
-    ∙ ap (λ (x : List ℕ). x ++ c) (e2 ∙ ap (λ (x : List ℕ). x ++ b) e1 ∙ append_assoc t a b)
-    ∙ append_assoc t (a ++ b) c
+three t t1 t2 t3 a b c e1 e2 e3 = e3 ∙ ap (λ (x : List ℕ). x ++ c) (two t t1 t2 a b e1 e2) ∙ append_assoc t (a ++ b) c
 
 -- what is written in four steps
 pub four : (t t1 t2 t3 t4 a b c d : List ℕ) → t1 ≡ t ++ a → t2 ≡ t1 ++ b → t3 ≡ t2 ++ c → t4 ≡ t3 ++ d → t4 ≡ t ++ (a ++ b ++ c ++ d)

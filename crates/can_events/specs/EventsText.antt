@@ -1,16 +1,24 @@
 use Rattle.std.specs.Prelude.{ℕ, ◌-◌, List, [], ◌∷◌, ◌++◌, length, map, take, codes, decimal, if◌then◌else◌}
+use Rattle.std.specs.Prelude.{Option, Some, None}
 use Rattle.std.specs.List.{flat_map, range_with_len}
 use Rattle.can_event.specs.declared.bus_config.BusConfig.{BusConfig}
+use Rattle.can_event.specs.declared.attempt.Attempt.TheVariants as attempt
 use Rattle.can_event.specs.declared.entry.Entry.{Entry}
+use Rattle.can_event.specs.declared.event.Event.{Event}
+use Rattle.can_event.specs.declared.event.Event.TheVariants.{Attempt}
 use Rattle.can_event.specs.declared.received.Received.{Received}
+use Rattle.can_event.specs.declared.reply.Reply.{Reply}
+use Rattle.can_event.specs.declared.reply.Reply.TheVariants as reply
 use Rattle.can_record_text.specs.declared.version.Version.{Version}
 use Rattle.can_record_text.specs.Spelling.{spell, entry_line, bus_words, end_words}
 use Rattle.can_bus.specs.Counters.{counts_of}
 use Rattle.can_bus.specs.Sockets.{open_sockets}
+use Rattle.can_wire.specs.Timings.{BusTiming}
 use Rattle.can_events.specs.Brought.{is_step, put_to, dropped_by, lost_by}
-use Rattle.can_events.specs.Words.{counts_part, lost_part, named, put_word, dropped_words}
+use Rattle.can_events.specs.Words.{counts_part, lost_part, named, part, put_word, dropped_words, wire_words}
 
--- The text of a record's events: each entry's line with what the entry brought about (own choice).
+-- The text of a record's events: each entry's line with what the entry brought about, and where the timing of the bus
+-- is given, with the times and the bits of each frame that was tried (own choice).
 
 -- the error counts that the entry changed, by interface
 abbrev pub counts_parts : BusConfig → List Entry → Entry → List ℕ
@@ -42,39 +50,49 @@ parts_of c past e =
     then counts_parts c past e ++ lost_parts c past e ++ put_part c past e ++ dropped_part c past e
     else []
 
+-- the part with the times and the bits of the frame that an attempt tried
+abbrev pub tried_part : BusTiming → Event → Reply → List ℕ
+tried_part t (Attempt m v) (reply.Attempted (attempt.Tried a)) = part (wire_words t a.frame a.class v)
+tried_part t _ _ = []
+
+-- the last part of an entry's line: nothing where no timing is given, or no frame was tried
+unfoldable pub wire_part : Option BusTiming → Entry → List ℕ
+wire_part None e = []
+wire_part (Some t) e = tried_part t e.event e.reply
+
 -- a line without the LF at its end
 abbrev pub unended : List ℕ → List ℕ
 unended line = take (length line - 1) line
 
 -- a line, and before its LF what the entry brought about
-unfoldable pub with_parts : BusConfig → List Entry → Entry → List ℕ → List ℕ
-with_parts c past e line = unended line ++ parts_of c past e ++ 10 ∷ []
+unfoldable pub with_parts : Option BusTiming → BusConfig → List Entry → Entry → List ℕ → List ℕ
+with_parts t c past e line = unended line ++ parts_of c past e ++ wire_part t e ++ 10 ∷ []
 
 -- the line of an entry in the record, with what the entry brought about
-abbrev pub events_line : BusConfig → List Entry → Entry → List ℕ
-events_line c past e = with_parts c past e (entry_line e [])
+abbrev pub events_line : Option BusTiming → BusConfig → List Entry → Entry → List ℕ
+events_line t c past e = with_parts t c past e (entry_line e [])
 
 -- the lines of a history, the oldest entry first
-abbrev pub events_lines : BusConfig → List Entry → List ℕ
-events_lines c [] = []
-events_lines c (e ∷ past) = events_lines c past ++ events_line c past e
+abbrev pub events_lines : Option BusTiming → BusConfig → List Entry → List ℕ
+events_lines t c [] = []
+events_lines t c (e ∷ past) = events_lines t c past ++ events_line t c past e
 
 -- the first line: the version of the format
 abbrev pub first_line : List ℕ
 first_line = codes "canbus events 1" ++ 10 ∷ []
 
 -- the text up to a history's last entry: the second line is the bus's, as the record has it
-abbrev pub events_front : Version → BusConfig → List Entry → List ℕ
-events_front v c past = first_line ++ spell (bus_words v c) [] ++ events_lines c past
+abbrev pub events_front : Option BusTiming → Version → BusConfig → List Entry → List ℕ
+events_front t v c past = first_line ++ spell (bus_words v c) [] ++ events_lines t c past
 
 -- the last line of a record's text that is cut off: how many entries there were
 abbrev pub cut_words : ℕ → List (List ℕ)
 cut_words count = codes "cut" ∷ decimal count ∷ []
 
 -- the text of a history's events
-abbrev pub events_text : Version → BusConfig → List Entry → List ℕ
-events_text v c past = events_front v c past ++ spell (end_words (length past)) []
+abbrev pub events_text : Option BusTiming → Version → BusConfig → List Entry → List ℕ
+events_text t v c past = events_front t v c past ++ spell (end_words (length past)) []
 
 -- the same where the record's text is cut off after these entries
-abbrev pub cut_events_text : Version → BusConfig → List Entry → List ℕ
-cut_events_text v c past = events_front v c past ++ spell (cut_words (length past)) []
+abbrev pub cut_events_text : Option BusTiming → Version → BusConfig → List Entry → List ℕ
+cut_events_text t v c past = events_front t v c past ++ spell (cut_words (length past)) []

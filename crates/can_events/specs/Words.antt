@@ -1,9 +1,14 @@
 use Rattle.std.specs.Prelude.{ℕ, ◌==◌, ◌&&◌, List, [], ◌∷◌, ◌++◌, codes, decimal, if◌then◌else◌}
 use Rattle.std.specs.List.{flat_map}
 use Rattle.can_confine.specs.Confinement.{ErrorCounts}
+use Rattle.can_fault.specs.declared.verdict.Verdict.{Verdict}
+use Rattle.can_attempt.specs.declared.class.Class.{Class}
 use Rattle.can_frame.specs.declared.item.Item.{Item}
 use Rattle.can_frame.specs.declared.item.Item.TheVariants as item
 use Rattle.can_frame.specs.FrameText.{frame_spelling}
+use Rattle.can_frame.specs.Frames.{CanFrame}
+use Rattle.can_wire.specs.FrameBits.{frame_bits_of}
+use Rattle.can_wire.specs.Timings.{BusTiming, attempt_nanos_of, frame_nanos_of}
 
 -- How the parts of a line are written: what an entry brought about (own choice).
 
@@ -38,3 +43,10 @@ put_word s (item.Error e) = decimal s ++ 58 ∷ frame_spelling (item.Error e)
 -- how many items found no room at socket s, where any did: the socket, a colon and the number
 abbrev pub dropped_words : ℕ → ℕ → List (List ℕ)
 dropped_words s n = if n == 0 then [] else (decimal s ++ 58 ∷ decimal n) ∷ []
+
+-- the times and the bits of a frame that was tried: the nanoseconds to its end of frame, those until the next attempt
+-- may begin, and how many bits the whole frame has at the nominal bit rate and at the one for data
+abbrev pub wire_words : BusTiming → CanFrame → Class → Verdict → List (List ℕ)
+wire_words t f class v =
+    codes "wire" ∷ decimal (frame_nanos_of t f) ∷ decimal (attempt_nanos_of t f class v)
+    ∷ decimal (frame_bits_of f).nominal ∷ decimal (frame_bits_of f).fast ∷ []

@@ -1,22 +1,25 @@
-ghost use Rattle.std.specs.Prelude.{◌≡◌, ◌++◌, ◌∷◌, [], List, OnOk, IfOk, length, replicate, true};
+ghost use Rattle.std.specs.Prelude.{◌≡◌, ◌++◌, ◌∷◌, [], List, None, OnOk, IfOk, Some, length, replicate, true};
 ghost use Rattle.can_bus.specs.Lean.{IsAfter};
 ghost use Rattle.can_confine.specs.Confinement.{at_start};
-ghost use Rattle.can_event.specs.declared.entry.Entry.{Entry};
+ghost use Rattle.can_event.specs.declared.entry.Entry.{Entry as AnEntry};
 ghost use Rattle.can_events.specs.Brought.{is_step};
-ghost use Rattle.can_events.specs.EventsText.{unended, with_parts};
+ghost use Rattle.can_events.specs.EventsText.{parts_of, unended, with_parts};
 ghost use Rattle.can_events.specs.inner.Seen.{HasSeen, seen_in, told_parts};
 
 use crate::changed::changed_sockets;
 use crate::parts::{put_all_counts, put_all_lost, put_queued, put_refused};
+use crate::wire::put_wire;
 use can_bus::{LeanRingBus, RingState};
 use can_confine::Counters;
-use can_event::Closed;
+use can_event::{Closed, Entry};
+use can_wire::Timing;
 use std::alloc::{AllocError, Global};
 use std::marker::Model;
 
 /// What a bus was like before an entry, as far as an entry can change it.
 ///
-/// `look` before an attempt or a restart, then the bus's answer, then `put_line`. Memory is taken once, by `new`.
+/// `look` before an attempt or a restart, then the bus's answer, then `put_line` or `put_timed_line`. Memory is taken once,
+/// by `new`.
 #[derive(Drop)]
 pub struct Before {
     /// The error counters of all 16 places.
@@ -54,7 +57,7 @@ impl Before {
 
     /// Looks at a bus.
     pub fn look(&mut self, bus: &LeanRingBus) -> Result<(), AllocError>
-        ensures { (past : List Entry) → IsAfter bus.now past →
+        ensures { (past : List AnEntry) → IsAfter bus.now past →
             OnOk result (HasSeen bus.now.config past self.new) }
     {
         self.see(bus.state())
@@ -77,15 +80,46 @@ impl Before {
         bus: &LeanRingBus,
         line: &[u8],
     ) -> Result<(), AllocError>
-        ensures { (past : List Entry) (e : Entry) → HasSeen bus.now.config past self.now →
+        ensures { (past : List AnEntry) (e : AnEntry) → HasSeen bus.now.config past self.now →
             IsAfter bus.now (e ∷ past) → is_step e.event ≡ true →
             OnOk result (out.new.items ≡ out.old.items ++
-            with_parts bus.now.config past e line.now) }
+            with_parts None bus.now.config past e line.now) }
     {
-        put_unended(out, line)?;
-        self.put_parts(out, bus.state())?;
+        self.put_front(out, bus, line)?;
         out.extend_from_slice(b"\n")?;
         Ok(())
+    }
+
+    /// The same of this entry on a bus of this timing. Where an attempt tried a frame, the last part has its times and its
+    /// bits on the wire.
+    pub fn put_timed_line(
+        &self,
+        out: &mut Vec<u8>,
+        bus: &LeanRingBus,
+        line: &[u8],
+        timing: Timing,
+        entry: &Entry,
+    ) -> Result<(), AllocError>
+        ensures { (past : List AnEntry) → HasSeen bus.now.config past self.now →
+            IsAfter bus.now (entry.now ∷ past) → is_step entry.now.event ≡ true →
+            OnOk result (out.new.items ≡ out.old.items ++
+            with_parts (Some timing) bus.now.config past entry.now line.now) }
+    {
+        self.put_front(out, bus, line)?;
+        put_wire(out, timing, entry)?;
+        out.extend_from_slice(b"\n")?;
+        Ok(())
+    }
+
+    // The line without its LF, and what the entry brought about.
+    fn put_front(&self, out: &mut Vec<u8>, bus: &LeanRingBus, line: &[u8]) -> Result<(), AllocError>
+        ensures { (past : List AnEntry) (e : AnEntry) → HasSeen bus.now.config past self.now →
+            IsAfter bus.now (e ∷ past) → is_step e.event ≡ true →
+            OnOk result (out.new.items ≡ out.old.items ++
+            (unended line.now ++ parts_of bus.now.config past e)) }
+    {
+        put_unended(out, line)?;
+        self.put_parts(out, bus.state())
     }
 
     // What has changed since.

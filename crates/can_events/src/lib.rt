@@ -1,5 +1,6 @@
 //! The text of a record's events: the line of each entry, with what the entry brought about. That is the error counts
-//! that it changed, the frames that bus off lost, and the items that found room at sockets, and those that found none.
+//! that it changed, the frames that bus off lost, and the items that found room at sockets, and those that found none. Where
+//! the timing of the bus is given, each frame that was tried also has its times and its bits on the wire.
 //!
 //! `Before` looks at a bus before an entry, and writes the entry's line after it. `specs/EventsText.antt` says what the
 //! text of a whole history is.
@@ -9,6 +10,7 @@ pub mod before;
 mod changed;
 pub mod fronts;
 mod parts;
+mod wire;
 mod words;
 
 pub use before::Before;

@@ -23,9 +23,7 @@ use Rattle.can_replay.specs.declared.text_fault.TextFault.{TextFault}
 use Rattle.can_replay.specs.declared.text_fault.TextFault.TheVariants as found
 use Rattle.can_replay.specs.declared.text_fault.WrongLine.{WrongLine}
 use Rattle.can_replay.specs.TextAudits.{EndsNoLine, FaultsUncut, IsCutText, IsFrontOf, IsLegalText, IsLine, IsUncut, IsWrongCut, IsWrongText, MayFollow, Reports, ReportsCut}
-use Rattle.can_replay.specs.EventTexts.{IsOff, IsReached, IsWhole}
-use Rattle.can_replay.specs.declared.text_fault.Cut.{Cut}
-use Rattle.can_replay.specs.declared.text_fault.Cut.TheVariants as cut
+use Rattle.can_replay.specs.EventTexts.{IsOff, IsWhole}
 use Rattle.can_replay.specs.inner.EntryAudits.{IsBegun, IsGoing, IsSettled, so_far}
 use Rattle.can_replay.specs.inner.Steps.{IsUnended, IsEndLine}
 use Rattle.can_replay.proofs.LineEnds.{cut_bus, cut_end, lacks_bus, lacks_end, lacks_entry, torn_bus, torn_first}

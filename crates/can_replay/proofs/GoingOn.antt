@@ -1,15 +1,15 @@
 -- The entries of a text that goes on.
-use Rattle.std.proofs.Common.{◌≡◌, ◌≢◌, ◌==◌, ◌&&◌, ◌⊎◌, not, ℕ, Bool, true, false, cond, All, List, [], ◌∷◌, ◌++◌, get_or, length, append_assoc, refl, sym, ap, subst, ◌∙◌}
-use Rattle.std.proofs.lemmas.List.{append-nil, append_cancel_left}
+use Rattle.std.proofs.Common.{◌≡◌, ◌==◌, ℕ, Bool, true, false, cond, All, List, [], ◌∷◌, ◌++◌, get_or, length, refl, sym, ap, subst, ◌∙◌}
+use Rattle.std.proofs.lemmas.List.{append_cancel_left}
 use Rattle.std.proofs.lemmas.List.Elements.{All-head, All-tail}
-use Rattle.std.proofs.lemmas.Option.{none-some, same_Some}
+use Rattle.std.proofs.lemmas.Option.{same_Some}
 use Rattle.can_event.specs.declared.bus_config.BusConfig.{BusConfig}
 use Rattle.can_event.specs.declared.entry.Entry.{Entry}
 use Rattle.can_record_text.specs.declared.version.Version.{Version}
 use Rattle.can_record_text.specs.declared.version.Version.TheVariants as version
 use Rattle.can_record_text.specs.RecordFaults.{LacksEntry}
-use Rattle.can_record_text.specs.Spelling.{bus_words, end_words, entry_line, entry_lines, entry_words, first_line, front_lines, spell, text_in}
-use Rattle.can_record_text.specs.Values.{HasBusLine, HasLine, HasLines}
+use Rattle.can_record_text.specs.Spelling.{bus_words, end_words, entry_line, entry_lines, entry_words, first_line, front_lines, spell}
+use Rattle.can_record_text.specs.Values.{HasBusLine, HasLine}
 use Rattle.can_record_text.specs.inner.Reading.{config_at, entry_at}
 use Rattle.can_record_text.proofs.Again.{config_again, entry_again, line_some, spell-rest}
 use Rattle.can_record_text.proofs.Whole.{end_lacks, front-then, lines-then}
@@ -59,7 +59,7 @@ one_front v w c d a b hc hd e =
 
 -- ---- the lines of entries
 
-one_line : (v : Version) (c : BusConfig) (x d : Entry) (a b : List ℕ) → HasLine v c x → HasLine v c d → entry_line x a ≡ entry_line d b → x ≡ d
+pub one_line : (v : Version) (c : BusConfig) (x d : Entry) (a b : List ℕ) → HasLine v c x → HasLine v c d → entry_line x a ≡ entry_line d b → x ≡ d
 one_line v c x d a b hx hd e = same_Some x d (sym (entry_again v c x a hx) ∙ ap entry_at e ∙ entry_again v c d b hd)
 
 -- there are as many entries or more where a text goes on to what is no entry's line

@@ -1,14 +1,16 @@
-ghost use Rattle.std.specs.Prelude.{◌≡◌, ◌↔◌, ◌+◌, ◌-◌, ◌^◌, ◌<◌, ◌++◌, Err, IfErr, IfOk, IsSome, IsTrue, List, None, OnOk, Some, false, true, ℕ};
-ghost use Rattle.can_record_text.specs.Spelling.{first_line, both_needs};
+ghost use Rattle.std.specs.Prelude.{◌≡◌, ◌↔◌, ◌+◌, ◌-◌, ◌^◌, ◌<◌, ◌++◌, [], Err, IfErr, IfOk, IsSome, IsTrue, List, None, OnOk, Some, false, true, ℕ};
+ghost use Rattle.can_event.specs.declared.entry.Entry.{Entry as AnEntry};
+ghost use Rattle.can_record_text.specs.Spelling.{entry_line, first_line, both_needs};
+ghost use Rattle.can_record_text.specs.Values.{HasLine};
 ghost use Rattle.can_record_text.specs.inner.Reading.{SeemsToBe};
 ghost use Rattle.can_replay.specs.declared.text_fault.WrongLine.{WrongLine as AWrongLine};
-ghost use Rattle.can_replay.specs.EventTexts.{IsReached, IsWhole, is_legal_yet};
+ghost use Rattle.can_replay.specs.EventTexts.{IsReached, IsReadAs, IsWhole, is_legal_yet};
 ghost use Rattle.can_replay.specs.TextAudits.{EndsNoLine, FailsAfter, FailsNext, IsLine, TakesOn, Reports, ReportsCut};
 ghost use Rattle.can_replay.specs.inner.EntryAudits.{IsBegun, IsGoing};
 ghost use Rattle.can_replay.specs.inner.Steps.{ReportsWrong, IsUnended, IsEndLine, Takes};
 
 use crate::text_fault::{Cut, TextFault, WrongLine};
-use can_bus::{BusConfig, Event, LeanRingBus, Refusal, Reply};
+use can_bus::{BusConfig, Entry, Event, LeanRingBus, Refusal, Reply};
 use can_record_text::ReadFault;
 use can_record_text::event_reading::{attempt_front, guess_event, receive_front, send_front};
 use can_record_text::fault::Unread;
@@ -305,6 +307,14 @@ impl EntryAudit {
         ensures { result.now ≡ self.now.bus }
     {
         &self.bus
+    }
+
+    /// The entry of a line that was taken.
+    pub fn read_again(&self, alloc: Global, rooms: &mut Rooms, line: &[u8]) -> Result<Entry, Unread>
+        ensures { (e : AnEntry) → HasLine self.now.version self.now.config e →
+            line.now ≡ entry_line e [] → IsReadAs e result }
+    {
+        read_line(&mut rooms.long, alloc, self.version, self.config, line)
     }
 
     /// The text has ended.

@@ -1,5 +1,5 @@
 //! What the entries of a record brought about, as text.
-ghost use Rattle.std.specs.Prelude.{◌≡◌, ◌++◌, ◌↔◌, [], true, false, IfErr, IfOk, IsTrue, List, OnOk, ℕ};
+ghost use Rattle.std.specs.Prelude.{◌≡◌, ◌++◌, ◌↔◌, [], true, false, IfErr, IfOk, IsTrue, List, None, OnOk, Some, ℕ};
 ghost use Rattle.can_event.specs.declared.entry.Entry.{Entry as AnEntry};
 ghost use Rattle.can_events.specs.Brought.{is_step};
 ghost use Rattle.can_events.specs.EventsText.{first_line as events_first_line};
@@ -9,10 +9,10 @@ ghost use Rattle.can_replay.specs.TextAudits.{FailsNext, TakesOn};
 ghost use Rattle.can_replay.specs.inner.EntryAudits.{IsGoing};
 
 use crate::entry_audit::EntryAudit;
-use can_bus::LeanRingBus;
 use can_events::{Before, first_line};
 use can_record_text::ReadFault;
 use can_record_text::rooms::Rooms;
+use can_wire::Timing;
 use std::alloc::{AllocError, Global};
 
 /// The text of what the entries brought about, as far as they are legal, but for what was cleared of it. It grows by whole
@@ -24,17 +24,21 @@ pub struct EventsText {
     line: Vec<u8>,
     /// What the bus was like before an attempt or a restart.
     before: Before,
+    /// The timing of the bus, where it was given: by it the times and the bits of frames are written, too.
+    timing: Option<Timing>,
 }
 
 impl EventsText {
     /// No text yet.
-    pub fn new(alloc: Global) -> Result<EventsText, AllocError>
-        ensures { IfOk result (λ events. events.text.items ≡ []) }
+    pub fn new(alloc: Global, timing: Option<Timing>) -> Result<EventsText, AllocError>
+        ensures text { IfOk result (λ events. events.text.items ≡ []) }
+        ensures timing { IfOk result (λ events. events.timing ≡ timing) }
     {
         Ok(EventsText {
             text: Vec::new(alloc),
             line: Vec::new(alloc),
             before: Before::new(alloc)?,
+            timing,
         })
     }
 
@@ -47,7 +51,8 @@ impl EventsText {
 
     /// Clears what was written.
     pub fn clear(&mut self)
-        ensures { self.new.text.items ≡ [] }
+        ensures text { self.new.text.items ≡ [] }
+        ensures timing { self.new.timing ≡ self.old.timing }
     {
         self.text.clear();
     }
@@ -57,6 +62,7 @@ impl EventsText {
         ensures begun { OnOk result
             (self.new.text.items ≡ self.old.text.items ++ (events_first_line ++ line.now)) }
         ensures kept { IfErr result (λ why. self.new.text.items ≡ self.old.text.items) }
+        ensures timing { self.new.timing ≡ self.old.timing }
     {
         self.line.clear();
         self.line.extend_from_slice(first_line())?;
@@ -77,6 +83,7 @@ impl EventsText {
         ensures fault { IfErr result (FailsNext IsGoing audit.old line.now) }
         ensures written { OnOk result (WritesOn self.old audit.old self.new audit.new line.now) }
         ensures kept { IfErr result (λ why. self.new.text.items ≡ self.old.text.items) }
+        ensures timing { self.new.timing ≡ self.old.timing }
     {
         if !audit.is_legal_yet() {
             audit.carry(alloc, rooms, line)
@@ -101,6 +108,7 @@ impl EventsText {
         ensures fault { IfErr result (FailsNext IsGoing audit.old line.now) }
         ensures written { OnOk result (WritesOn self.old audit.old self.new audit.new line.now) }
         ensures kept { IfErr result (λ why. self.new.text.items ≡ self.old.text.items) }
+        ensures timing { self.new.timing ≡ self.old.timing }
     {
         let Ok(()) = self.before.look(audit.bus()) else {
             return Err(ReadFault::NoMemory);
@@ -109,7 +117,7 @@ impl EventsText {
         if !audit.is_legal_yet() {
             return Ok(());
         }
-        match self.write_parts(audit.bus(), line) {
+        match self.write_step(alloc, audit, rooms, line) {
             Ok(()) => Ok(()),
             Err(_) => Err(ReadFault::NoMemory),
         }
@@ -129,6 +137,7 @@ impl EventsText {
         ensures fault { IfErr result (FailsNext IsGoing audit.old line.now) }
         ensures written { OnOk result (WritesOn self.old audit.old self.new audit.new line.now) }
         ensures kept { IfErr result (λ why. self.new.text.items ≡ self.old.text.items) }
+        ensures timing { self.new.timing ≡ self.old.timing }
     {
         audit.carry(alloc, rooms, line)?;
         if !audit.is_legal_yet() {
@@ -140,14 +149,58 @@ impl EventsText {
         }
     }
 
-    // Writes the line of an attempt or a restart with its parts, which this bus carried out.
-    fn write_parts(&mut self, bus: &LeanRingBus, line: &[u8]) -> Result<(), AllocError>
-        ensures written { OnOk result (WritesParts self.old.before bus.now line.now
+    // Writes the line of an attempt or a restart with its parts, which the audit took.
+    fn write_step(
+        &mut self,
+        alloc: Global,
+        audit: &EntryAudit,
+        rooms: &mut Rooms,
+        line: &[u8],
+    ) -> Result<(), AllocError>
+        ensures written { OnOk result (WritesParts self.old.timing self.old.before audit.now
+            line.now self.old.text.items self.new.text.items) }
+        ensures kept { IfErr result (λ why. self.new.text.items ≡ self.old.text.items) }
+        ensures timing { self.new.timing ≡ self.old.timing }
+    {
+        match self.timing {
+            None => self.write_parts(audit, line),
+            Some(timing) => self.write_timed_parts(alloc, timing, audit, rooms, line),
+        }
+    }
+
+    // The same where no timing was given.
+    fn write_parts(&mut self, audit: &EntryAudit, line: &[u8]) -> Result<(), AllocError>
+        ensures written { OnOk result (WritesParts None self.old.before audit.now line.now
             self.old.text.items self.new.text.items) }
         ensures kept { IfErr result (λ why. self.new.text.items ≡ self.old.text.items) }
+        ensures timing { self.new.timing ≡ self.old.timing }
     {
         self.line.clear();
-        self.before.put_line(&mut self.line, bus, line)?;
+        self.before.put_line(&mut self.line, audit.bus(), line)?;
+        self.text.extend_from_slice(&self.line)
+    }
+
+    // The same where it was. The line is read again, since its entry is needed.
+    #[inline(never)]
+    fn write_timed_parts(
+        &mut self,
+        alloc: Global,
+        timing: Timing,
+        audit: &EntryAudit,
+        rooms: &mut Rooms,
+        line: &[u8],
+    ) -> Result<(), AllocError>
+        ensures written { OnOk result (WritesParts (Some timing) self.old.before audit.now line.now
+            self.old.text.items self.new.text.items) }
+        ensures kept { IfErr result (λ why. self.new.text.items ≡ self.old.text.items) }
+        ensures timing { self.new.timing ≡ self.old.timing }
+    {
+        let Ok(entry) = audit.read_again(alloc, rooms, line) else {
+            return Err(AllocError);
+        };
+        self.line.clear();
+        self.before
+            .put_timed_line(&mut self.line, audit.bus(), line, timing, &entry)?;
         self.text.extend_from_slice(&self.line)
     }
 }

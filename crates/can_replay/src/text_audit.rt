@@ -1,11 +1,11 @@
-ghost use Rattle.std.specs.Prelude.{◌≡◌, ◌++◌, [], Err, IfErr, IfOk, List, OnOk, Some, false, true, ℕ};
+ghost use Rattle.std.specs.Prelude.{◌≡◌, ◌++◌, [], Err, IfErr, IfOk, List, None, OnOk, Some, false, true, ℕ};
 ghost use Rattle.can_events.specs.EventsText.{first_line as events_first_line};
 ghost use Rattle.can_record_text.specs.declared.fault.ReadFault.{ReadFault as AFault};
 ghost use Rattle.can_record_text.specs.RecordFaults.{LacksFirst};
 ghost use Rattle.can_record_text.specs.Spelling.{first_line};
 ghost use Rattle.can_record_text.specs.Texts.{StartsWith};
 ghost use Rattle.can_replay.specs.declared.text_fault.WrongLine.{WrongLine as AWrongLine};
-ghost use Rattle.can_replay.specs.EventTexts.{Completes, EndsCutEvents, EndsEvents, HasWritten, has_events, held_events, wrong_so_far};
+ghost use Rattle.can_replay.specs.EventTexts.{Completes, EndsCutEvents, EndsEvents, HasWritten, has_events, held_events, timing_in, wrong_so_far};
 ghost use Rattle.can_replay.specs.TextAudits.{AreTaken, EndsNoLine, FailsAfter, FailsNext, HasFailed, IsLine, TakesOn, Reports, ReportsCut, first_taken, has_end_line};
 
 use crate::entry_audit::EntryAudit;
@@ -15,6 +15,7 @@ use can_record_text::ReadFault;
 use can_record_text::lines::read_version;
 use can_record_text::rooms::Rooms;
 use can_record_text::version::Version;
+use can_wire::Timing;
 use std::alloc::{AllocError, Global};
 
 /// How far the lines of a text have come.
@@ -51,6 +52,7 @@ impl TextAudit {
         ensures written { HasWritten [] [] result }
         ensures none { held_events result.events ≡ [] }
         ensures events { has_events result.events ≡ false }
+        ensures timing { timing_in result.events ≡ None }
     {
         TextAudit {
             phase: Phase::Start,
@@ -59,16 +61,18 @@ impl TextAudit {
         }
     }
 
-    /// The same with events. Memory is taken for what they are compared with.
-    pub fn with_events(alloc: Global) -> Result<TextAudit, AllocError>
+    /// The same with events. Memory is taken for what they are compared with. Where the timing of the bus is given, each
+    /// frame that was tried also has its times and its bits on the wire.
+    pub fn with_events(alloc: Global, timing: Option<Timing>) -> Result<TextAudit, AllocError>
         ensures written { IfOk result (λ audit. HasWritten [] [] audit) }
         ensures none { IfOk result (λ audit. held_events audit.events ≡ []) }
         ensures events { IfOk result (λ audit. has_events audit.events ≡ true) }
+        ensures timing { IfOk result (λ audit. timing_in audit.events ≡ timing) }
     {
         Ok(TextAudit {
             phase: Phase::Start,
             rooms: Rooms::new(alloc),
-            events: Some(EventsText::new(alloc)?),
+            events: Some(EventsText::new(alloc, timing)?),
         })
     }
 
@@ -87,6 +91,7 @@ impl TextAudit {
     pub fn clear_events(&mut self)
         ensures phase { self.new.phase ≡ self.old.phase }
         ensures events { has_events self.new.events ≡ has_events self.old.events }
+        ensures timing { timing_in self.new.events ≡ timing_in self.old.events }
         ensures none { held_events self.new.events ≡ [] }
         ensures written { (text cleared : List ℕ) → HasWritten text cleared self.old →
             HasWritten text (cleared ++ held_events self.old.events) self.new }
@@ -110,6 +115,7 @@ impl TextAudit {
         ensures held { IfErr result
             (λ why. held_events self.new.events ≡ held_events self.old.events) }
         ensures events { has_events self.new.events ≡ has_events self.old.events }
+        ensures timing { timing_in self.new.events ≡ timing_in self.old.events }
     {
         match self.take(alloc, line) {
             Ok(()) => Ok(()),
@@ -138,6 +144,7 @@ impl TextAudit {
         ensures held { IfErr result
             (λ why. held_events self.new.events ≡ held_events self.old.events) }
         ensures events { has_events self.new.events ≡ has_events self.old.events }
+        ensures timing { timing_in self.new.events ≡ timing_in self.old.events }
     {
         match &mut self.phase {
             Phase::Start => self.take_first(line),
@@ -178,6 +185,7 @@ impl TextAudit {
         ensures held { IfErr result
             (λ why. held_events self.new.events ≡ held_events self.old.events) }
         ensures events { has_events self.new.events ≡ has_events self.old.events }
+        ensures timing { timing_in self.new.events ≡ timing_in self.old.events }
     {
         let audit = EntryAudit::read(alloc, &mut self.rooms, version, line)?;
         begin_events(&mut self.events, line)?;
@@ -255,6 +263,7 @@ fn begin_events(events: &mut Option<EventsText>, line: &[u8]) -> Result<(), Read
     ensures held { IfErr result (λ why. held_events events.new ≡ held_events events.old) }
     ensures memory { IfErr result (λ why. why ≡ ReadFault.NoMemory) }
     ensures kind { has_events events.new ≡ has_events events.old }
+    ensures timing { timing_in events.new ≡ timing_in events.old }
 {
     match events {
         None => Ok(()),

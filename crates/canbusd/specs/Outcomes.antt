@@ -15,7 +15,7 @@ use Rattle.canbusd_serve.specs.Served.{IsServed}
 -- they are asked for, or a server whose records are legal
 abbrev pub IsDone : {W : Type 0} → (W → Option (List ℕ)) → Job → Option (List ℕ) → W → W → Type 0
 IsDone contents (job.Bench o) input old new = IsBenched contents o input old new
-IsDone contents (job.Audit o) input old new = AuditsFiles o.is_cut o.has_events contents old new
+IsDone contents (job.Audit o) input old new = AuditsFiles o.is_cut o.output contents old new
 IsDone contents (job.Serve o) input old new = IsServed contents o old new
 
 -- the job that words ask for was done

@@ -19,14 +19,16 @@ use Rattle.can_replay.specs.declared.text_audit.TextAudit.{TextAudit}
 use Rattle.can_replay.specs.declared.text_fault.TextFault.{TextFault}
 use Rattle.can_replay.specs.declared.text_fault.TextFault.TheVariants as found
 use Rattle.can_replay.specs.declared.text_fault.WrongLine.{WrongLine}
-use Rattle.can_replay.specs.EventTexts.{AreWritten, HasWritten, has_events, held_events, legal_part, wrong_so_far}
+use Rattle.can_replay.specs.EventTexts.{AreWritten, HasWritten, held_events, legal_part, wrong_so_far}
 use Rattle.can_replay.specs.inner.EntryAudits.{IsGoing, IsSettled}
 use Rattle.can_replay.proofs.Before.{before_all}
 use Rattle.can_replay.proofs.GoingOn.{last_of, read_rest}
 use Rattle.canbusd_io.specs.declared.program_error.ProgramError.{ProgramError}
 use Rattle.canbusd_io.specs.declared.program_error.ProgramError.TheVariants as fault
 use Rattle.canbusd_io.specs.Files.{IsOfReading}
-use Rattle.canbusd_audit.specs.Audited.{IsAfter, IsFrontWritten, IsOfLine, IsPut, IsTextIn, IsTold, IsUnderway, LeavesFront, Puts, StopsAfter}
+use Rattle.canbusd_options.specs.declared.audit_options.AuditOutput.{AuditOutput}
+use Rattle.canbusd_options.specs.declared.audit_options.AuditOutput.TheVariants as writes
+use Rattle.canbusd_audit.specs.Audited.{IsAfter, IsFrontWritten, IsOfLine, IsPut, IsTextIn, IsTold, IsUnderway, LeavesFront, Puts, StopsAfter, output_of}
 use Rattle.canbusd_audit.proofs.Underway.{puts_more}
 
 -- ---- which entry a fault names
@@ -78,7 +80,7 @@ counted why b es o is names = tt
 -- ---- what was written
 
 front_at : (text rest cleared : List ℕ) (p : Phase) (e : EventsText) (why : ProgramError) (old new : Option (List ℕ)) → AreWritten text cleared p (Some e) → Names why p → Appends old new (cleared ++ e.text.items)
-    → Appends old new [] ⊎ IsFrontWritten (text ++ rest) why old new
+    → Appends old new [] ⊎ IsFrontWritten e.timing (text ++ rest) why old new
 front_at text rest cleared phase.Start e why old new w names wrote = inl (subst (Appends old new) w.complete wrote)
 front_at text rest cleared (phase.Front v) e why old new w names wrote = inl (subst (Appends old new) w.complete wrote)
 front_at text rest cleared (phase.Entries b) e why old new w names wrote =
@@ -96,18 +98,19 @@ front_at text rest cleared (phase.Entries b) e why old new w names wrote =
       legal = p.legal;
       last = p.last;
       names = counted why b es b.wrong refl names;
-      wrote = subst (Appends old new) (w.complete ∙ ap (events_front b.version b.config) p.part) wrote;
+      wrote = subst (Appends old new) (w.complete ∙ ap (events_front e.timing b.version b.config) p.part) wrote;
     })
 front_at text rest cleared (phase.Failed what) e why old new w names wrote = absurd w.taken
 
-by_kind : {W : Type 0} (has : Bool) (first : Option (List ℕ)) (text rest events : List ℕ) (p : Phase) (held : Option EventsText) (why : ProgramError) (contents : W → Option (List ℕ)) (start out : W) → has ≡ has_events held → AreWritten text events p held
+by_kind : {W : Type 0} (has : AuditOutput) (first : Option (List ℕ)) (text rest events : List ℕ) (p : Phase) (held : Option EventsText) (why : ProgramError) (contents : W → Option (List ℕ)) (start out : W) → has ≡ output_of held → AreWritten text events p held
     → Names why p → IsTextIn first (text ++ rest) → Puts has contents start out (events ++ held_events held) → LeavesFront has first why contents start out
-by_kind false first text rest events p held why contents start out has w names is put = put
-by_kind true first text rest events p None why contents start out has w names is put = absurd cc
-by_kind true first text rest events p (Some e) why contents start out has w names is put = (text ++ rest, is, front_at text rest events p e why (contents start) (contents out) w names put)
+by_kind writes.Count first text rest events p held why contents start out has w names is put = put
+by_kind (writes.Events t) first text rest events p None why contents start out has w names is put = absurd cc
+by_kind (writes.Events t) first text rest events p (Some e) why contents start out has w names is put =
+    subst (λ (o : AuditOutput). LeavesFront o first why contents start out) (sym has) (text ++ rest, is, front_at text rest events p e why (contents start) (contents out) w names put)
 
 -- all events of these lines were put out
-pub leaves_front : {W : Type 0} (has : Bool) (first : Option (List ℕ)) (text rest events : List ℕ) (audit : TextAudit) (why : ProgramError) (contents : W → Option (List ℕ)) (start out : W) → has ≡ has_events audit.events → HasWritten text events audit
+pub leaves_front : {W : Type 0} (has : AuditOutput) (first : Option (List ℕ)) (text rest events : List ℕ) (audit : TextAudit) (why : ProgramError) (contents : W → Option (List ℕ)) (start out : W) → has ≡ output_of audit.events → HasWritten text events audit
     → Names why audit.phase → IsTextIn first (text ++ rest) → Puts has contents start out (events ++ held_events audit.events) → LeavesFront has first why contents start out
 leaves_front has first text rest events audit why contents start out kind w names is put = by_kind has first text rest events audit.phase audit.events why contents start out kind w names is put
 
@@ -117,27 +120,27 @@ text_with None now text h = ([], tt)
 text_with (Some all) None text h = absurd h
 text_with (Some all) (Some rest) text h = (rest, sym h)
 
-pub leaves_underway : {W : Type 0} (has : Bool) (first now : Option (List ℕ)) (events : List ℕ) (audit : TextAudit) (why : ProgramError) (contents : W → Option (List ℕ)) (start out : W) → has ≡ has_events audit.events → IsUnderway first now audit events
+pub leaves_underway : {W : Type 0} (has : AuditOutput) (first now : Option (List ℕ)) (events : List ℕ) (audit : TextAudit) (why : ProgramError) (contents : W → Option (List ℕ)) (start out : W) → has ≡ output_of audit.events → IsUnderway first now audit events
     → Names why audit.phase → Puts has contents start out (events ++ held_events audit.events) → LeavesFront has first why contents start out
 leaves_underway has first now events audit why contents start out kind u names put =
     let t = text_with first now u.text u.consumed in
     leaves_front has first u.text t.0 events audit why contents start out kind u.written names t.1 put
 
-pub none_more : {W : Type 0} (has : Bool) (contents : W → Option (List ℕ)) (start out : W) (events held : List ℕ) → held ≡ [] → Puts has contents start out events → Puts has contents start out (events ++ held)
+pub none_more : {W : Type 0} (has : AuditOutput) (contents : W → Option (List ℕ)) (start out : W) (events held : List ℕ) → held ≡ [] → Puts has contents start out events → Puts has contents start out (events ++ held)
 none_more has contents start out events held none put = subst (Puts has contents start out) (sym (ap (λ (x : List ℕ). events ++ x) none ∙ append-nil events)) put
 
-pub leaves_put : {W : Type 0} (has : Bool) (first now : Option (List ℕ)) (audit : TextAudit) (why : ProgramError) (contents : W → Option (List ℕ)) (start out : W) → has ≡ has_events audit.events → held_events audit.events ≡ []
+pub leaves_put : {W : Type 0} (has : AuditOutput) (first now : Option (List ℕ)) (audit : TextAudit) (why : ProgramError) (contents : W → Option (List ℕ)) (start out : W) → has ≡ output_of audit.events → held_events audit.events ≡ []
     → IsPut first now audit contents start out → Names why audit.phase → LeavesFront has first why contents start out
 leaves_put has first now audit why contents start out kind none p names =
     leaves_underway has first now p.events audit why contents start out kind p.underway names
-    (none_more has contents start out p.events (held_events audit.events) none (subst (λ (b : Bool). Puts b contents start out p.events) (sym kind) p.put))
+    (none_more has contents start out p.events (held_events audit.events) none (subst (λ (o : AuditOutput). Puts o contents start out p.events) (sym kind) p.put))
 
 -- the events of the lines before a fault were put out too
-pub leaves_stopped : {W : Type 0} (has : Bool) (first old new : Option (List ℕ)) (before after : TextAudit) (why : ProgramError) (contents : W → Option (List ℕ)) (start out end : W) → has_events before.events ≡ has → has_events after.events ≡ has_events before.events
-    → IsPut first old before contents start out → StopsAfter old new before after → Puts (has_events after.events) contents out end (held_events after.events) → ((p : Phase) → Names why p) → LeavesFront has first why contents start end
+pub leaves_stopped : {W : Type 0} (has : AuditOutput) (first old new : Option (List ℕ)) (before after : TextAudit) (why : ProgramError) (contents : W → Option (List ℕ)) (start out end : W) → output_of before.events ≡ has → output_of after.events ≡ output_of before.events
+    → IsPut first old before contents start out → StopsAfter old new before after → Puts (output_of after.events) contents out end (held_events after.events) → ((p : Phase) → Names why p) → LeavesFront has first why contents start end
 leaves_stopped has first old new before after why contents start out end kind same p stops put names =
     let last = stops.0 in
-    let so_far : Puts has contents start out p.events = subst (λ (b : Bool). Puts b contents start out p.events) kind p.put in
+    let so_far : Puts has contents start out p.events = subst (λ (o : AuditOutput). Puts o contents start out p.events) kind p.put in
     let more : Puts has contents out end (held_events last.events) =
-    subst (Puts has contents out end) stops.3 (subst (λ (b : Bool). Puts b contents out end (held_events after.events)) (same ∙ kind) put) in
+    subst (Puts has contents out end) stops.3 (subst (λ (o : AuditOutput). Puts o contents out end (held_events after.events)) (same ∙ kind) put) in
     leaves_underway has first new p.events last why contents start end (sym (stops.2 ∙ kind)) (stops.1 first p.events p.underway) (names last.phase) (puts_more has contents start out end p.events (held_events last.events) so_far more)

@@ -10,15 +10,35 @@ use Rattle.std.proofs.lemmas.List.{append-nil}
 use Rattle.std.proofs.lemmas.List.Elements.{All-cons, All-head, All-nil, All-tail, All-take}
 use Rattle.can_record_text.specs.declared.fault.ReadFault.{ReadFault}
 use Rattle.can_record_text.specs.RecordFaults.{Reads}
+use Rattle.can_wire.specs.Timings.{BusTiming}
+use Rattle.can_replay.specs.declared.events_text.EventsText.{EventsText}
 use Rattle.can_replay.specs.declared.text_audit.TextAudit.{TextAudit}
-use Rattle.can_replay.specs.EventTexts.{HasWritten, has_events, held_events}
+use Rattle.can_replay.specs.EventTexts.{HasWritten, has_events, held_events, timing_in}
 use Rattle.can_replay.specs.TextAudits.{AreTaken, EndsLine, EndsNoLine, FaultsUncut, IsLine, MayFollow}
 use Rattle.can_replay.proofs.LineEnds.{nothing_more}
 use Rattle.can_replay.proofs.Uncut.{line_uncut}
 use Rattle.canbusd_io.specs.declared.program_error.ProgramError.{ProgramError}
 use Rattle.canbusd_io.specs.declared.program_error.ProgramError.TheVariants as fault
 use Rattle.canbusd_io.specs.Files.{IsOfReading}
-use Rattle.canbusd_audit.specs.Audited.{Faults, FaultsLast, FaultsLine, FaultsWhole, IsAtFault, IsBefore, IsInputTaken, IsNextLine, IsOfLine, IsPut, IsRead, IsTextIn, IsUnderway, Puts}
+use Rattle.canbusd_options.specs.declared.audit_options.AuditOutput.{AuditOutput}
+use Rattle.canbusd_options.specs.declared.audit_options.AuditOutput.TheVariants as writes
+use Rattle.canbusd_audit.specs.Audited.{Faults, FaultsLast, FaultsLine, FaultsWhole, IsAtFault, IsBefore, IsInputTaken, IsNextLine, IsOfLine, IsPut, IsRead, IsTextIn, IsUnderway, Puts, output_of}
+
+-- what an audit writes stays the same where it has events as before, and their timing
+pub same_output : (after before : Option EventsText) → has_events after ≡ has_events before → timing_in after ≡ timing_in before → output_of after ≡ output_of before
+same_output None None has timing = refl
+same_output None (Some e) has timing = absurd cc
+same_output (Some e) None has timing = absurd cc
+same_output (Some e) (Some f) has timing = ap writes.Events timing
+
+-- it writes what was asked for
+pub writes_events : (held : Option EventsText) (t : Option BusTiming) → has_events held ≡ true → timing_in held ≡ t → output_of held ≡ writes.Events t
+writes_events None t has timing = absurd cc
+writes_events (Some e) t has timing = ap writes.Events timing
+
+pub writes_count : (held : Option EventsText) → has_events held ≡ false → output_of held ≡ writes.Count
+writes_count None has = refl
+writes_count (Some e) has = absurd cc
 
 pub more_read : (a b c : Option (List ℕ)) (x y : List ℕ) → Consumes a b x → Consumes b c y → Consumes a c (x ++ y)
 more_read None b c x y h k = tt
@@ -36,24 +56,24 @@ goes_on first now after line events old new u read step = record {
 }
 
 -- events more were put out
-pub puts_more : {W : Type 0} (has : Bool) (contents : W → Option (List ℕ)) (a b c : W) (xs ys : List ℕ) → Puts has contents a b xs → Puts has contents b c ys → Puts has contents a c (xs ++ ys)
-puts_more false contents a b c xs ys h k = k ∙ h
-puts_more true contents a b c xs ys h k = Appends-trans (contents a) (contents b) (contents c) xs ys h k
+pub puts_more : {W : Type 0} (has : AuditOutput) (contents : W → Option (List ℕ)) (a b c : W) (xs ys : List ℕ) → Puts has contents a b xs → Puts has contents b c ys → Puts has contents a c (xs ++ ys)
+puts_more writes.Count contents a b c xs ys h k = k ∙ h
+puts_more (writes.Events t) contents a b c xs ys h k = Appends-trans (contents a) (contents b) (contents c) xs ys h k
 
-pub put_more : {W : Type 0} (first now : Option (List ℕ)) (audit next : TextAudit) (contents : W → Option (List ℕ)) (start out new : W) → has_events next.events ≡ has_events audit.events
-    → ((text events : List ℕ) → HasWritten text events audit → HasWritten text (events ++ held_events audit.events) next) → Puts (has_events audit.events) contents out new (held_events audit.events)
+pub put_more : {W : Type 0} (first now : Option (List ℕ)) (audit next : TextAudit) (contents : W → Option (List ℕ)) (start out new : W) → output_of next.events ≡ output_of audit.events
+    → ((text events : List ℕ) → HasWritten text events audit → HasWritten text (events ++ held_events audit.events) next) → Puts (output_of audit.events) contents out new (held_events audit.events)
     → IsPut first now audit contents start out → IsPut first now next contents start new
 put_more first now audit next contents start out new has written put p = record {
   events = p.events ++ held_events audit.events;
   underway = record { text = p.underway.text; consumed = p.underway.consumed; written = written p.underway.text p.events p.underway.written };
-  put = subst (λ (b : Bool). Puts b contents start new (p.events ++ held_events audit.events)) (sym has) (puts_more (has_events audit.events) contents start out new p.events (held_events audit.events) p.put put);
+  put = subst (λ (o : AuditOutput). Puts o contents start new (p.events ++ held_events audit.events)) (sym has) (puts_more (output_of audit.events) contents start out new p.events (held_events audit.events) p.put put);
 }
 
 -- the same lines and events, of an audit that has gone on
-pub put_on : {W : Type 0} (first now after : Option (List ℕ)) (audit next : TextAudit) (contents : W → Option (List ℕ)) (start out : W) → has_events next.events ≡ has_events audit.events
+pub put_on : {W : Type 0} (first now after : Option (List ℕ)) (audit next : TextAudit) (contents : W → Option (List ℕ)) (start out : W) → output_of next.events ≡ output_of audit.events
     → ((events : List ℕ) → IsUnderway first now audit events → IsUnderway first after next events) → IsPut first now audit contents start out → IsPut first after next contents start out
 put_on first now after audit next contents start out has goes p =
-    record { events = p.events; underway = goes p.events p.underway; put = subst (λ (b : Bool). Puts b contents start out p.events) (sym has) p.put }
+    record { events = p.events; underway = goes p.events p.underway; put = subst (λ (o : AuditOutput). Puts o contents start out p.events) (sym has) p.put }
 
 text_is : (first now : Option (List ℕ)) (text : List ℕ) → Consumes first now text → IsAtEnd now → IsTextIn first text
 text_is None now text h end = tt

@@ -7,6 +7,7 @@ use Rattle.can_event.specs.declared.entry.Entry.{Entry}
 use Rattle.can_event.specs.declared.reply.Reply.{Reply}
 use Rattle.can_event.specs.Spelled.{FitsReply}
 use Rattle.can_bus.specs.Legal.{IsLegal}
+use Rattle.can_wire.specs.Timings.{BusTiming}
 use Rattle.can_events.specs.EventsText.{cut_events_text, events_front, events_text}
 use Rattle.can_record_text.specs.declared.fault.ReadFault.{ReadFault}
 use Rattle.can_record_text.specs.declared.version.Version.{Version}
@@ -19,11 +20,14 @@ use Rattle.can_replay.specs.declared.text_fault.Cut.TheVariants as cut
 use Rattle.can_replay.specs.declared.text_fault.TextFault.{TextFault}
 use Rattle.can_replay.specs.declared.text_fault.TextFault.TheVariants as found
 use Rattle.can_replay.specs.declared.text_fault.WrongLine.{WrongLine}
+use Rattle.can_replay.specs.declared.events_text.EventsText.{EventsText}
 use Rattle.can_replay.specs.declared.text_audit.TextAudit.{TextAudit}
-use Rattle.can_replay.specs.EventTexts.{HasWritten, end_line, has_events, held_events}
+use Rattle.can_replay.specs.EventTexts.{HasWritten, end_line, held_events, timing_in}
 use Rattle.can_replay.specs.EventTexts.{cut_line as cut_end_line}
 use Rattle.can_replay.specs.Histories.{before}
 use Rattle.can_replay.specs.TextAudits.{AreTaken, EndsLine, EndsNoLine, FaultsUncut, IsFrontOf, IsLine, MayFollow}
+use Rattle.canbusd_options.specs.declared.audit_options.AuditOutput.{AuditOutput}
+use Rattle.canbusd_options.specs.declared.audit_options.AuditOutput.TheVariants as writes
 use Rattle.canbusd_io.specs.declared.program_error.ProgramError.{ProgramError}
 use Rattle.canbusd_io.specs.declared.program_error.ProgramError.TheVariants as fault
 use Rattle.canbusd_io.specs.Files.{IsOfFile, IsOfReading}
@@ -36,45 +40,46 @@ use Rattle.canbusd_audit.specs.declared.buffered.Buffered.TheVariants as held
 abbrev pub entries_line : ℕ → List ℕ
 entries_line n = codes "ok " ++ decimal n ++ codes " entries" ++ 10 ∷ []
 
--- what an audit writes of a legal record: how many entries it has, or with events what they brought about
-abbrev pub audit_text : Bool → BusConfig → List Entry → List ℕ
-audit_text false c entries = entries_line (length entries)
-audit_text true c entries = events_text (version_of c entries) c (reverse entries)
+-- what an audit writes of a legal record: how many entries it has, or with events what they brought about, and where a
+-- timing is given also what frames take of the wire
+abbrev pub audit_text : AuditOutput → BusConfig → List Entry → List ℕ
+audit_text writes.Count c entries = entries_line (length entries)
+audit_text (writes.Events t) c entries = events_text t (version_of c entries) c (reverse entries)
 
--- the text is that of a legal history, and that of its audit was written, with events or without
-pub record IsAudited (with_events : Bool) (text : List ℕ) (old new : Option (List ℕ)) : Type 0 where
+-- the text is that of a legal history, and what is asked for of its audit was written
+pub record IsAudited (asked : AuditOutput) (text : List ℕ) (old new : Option (List ℕ)) : Type 0 where
   pub config : BusConfig
   pub entries : List Entry
   pub whole : IsTextOf text config entries
   pub legal : IsLegal config (reverse entries)
-  pub wrote : Appends old new (audit_text with_events config entries)
+  pub wrote : Appends old new (audit_text asked config entries)
 
 -- the line that says how many entries a record has that is cut off
 abbrev pub cut_line : ℕ → List ℕ
 cut_line n = codes "ok " ++ decimal n ++ codes " entries, then cut off" ++ 10 ∷ []
 
 -- what an audit writes of a legal record in this version that is cut off
-abbrev pub cut_audit_text : Bool → Version → BusConfig → List Entry → List ℕ
-cut_audit_text false v c entries = cut_line (length entries)
-cut_audit_text true v c entries = cut_events_text v c (reverse entries)
+abbrev pub cut_audit_text : AuditOutput → Version → BusConfig → List Entry → List ℕ
+cut_audit_text writes.Count v c entries = cut_line (length entries)
+cut_audit_text (writes.Events t) v c entries = cut_events_text t v c (reverse entries)
 
 -- the text is cut off, and as far as it reaches that of a legal history; that of its audit was written
-pub record IsAuditedCut (with_events : Bool) (text : List ℕ) (old new : Option (List ℕ)) : Type 0 where
+pub record IsAuditedCut (asked : AuditOutput) (text : List ℕ) (old new : Option (List ℕ)) : Type 0 where
   pub config : BusConfig
   pub entries : List Entry
   pub front : IsFrontOf text config entries
   pub legal : IsLegal config (reverse entries)
-  pub wrote : Appends old new (cut_audit_text with_events front.version config entries)
+  pub wrote : Appends old new (cut_audit_text asked front.version config entries)
 
 -- the text was audited: as a whole one, or where it may be cut off as either
-abbrev pub IsAuditedBy : (is_cut with_events : Bool) → List ℕ → Option (List ℕ) → Option (List ℕ) → Type 0
-IsAuditedBy false with_events text old new = IsAudited with_events text old new
-IsAuditedBy true with_events text old new = IsAudited with_events text old new ⊎ IsAuditedCut with_events text old new
+abbrev pub IsAuditedBy : (is_cut : Bool) (asked : AuditOutput) → List ℕ → Option (List ℕ) → Option (List ℕ) → Type 0
+IsAuditedBy false asked text old new = IsAudited asked text old new
+IsAuditedBy true asked text old new = IsAudited asked text old new ⊎ IsAuditedCut asked text old new
 
 -- a text that files may hold was audited, one that may be cut off or not
-abbrev pub AuditsFiles : {W : Type 0} → (is_cut with_events : Bool) → (W → Option (List ℕ)) → W → W → Type 0
-AuditsFiles is_cut with_events contents old new =
-    (text : List ℕ) × IsAuditedBy is_cut with_events text (contents old) (contents new)
+abbrev pub AuditsFiles : {W : Type 0} → (is_cut : Bool) (asked : AuditOutput) → (W → Option (List ℕ)) → W → W → Type 0
+AuditsFiles is_cut asked contents old new =
+    (text : List ℕ) × IsAuditedBy is_cut asked text (contents old) (contents new)
 
 -- a fault came before anything was written, but for one of the writer
 abbrev pub IsQuiet : {W : Type 0} → ProgramError → W → W → Type 0
@@ -124,18 +129,18 @@ IsTextIn None text = Unit {0}
 IsTextIn (Some all) text = text ≡ all
 
 -- the text that a reader had was audited
-abbrev pub AuditsBy : {W : Type 0} → (is_cut with_events : Bool) → Option (List ℕ) → (W → Option (List ℕ)) → W → W
+abbrev pub AuditsBy : {W : Type 0} → Bool → AuditOutput → Option (List ℕ) → (W → Option (List ℕ)) → W → W
     → Type 0
-AuditsBy is_cut with_events input contents old new =
-    (text : List ℕ) × IsTextIn input text × IsAuditedBy is_cut with_events text (contents old) (contents new)
+AuditsBy is_cut asked input contents old new =
+    (text : List ℕ) × IsTextIn input text × IsAuditedBy is_cut asked text (contents old) (contents new)
 
 -- the same of a whole text
-abbrev pub Audits : {W : Type 0} → Bool → Option (List ℕ) → (W → Option (List ℕ)) → W → W → Type 0
-Audits with_events input contents old new = AuditsBy false with_events input contents old new
+abbrev pub Audits : {W : Type 0} → AuditOutput → Option (List ℕ) → (W → Option (List ℕ)) → W → W → Type 0
+Audits asked input contents old new = AuditsBy false asked input contents old new
 
 -- the same of one that may be cut off
-abbrev pub AuditsCut : {W : Type 0} → Bool → Option (List ℕ) → (W → Option (List ℕ)) → W → W → Type 0
-AuditsCut with_events input contents old new = AuditsBy true with_events input contents old new
+abbrev pub AuditsCut : {W : Type 0} → AuditOutput → Option (List ℕ) → (W → Option (List ℕ)) → W → W → Type 0
+AuditsCut asked input contents old new = AuditsBy true asked input contents old new
 
 -- what a fault says of the text that a reader had
 abbrev pub FaultsInput : Option (List ℕ) → ProgramError → Type 0
@@ -150,8 +155,9 @@ abbrev pub FaultsCut : Option (List ℕ) → ProgramError → Type 0
 FaultsCut input why = (text : List ℕ) × IsTextIn input text × FaultsBy true text why
 
 -- with events the writer may fail before the text was read, which says nothing of the text
-abbrev pub StopsEvents : Bool → ProgramError → Type 0
-StopsEvents with_events why = (with_events ≡ true) × (why ≡ fault.Write)
+abbrev pub StopsEvents : AuditOutput → ProgramError → Type 0
+StopsEvents writes.Count why = ⊥
+StopsEvents (writes.Events t) why = why ≡ fault.Write
 
 -- a fault of one of the files with these paths
 abbrev pub IsOfFiles : List (List ℕ) → ProgramError → Type 0
@@ -161,19 +167,25 @@ IsOfFiles paths why = (path : List ℕ) × Contains paths path × IsOfFile path 
 abbrev pub FaultsFiles : Bool → List (List ℕ) → ProgramError → Type 0
 FaultsFiles is_cut paths why = IsOfFiles paths why ⊎ ((text : List ℕ) × FaultsBy is_cut text why)
 
+-- what an audit of a text writes
+abbrev pub output_of : Option EventsText → AuditOutput
+output_of None = writes.Count
+output_of (Some e) = writes.Events (timing_in (Some e))
+
 -- these events were written; an audit without events leaves the writer as it was
-abbrev pub Puts : {W : Type 0} → Bool → (W → Option (List ℕ)) → W → W → List ℕ → Type 0
-Puts false contents old new events = new ≡ old
-Puts true contents old new events = Appends (contents old) (contents new) events
+abbrev pub Puts : {W : Type 0} → AuditOutput → (W → Option (List ℕ)) → W → W → List ℕ → Type 0
+Puts writes.Count contents old new events = new ≡ old
+Puts (writes.Events t) contents old new events = Appends (contents old) (contents new) events
 
 -- where a fault names a wrong entry, it is the one after this many
 abbrev pub IsAfter : ProgramError → ℕ → Type 0
 IsAfter (fault.WrongEntry k) count = count ≡ k
 IsAfter _ count = Unit {0}
 
--- the entries that a text begins with were read up to a fault, and the events were written of those before the first
--- wrong one, or of all
-pub record IsFrontWritten (text : List ℕ) (why : ProgramError) (old new : Option (List ℕ)) : Type 0 where
+-- the entries that a text begins with were read up to a fault, and the events were written, with this timing, of those
+-- before the first wrong one, or of all
+pub record IsFrontWritten (t : Option BusTiming) (text : List ℕ) (why : ProgramError) (old new : Option (List ℕ))
+    : Type 0 where
   pub version : Version
   pub config : BusConfig
   pub entries : List Entry
@@ -184,20 +196,21 @@ pub record IsFrontWritten (text : List ℕ) (why : ProgramError) (old new : Opti
   pub legal : IsLegal config (before entries count)
   pub last : (count ≡ length entries) ⊎ IsFirstWrong config entries count
   pub names : IsAfter why count
-  pub wrote : Appends old new (events_front version config (before entries count))
+  pub wrote : Appends old new (events_front t version config (before entries count))
 
 -- what a fault of the text that a reader had leaves: an audit without events has written nothing, one with events those
 -- of the legal entries before it, or nothing where a text does not begin as that of a record
-abbrev pub LeavesFront : {W : Type 0} → Bool → Option (List ℕ) → ProgramError → (W → Option (List ℕ)) → W → W → Type 0
-LeavesFront false input why contents old new = new ≡ old
-LeavesFront true input why contents old new =
+abbrev pub LeavesFront : {W : Type 0} → AuditOutput → Option (List ℕ) → ProgramError → (W → Option (List ℕ)) → W → W
+    → Type 0
+LeavesFront writes.Count input why contents old new = new ≡ old
+LeavesFront (writes.Events t) input why contents old new =
     (text : List ℕ) × IsTextIn input text
-    × (Appends (contents old) (contents new) [] ⊎ IsFrontWritten text why (contents old) (contents new))
+    × (Appends (contents old) (contents new) [] ⊎ IsFrontWritten t text why (contents old) (contents new))
 
 -- the same of any fault; that of the writer says nothing
-abbrev pub Leaves : {W : Type 0} → Bool → Option (List ℕ) → ProgramError → (W → Option (List ℕ)) → W → W → Type 0
-Leaves with_events input why contents old new =
-    (why ≡ fault.Write) ⊎ LeavesFront with_events input why contents old new
+abbrev pub Leaves : {W : Type 0} → AuditOutput → Option (List ℕ) → ProgramError → (W → Option (List ℕ)) → W → W → Type 0
+Leaves asked input why contents old new =
+    (why ≡ fault.Write) ⊎ LeavesFront asked input why contents old new
 
 -- the lines of the text that a reader had were taken, up to bytes that end no line, and their events written
 pub record IsInputTaken {W : Type 0} (input : Option (List ℕ)) (audit : TextAudit) (torn : List ℕ)
@@ -207,7 +220,7 @@ pub record IsInputTaken {W : Type 0} (input : Option (List ℕ)) (audit : TextAu
   pub is_text : IsTextIn input (lines ++ torn)
   pub written : HasWritten lines events audit
   pub none_held : held_events audit.events ≡ []
-  pub put : Puts (has_events audit.events) contents old new events
+  pub put : Puts (output_of audit.events) contents old new events
   pub unended : EndsNoLine torn
 
 -- an audit takes these lines too
@@ -226,7 +239,7 @@ FaultsLast audit torn why = (lines : List ℕ) → AreTaken lines audit → Faul
 -- an audit holds the events of these lines, after which it found a fault
 abbrev pub HoldsBefore : TextAudit → List ℕ → TextAudit → Type 0
 HoldsBefore before lines after =
-    (last : TextAudit) × TakesMore before lines last × (has_events last.events ≡ has_events before.events)
+    (last : TextAudit) × TakesMore before lines last × (output_of last.events ≡ output_of before.events)
     × (held_events after.events ≡ held_events last.events)
 
 -- bytes begin with whole lines that are at fault after the lines that were taken, whatever follows them
@@ -273,7 +286,7 @@ pub record IsPut {W : Type 0} (first now : Option (List ℕ)) (audit : TextAudit
     (old new : W) : Type 0 where
   pub events : List ℕ
   pub underway : IsUnderway first now audit events
-  pub put : Puts (has_events audit.events) contents old new events
+  pub put : Puts (output_of audit.events) contents old new events
 
 -- from lines that were taken before, a reader and an audit went on to these
 abbrev pub GoesOn : Option (List ℕ) → Option (List ℕ) → TextAudit → TextAudit → Type 0
@@ -289,7 +302,7 @@ IsAtFault now audit why =
 -- a reader and an audit went on to lines before a fault, whose events the audit holds
 abbrev pub StopsAfter : Option (List ℕ) → Option (List ℕ) → TextAudit → TextAudit → Type 0
 StopsAfter old new before after =
-    (last : TextAudit) × GoesOn old new before last × (has_events last.events ≡ has_events before.events)
+    (last : TextAudit) × GoesOn old new before last × (output_of last.events ≡ output_of before.events)
     × (held_events after.events ≡ held_events last.events)
 
 -- what a reader held was taken by an audit
@@ -309,25 +322,25 @@ HasNote (found.Read why) = Unit {0}
 HasNote (found.Wrong w) = FitsLines w
 
 -- the last line that an audit writes of a record with so many entries
-abbrev pub last_line : Bool → ℕ → List ℕ
-last_line false count = entries_line count
-last_line true count = end_line count
+abbrev pub last_line : AuditOutput → ℕ → List ℕ
+last_line writes.Count count = entries_line count
+last_line (writes.Events t) count = end_line count
 
 -- the same of a record that is cut off
-abbrev pub last_cut_line : Bool → ℕ → List ℕ
-last_cut_line false count = cut_line count
-last_cut_line true count = cut_end_line count
+abbrev pub last_cut_line : AuditOutput → ℕ → List ℕ
+last_cut_line writes.Count count = cut_line count
+last_cut_line (writes.Events t) count = cut_end_line count
 
 -- the last line of a legal record's audit was written
-abbrev pub IsWritten : Bool → Result ℕ TextFault → Option (List ℕ) → Option (List ℕ) → Type 0
-IsWritten with_events (Ok count) old new = Appends old new (last_line with_events count)
-IsWritten with_events (Err why) old new = ⊥
+abbrev pub IsWritten : AuditOutput → Result ℕ TextFault → Option (List ℕ) → Option (List ℕ) → Type 0
+IsWritten asked (Ok count) old new = Appends old new (last_line asked count)
+IsWritten asked (Err why) old new = ⊥
 
 -- the same of a record that may be cut off
-abbrev pub IsCutWritten : Bool → Result Cut TextFault → Option (List ℕ) → Option (List ℕ) → Type 0
-IsCutWritten with_events (Ok (cut.Whole count)) old new = Appends old new (last_line with_events count)
-IsCutWritten with_events (Ok (cut.Off count)) old new = Appends old new (last_cut_line with_events count)
-IsCutWritten with_events (Err why) old new = ⊥
+abbrev pub IsCutWritten : AuditOutput → Result Cut TextFault → Option (List ℕ) → Option (List ℕ) → Type 0
+IsCutWritten asked (Ok (cut.Whole count)) old new = Appends old new (last_line asked count)
+IsCutWritten asked (Ok (cut.Off count)) old new = Appends old new (last_cut_line asked count)
+IsCutWritten asked (Err why) old new = ⊥
 
 -- a fault is that of the text
 abbrev pub IsToldFault : TextFault → ProgramError → Type 0

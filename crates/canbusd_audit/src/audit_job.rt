@@ -1,7 +1,7 @@
 ghost use Rattle.std.specs.Prelude.{◌≡◌, ◌⊎◌, [], IfErr, IfOk, None, OnOk, map};
-ghost use Rattle.can_replay.specs.EventTexts.{HasWritten, has_events as audit_has_events, held_events};
+ghost use Rattle.can_replay.specs.EventTexts.{HasWritten, held_events};
 ghost use Rattle.canbusd_io.specs.declared.program_error.ProgramError.TheVariants as told;
-ghost use Rattle.canbusd_audit.specs.Audited.{Audits, AuditsCut, AuditsFiles, FaultsCut, FaultsFiles, FaultsInput, IsOfFiles, Leaves, StopsEvents};
+ghost use Rattle.canbusd_audit.specs.Audited.{Audits, AuditsCut, AuditsFiles, FaultsCut, FaultsFiles, FaultsInput, IsOfFiles, Leaves, StopsEvents, output_of};
 
 use crate::ends::{tell_cut, tell_end};
 use crate::events::put_events;
@@ -9,7 +9,7 @@ use crate::joined::Joined;
 use crate::line_taking::{take_last, take_lines};
 use can_replay::TextAudit;
 use canbusd_io::{LimitedReads, ProgramError, Report, open_file};
-use canbusd_options::AuditOptions;
+use canbusd_options::{AuditOptions, AuditOutput};
 use std::alloc::{AllocError, Global};
 use std::io::{BufRead, BufReader, Write};
 use std::rt::Files;
@@ -24,13 +24,13 @@ pub fn audit_files<'a, H: Files, W: Write, E: Write>(
     errors: &mut E,
 ) -> Result<(), Report<'a>>
     ensures legal { OnOk result
-        (AuditsFiles options.now.is_cut options.now.has_events W.contents output.old output.new) }
+        (AuditsFiles options.now.is_cut options.now.output W.contents output.old output.new) }
     ensures fault { IfErr result (λ failure.
-        StopsEvents options.now.has_events failure.error ⊎
+        StopsEvents options.now.output failure.error ⊎
         FaultsFiles options.now.is_cut (map (λ file. file.now) options.now.files.items)
         failure.error) }
     ensures written { IfErr result (λ failure.
-        Leaves options.now.has_events None failure.error W.contents output.old output.new) }
+        Leaves options.now.output None failure.error W.contents output.old output.new) }
 {
     let files = open_files(rt, alloc, &options.files)?;
     let Ok(name) = joined_name(alloc, &options.files) else {
@@ -39,25 +39,26 @@ pub fn audit_files<'a, H: Files, W: Write, E: Write>(
     let Ok(mut input) = BufReader::new(alloc, Joined::new(files)) else {
         return Err(Report::new(alloc, ProgramError::NoMemory));
     };
-    let has_events = options.has_events;
+    let asked = &options.output;
     if options.is_cut {
-        audit_cut_lines(alloc, &name, &mut input, has_events, output, errors)
+        audit_cut_lines(alloc, &name, &mut input, asked, output, errors)
     } else {
-        audit_lines(alloc, &name, &mut input, has_events, output)
+        audit_lines(alloc, &name, &mut input, asked, output)
     }
 }
 
-// An audit that was given nothing yet, with events or without.
-fn new_audit<'a>(alloc: Global, has_events: bool) -> Result<TextAudit, Report<'a>>
+// An audit that was given nothing yet, and writes what is asked for.
+#[tactic(auto, using(crate::proofs::Underway::writes_events, crate::proofs::Underway::writes_count))]
+fn new_audit<'a>(alloc: Global, asked: &AuditOutput) -> Result<TextAudit, Report<'a>>
     ensures written { IfOk result (λ audit. HasWritten [] [] audit) }
     ensures none { IfOk result (λ audit. held_events audit.events ≡ []) }
-    ensures events { IfOk result (λ audit. audit_has_events audit.events ≡ has_events) }
+    ensures asked { IfOk result (λ audit. output_of audit.events ≡ asked.now) }
     ensures fault { IfErr result (λ failure. failure.error ≡ told.NoMemory) }
 {
-    if !has_events {
+    let AuditOutput::Events(timing) = asked else {
         return Ok(TextAudit::new(alloc));
-    }
-    match TextAudit::with_events(alloc) {
+    };
+    match TextAudit::with_events(alloc, *timing) {
         Ok(audit) => Ok(audit),
         Err(_) => Err(Report::new(alloc, ProgramError::NoMemory)),
     }
@@ -102,23 +103,23 @@ pub fn audit_lines<'a, R: BufRead, W: Write>(
     alloc: Global,
     path: &str,
     input: &mut R,
-    has_events: bool,
+    asked: &AuditOutput,
     output: &mut W,
 ) -> Result<(), Report<'a>>
     ensures legal { OnOk result
-        (Audits has_events (R.remaining input.old) W.contents output.old output.new) }
+        (Audits asked.now (R.remaining input.old) W.contents output.old output.new) }
     ensures fault { IfErr result (λ failure.
-        StopsEvents has_events failure.error ⊎ FaultsInput (R.remaining input.old) failure.error) }
+        StopsEvents asked.now failure.error ⊎ FaultsInput (R.remaining input.old) failure.error) }
     ensures written { IfErr result (λ failure.
-        Leaves has_events (R.remaining input.old) failure.error W.contents output.old output.new) }
+        Leaves asked.now (R.remaining input.old) failure.error W.contents output.old output.new) }
 {
-    let mut audit = new_audit(alloc, has_events)?;
+    let mut audit = new_audit(alloc, asked)?;
     let mut torn = Vec::new(alloc);
     let lines = take_lines(alloc, path, input, &mut audit, &mut torn, output)?;
     take_last(alloc, path, lines, &mut audit, &torn)?;
     put_events(alloc, &mut audit, output)?;
     let first = audit.first_line();
-    tell_end(alloc, path, first, audit.finish(), has_events, output)
+    tell_end(alloc, path, first, audit.finish(), asked, output)
 }
 
 /// The same of a text that may be cut off, as a run that was killed leaves it: writes how many entries it has, and
@@ -127,21 +128,21 @@ pub fn audit_cut_lines<'a, R: BufRead, W: Write, E: Write>(
     alloc: Global,
     path: &str,
     input: &mut R,
-    has_events: bool,
+    asked: &AuditOutput,
     output: &mut W,
     errors: &mut E,
 ) -> Result<(), Report<'a>>
     ensures legal { OnOk result
-        (AuditsCut has_events (R.remaining input.old) W.contents output.old output.new) }
+        (AuditsCut asked.now (R.remaining input.old) W.contents output.old output.new) }
     ensures fault { IfErr result (λ failure.
-        StopsEvents has_events failure.error ⊎ FaultsCut (R.remaining input.old) failure.error) }
+        StopsEvents asked.now failure.error ⊎ FaultsCut (R.remaining input.old) failure.error) }
     ensures written { IfErr result (λ failure.
-        Leaves has_events (R.remaining input.old) failure.error W.contents output.old output.new) }
+        Leaves asked.now (R.remaining input.old) failure.error W.contents output.old output.new) }
 {
-    let mut audit = new_audit(alloc, has_events)?;
+    let mut audit = new_audit(alloc, asked)?;
     let mut torn = Vec::new(alloc);
     take_lines(alloc, path, input, &mut audit, &mut torn, output)?;
     let first = audit.first_line();
     let found = audit.finish_cut(&torn);
-    tell_cut(alloc, path, first, found, &torn, has_events, output, errors)
+    tell_cut(alloc, path, first, found, &torn, asked, output, errors)
 }

@@ -1,7 +1,7 @@
 ghost use Rattle.std.specs.Prelude.{◌≡◌, ◌≢◌, ◌-◌, ◌⊎◌, [], IfErr, IfOk, IsTrue, OnOk, Some, false, length, slice_get};
-ghost use Rattle.can_replay.specs.EventTexts.{HasWritten, has_events, held_events};
+ghost use Rattle.can_replay.specs.EventTexts.{HasWritten, held_events};
 ghost use Rattle.can_replay.specs.TextAudits.{EndsNoLine};
-ghost use Rattle.canbusd_audit.specs.Audited.{FaultsLast, FaultsLine, IsInputTaken, IsNextLine, IsOfLine, IsOfSomeLine, Leaves, StopsEvents, TakesLast};
+ghost use Rattle.canbusd_audit.specs.Audited.{FaultsLast, FaultsLine, IsInputTaken, IsNextLine, IsOfLine, IsOfSomeLine, Leaves, StopsEvents, TakesLast, output_of};
 ghost use Rattle.canbusd_io.specs.Files.{IsOfReading};
 
 use crate::buffered::{Buffered, take_held};
@@ -19,6 +19,7 @@ use std::str;
 ///
 /// Where a line is at fault, what follows is read all the same: an input that is no UTF-8 text is reported as such,
 /// wherever it is not.
+#[tactic(auto, using(crate::proofs::Underway::same_output))]
 pub fn take_lines<'a, R: BufRead, W: Write>(
     alloc: Global,
     path: &str,
@@ -32,11 +33,11 @@ pub fn take_lines<'a, R: BufRead, W: Write>(
     ensures taken { OnOk result (IsInputTaken (R.remaining input.old) audit.new torn.new.items
         W.contents output.old output.new) }
     ensures fault { IfErr result (λ failure.
-        StopsEvents (has_events audit.old.events) failure.error ⊎
+        StopsEvents (output_of audit.old.events) failure.error ⊎
         FaultsLine (R.remaining input.old) failure.error) }
-    ensures written { IfErr result (λ failure. Leaves (has_events audit.old.events)
+    ensures written { IfErr result (λ failure. Leaves (output_of audit.old.events)
         (R.remaining input.old) failure.error W.contents output.old output.new) }
-    ensures events { has_events audit.new.events ≡ has_events audit.old.events }
+    ensures asked { output_of audit.new.events ≡ output_of audit.old.events }
 {
     let mut lines = 0;
     for _ in 0..u64::MAX {
@@ -69,6 +70,7 @@ pub fn take_lines<'a, R: BufRead, W: Write>(
 }
 
 /// Takes the bytes after the last LF as the last line, if there are any. So many lines come before it.
+#[tactic(auto, using(crate::proofs::Underway::same_output))]
 pub fn take_last<'a>(
     alloc: Global,
     path: &str,
@@ -80,7 +82,7 @@ pub fn take_last<'a>(
     ensures taken { OnOk result (TakesLast audit.old torn.now audit.new) }
     ensures fault { IfErr result (λ failure. FaultsLast audit.old torn.now failure.error) }
     ensures line { IfErr result (λ failure. IsOfSomeLine failure.error) }
-    ensures events { has_events audit.new.events ≡ has_events audit.old.events }
+    ensures asked { output_of audit.new.events ≡ output_of audit.old.events }
 {
     if torn.is_empty() {
         return Ok(());

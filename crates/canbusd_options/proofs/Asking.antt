@@ -6,7 +6,7 @@ use Rattle.clap.specs.Words.{App, HasMatchesOf, Row, Text, app_of, fault_of, is_
 use Rattle.clap.proofs.OnLiterals.{clap_on_literals}
 use Rattle.canbusd_options.specs.declared.command_line.Job.{Job}
 use Rattle.canbusd_options.specs.declared.command_line.Job.TheVariants as job
-use Rattle.canbusd_options.specs.Options.{GiveBenchOptions, GiveServeOptions}
+use Rattle.canbusd_options.specs.Options.{GiveAuditOptions, GiveBenchOptions, GiveServeOptions}
 use Rattle.canbusd_options.specs.Program.{AskJob, Asks, IsAsked, program}
 
 -- What words ask of the program, from the matches of its parse.
@@ -55,11 +55,19 @@ serve_given (job.Bench o) rows asks = absurd (search (rules, asks.0))
 serve_given (job.Serve o) rows asks = (o, asks.1)
 serve_given (job.Audit o) rows asks = absurd (search (rules, asks.0))
 
+audit_given : (j : Job) (rows : List Row) → Asks (Some (codes "audit", rows)) j → GiveAuditOptions rows
+audit_given (job.Bench o) rows asks = absurd (search (rules, asks.0))
+audit_given (job.Serve o) rows asks = absurd (search (rules, asks.0))
+audit_given (job.Audit o) rows asks = (o, asks.1)
+
 pub gives_bench : (words : List Text) (rows : List Row) → subcommand_of program words ≡ Some (codes "bench", rows) → AskJob words → GiveBenchOptions rows
 gives_bench words rows met (j, (none, asks)) = bench_given j rows (subst (λ o. Asks o j) met asks)
 
 pub gives_serve : (words : List Text) (rows : List Row) → subcommand_of program words ≡ Some (codes "serve", rows) → AskJob words → GiveServeOptions rows
 gives_serve words rows met (j, (none, asks)) = serve_given j rows (subst (λ o. Asks o j) met asks)
+
+pub gives_audit : (words : List Text) (rows : List Row) → subcommand_of program words ≡ Some (codes "audit", rows) → AskJob words → GiveAuditOptions rows
+gives_audit words rows met (j, (none, asks)) = audit_given j rows (subst (λ o. Asks o j) met asks)
 
 -- words that name no command ask for no job
 names_one : (o : Option (Text × List Row)) (j : Job) → Asks o j

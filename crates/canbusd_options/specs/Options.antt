@@ -14,6 +14,8 @@ use Rattle.clap.specs.Words.{Row, all_of, first_of, found_of, one_of, rows_of}
 use Rattle.canbusd_options.specs.declared.bus_options.BusSettings.{BusSettings}
 use Rattle.canbusd_options.specs.declared.bus_word.BusWord.{BusWord}
 use Rattle.canbusd_options.specs.declared.audit_options.AuditOptions.{AuditOptions}
+use Rattle.canbusd_options.specs.declared.audit_options.AuditOutput.{AuditOutput}
+use Rattle.canbusd_options.specs.declared.audit_options.AuditOutput.TheVariants as output
 use Rattle.canbusd_options.specs.declared.bench_options.BenchOptions.{BenchOptions}
 use Rattle.canbusd_options.specs.declared.recording.Recording.{Recording}
 use Rattle.canbusd_options.specs.declared.recording.Recording.TheVariants as recording
@@ -229,10 +231,23 @@ GiveServeOptions rows = (o : ServeOptions) × AreServeOptions rows o
 abbrev pub files_given : List Row → List (List ℕ)
 files_given rows = unwrap_or (all_of (codes "FILE") rows) []
 
+-- an audit writes what the words ask for: with --events what entries brought about, by the bit rates that they give if
+-- they give any, and without it a count, for which they give no bit rates
+abbrev pub IsOutput : List Row → AuditOutput → Type 0
+IsOutput rows output.Count = ¬ (given rows (codes "events") ≡ codes "true") × IsTimed rows None
+IsOutput rows (output.Events timing) = (given rows (codes "events") ≡ codes "true") × IsTimed rows timing
+
+-- rows say what an audit writes
+abbrev pub GiveOutput : List Row → Type 0
+GiveOutput rows = (o : AuditOutput) × IsOutput rows o
+
 -- the options of an audit are those that its words give
 pub record AreAuditOptions (rows : List Row) (o : AuditOptions) : Type 0 where
   pub files : map (λ file. file.now) o.files.items ≡ files_given rows
   pub cut : one_of (codes "cut") rows ≡ Some (codes "true") → o.is_cut ≡ true
   pub whole : one_of (codes "cut") rows ≡ Some (codes "false") → o.is_cut ≡ false
-  pub events : one_of (codes "events") rows ≡ Some (codes "true") → o.has_events ≡ true
-  pub plain : one_of (codes "events") rows ≡ Some (codes "false") → o.has_events ≡ false
+  pub output : IsOutput rows o.output
+
+-- rows give the options of an audit
+abbrev pub GiveAuditOptions : List Row → Type 0
+GiveAuditOptions rows = (o : AuditOptions) × AreAuditOptions rows o

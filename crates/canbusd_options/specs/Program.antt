@@ -30,18 +30,20 @@ word_rule name = record (new_rule name) { required = true }
 abbrev pub words_rule : Text → Rule
 words_rule name = record (word_rule name) { range = Some (record { start_inclusive = 1; end_inclusive = usize_max }) }
 
+-- a command with the options for bit rates
+abbrev pub with_rate_rules : App → App
+with_rate_rules a = with_rule (with_rule a (option_rule (codes "bitrate"))) (option_rule (codes "dbitrate"))
+
 -- a command with the options that say what a bus is like
 abbrev pub with_bus_rules : App → App
 with_bus_rules a =
-    with_rule (with_rule (with_rule (with_rule (with_rule (with_rule (with_rule (with_rule a
+    with_rate_rules (with_rule (with_rule (with_rule (with_rule (with_rule (with_rule a
     (default_rule (codes "ack") (codes "always")))
     (flag_rule (codes "report")))
     (default_rule (codes "txqueue") (codes "10")))
     (default_rule (codes "rxqueue") (codes "256")))
     (option_rule (codes "limit")))
     (default_rule (codes "auto-restart") (codes "0")))
-    (option_rule (codes "bitrate")))
-    (option_rule (codes "dbitrate"))
 
 -- `bench BUS`, with its options
 abbrev pub bench_app : App
@@ -73,7 +75,9 @@ serve_app =
 -- `audit FILE..`, with its options
 abbrev pub audit_app : App
 audit_app =
-    with_rule (with_rule (with_rule (new_app (codes "audit")) (flag_rule (codes "cut"))) (flag_rule (codes "events")))
+    with_rule (with_rate_rules (with_rule (with_rule (new_app (codes "audit"))
+    (flag_rule (codes "cut")))
+    (flag_rule (codes "events"))))
     (words_rule (codes "FILE"))
 
 -- a command that has a version, and needs a command below it

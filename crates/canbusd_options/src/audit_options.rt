@@ -1,11 +1,15 @@
 //! The words of audit.
-ghost use Rattle.std.specs.Prelude.{◌≡◌, codes, false, map, IfOk};
+ghost use Rattle.std.specs.Prelude.{◌≡◌, codes, false, map, IfErr, IfOk};
 ghost use Rattle.clap.specs.Words.{app_of, rule_of};
-ghost use Rattle.canbusd_options.specs.Options.{AreAuditOptions, files_given as files_of, rows_in};
+ghost use Rattle.canbusd_options.specs.Help.{IsNoMemory, RefusesValue};
+ghost use Rattle.canbusd_options.specs.Options.{AreAuditOptions, GiveAuditOptions, GiveOutput, IsOutput, files_given as files_of, rows_in};
 ghost use Rattle.canbusd_options.specs.Program.{audit_app, flag_rule, words_rule};
 
+use crate::bit_rates::{timing_given, with_bit_rates};
+use crate::bus_options::{Subcommand, is_on};
 use crate::help::AUDIT_HELP;
-use clap::{Arg, ArgAction, ArgMatches, Command};
+use can_wire::Timing;
+use clap::{Arg, ArgAction, ArgMatches, Command, Error};
 use std::alloc::{AllocError, Global};
 
 const CUT: &str = "cut";
@@ -21,22 +25,46 @@ pub struct AuditOptions<'a> {
     pub files: Vec<&'a str>,
     /// Whether the text may be cut off.
     pub is_cut: bool,
-    /// Whether what the entries brought about is written.
-    pub has_events: bool,
+    /// What is written of the record.
+    pub output: AuditOutput,
+}
+
+/// What an audit writes of a legal record.
+#[derive(Debug, Clone, Copy)]
+pub enum AuditOutput {
+    /// How many entries it has.
+    Count,
+    /// What the entries brought about; with bit rates also what each attempt takes on the wire.
+    Events(Option<Timing>),
 }
 
 #[tactic(auto, using(crate::proofs::Rules::flag_in_rows))]
-pub fn audit_options<'a>(
-    alloc: Global,
-    audit: &ArgMatches<'a>,
-) -> Result<AuditOptions<'a>, AllocError>
-    ensures { IfOk result (λ options. AreAuditOptions (rows_in audit.now) options) }
+pub fn audit_options<'a>(alloc: Global, audit: &ArgMatches<'a>) -> Result<AuditOptions<'a>, Error>
+    ensures given { IfOk result (λ options. AreAuditOptions (rows_in audit.now) options) }
+    ensures taken { IfErr result (λ e. GiveAuditOptions (rows_in audit.now) → IsNoMemory e) }
+    ensures refused { IfErr result RefusesValue }
 {
     Ok(AuditOptions {
         files: files_given(alloc, audit)?,
         is_cut: audit.get_flag(CUT),
-        has_events: audit.get_flag(EVENTS),
+        output: output_given(alloc, audit)?,
     })
+}
+
+// What is to be written.
+fn output_given(alloc: Global, audit: &ArgMatches<'_>) -> Result<AuditOutput, Error>
+    ensures given { IfOk result (λ output. IsOutput (rows_in audit.now) output) }
+    ensures taken { IfErr result (λ e. GiveOutput (rows_in audit.now) → IsNoMemory e) }
+    ensures refused { IfErr result RefusesValue }
+{
+    let timing = timing_given(alloc, Subcommand::Audit, audit)?;
+    if is_on(audit, EVENTS) {
+        return Ok(AuditOutput::Events(timing));
+    }
+    match timing {
+        None => Ok(AuditOutput::Count),
+        Some(_) => Err(Subcommand::Audit.error(alloc, "'--bitrate' needs '--events'")?),
+    }
 }
 
 fn files_given<'a>(alloc: Global, audit: &ArgMatches<'a>) -> Result<Vec<&'a str>, AllocError>
@@ -52,12 +80,14 @@ fn files_given<'a>(alloc: Global, audit: &ArgMatches<'a>) -> Result<Vec<&'a str>
 pub fn audit_command<'a>(alloc: Global) -> Result<Command<'a>, AllocError>
     ensures { IfOk result (λ c. app_of c ≡ audit_app) }
 {
-    Command::new(alloc, "audit")
+    let bitrate_help =
+        "Bits a second, 5000 to 1000000: write how long each attempt is on the wire; needs --events";
+    let command = Command::new(alloc, "audit")
         .about("Check that a record is a legal history of a bus")
         .after_help(AUDIT_HELP)
         .arg(cut_option(alloc))?
-        .arg(events_option(alloc))?
-        .arg(files_argument(alloc))
+        .arg(events_option(alloc))?;
+    with_bit_rates(alloc, command, bitrate_help)?.arg(files_argument(alloc))
 }
 
 fn cut_option<'a>(alloc: Global) -> Arg<'a>

@@ -1,16 +1,18 @@
-//! The words for bit rates, which bench and serve share.
-ghost use Rattle.std.specs.Prelude.{IfErr, IfOk};
+//! The words for bit rates, which the commands share.
+ghost use Rattle.std.specs.Prelude.{◌≡◌, IfErr, IfOk};
+ghost use Rattle.clap.specs.Words.{app_of};
 ghost use Rattle.canbusd_options.specs.Help.{IsNoMemory, RefusesValue};
 ghost use Rattle.canbusd_options.specs.Options.{GiveTiming, GiveTimingOf, IsTimed, IsTimingOf, rows_in, text_of};
+ghost use Rattle.canbusd_options.specs.Program.{with_rate_rules};
 
-use crate::bus_options::{Subcommand, text_within};
+use crate::bus_options::{Subcommand, free_option, text_within};
 use can_wire::Timing;
-use clap::{ArgMatches, Error};
-use std::alloc::Global;
+use clap::{ArgMatches, Command, Error};
+use std::alloc::{AllocError, Global};
 
-pub const BITRATE: &str = "bitrate";
+const BITRATE: &str = "bitrate";
 
-pub const DBITRATE: &str = "dbitrate";
+const DBITRATE: &str = "dbitrate";
 
 const LEAST_BITRATE: u32 = 5_000;
 
@@ -54,4 +56,19 @@ fn timing_of(
     };
     let fast = text_within(alloc, verb, DBITRATE, dbitrate, nominal, MOST_DBITRATE)?;
     Ok(Timing::new(nominal, Some(fast)).unwrap())
+}
+
+/// Adds the options for bit rates, with this help of the first one.
+pub fn with_bit_rates<'a>(
+    alloc: Global,
+    command: Command<'a>,
+    help: &'a str,
+) -> Result<Command<'a>, AllocError>
+    ensures { IfOk result (λ c. app_of c ≡ with_rate_rules (app_of command.entry)) }
+{
+    let dbitrate_help =
+        "Bits a second of the data phase of FD frames, to 20000000; needs --bitrate [default: as that]";
+    command
+        .arg(free_option(alloc, BITRATE, "N", help))?
+        .arg(free_option(alloc, DBITRATE, "M", dbitrate_help))
 }

@@ -1,14 +1,15 @@
-//! The words that say what a bus is like, which bench and serve share, and how an option's text or number is taken.
-ghost use Rattle.std.specs.Prelude.{◌≡◌, ◌≤◌, ◌^◌, codes, false, IfErr, IfNone, IfOk, IfSome};
+//! The words that say what a bus is like, which bench and serve share, and how an option's text, number or flag is taken.
+ghost use Rattle.std.specs.Prelude.{◌≡◌, ◌↔◌, ◌≤◌, ◌^◌, codes, false, IfErr, IfNone, IfOk, IfSome, IsTrue};
 ghost use Rattle.std.specs.Str.Parse.{IsNumeral, digits_value};
 ghost use Rattle.clap.specs.Words.{app_of, kind_of, rule_of};
 ghost use Rattle.clap.specs.declared.error.kind.ErrorKind.TheVariants.{ValueValidation};
 ghost use Rattle.canbusd_options.specs.Help.{IsNoMemory, RefusesValue};
-ghost use Rattle.canbusd_options.specs.Options.{AreSettings, GiveSettings, IsMode, IsNumber, IsNumberOf, IsNumberWithin, given_in, given_or, mode_text, rows_in};
+ghost use Rattle.canbusd_options.specs.Options.{AreSettings, GiveSettings, IsMode, IsNumber, IsNumberOf, IsNumberWithin, given, given_in, given_or, mode_text, rows_in};
 ghost use Rattle.canbusd_options.specs.Program.{default_rule, flag_rule, option_rule, with_bus_rules, word_rule};
 
+use crate::audit_options::audit_command;
 use crate::bench_options::bench_command;
-use crate::bit_rates::{BITRATE, DBITRATE};
+use crate::bit_rates::with_bit_rates;
 use crate::serve_options::serve_command;
 use can_attempt::AckMode;
 use clap::error::ErrorKind;
@@ -58,6 +59,7 @@ pub struct BusSettings {
 pub enum Subcommand {
     Bench,
     Serve,
+    Audit,
 }
 
 impl Subcommand {
@@ -68,6 +70,7 @@ impl Subcommand {
         let mut command = match self {
             Subcommand::Bench => bench_command(alloc)?.bin_name("canbusd bench")?,
             Subcommand::Serve => serve_command(alloc)?.bin_name("canbusd serve")?,
+            Subcommand::Audit => audit_command(alloc)?.bin_name("canbusd audit")?,
         };
         command.error(ErrorKind::ValueValidation, message)
     }
@@ -241,6 +244,14 @@ fn number_in(text: &str) -> Option<u32>
     text.parse().ok()
 }
 
+/// Whether the flag of this name is among the words.
+#[tactic(auto, using(crate::proofs::Rules::text_in_rows))]
+pub fn is_on(matches: &ArgMatches<'_>, flag: &str) -> bool
+    ensures { IsTrue result ↔ (given (rows_in matches.now) flag.now ≡ codes "true") }
+{
+    matches.get_str(flag).unwrap_or("") == "true"
+}
+
 /// Adds the options that say what a bus is like.
 pub fn with_bus_options<'a>(alloc: Global, command: Command<'a>) -> Result<Command<'a>, AllocError>
     ensures { IfOk result (λ c. app_of c ≡ with_bus_rules (app_of command.entry)) }
@@ -253,17 +264,14 @@ pub fn with_bus_options<'a>(alloc: Global, command: Command<'a>) -> Result<Comma
         "Restart an interface in the Nth attempt after it went bus off, 1 to 1000000, or never (0)";
     let bitrate_help =
         "Bits a second, 5000 to 1000000: attempts take the time of their bits [default: no time]";
-    let dbitrate_help =
-        "Bits a second of the data phase of FD frames, to 20000000; needs --bitrate [default: as that]";
-    command
+    let command = command
         .arg(ack_option(alloc))?
         .arg(report_option(alloc))?
         .arg(number_option(alloc, TXQUEUE, "N", "10", tx_help))?
         .arg(number_option(alloc, RXQUEUE, "N", "256", rx_help))?
         .arg(free_option(alloc, LIMIT, "N", limit_help))?
-        .arg(number_option(alloc, AUTO_RESTART, "N", "0", restart_help))?
-        .arg(free_option(alloc, BITRATE, "N", bitrate_help))?
-        .arg(free_option(alloc, DBITRATE, "M", dbitrate_help))
+        .arg(number_option(alloc, AUTO_RESTART, "N", "0", restart_help))?;
+    with_bit_rates(alloc, command, bitrate_help)
 }
 
 fn ack_option<'a>(alloc: Global) -> Arg<'a>

@@ -121,14 +121,21 @@ With --events it prints, in place of `ok N entries`, each entry with what it bro
 for each socket what was queued and how much found no room. The last line is `end N`, or `cut N` of a record that is cut
 off. Before a fault it prints the entries before it. docs/RECORD.md has the grammar.
 
+With --bitrate the line of each attempt that tried a frame ends in `; wire FRAME BUSY NOMINAL FAST`: the nanoseconds from
+its start to the frame's end and until the next attempt may begin, and how many bits of the frame go at --bitrate and
+at --dbitrate.
+
 Example, with what it writes:
-  $ printf '%s\\n' 'session 1' 'feed 1 < open can0 >< rawmode >' | canbusd bench --record run.rec can0
+  $ printf '%s\\n' 'session 1' 'feed 1 < open can0 >< rawmode >< send 123 2 AB CD >' attempt | canbusd bench --record run.rec can0
   1 < hi >
   1 < ok >< ok >
+  tried can0 0 done - -
   $ canbusd audit run.rec
-  ok 1 entries
-  $ canbusd audit --events run.rec
+  ok 3 entries
+  $ canbusd audit --events --bitrate 500000 run.rec
   canbus events 1
   bus 1 always 0000 10 1000000
   open 0 256 = socket 0
-  end 1";
+  send 0 123#ABCD = number 0
+  attempt 0.000000 good = tried 0 0 123#ABCD done 0000 0000; wire 124000 130000 62 0
+  end 3";

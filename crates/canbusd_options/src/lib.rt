@@ -15,7 +15,7 @@ mod help;
 mod recording;
 mod serve_options;
 
-pub use audit_options::AuditOptions;
+pub use audit_options::{AuditOptions, AuditOutput};
 pub use bench_options::BenchOptions;
 pub use bus_options::BusSettings;
 pub use bus_word::BusWord;

@@ -1,9 +1,9 @@
 //! When a server writes its records, and the options that go with it.
-ghost use Rattle.std.specs.Prelude.{◌≡◌, ◌↔◌, codes, IfErr, IfNone, IfOk, IfSome, IsNone, IsTrue};
+ghost use Rattle.std.specs.Prelude.{◌≡◌, ◌↔◌, codes, IfErr, IfNone, IfOk, IfSome, IsNone};
 ghost use Rattle.canbusd_options.specs.Help.{IsNoMemory, RefusesValue};
 ghost use Rattle.canbusd_options.specs.Options.{CanRecord, GoWith, IsRecording, given, most_sessions, recording_text, rows_in, server_limit, usual_sessions};
 
-use crate::bus_options::{LIMIT, Subcommand, USUAL_LIMIT};
+use crate::bus_options::{LIMIT, Subcommand, USUAL_LIMIT, is_on};
 use crate::serve_options::{FLUSH, OUT, SYNC};
 use clap::{ArgMatches, Error};
 use std::alloc::Global;
@@ -112,14 +112,6 @@ pub fn recording_given(alloc: Global, serve: &ArgMatches<'_>) -> Result<Recordin
     }
 }
 
-/// Whether what is written live is to reach the disk at once.
-#[tactic(auto, using(crate::proofs::Rules::text_in_rows))]
-pub fn is_synced(serve: &ArgMatches<'_>) -> bool
-    ensures { IsTrue result ↔ (given (rows_in serve.now) (codes "sync") ≡ codes "true") }
-{
-    serve.get_str(SYNC).unwrap_or("") == "true"
-}
-
 #[tactic(auto, using(crate::proofs::Rules::text_in_rows))]
 fn clash_at_end(serve: &ArgMatches<'_>) -> Option<&'static str>
     ensures { IsNone result ↔ GoWith Recording.AtEnd (rows_in serve.now) }
@@ -127,7 +119,7 @@ fn clash_at_end(serve: &ArgMatches<'_>) -> Option<&'static str>
     if serve.get_str(FLUSH).is_some() {
         return Some("'--flush' needs '--record live' or '--record none'");
     }
-    if is_synced(serve) {
+    if is_on(serve, SYNC) {
         return Some("'--sync' needs '--record live' or '--record none'");
     }
     None

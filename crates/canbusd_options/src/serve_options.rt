@@ -7,12 +7,12 @@ ghost use Rattle.canbusd_options.specs.Program.{default_rule, flag_rule, option_
 
 use crate::bit_rates::timing_given;
 use crate::bus_options::{
-    BUS, BusSettings, Subcommand, bus_argument, free_option, number_option, number_within,
+    BUS, BusSettings, Subcommand, bus_argument, free_option, is_on, number_option, number_within,
     settings_given, text_within, with_bus_options,
 };
 use crate::bus_word::BusWord;
 use crate::help::SERVE_HELP;
-use crate::recording::{END, RECORD, Recording, is_synced, recording_given};
+use crate::recording::{END, RECORD, Recording, recording_given};
 use can_wire::Timing;
 use clap::{Arg, ArgAction, ArgMatches, Command, Error};
 use std::alloc::{AllocError, Global};
@@ -99,7 +99,7 @@ pub fn serve_options<'a>(alloc: Global, serve: &ArgMatches<'a>) -> Result<ServeO
         folder: serve.get_str(OUT),
         recording,
         flush_ms: flush_given(alloc, serve)?,
-        is_synced: is_synced(serve),
+        is_synced: is_on(serve, SYNC),
         is_until_eof: serve.get_flag(UNTIL_EOF),
         is_verbose: serve.get_flag(VERBOSE),
     })

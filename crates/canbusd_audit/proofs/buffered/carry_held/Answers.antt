@@ -5,6 +5,7 @@ use Rattle.can_replay.specs.EventTexts.{HasWritten}
 use Rattle.can_replay.specs.TextAudits.{AreTaken, IsLine, MayFollow}
 use Rattle.canbusd_audit.specs.Audited.{TakesMore}
 use Rattle.canbusd_audit.proofs.HeldLines.{fails_in, takes_more}
+use Rattle.canbusd_audit.proofs.Underway.{same_output}
 use Rattle.canbusd_audit.proofs.buffered.carry_held.Goals as goal
 
 whole_rest : (xs : List ℕ) (n : ℕ) → take (length xs - n) (drop n xs) ≡ drop n xs
@@ -14,7 +15,7 @@ pub loop-place-init : goal.loop-place-init
 loop-place-init c = record {
   within = omega arith;
   taken = λ text events start. subst (λ (x : List ℕ). HasWritten x events c.args.audit.now) (sym (append-nil text)) start;
-  events = refl;
+  asked = refl;
 }
 
 pub returns-in-Err-clause-fault : goal.returns-in-Err-clause-fault
@@ -28,7 +29,7 @@ returns-in-Err-clause-fault c =
     (subst (λ (n : ℕ). (text after : List ℕ) → AreTaken text c.loop-place.audit → IsLine (take n (drop len held)) → MayFollow (take n (drop len held)) after → Reads (text ++ (take n (drop len held) ++ after)) (Err c.in-Err.fault)) size c.in-Err.ensures.fault)
 
 pub returns-in-Err-clause-before : goal.returns-in-Err-clause-before
-returns-in-Err-clause-before c = λ some. (c.loop-place.audit, c.loop-place.invariant.taken, c.loop-place.invariant.events, c.in-Err.ensures.held)
+returns-in-Err-clause-before c = λ some. (c.loop-place.audit, c.loop-place.invariant.taken, c.loop-place.invariant.asked, c.in-Err.ensures.held)
 
 pub loop-place-preserved : goal.loop-place-preserved
 loop-place-preserved c =
@@ -43,5 +44,5 @@ loop-place-preserved c =
       taken = subst (λ (n : ℕ). TakesMore c.args.audit.now (take n held) c.carry.new.self) end
           (takes_more held len place c.args.audit.now c.loop-place.audit c.carry.new.self found c.loop-place.invariant.taken
           (subst (λ (n : ℕ). (events text : List ℕ) → HasWritten text events c.loop-place.audit → IsLine (take n (drop len held)) → HasWritten (text ++ take n (drop len held)) events c.carry.new.self) size c.in-Ok.ensures.written));
-      events = c.carry.ensures.events ∙ c.loop-place.invariant.events;
+      asked = same_output _ _ c.carry.ensures.events c.carry.ensures.timing ∙ c.loop-place.invariant.asked;
     }

@@ -3,28 +3,30 @@ use Rattle.std.proofs.KnownBytes.{Appends-nil, Consumes-nil}
 use Rattle.can_record_text.specs.RecordFaults.{Reads}
 use Rattle.can_replay.specs.declared.text_audit.Phase.{Phase}
 use Rattle.can_replay.specs.declared.text_audit.TextAudit.{TextAudit}
-use Rattle.can_replay.specs.EventTexts.{HasWritten, has_events, held_events}
+use Rattle.can_replay.specs.EventTexts.{HasWritten, held_events}
 use Rattle.can_replay.specs.TextAudits.{AreTaken, IsLine, MayFollow}
 use Rattle.canbusd_io.specs.Files.{IsOfReading}
-use Rattle.canbusd_audit.specs.Audited.{BecomesOf, IsInputTaken, IsNextLine, IsPut, Puts, StopsEvents}
+use Rattle.canbusd_options.specs.declared.audit_options.AuditOutput.{AuditOutput}
+use Rattle.canbusd_options.specs.declared.audit_options.AuditOutput.TheVariants as writes
+use Rattle.canbusd_audit.specs.Audited.{BecomesOf, IsInputTaken, IsNextLine, IsPut, Puts, StopsEvents, output_of}
 use Rattle.canbusd_audit.specs.declared.buffered.Buffered.{Buffered}
 use Rattle.canbusd_audit.proofs.Fronts.{leaves_put, leaves_stopped, names_line, names_reading}
-use Rattle.canbusd_audit.proofs.Underway.{ends, ends_torn, fails_held, fails_so, goes_on, put_more, put_on, stops}
+use Rattle.canbusd_audit.proofs.Underway.{ends, ends_torn, fails_held, fails_so, goes_on, put_more, put_on, same_output, stops}
 use Rattle.canbusd_audit.proofs.line_taking.take_lines.Goals as goal
 
-puts_none : {W : Type 0} (has : Bool) (contents : W → Option (List ℕ)) (a : W) → Puts has contents a a []
-puts_none false contents a = refl
-puts_none true contents a = Appends-nil (contents a)
+puts_none : {W : Type 0} (has : AuditOutput) (contents : W → Option (List ℕ)) (a : W) → Puts has contents a a []
+puts_none writes.Count contents a = refl
+puts_none (writes.Events t) contents a = Appends-nil (contents a)
 
 pub loop-init : goal.loop-init
 loop-init g c = record {
   put = record {
     events = [];
     underway = record { text = []; consumed = Consumes-nil (g.R.Read.remaining c.args.input.now); written = c.requires.written };
-    put = puts_none (has_events c.args.audit.now.events) g.W.Write.contents c.args.output.now;
+    put = puts_none (output_of c.args.audit.now.events) g.W.Write.contents c.args.output.now;
   };
   none = c.requires.none;
-  events = refl;
+  asked = refl;
 }
 
 pub returns-in-Ok-End-clause-taken : goal.returns-in-Ok-End-clause-taken
@@ -47,15 +49,15 @@ returns-in-Ok-Wrong-clause-written g c =
     let now = g.R.Read.remaining c.loop.input in
     let after = g.R.Read.remaining c.take_held.new.input in
     let became = subst (λ (h : Buffered). BecomesOf h now after c.loop.audit c.take_held.new.audit) c.in-Ok-Wrong.field-0-is c.in-Ok-Wrong.ensures.became in
-    inr (leaves_stopped (has_events c.args.audit.now.events) (g.R.Read.remaining c.args.input.now) now after c.loop.audit c.take_held.new.audit c.held_failure.result.error g.W.Write.contents c.args.output.now c.loop.output c.put_events-in-Ok-Wrong.new.output
-    c.loop.invariant.events c.take_held.ensures.events c.loop.invariant.put became.1 c.in_ok-put_events-in-Ok-Wrong.ensures.put (λ (p : Phase). names_line c.in-Ok-Wrong.fault c.held_failure.result.error p c.held_failure.ensures))
+    inr (leaves_stopped (output_of c.args.audit.now.events) (g.R.Read.remaining c.args.input.now) now after c.loop.audit c.take_held.new.audit c.held_failure.result.error g.W.Write.contents c.args.output.now c.loop.output c.put_events-in-Ok-Wrong.new.output
+    c.loop.invariant.asked c.take_held.ensures.asked c.loop.invariant.put became.1 c.in_ok-put_events-in-Ok-Wrong.ensures.put (λ (p : Phase). names_line c.in-Ok-Wrong.fault c.held_failure.result.error p c.held_failure.ensures))
 
 pub returns-in-Err-clause-fault : goal.returns-in-Err-clause-fault
 returns-in-Err-clause-fault g c = inr (stops (g.R.Read.remaining c.args.input.now) c.read_failure.result.error c.read_failure.ensures)
 
 pub returns-in-Err-clause-written : goal.returns-in-Err-clause-written
 returns-in-Err-clause-written g c =
-    inr (leaves_put (has_events c.args.audit.now.events) (g.R.Read.remaining c.args.input.now) (g.R.Read.remaining c.loop.input) c.loop.audit c.read_failure.result.error g.W.Write.contents c.args.output.now c.loop.output (sym c.loop.invariant.events)
+    inr (leaves_put (output_of c.args.audit.now.events) (g.R.Read.remaining c.args.input.now) (g.R.Read.remaining c.loop.input) c.loop.audit c.read_failure.result.error g.W.Write.contents c.args.output.now c.loop.output (sym c.loop.invariant.asked)
     c.loop.invariant.none c.loop.invariant.put (names_reading c.read_failure.result.error c.loop.audit.phase c.read_failure.ensures))
 
 -- what the reader held was taken, and its events put out
@@ -68,8 +70,8 @@ returns-in-Ok-false-clause-taken g c =
     let line = c.next_line.new.line.items in
     let contents = g.W.Write.contents in
     let became = subst (λ (h : Buffered). BecomesOf h now held c.loop.audit c.take_held.new.audit) c.in-Ok-Lines.field-0-is c.in-Ok-Lines.ensures.became in
-    let on = put_on first now held c.loop.audit c.take_held.new.audit contents c.args.output.now c.loop.output c.take_held.ensures.events (became first) c.loop.invariant.put in
-    let put = put_more first held c.take_held.new.audit c.put_events.new.audit contents c.args.output.now c.loop.output c.put_events.new.output c.put_events.ensures.events c.in_ok-put_events-in-Ok-Lines.ensures.written c.in_ok-put_events-in-Ok-Lines.ensures.put on in
+    let on = put_on first now held c.loop.audit c.take_held.new.audit contents c.args.output.now c.loop.output c.take_held.ensures.asked (became first) c.loop.invariant.put in
+    let put = put_more first held c.take_held.new.audit c.put_events.new.audit contents c.args.output.now c.loop.output c.put_events.new.output c.put_events.ensures.asked c.in_ok-put_events-in-Ok-Lines.ensures.written c.in_ok-put_events-in-Ok-Lines.ensures.put on in
     let rest = subst (λ (b : Bool). IsNextLine b held after line) c.in-Ok-false.field-0-test c.in-Ok-false.ensures.read in
     ends_torn first held c.put_events.new.audit contents c.args.output.now c.put_events.new.output line c.in_ok-put_events-in-Ok-Lines.ensures.none put rest.0 rest.1
 
@@ -83,10 +85,10 @@ returns-in-Err-next_line-clause-written g c =
     let held = g.R.Read.remaining c.take_held.new.input in
     let contents = g.W.Write.contents in
     let became = subst (λ (h : Buffered). BecomesOf h now held c.loop.audit c.take_held.new.audit) c.in-Ok-Lines.field-0-is c.in-Ok-Lines.ensures.became in
-    let on = put_on first now held c.loop.audit c.take_held.new.audit contents c.args.output.now c.loop.output c.take_held.ensures.events (became first) c.loop.invariant.put in
-    let put = put_more first held c.take_held.new.audit c.put_events.new.audit contents c.args.output.now c.loop.output c.put_events.new.output c.put_events.ensures.events c.in_ok-put_events-in-Ok-Lines.ensures.written c.in_ok-put_events-in-Ok-Lines.ensures.put on in
-    let kind = sym (c.put_events.ensures.events ∙ (c.take_held.ensures.events ∙ c.loop.invariant.events)) in
-    inr (leaves_put (has_events c.args.audit.now.events) first held c.put_events.new.audit c.in-Err-next_line.failure.error contents c.args.output.now c.put_events.new.output kind c.in_ok-put_events-in-Ok-Lines.ensures.none put
+    let on = put_on first now held c.loop.audit c.take_held.new.audit contents c.args.output.now c.loop.output c.take_held.ensures.asked (became first) c.loop.invariant.put in
+    let put = put_more first held c.take_held.new.audit c.put_events.new.audit contents c.args.output.now c.loop.output c.put_events.new.output c.put_events.ensures.asked c.in_ok-put_events-in-Ok-Lines.ensures.written c.in_ok-put_events-in-Ok-Lines.ensures.put on in
+    let kind = sym (c.put_events.ensures.asked ∙ (c.take_held.ensures.asked ∙ c.loop.invariant.asked)) in
+    inr (leaves_put (output_of c.args.audit.now.events) first held c.put_events.new.audit c.in-Err-next_line.failure.error contents c.args.output.now c.put_events.new.output kind c.in_ok-put_events-in-Ok-Lines.ensures.none put
     (names_reading c.in-Err-next_line.failure.error c.put_events.new.audit.phase c.in-Err-next_line.ensures.fault))
 
 pub returns-in-Err-carry-clause-fault : goal.returns-in-Err-carry-clause-fault
@@ -98,8 +100,8 @@ returns-in-Err-carry-clause-fault g c =
     let line = c.next_line.new.line.items in
     let contents = g.W.Write.contents in
     let became = subst (λ (h : Buffered). BecomesOf h now held c.loop.audit c.take_held.new.audit) c.in-Ok-Lines.field-0-is c.in-Ok-Lines.ensures.became in
-    let on = put_on first now held c.loop.audit c.take_held.new.audit contents c.args.output.now c.loop.output c.take_held.ensures.events (became first) c.loop.invariant.put in
-    let put = put_more first held c.take_held.new.audit c.put_events.new.audit contents c.args.output.now c.loop.output c.put_events.new.output c.put_events.ensures.events c.in_ok-put_events-in-Ok-Lines.ensures.written c.in_ok-put_events-in-Ok-Lines.ensures.put on in
+    let on = put_on first now held c.loop.audit c.take_held.new.audit contents c.args.output.now c.loop.output c.take_held.ensures.asked (became first) c.loop.invariant.put in
+    let put = put_more first held c.take_held.new.audit c.put_events.new.audit contents c.args.output.now c.loop.output c.put_events.new.output c.put_events.ensures.asked c.in_ok-put_events-in-Ok-Lines.ensures.written c.in_ok-put_events-in-Ok-Lines.ensures.put on in
     inr (fails_so first held after line put.events c.put_events.new.audit c.in-Err-carry.fault c.line_failure.result.error c.line_failure.ensures put.underway
     (subst (λ (b : Bool). IsNextLine b held after line) c.in-Ok-true.field-0-test c.in-Ok-true.ensures.read)
     (subst (λ (l : List ℕ). (text rest : List ℕ) → AreTaken text c.put_events.new.audit → IsLine l → MayFollow l rest → Reads (text ++ (l ++ rest)) (Err c.in-Err-carry.fault)) c.deref.ensures.value c.in-Err-carry.ensures.fault))
@@ -111,10 +113,10 @@ returns-in-Err-carry-clause-written g c =
     let held = g.R.Read.remaining c.take_held.new.input in
     let contents = g.W.Write.contents in
     let became = subst (λ (h : Buffered). BecomesOf h now held c.loop.audit c.take_held.new.audit) c.in-Ok-Lines.field-0-is c.in-Ok-Lines.ensures.became in
-    let on = put_on first now held c.loop.audit c.take_held.new.audit contents c.args.output.now c.loop.output c.take_held.ensures.events (became first) c.loop.invariant.put in
-    let put = put_more first held c.take_held.new.audit c.put_events.new.audit contents c.args.output.now c.loop.output c.put_events.new.output c.put_events.ensures.events c.in_ok-put_events-in-Ok-Lines.ensures.written c.in_ok-put_events-in-Ok-Lines.ensures.put on in
-    let kind = sym (c.put_events.ensures.events ∙ (c.take_held.ensures.events ∙ c.loop.invariant.events)) in
-    inr (leaves_put (has_events c.args.audit.now.events) first held c.put_events.new.audit c.line_failure.result.error contents c.args.output.now c.put_events.new.output kind c.in_ok-put_events-in-Ok-Lines.ensures.none put
+    let on = put_on first now held c.loop.audit c.take_held.new.audit contents c.args.output.now c.loop.output c.take_held.ensures.asked (became first) c.loop.invariant.put in
+    let put = put_more first held c.take_held.new.audit c.put_events.new.audit contents c.args.output.now c.loop.output c.put_events.new.output c.put_events.ensures.asked c.in_ok-put_events-in-Ok-Lines.ensures.written c.in_ok-put_events-in-Ok-Lines.ensures.put on in
+    let kind = sym (c.put_events.ensures.asked ∙ (c.take_held.ensures.asked ∙ c.loop.invariant.asked)) in
+    inr (leaves_put (output_of c.args.audit.now.events) first held c.put_events.new.audit c.line_failure.result.error contents c.args.output.now c.put_events.new.output kind c.in_ok-put_events-in-Ok-Lines.ensures.none put
     (names_line c.in-Err-carry.fault c.line_failure.result.error c.put_events.new.audit.phase c.line_failure.ensures))
 
 pub loop-preserved : goal.loop-preserved
@@ -126,15 +128,15 @@ loop-preserved g c =
     let line = c.next_line.new.line.items in
     let contents = g.W.Write.contents in
     let became = subst (λ (h : Buffered). BecomesOf h now held c.loop.audit c.take_held.new.audit) c.in-Ok-Lines.field-0-is c.in-Ok-Lines.ensures.became in
-    let on = put_on first now held c.loop.audit c.take_held.new.audit contents c.args.output.now c.loop.output c.take_held.ensures.events (became first) c.loop.invariant.put in
-    let put = put_more first held c.take_held.new.audit c.put_events.new.audit contents c.args.output.now c.loop.output c.put_events.new.output c.put_events.ensures.events c.in_ok-put_events-in-Ok-Lines.ensures.written c.in_ok-put_events-in-Ok-Lines.ensures.put on in
+    let on = put_on first now held c.loop.audit c.take_held.new.audit contents c.args.output.now c.loop.output c.take_held.ensures.asked (became first) c.loop.invariant.put in
+    let put = put_more first held c.take_held.new.audit c.put_events.new.audit contents c.args.output.now c.loop.output c.put_events.new.output c.put_events.ensures.asked c.in_ok-put_events-in-Ok-Lines.ensures.written c.in_ok-put_events-in-Ok-Lines.ensures.put on in
     let read = subst (λ (b : Bool). IsNextLine b held after line) c.in-Ok-true.field-0-test c.in-Ok-true.ensures.read in
     let step = subst (λ (l : List ℕ). (events text : List ℕ) → HasWritten text events c.put_events.new.audit → IsLine l → HasWritten (text ++ l) events c.carry.new.self) c.deref.ensures.value c.in-Ok.ensures.written in
-    let taken = put_on first held after c.put_events.new.audit c.carry.new.self contents c.args.output.now c.put_events.new.output c.carry.ensures.events (λ events u. goes_on first held after line events c.put_events.new.audit c.carry.new.self u read step) put in
+    let taken = put_on first held after c.put_events.new.audit c.carry.new.self contents c.args.output.now c.put_events.new.output (same_output _ _ c.carry.ensures.events c.carry.ensures.timing) (λ events u. goes_on first held after line events c.put_events.new.audit c.carry.new.self u read step) put in
     record {
-      put = put_more first after c.carry.new.self c.put_events-in-Ok.new.audit contents c.args.output.now c.put_events.new.output c.put_events-in-Ok.new.output c.put_events-in-Ok.ensures.events c.in_ok-put_events-in-Ok.ensures.written c.in_ok-put_events-in-Ok.ensures.put taken;
+      put = put_more first after c.carry.new.self c.put_events-in-Ok.new.audit contents c.args.output.now c.put_events.new.output c.put_events-in-Ok.new.output c.put_events-in-Ok.ensures.asked c.in_ok-put_events-in-Ok.ensures.written c.in_ok-put_events-in-Ok.ensures.put taken;
       none = c.in_ok-put_events-in-Ok.ensures.none;
-      events = c.put_events-in-Ok.ensures.events ∙ (c.carry.ensures.events ∙ (c.put_events.ensures.events ∙ (c.take_held.ensures.events ∙ c.loop.invariant.events)));
+      asked = c.put_events-in-Ok.ensures.asked ∙ (same_output _ _ c.carry.ensures.events c.carry.ensures.timing ∙ (c.put_events.ensures.asked ∙ (c.take_held.ensures.asked ∙ c.loop.invariant.asked)));
     }
 
 pub returns-clause-fault : goal.returns-clause-fault
@@ -142,5 +144,5 @@ returns-clause-fault g c = inr (stops (g.R.Read.remaining c.args.input.now) c.ne
 
 pub returns-clause-written : goal.returns-clause-written
 returns-clause-written g c =
-    inr (leaves_put (has_events c.args.audit.now.events) (g.R.Read.remaining c.args.input.now) (g.R.Read.remaining c.loop.input) c.loop.audit c.new.result.error g.W.Write.contents c.args.output.now c.loop.output (sym c.loop.invariant.events)
+    inr (leaves_put (output_of c.args.audit.now.events) (g.R.Read.remaining c.args.input.now) (g.R.Read.remaining c.loop.input) c.loop.audit c.new.result.error g.W.Write.contents c.args.output.now c.loop.output (sym c.loop.invariant.asked)
     c.loop.invariant.none c.loop.invariant.put (names_reading c.new.result.error c.loop.audit.phase (subst IsOfReading (sym c.new.ensures) tt)))

@@ -5,7 +5,7 @@ use Rattle.clap.specs.Words.{fault_of, kind_of}
 use Rattle.canbusd_options.specs.Help.{AskHelp, IsOfFaults, ShowsHelp}
 use Rattle.canbusd_options.specs.Options.{rows_in}
 use Rattle.canbusd_options.specs.Program.{AskJob, program}
-use Rattle.canbusd_options.proofs.Asking.{asked_by, asks_nothing, gives_bench, gives_serve, met_by, named_by}
+use Rattle.canbusd_options.proofs.Asking.{asked_by, asks_nothing, gives_audit, gives_bench, gives_serve, met_by, named_by}
 use Rattle.canbusd_options.proofs.Helping.{help_is_asked, is_of_memory, is_of_parse, is_of_value, no_fault, parse_takes, passed_on}
 use Rattle.canbusd_options.proofs.command_line.read_options.Goals as goal
 
@@ -70,10 +70,18 @@ returns-in-Some-subcommand_matches-clause-asked c =
     (met_by _ words _ (codes "serve") _ c.in_ok-program_command.ensures c.in_ok-matches.ensures.matches (c.in-Some-subcommand_matches.ensures.found.0 refl) c.in-Some-subcommand_matches.ensures.rows)
     (refl, c.in_ok-serve_options.ensures.given)
 
+pub returns-in_err-audit_options-in-Some-subcommand_matches-2-clause-taken : goal.returns-in_err-audit_options-in-Some-subcommand_matches-2-clause-taken
+returns-in_err-audit_options-in-Some-subcommand_matches-2-clause-taken c =
+    let words = map string_bytes c.args.words.now in
+    let m = c.in-Some-subcommand_matches-2.audit.now in
+    passed_on (λ e. AskJob words → kind_of e ≡ OutOfMemory) c.in_err-audit_options-in-Some-subcommand_matches-2.field-0.0 _ c.from_residual-in_err-audit_options-in-Some-subcommand_matches-2.ensures.1
+    (λ ask. c.in_err-audit_options-in-Some-subcommand_matches-2.ensures.taken (gives_audit words (rows_in m) (met_by _ words _ (codes "audit") _ c.in_ok-program_command.ensures c.in_ok-matches.ensures.matches (c.in-Some-subcommand_matches-2.ensures.found.0 refl) c.in-Some-subcommand_matches-2.ensures.rows) ask))
+
 pub returns-in_err-audit_options-in-Some-subcommand_matches-2-clause-refused : goal.returns-in_err-audit_options-in-Some-subcommand_matches-2-clause-refused
 returns-in_err-audit_options-in-Some-subcommand_matches-2-clause-refused c =
     let words = map string_bytes c.args.words.now in
-    IfErr-weaker c.from_residual-in_err-audit_options-in-Some-subcommand_matches-2.result (λ e. kind_of e ≡ OutOfMemory) (IsOfFaults (fault_of program words)) (λ e memory. is_of_memory words e memory) (search rules)
+    passed_on (IsOfFaults (fault_of program words)) c.in_err-audit_options-in-Some-subcommand_matches-2.field-0.0 _ c.from_residual-in_err-audit_options-in-Some-subcommand_matches-2.ensures.1
+    (is_of_value words c.in_err-audit_options-in-Some-subcommand_matches-2.field-0.0 (no_fault _ words c.in_ok-program_command.ensures c.in_ok-matches.ensures.kinds) c.in_err-audit_options-in-Some-subcommand_matches-2.ensures.refused)
 
 pub returns-in-Some-subcommand_matches-2-clause-asked : goal.returns-in-Some-subcommand_matches-2-clause-asked
 returns-in-Some-subcommand_matches-2-clause-asked c =
@@ -81,7 +89,7 @@ returns-in-Some-subcommand_matches-2-clause-asked c =
     let m = c.in-Some-subcommand_matches-2.audit.now in
     asked_by words _ (codes "audit", rows_in m) (no_fault _ words c.in_ok-program_command.ensures c.in_ok-matches.ensures.kinds)
     (met_by _ words _ (codes "audit") _ c.in_ok-program_command.ensures c.in_ok-matches.ensures.matches (c.in-Some-subcommand_matches-2.ensures.found.0 refl) c.in-Some-subcommand_matches-2.ensures.rows)
-    (refl, c.in_ok-audit_options-in-Some-subcommand_matches-2.ensures)
+    (refl, c.in_ok-audit_options-in-Some-subcommand_matches-2.ensures.given)
 
 pub returns-in_err-error-in-None-clause-refused : goal.returns-in_err-error-in-None-clause-refused
 returns-in_err-error-in-None-clause-refused c =

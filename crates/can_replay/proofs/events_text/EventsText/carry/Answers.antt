@@ -8,4 +8,4 @@ so P (Err e) h = tt
 
 pub returns-then-not-is_legal_yet-clause-written : goal.returns-then-not-is_legal_yet-clause-written
 returns-then-not-is_legal_yet-clause-written c = so _ c.carry.result (λ text cleared g h is complete.
-    complete ∙ sym (nothing_more text c.args.line.now c.args.audit.now c.carry.new.self g h is (sym c.is_legal_yet.ensures ∙ c.if-not-is_legal_yet.true)))
+    complete ∙ sym (nothing_more c.args.self.now.timing text c.args.line.now c.args.audit.now c.carry.new.self g h is (sym c.is_legal_yet.ensures ∙ c.if-not-is_legal_yet.true)))

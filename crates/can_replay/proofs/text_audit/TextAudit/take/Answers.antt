@@ -30,5 +30,5 @@ pub returns-in-Some-clause-written : goal.returns-in-Some-clause-written
 returns-in-Some-clause-written c = on_both _ _ _ c.carry-in-Some.result
     (λ h writes cleared text written is.
     let w = subst (λ (p : Phase). AreWritten text cleared p c.args.self.now.events) c.in-Entries.is written in
-    goes_written text c.args.line.now cleared c.in-Entries.audit c.carry-in-Some.new.audit c.args.self.now.events c.in-Some.events c.carry-in-Some.new.self c.in-Some.is w (h text w.taken is) is writes)
+    goes_written text c.args.line.now cleared c.in-Entries.audit c.carry-in-Some.new.audit c.args.self.now.events c.in-Some.events c.carry-in-Some.new.self c.in-Some.is w (h text w.taken is) is c.carry-in-Some.ensures.timing writes)
     c.carry-in-Some.ensures.taken c.carry-in-Some.ensures.written

@@ -1,7 +1,7 @@
 use Rattle.std.proofs.Common.{◌≡◌, ◌≤◌}
 use Rattle.std.specs.List.{flat_map, range_with_len}
 use Rattle.can_events.specs.inner.Seen.{told_dropped_at, told_put_at}
-use Rattle.can_events.proofs.changed.changed_sockets.Given as goal
+use Rattle.can_events.proofs.changed.last_changed.Given as goal
 
 abbrev pub invariant-loop-place : goal.invariant-loop-place
 invariant-loop-place l = record {

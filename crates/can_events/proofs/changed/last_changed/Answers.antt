@@ -2,7 +2,7 @@ use Rattle.std.proofs.Common.{◌≡◌, ℕ, length, slice_get, ap, ◌∙◌, 
 use Rattle.std.specs.List.{flat_map, range_with_len}
 use Rattle.can_events.specs.inner.Seen.{dropped_in, nothing_seen, put_in, told_dropped, told_dropped_at, told_put, told_put_at}
 use Rattle.can_events.proofs.Lists.{end_next, end_within, first_places}
-use Rattle.can_events.proofs.changed.changed_sockets.Goals as goal
+use Rattle.can_events.proofs.changed.last_changed.Goals as goal
 
 pub loop-place-preserved : goal.loop-place-preserved
 loop-place-preserved c =
