@@ -13,6 +13,8 @@ from canbusd._steps import Counts, Step, WireFrame
 from canbusd.frames import error_frame
 from record_bus import Interface, Pending, Socket, severity
 from record_text import BadRecord, RecordText, parse_text
+from wire_model import Frame, bit_counts
+from wire_times import Rates, ending_of
 
 FIRST_LINE = "canbus events 1"
 MOST_SOCKETS = 64
@@ -80,10 +82,12 @@ class Replay:
         without_room = "".join(f" {socket}:{count}" for socket, count in dropped.items())
         return parts + [f"{name}{words}" for name, words in (("put", queued), ("dropped", without_room)) if words]
 
-    def lines(self, first: int = 0) -> Iterator[str]:
-        """Yields the lines of the events of the entries from this number on."""
+    def lines(self, first: int = 0, rates: Optional[Rates] = None) -> Iterator[str]:
+        """Yields the lines of the events of the entries from this number on, with bit rates also how long attempts took."""
         for entry in range(first, self.entries):
-            yield "; ".join([self.record.lines[entry], *self.parts.get(entry, ())])
+            line = self.record.lines[entry]
+            took = wire_part(line, rates) if rates is not None else ""
+            yield "; ".join([line, *self.parts.get(entry, ()), *filter(None, [took])])
 
     def frame(self, text: str) -> WireFrame:
         """The frame of this text, one for all places where it is."""
@@ -374,12 +378,23 @@ def spelled_set(numbers: Sequence[int]) -> str:
     return f"{sum(1 << number for number in numbers):04X}"
 
 
-def events_of(data: bytes, cut: bool = False) -> str:
+def wire_part(line: str, rates: Rates) -> str:
+    """How long the attempt of an entry's line took the wire and how many bits its frame has; nothing without a frame."""
+    words = line.split(" ")
+    if words[0] != "attempt" or words[4] != "tried":
+        return ""
+    frame = Frame.read(words[7])
+    nominal, fast = bit_counts(frame)
+    busy = rates.attempt_nanos(frame, ending_of(words[8], words[2]))
+    return f"wire {rates.frame_nanos(frame)} {busy} {nominal} {fast}"
+
+
+def events_of(data: bytes, cut: bool = False, rates: Optional[Rates] = None) -> str:
     """Returns the events of the record that these bytes spell; BadRecord where it is not legal."""
     record = parse_text(data, cut)
     replay = Replay(record)
     last = f"{'cut' if record.is_cut else 'end'} {replay.entries}"
-    lines = [FIRST_LINE, data.split(b"\n", 2)[1].decode(), *replay.lines(), last]
+    lines = [FIRST_LINE, data.split(b"\n", 2)[1].decode(), *replay.lines(rates=rates), last]
     return "".join(f"{line}\n" for line in lines)
 
 

@@ -1,19 +1,21 @@
 """`canbusd audit --events`: what it writes of random runs, whole and cut off, is what an independent model does.
 
-The model is record_events.py; of a record that is not legal the program writes the lines before the fault. And what the
-Python package reads of these lines is what the model has.
+The model is record_events.py; of a record that is not legal the program writes the lines before the fault. With bit rates the
+lines have time on the wire, by wire_model.py and wire_times.py. And what the Python package reads of these lines is what the
+model has.
 """
 
 import subprocess
 
 import record_events
-from canbusd._steps import DROPPED
+from canbusd._steps import DROPPED, RESTART
 from canbusd.replay import Replay
 from random_benches import Maker
 from record_events import events_of
 from record_text import BadRecord, parse_text
 from serving import WAIT, program
 from test_audit_events import EVENTS, RECORD
+from test_wire_times import random_rates, rate_options
 
 # Two interfaces at 248 each lose what they have to send with bus off; in the second attempt after that one is back.
 BUS_OFF = [
@@ -77,6 +79,17 @@ def test_events_of_random_runs(request, cases, tmp_path):
     assert items, "nobody received anything"
 
 
+def test_time_on_the_wire_of_random_runs(request, rng, cases, tmp_path):
+    """hundreds of records, at random bit rates"""
+    tried = 0
+    for data in records(request.config.getoption("seed"), cases // 10, tmp_path):
+        rates = random_rates(rng)
+        wanted = events_of(data, rates=rates)
+        assert said(data, "--events", *rate_options(rates)) == (wanted, 0, ""), data
+        tried += wanted.count("; wire ")
+    assert tried, "nothing was tried"
+
+
 def test_events_of_records_that_are_cut_off(request, rng, cases, tmp_path):
     """at a random place, which may be within a line"""
     for data in records(request.config.getoption("seed"), cases // 10, tmp_path):
@@ -125,6 +138,29 @@ def queued_in(parts):
     """The items that parts of entries name, with their sockets."""
     for words in (part.split(" ")[1:] for one in parts.values() for part in one if part.startswith("put ")):
         yield from ((int(number), error) for number, _, error in (word.partition(":") for word in words))
+
+
+def times_in(lines):
+    """The time on the wire that lines say, by the numbers of their entries."""
+    found = {}
+    for number, line in enumerate(lines):
+        wire = line.partition("; wire ")[2]
+        if wire:
+            found[number] = tuple(map(int, wire.split(" ")))
+    return found
+
+
+def test_the_times_that_the_package_reads(request, rng, cases, tmp_path):
+    """of each attempt that tried a frame, and none of a restart"""
+    for data in records(request.config.getoption("seed"), cases // 20, tmp_path):
+        rates, run = random_rates(rng), Replay()
+        lines = events_of(data, rates=rates).splitlines()
+        run.take(lines)
+        steps = run.steps
+        columns = zip(steps.frame_nanos, steps.busy_nanos, steps.nominal_bits, steps.fast_bits)
+        read = {entry: times for entry, times in zip(steps.entries, columns) if any(times)}
+        assert read == times_in(lines[2:]), data
+        assert len(read) == run.attempts == len(steps) - len(steps.places_of(RESTART)), data
 
 
 def test_what_the_package_reads(request, cases, tmp_path):

@@ -13,31 +13,19 @@ from collections.abc import Iterable, Sequence
 import pytest
 
 import random_benches
-from canbusd._wire import Rates as PackageRates, Wire
 from serving import ROOT
 from wire_model import FD_LENGTHS, KNOWN_LENGTHS, Frame, bit_counts, random_data
-from wire_times import Ending, Message, Rates, Release, Sent, simulated, use, worst_response
+from wire_times import Ending, Message, Rates, Release, Sent, ending_of, simulated, use, worst_response
 
 MICRO = 1000
 LAST = 1_000_000 * MICRO
 # The last nanosecond of the last moment.
 LATEST = 10**19 - 1
-# How attempts end that destroy no frame, as records name it.
-OUTCOMES = {"done": Ending.DONE, "lastbit": Ending.LAST_BIT, "noack": Ending.NO_ACK}
 
 # Three messages of 216 us with intermission at 500 kbit/s, with periods of 2.5, 3.5 and 3.5 of these: the second instance
 # of the third has the worst response (Davis, Burns, Bril and Lukkien, Real-Time Systems 35, 2007, section 3.2).
 THREE = [Frame.read(text) for text in ("001#55555555555505", "002#55555555555503", "003#5555555555557C")]
 PERIODS = [540 * MICRO, 756 * MICRO, 756 * MICRO]
-
-# What a record says of attempts, by where they end.
-ENDINGS = {
-    Ending.DONE: ("done", "good"),
-    Ending.LAST_BIT: ("lastbit", "lastbit"),
-    Ending.NO_ACK: ("noack", "good"),
-    Ending.AFTER_DATA: ("destroyed", "local-stuff:0002"),
-    Ending.AFTER_CRC: ("destroyed", "global-form"),
-}
 
 # Attempts that fail: `--ack`, the verdict, what the line says, and where the flag comes.
 FAILED = [
@@ -306,10 +294,8 @@ def moments_of(text: bytes, record: str, rates: Rates) -> list[str]:
             begin = end = free = max(now, free)
             if tried == "tried":
                 frame = Frame.read(frame_text)
-                is_early = verdict.startswith(("global-bit", "local-stuff"))
-                ending = OUTCOMES.get(kind, Ending.AFTER_DATA if is_early else Ending.AFTER_CRC)
                 end = min(begin + rates.frame_nanos(frame), LATEST)
-                free = min(begin + rates.attempt_nanos(frame, ending), LATEST)
+                free = min(begin + rates.attempt_nanos(frame, ending_of(kind, verdict)), LATEST)
             if tried:
                 moments.append(moment(end))
             now = free // MICRO * MICRO
@@ -451,16 +437,6 @@ def test_without_bit_rates(program: str) -> None:
     lines = [*2 * ["feed 1 < send 123 0 >"], "at 0.000005", "attempt", "attempt", "attempt"]
     assert bench(program, [], ["can0"], lines) == ["tried can0 0 done - -", "tried can0 1 done - -", "idle"]
     assert loads(program, [], [*lines, "load"]) == ["0 0 0 0"]
-
-
-def test_bits_of_the_package(rng: random.Random, cases: int) -> None:
-    """What `replay --bitrate` counts is what the model counts."""
-    for _ in range(cases):
-        rates, frame = random_rates(rng), random_frame(rng)
-        wire = Wire(PackageRates(rates.nominal, rates.fast))
-        for ending, words in ENDINGS.items():
-            expected = rates.frame_nanos(frame), rates.attempt_nanos(frame, ending)
-            assert wire.times(str(frame), *words)[:2] == expected, (str(frame), ending)
 
 
 def recorded(program: str, rates: Rates, maker: random.Random, path: str) -> list[str]:

@@ -34,6 +34,16 @@ class Ending(enum.Enum):
     AFTER_CRC = enum.auto()
 
 
+# Classes of attempts that destroy no frame, as records name them.
+ENDINGS = {"done": Ending.DONE, "lastbit": Ending.LAST_BIT, "noack": Ending.NO_ACK}
+
+
+def ending_of(kind: str, verdict: str) -> Ending:
+    """How an attempt of this class ends, by its verdict as a record has it: bit errors and stuffing come early."""
+    early = Ending.AFTER_DATA if verdict.startswith(("global-bit", "local-stuff")) else Ending.AFTER_CRC
+    return ENDINGS.get(kind, early)
+
+
 @dataclasses.dataclass(frozen=True)
 class Rates:
     """The bit rates of a bus: FD frames with BRS switch to the second, if there is one."""

@@ -231,6 +231,52 @@ def test_steps_are_made_of_columns():
     assert list(map(run.steps.place_of, [0, 31, 32, None])) == [0, 31, None, None]
 
 
+def test_times_on_the_wire_are_columns():
+    """Of attempts whose lines say them; a restart in the end of one has none, nor has any where nobody asked for them."""
+    lines = [
+        "canbus events 1",
+        "bus 2 always 0000 10 100 2",
+        "open 0 256 = socket 0",
+        "send 0 123#01FF = number 0",
+        "send 0 123#01FF = number 1",
+        "attempt 0.000001 good = tried 0 0 123#01FF done 0002 0000; wire 120000 126000 60 0",
+        "attempt 0.000002 global-bit = tried 0 1 123#01FF destroyed 0000 0000 restarted 0002"
+        "; counts 0 8 0; counts 1 0 0; wire 120001 200000 61 7",
+        "end 5",
+    ]
+    run = Replay()
+    run.take(lines)
+    steps = run.steps
+    assert [step.kind for step in steps] == ["done", "destroyed", "restart"]
+    assert [*steps.frame_nanos] == [120000, 120001, 0] and [*steps.busy_nanos] == [126000, 200000, 0]
+    assert [*steps.nominal_bits] == [60, 61, 0] and [*steps.fast_bits] == [0, 7, 0]
+    without = parse_record(RESTARTED.encode()).replay.steps
+    assert [*without.busy_nanos] == [*without.fast_bits] == [0] * len(without)
+
+
+def test_pages_of_a_run_do_not_depend_on_how_it_is_read():
+    """The texts of a run have the same places, however many of its lines are taken at once."""
+    lines = [
+        "canbus events 1",
+        "bus 2 always 0003 10 100",
+        "open 0 256 = socket 0",
+        "option 0 errmask 000000FF = ok",
+        "open 1 256 = socket 1",
+        "send 0 123# = number 0",
+        "send 1 124# = number 0",
+        "attempt 0.000001 global-bit = tried 0 0 123# destroyed 0000 0000"
+        "; counts 0 8 0; counts 1 0 1; put 0:20000088#0000010000000000",
+        "attempt 0.000002 good = tried 0 0 123# done 0002 0000; counts 0 7 0; counts 1 0 0; put 1",
+        "end 7",
+    ]
+    whole, parts = Replay(), Replay()
+    whole.take(lines)
+    for line in lines:
+        parts.take([line])
+    texts = ["", "123#", "124#", "20000088#0000010000000000"]
+    assert whole.texts.all == parts.texts.all == texts and whole.items.errors == parts.items.errors
+
+
 def test_who_took_part():
     with Bench("can0,can1,can2") as bench:
         for name, identifier in (("can0", 0x125), ("can1", 0x123), ("can2", 0x124)):

@@ -15,12 +15,12 @@ from pathlib import Path
 import can
 import pytest
 from conftest import WAIT, message, needs_live, shape
+from on_wire import nanos_of
 
 import canbusd
 from canbusd import Load
 from canbusd._program import find_program
 from canbusd._process import NUMBERS
-from canbusd._wire import Rates, Wire
 from canbusd.commands import NOTHING
 from canbusd.faults import Faults
 from canbusd.server import Server, ServerError
@@ -225,12 +225,12 @@ def test_the_bit_rates_reach_the_program(caplog):
         assert not caplog.records
         server.bus("can0", bitrate=500_000).shutdown()
         assert caplog.messages == ["can0: bitrate 500000 is left out: that of the server is 5000"]
-    attempts, wire = server.record().attempts, Wire(Rates(5_000, 20_000))
-    times = [wire.times(attempt.frame, attempt.outcome, "good") for attempt in attempts]
+    attempts = server.record().attempts
+    times = [nanos_of(attempt.frame, 5_000, 20_000) for attempt in attempts]
     moments = [round(one.timestamp * 1_000_000) for one in attempts]
     assert moments == [round(one.timestamp * 1_000_000) for one in received]
     for place in (1, 2):
-        wanted = (times[place - 1].attempt - times[place - 1].frame + times[place].frame) // 1000
+        wanted = (times[place - 1][1] - times[place - 1][0] + times[place][0]) // 1000
         assert 0 <= moments[place] - moments[place - 1] - wanted <= 1
     # The page has the bus load.
     assert "loadIn" in server.report().read_text(encoding="utf-8")
@@ -252,7 +252,7 @@ def test_the_load_of_a_bus():
             assert car0.load() == Load(0, 0, 50_000, 50_000)
             server.wait_for(lambda: can0.stats().waiting == 0 and can0.load().permille == 0, timeout=WAIT)
             load, done = can0.load(), can0.stats().done
-        lasts = Wire(Rates(50_000)).times("001#0000000000000000", "done", "good").attempt
+        lasts = nanos_of("001#0000000000000000", 50_000)[1]
         assert load == Load(0, done * lasts // 1000, 50_000, 50_000)
 
 

@@ -1,140 +1,32 @@
-"""Time on the wire: the bits of frames and attempts, when attempts begin and are over, and the bus load.
+"""Time on the wire: when attempts begin and are over, the bus load, and the columns of a page.
 
-What a frame has of bits is compared with tests/wire_model.py of the clone, which sends them one by one.
+How many bits frames and attempts have is the program's: tests/test_audit_wire.py of the clone compares these.
 """
 
 import json
 import random
-import sys
 from fractions import Fraction
-from pathlib import Path
 
+import on_wire  # noqa: F401  it finds the model
 import pytest
 from test_commands import call
 from test_report import NAMES, bus_off, data_of, record_of
+from wire_model import bit_counts, random_frames
 
+from canbusd import Bench
+from canbusd._events import Events
+from canbusd._rates import Rates
 from canbusd._slots import load_of, overlaps_of, slots_of
-from canbusd._wire import Bits, Rates, Wire
-from canbusd.record import parse_record
+from canbusd.record import parse_record, timed
 from canbusd.report import page
-
-sys.path.append(str(Path(__file__).parents[2] / "tests"))
-
-from wire_model import (  # noqa: E402
-    KNOWN_LENGTHS,
-    Sender,
-    arbitration_bits,
-    bit_counts,
-    data_bits,
-    number_bits,
-    random_frames,
-)
+from canbusd.server import Server
 
 SLOW, SWITCHING = Rates(500000), Rates(500000, 2000000)
-# Each way in which an attempt ends.
-ENDS = [
-    ("done", "good"),
-    ("done", "local-crc:0004"),
-    ("lastbit", "lastbit"),
-    ("noack", "good"),
-    ("destroyed", "global-bit"),
-    ("destroyed", "local-stuff:0002"),
-    ("destroyed", "global-form"),
-    ("destroyed", "local-crc:0002"),
-    ("destroyed", "local-form:0002"),
-]
 # Three messages, of 2.5, 3.5 and 3.5 frames, that have the wire to themselves: the worst response is that of the second
 # of the lowest priority, 3.5 frames (Davis, Burns, Bril, Lukkien, Real-Time Systems 2007). A frame has 108 bits with
 # intermission, 216 microseconds.
 A, B, C = "001#55555555555505", "002#55555555555503", "003#5555555555557C"
 FULL = [(0, A, 210), (1, B, 426), (2, C, 642), (0, A, 858), (1, B, 1074), (0, A, 1290), (2, C, 1506)]
-
-
-def model_frames(count):
-    """Frames of the model, those of CAN FD with flags and without."""
-    yield from random_frames(11, count, is_fd=False, longest=8)
-    yield from random_frames(12, count, is_fd=True, longest=64)
-
-
-def test_frames_have_the_bits_of_the_model():
-    for frame in model_frames(1500):
-        assert Wire(SWITCHING).frame_bits(str(frame)) == bit_counts(frame), str(frame)
-        assert Wire(SLOW).frame_bits(str(frame)) == bit_counts(frame), str(frame)
-
-
-@pytest.mark.parametrize(
-    "text, bits",
-    [
-        *KNOWN_LENGTHS,
-        *((text, 105) for text in (A, B, C)),
-    ],
-)
-def test_known_lengths_of_classic_frames(text, bits):
-    assert Wire(SWITCHING).frame_bits(text) == (bits, 0)
-
-
-def test_known_lengths_of_fd_frames():
-    """Without stuff bits but for the fixed ones, by counting fields; and with those of 64 zeros."""
-    assert Wire(SWITCHING).frame_bits("555##1") == (27, 32)
-    assert Wire(SWITCHING).frame_bits("555##1" + 3 * "55") == (27, 32 + 24)
-    assert Wire(SWITCHING).frame_bits("555##1" + 20 * "55") == (27, 37 + 160)
-    assert Wire(SWITCHING).frame_bits("15555555##1" + 20 * "55") == (46, 37 + 160)
-    assert Wire(SWITCHING).frame_bits("123##1" + 64 * "00") == (27, 651)
-    # Without a switch BRS is dominant: before a length of 3 that makes five zeros, which a stuff bit follows.
-    assert Wire(SLOW).frame_bits("555##0" + 20 * "55") == (27 + 37 + 160, 0)
-    assert Wire(SLOW).frame_bits("555##0" + 3 * "55") == (27 + 32 + 24 + 1, 0)
-
-
-def to_data_end(frame):
-    """The bits of a frame to its last data bit, by the sender of the model."""
-    sender = Sender()
-    if frame.is_fd:
-        sender.send([0, *arbitration_bits(frame), 1, 0, int(frame.brs)])
-        lengths = [*range(9), 12, 16, 20, 24, 32, 48, 64]
-        code = number_bits(lengths.index(len(frame.data)), 4)
-        sender.send([int(frame.esi), *code, *data_bits(frame)], frame.brs)
-    else:
-        length = len(frame.data) if frame.requests is None else frame.requests
-        reserved = [0, 0] if frame.extended else [0]
-        sender.send([0, *arbitration_bits(frame), *reserved, *number_bits(length, 4), *data_bits(frame)])
-    return len(sender.bits) - sender.fast, sender.fast
-
-
-def test_attempts_have_the_bits_of_their_parts():
-    for frame in model_frames(300):
-        (early, early_fast), (whole, fast) = to_data_end(frame), bit_counts(frame)
-        # Flags of 7, 6 and 12 bits, a delimiter of 8, and an intermission of 3; ten bits end a frame, of which a missing
-        # acknowledgement leaves 2, and what is seen after the ACK slot 3.
-        expected = [
-            (whole + 3, fast),
-            (whole + 3, fast),
-            (whole + 7 + 8 + 3, fast),
-            (whole - 10 + 2 + 6 + 8 + 3, fast),
-            (early + 12 + 8 + 3, early_fast),
-            (early + 12 + 8 + 3, early_fast),
-            *[(whole - 10 + 3 + 12 + 8 + 3, fast)] * 3,
-        ]
-        wire = Wire(SWITCHING)
-        assert [wire.attempt_bits(str(frame), *end) for end in ENDS] == expected, str(frame)
-
-
-def test_known_lengths_of_attempts():
-    """52 and 67 bits to the end of the data and of the CRC, and 3 bits of intermission after each attempt."""
-    lengths = [80, 80, 77 + 18, 67 + 19, 52 + 23, 52 + 23, 67 + 26, 67 + 26, 67 + 26]
-    assert [Wire(SWITCHING).attempt_bits("123#11223344", *end) for end in ENDS] == [(length, 0) for length in lengths]
-    assert Wire(SWITCHING).attempt_bits("123##1", "destroyed", "global-bit") == (17 + 23, 5)
-    assert Wire(SWITCHING).attempt_bits("123##1", "noack", "good") == (17 + 19, 32)
-
-
-def test_times_are_rounded_up():
-    assert Rates(1000000, 8000000).nanos(Bits(27, 651)) == 108375
-    assert Rates(1000000).nanos(Bits(50)) == 50000
-    assert Rates(300000).nanos(Bits(1)) == 3334
-    assert Rates(500000, 3000000).nanos(Bits(1, 1)) == 2334
-    wire = Wire(Rates(500000))
-    assert wire.times("000#", "done", "good") == (100000, 106000, (50, 0))
-    # 22 of its bits come before the flags: 19, and 3 stuff bits.
-    assert wire.times("000#", "destroyed", "global-bit") == (100000, 90000, (50, 0))
 
 
 @pytest.mark.parametrize("given", [(4999,), (1000001,), (500000, 499999), (500000, 20000001), (0, 0)])
@@ -160,8 +52,8 @@ def run_of(*tried):
     return "\n".join([*lines, *entries, f"end {len(entries) + 1}", ""]).encode()
 
 
-def replay_of(*tried):
-    return parse_record(run_of(*tried)).replay
+def replay_of(*tried, rates=SLOW):
+    return parse_record(run_of(*tried), rates=rates).replay
 
 
 def three_messages():
@@ -185,11 +77,11 @@ def three_messages():
 
 
 def test_a_wire_that_is_never_free():
-    slots = slots_of(replay_of(*FULL), SLOW)
+    slots = slots_of(replay_of(*FULL))
     assert [(slot.begin, slot.over) for slot in slots] == [(216000 * k, 216000 * (k + 1)) for k in range(7)]
     assert load_of(slots) == (1512000, 1512000)
     assert load_of(slots).share == 1
-    assert load_of(slots_of(replay_of(*FULL), Rates(1000000))) == (7 * 108000, 6 * 216000 + 108000)
+    assert load_of(slots_of(replay_of(*FULL, rates=Rates(1000000)))) == (7 * 108000, 6 * 216000 + 108000)
     assert load_of([]).share == 0
 
 
@@ -197,22 +89,22 @@ def test_attempts_that_begin_too_early():
     tried = [(iface, text, micros - 2 * (k == 3)) for k, (iface, text, micros) in enumerate(FULL)]
     run = replay_of(*tried)
     # What was rounded off is less than a microsecond.
-    assert overlaps_of(run, slots_of(run, SLOW)) == [
+    assert overlaps_of(run, slots_of(run)) == [
         "attempt 3 at 0.000856 begins 1.001 microseconds before attempt 2 is over"
     ]
     tried[3] = (0, A, 857)
     run = replay_of(*tried)
-    assert overlaps_of(run, slots_of(run, SLOW)) == [
+    assert overlaps_of(run, slots_of(run)) == [
         "attempt 3 at 0.000857 begins 0.001 microseconds before attempt 2 is over"
     ]
 
 
 def on_a_bench(maker, rates, frames):
     """The moments of frames, some of which begin at once: by fractions of a microsecond that are rounded up and down."""
-    wire, free, tried = Wire(rates), 0, []
+    free, tried = 0, []
     for number, frame in enumerate(frames):
         begin = max(free, 1000 * maker.choice([0, 0, free // 1000 + maker.randrange(200)]))
-        nominal, fast = wire.frame_bits(str(frame))
+        nominal, fast = bit_counts(frame)
         lasts = Fraction(nominal, rates.bitrate) + Fraction(fast, rates.dbitrate)
         end, over = (begin - (-bits * 1000000000 // 1) for bits in (lasts, lasts + Fraction(3, rates.bitrate)))
         tried.append((number % 3, str(frame), end // 1000))
@@ -225,16 +117,16 @@ def test_rounding_does_not_add_up(seed, rates):
     maker = random.Random(seed)
     frames = list(random_frames(seed, 400, is_fd=False, longest=8))
     tried = on_a_bench(maker, rates, frames)
-    slots = slots_of(replay_of(*tried), rates)
+    slots = slots_of(replay_of(*tried, rates=rates))
     assert [slot.overlap for slot in slots] == [0] * len(frames)
     # A bit more for each frame does add up.
     slower = Rates(rates.bitrate - rates.bitrate // 200, rates.dbitrate)
-    assert any(slot.overlap for slot in slots_of(replay_of(*tried), slower))
+    assert any(slot.overlap for slot in slots_of(replay_of(*tried, rates=slower)))
 
 
 def test_restarts_take_no_time():
     # Its attempts are a microsecond apart.
-    slots = slots_of(bus_off(), SLOW)
+    slots = slots_of(timed(bus_off(), SLOW))
     assert len(slots) == 32
     assert all(slot.overlap for slot in slots[1:])
     assert load_of(slots).share > 10
@@ -243,7 +135,7 @@ def test_restarts_take_no_time():
 def test_attempts_at_the_last_moment():
     last = 9999999999999999
     run = replay_of((0, A, last - 1), (0, A, last), (0, A, last))
-    assert overlaps_of(run, slots_of(run, SLOW)) == []
+    assert overlaps_of(run, slots_of(run)) == []
 
 
 @pytest.fixture
@@ -314,6 +206,36 @@ def test_the_columns_of_a_page():
     ]
     # The first frames of b and c lose to that of a; the second of c loses to those of b and a.
     assert column(wire["since"]) == [0, 1, 2, 0, 0, 0, 2]
+
+
+@pytest.fixture
+def audits(monkeypatch):
+    """What was asked of the program: whether a record may be cut off, and with which bit rates it is read."""
+    asked = []
+
+    def events(cut, rates):
+        asked.append((cut, rates))
+        return Events(cut, rates)
+
+    monkeypatch.setattr("canbusd.record.Events", events)
+    return asked
+
+
+def test_a_page_has_its_record_read_once(audits):
+    with Bench("can0", bitrate=500_000) as bench:
+        bench.report()
+    with Server("can0", bitrate=500_000, dbitrate=2_000_000, record="live") as server:
+        server.report()
+    assert audits == [(False, SLOW), (True, SWITCHING)]
+
+
+def test_a_page_with_other_bit_rates_has_it_read_again(audits):
+    run = replay_of(*FULL)
+    for rates, shown in ((SLOW, 210000), (Rates(1000000), 105000), (None, None)):
+        header, column = data_of(page(run, ("a", "b", "c"), "run.rec", rates=rates))
+        assert (shown is None) == ("wire" not in header)
+        assert shown is None or column(header["wire"]["frame"]) == [shown] * 7
+    assert audits == [(False, SLOW), (False, Rates(1000000))]
 
 
 def test_the_columns_of_a_run_with_bus_off():

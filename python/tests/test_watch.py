@@ -16,14 +16,17 @@ from pathlib import Path
 import can
 import pytest
 from browser import PROGRAM, Browser
+from on_wire import nanos_of
 
 import canbusd
-from canbusd._wire import Rates, Wire
+from canbusd._frame_times import FrameTimes
+from canbusd._program import ProgramNotFound
+from canbusd._rates import Rates
 from canbusd.faults import Faults
 from canbusd.frames import Frame
 from canbusd.server import Server
 from canbusd.signals import load_database
-from canbusd.commands.watch import MOST_FRAMES, MOST_TICKS, Board, Watcher, fault_of
+from canbusd.commands.watch import MOST_FRAMES, MOST_TICKS, Board, Watcher, fault_of, times_of
 
 WAIT = 30
 
@@ -83,7 +86,43 @@ def test_the_load_and_how_long_frames_took():
         for one in watcher.buses:
             one.shutdown()
     assert all(990 <= load <= 1_000 for load in tick["loads"]) and len(tick["loads"]) == 2
-    assert rows and {row[5] for row in rows} == {Wire(rates).times("001#0000000000000000", "done", "good").attempt}
+    assert rows and {row[5] for row in rows} == {nanos_of("001#0000000000000000", 5_000, 20_000)[1]}
+
+
+def test_how_long_frames_of_each_kind_take():
+    """by the program, which is asked once for each"""
+    texts = ["000#", "7FF#FFFFFFFFFFFFFFFF", "1FFFFFFF#", "123#R", "048C0000#R8", "123##0", f"1ABCDEF0##3{64 * '00'}"]
+    times = FrameTimes(Rates(5_000, 20_000))
+    wanted = [nanos_of(text, 5_000, 20_000)[1] for text in texts]
+    assert times.of(texts) == wanted
+    # These are kept: no program is started.
+    with pytest.MonkeyPatch.context() as patch:
+        patch.setenv("CANBUSD", "/nonexistent/canbusd")
+        assert times.of([*texts[::-1], texts[0]]) == [*wanted[::-1], wanted[0]]
+        assert times.of([]) == []
+        with pytest.raises(ProgramNotFound):
+            times.of([*texts, "124#"])
+
+
+def test_no_more_times_are_kept_than_there_is_room_for(monkeypatch):
+    monkeypatch.setattr("canbusd._frame_times.MOST_KEPT", 3)
+    times = FrameTimes(Rates(5_000))
+    for texts in (
+        ["001#", "002#"],
+        ["002#", "003#", "001#"],
+        ["002#", "004#", "002#"],
+        ["001#", "002#", "003#", "004#"],
+    ):
+        assert times.of(texts) == [nanos_of(text, 5_000)[1] for text in texts]
+
+
+def test_without_a_program_there_is_no_load(monkeypatch, capsys):
+    """the server may be elsewhere; a note says so"""
+    monkeypatch.setenv("CANBUSD", "/nonexistent/canbusd")
+    assert times_of(Rates(5_000)) is None
+    assert capsys.readouterr().err == (
+        "canbusd watch: without bus load: CANBUSD names no program: /nonexistent/canbusd\n"
+    )
 
 
 def test_a_page_that_reads_slowly_begins_anew():

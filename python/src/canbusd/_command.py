@@ -8,6 +8,7 @@ import sys
 from collections.abc import Callable
 from typing import NoReturn, Optional
 
+from canbusd._rates import Rates
 from canbusd.record import BadRecord, Record, read_record
 
 
@@ -69,9 +70,9 @@ def add_record(parser: argparse.ArgumentParser) -> None:
     )
 
 
-def replayed(path: str, names: Optional[str], cut: bool = False) -> Record:
+def replayed(path: str, names: Optional[str], cut: bool = False, rates: Optional[Rates] = None) -> Record:
     """The record in this file, with what happened in its run."""
     try:
-        return read_record(path, names, cut)
+        return read_record(path, names, cut, rates)
     except BadRecord as fault:
         raise BadRecord(f"{path}: {fault}") from None

@@ -10,6 +10,7 @@ from types import TracebackType
 from typing import Optional
 
 from canbusd._program import ProgramNotFound, find_program
+from canbusd._rates import Rates
 
 # How many bytes are read at once.
 BLOCK = 1 << 20
@@ -31,12 +32,13 @@ class BadRecord(ValueError):
 class Events:
     """An audit of a record that is handed in at once, or piece by piece as it is written.
 
-    With `cut` the record may end before its line `end`.
+    With `cut` the record may end before its line `end`. With bit rates the lines say how long attempts took the wire.
     """
 
-    def __init__(self, cut: bool = False) -> None:
+    def __init__(self, cut: bool = False, rates: Optional[Rates] = None) -> None:
         self._program = find_program()
-        words = [self._program, "audit", "--events", *(["--cut"] if cut else []), "/dev/stdin"]
+        options = [*(["--cut"] if cut else []), *(rates.words if rates else [])]
+        words = [self._program, "audit", "--events", *options, "/dev/stdin"]
         pipe = subprocess.PIPE
         self._process = subprocess.Popen(words, bufsize=0, stdin=pipe, stdout=pipe, stderr=pipe)
         assert self._process.stdin is not None and self._process.stdout is not None

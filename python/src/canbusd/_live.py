@@ -7,6 +7,7 @@ from pathlib import Path
 from typing import TYPE_CHECKING, BinaryIO, Optional
 
 from canbusd._events import BadRecord, Events
+from canbusd._rates import Rates
 from canbusd.log import message_of
 from canbusd.record import Attempt, Record, attempts_of, parse_record
 from canbusd.replay import Replay
@@ -84,9 +85,9 @@ class LiveRecord:
         self._fault: Optional[BadRecord] = None
         self._lock = threading.Lock()
 
-    def record(self) -> Record:
-        """Returns the record as far as it was written."""
-        return parse_record(self._file.text(), names=self._names, cut=True)
+    def record(self, rates: Optional[Rates] = None) -> Record:
+        """Returns the record as far as it was written, with the time on the wire at these bit rates, if there are any."""
+        return parse_record(self._file.text(), names=self._names, cut=True, rates=rates)
 
     def attempts(self) -> list[Attempt]:
         """Returns the attempts that were written so far; only the entries since the last call are read."""

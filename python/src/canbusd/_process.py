@@ -14,8 +14,8 @@ from types import TracebackType
 from typing import Optional, TypeVar, Union
 
 from canbusd._program import find_program
+from canbusd._rates import LEAST_BITRATE, MOST_BITRATE, MOST_DBITRATE, Rates
 from canbusd._text import NAME
-from canbusd._wire import LEAST_BITRATE, MOST_BITRATE, MOST_DBITRATE, Rates
 from canbusd.faults import Script
 
 Self = TypeVar("Self", bound="ProgramRun")

@@ -6,9 +6,10 @@ from array import array
 from collections.abc import Callable, Iterable, Sequence
 from typing import TYPE_CHECKING, Any
 
+from canbusd._rates import Rates
 from canbusd._slots import Slot, slots_of
 from canbusd._steps import DONE, RESTART
-from canbusd._wire import Rates
+from canbusd.record import timed
 from canbusd.replay import Replay
 
 if TYPE_CHECKING:
@@ -21,26 +22,22 @@ def wire_of(
     run: Replay, timeline: "Timeline", rates: Rates, column: Callable[[str, Iterable[float]], Column]
 ) -> dict[str, Any]:
     """Returns the bit rates, and columns by the rows of the time line, which `column` makes."""
-    slots = slots_of(run, rates)
+    run = timed(run, rates)
+    slots, steps = slots_of(run), run.steps
     over = max((slot.over for slot in slots), default=0)
     begins = begins_of(run, timeline, slots, over)
     start, end = (begins[0], max(begins[-1], over)) if begins else (0, 0)
-    # How many bits the frame has at each bit rate, and how long it and the attempt take, in nanoseconds.
-    nominal, fast, frame, busy = (array(code, bytes(len(run.steps) * array(code).itemsize)) for code in "HHII")
-    for slot in slots:
-        times = slot.times
-        nominal[slot.step], fast[slot.step] = times.bits
-        frame[slot.step], busy[slot.step] = times.frame, times.attempt
     return {
         "bitrate": rates.bitrate,
         "dbitrate": rates.dbitrate,
         # In nanoseconds: how long after the one before, which is shorter than since the first.
         "begin": [*column("d", map(operator.sub, begins, itertools.chain([start], begins))), "rising"],
         "end": end - start,
-        "nominal": column("H", timeline.rows(nominal)),
-        "fast": column("H", timeline.rows(fast)),
-        "frame": column("I", timeline.rows(frame)),
-        "busy": column("I", timeline.rows(busy)),
+        # How many bits the frame has at each bit rate, and how long it and the attempt take, in nanoseconds.
+        "nominal": column("H", timeline.rows(steps.nominal_bits)),
+        "fast": column("H", timeline.rows(steps.fast_bits)),
+        "frame": column("I", timeline.rows(steps.frame_nanos)),
+        "busy": column("I", timeline.rows(steps.busy_nanos)),
         "since": column("I", timeline.rows(since_of(run, timeline.places))),
     }
 

@@ -8,8 +8,7 @@ the rounding leaves open does not add up, and attempts overlap only where they d
 from collections.abc import Iterable, Sequence
 from typing import NamedTuple
 
-from canbusd._steps import KINDS, RESTART, moment_of
-from canbusd._wire import Rates, Times, Wire
+from canbusd._steps import RESTART, moment_of
 from canbusd.replay import Replay
 
 # How much later than its moment a frame ends at most, in nanoseconds.
@@ -25,14 +24,10 @@ class Slot(NamedTuple):
     step: int
     #: The start of frame.
     begin: int
-    times: Times
+    #: When the next attempt may begin.
+    over: int
     #: By how much at least it begins before the attempt before it is over.
     overlap: int
-
-    @property
-    def over(self) -> int:
-        """When the next attempt may begin."""
-        return self.begin + self.times.attempt
 
 
 class Load(NamedTuple):
@@ -47,21 +42,21 @@ class Load(NamedTuple):
         return self.busy / self.whole if self.whole else 0.0
 
 
-def slots_of(run: Replay, rates: Rates) -> list[Slot]:
-    """Returns the slots of the attempts that tried a frame."""
-    wire = Wire(rates)
+def slots_of(run: Replay) -> list[Slot]:
+    """Returns the slots of the attempts that tried a frame, of a run that was read with its bit rates."""
     slots: list[Slot] = []
-    steps = run.steps
-    texts, verdicts = steps.texts.all, steps.verdict_texts.all
-    columns = zip(steps.kinds, steps.frames, steps.verdicts, steps.moments)
-    for place, (kind, frame, verdict, moment) in enumerate(columns):
+    over, steps = 0, run.steps
+    for place, (kind, moment, frame, busy) in enumerate(
+        zip(steps.kinds, steps.moments, steps.frame_nanos, steps.busy_nanos)
+    ):
         if kind == RESTART:
             continue
-        times = wire.times(texts[frame], KINDS[kind], verdicts[verdict])
-        begin = moment * 1000 - times.frame
-        over = slots[-1].over if slots and moment != LAST_MOMENT else begin
-        overlap = max(over - (begin + MOST_LATER), 0)
-        slots.append(Slot(place, begin if overlap else max(begin, over), times, overlap))
+        begin = moment * 1000 - frame
+        free = over if slots and moment != LAST_MOMENT else begin
+        overlap = max(free - (begin + MOST_LATER), 0)
+        begin = begin if overlap else max(begin, free)
+        over = begin + busy
+        slots.append(Slot(place, begin, over, overlap))
     return slots
 
 
@@ -70,7 +65,7 @@ def load_of(slots: Sequence[Slot]) -> Load:
     if not slots:
         return Load(0, 0)
     whole = max(slot.over for slot in slots) - min(slot.begin for slot in slots)
-    return Load(sum(slot.times.attempt for slot in slots), whole)
+    return Load(sum(slot.over - slot.begin for slot in slots), whole)
 
 
 def overlaps_of(run: Replay, slots: Iterable[Slot]) -> list[str]:

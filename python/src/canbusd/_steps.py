@@ -22,11 +22,12 @@ KIND_NUMBERS = {kind: number for number, kind in enumerate(KINDS)}
 T = TypeVar("T")
 #: The transmit and receive error count of an interface.
 Counts = tuple[int, int]
-#: Who took part in arbitration with which frame, where they were several.
-Met = tuple[tuple[int, str], ...]
-#: A step: the words of its line, its entry and attempt, how many frames waited, who was hit, who took part, the place of
-#: the counts after it, and how many attempts were idle before it.
-Row = tuple[Sequence[str], int, int, tuple[int, ...], int, Met, int, int]
+#: Who took part in arbitration with which frame, by its place, where they were several.
+Met = tuple[tuple[int, int], ...]
+#: A step: the words of its line, the place of its frame, its entry and attempt, how many frames waited, who was hit, who took
+#: part, the place of the counts after it, how many attempts were idle before it, and the words of its time on the wire, if its
+#: line has them.
+Row = tuple[Sequence[str], int, int, int, tuple[int, ...], int, Met, int, int, str]
 
 
 class Places(dict[T, int]):
@@ -148,6 +149,10 @@ class Steps(Sequence[Step]):
         #: How many took part, where it was more than one, else 0; of these the interfaces and frames, from a place on.
         self.met, self.met_from = array("B"), array("I")
         self.met_ifaces, self.met_frames = array("B"), array("I")
+        #: How many nanoseconds the frame takes the wire, and the attempt until the next one may begin; how many bits of the
+        #: frame go at the nominal bit rate, and at the one for data. All are 0 where the line does not say it.
+        self.frame_nanos, self.busy_nanos = array("I"), array("I")
+        self.nominal_bits, self.fast_bits = array("H"), array("H")
 
     def __len__(self) -> int:
         return len(self.kinds)
@@ -156,15 +161,15 @@ class Steps(Sequence[Step]):
         """Adds these steps."""
         if not rows:
             return
-        words, entries, attempts, waiting, hit, met, counts, idle = zip(*rows)
-        _, moments, verdicts, _, _, ifaces, numbers, texts, kinds, accepted, off = zip(*words)
+        words, frames, entries, attempts, waiting, hit, met, counts, idle, wires = zip(*rows)
+        _, moments, verdicts, _, _, ifaces, numbers, _, kinds, accepted, off = zip(*words)
         self.kinds.extend(map(KIND_NUMBERS.__getitem__, kinds))
         self.entries.extend(entries)
         self.moments.extend(map(int, " ".join(moments).replace(".", "").split(" ")))
         self.ifaces.extend(map(int, ifaces))
         self.attempts.extend(attempts)
         self.numbers.extend(map(int, numbers))
-        self.frames.extend(map(self.texts.__getitem__, texts))
+        self.frames.extend(frames)
         self.verdicts.extend(map(self.verdict_texts.__getitem__, verdicts))
         self.accepted.extend(map(SETS.__getitem__, accepted))
         self.off.extend(map(SETS.__getitem__, off))
@@ -173,13 +178,19 @@ class Steps(Sequence[Step]):
         self.waiting.extend(map(self.waiting_lists.__getitem__, waiting))
         self.idle.extend(idle)
         self._meet(met)
+        self._time(wires)
+
+    def _time(self, wires: Sequence[str]) -> None:
+        numbers = list(map(int, " ".join([wire or "0 0 0 0" for wire in wires]).split(" ")))
+        for place, column in enumerate((self.frame_nanos, self.busy_nanos, self.nominal_bits, self.fast_bits)):
+            column.extend(numbers[place::4])
 
     def _meet(self, met: Sequence[Met]) -> None:
         self.met_from.extend(itertools.accumulate(map(len, met[:-1]), initial=len(self.met_ifaces)))
         self.met.extend(map(len, met))
-        for iface, text in itertools.chain.from_iterable(met):
+        for iface, frame in itertools.chain.from_iterable(met):
             self.met_ifaces.append(iface)
-            self.met_frames.append(self.texts[text])
+            self.met_frames.append(frame)
 
     @overload
     def __getitem__(self, place: int) -> Step:

@@ -7,7 +7,7 @@ from pathlib import Path
 from typing import Optional
 
 from canbusd._protocol import STATES
-from canbusd._wire import Rates
+from canbusd._rates import Rates
 from canbusd.frames import ERROR_FRAME, meaning
 from canbusd.record import Record
 from canbusd.story import events_of, heading_of

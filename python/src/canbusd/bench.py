@@ -212,7 +212,7 @@ class Bench(Dialogue, HasRestBus["BenchRestBus"]):
     def record(self) -> Record:
         """Ends the run and returns its record."""
         self.stop()
-        return read_record(self._path("rec"), self.names)
+        return read_record(self._path("rec"), self.names, rates=self._rates)
 
     def log(self) -> "list[Message]":
         """Ends the run and returns what was on the bus, as messages of python-can; what failed is an error frame."""

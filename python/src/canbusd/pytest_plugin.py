@@ -266,7 +266,7 @@ class Runs:
         if not left.exists():
             return facts
         try:
-            record = read_record(left, names, cut=left != path)
+            record = read_record(left, names, cut=left != path, rates=run._rates)
             facts["story"] = _summary.story(record)
             if record.is_cut:
                 cut = f"{left} is cut off after {record.replay.entries} entries: `--cut` of the tools reads it"

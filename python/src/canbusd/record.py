@@ -13,6 +13,7 @@ from dataclasses import dataclass, field
 from typing import Optional, Union
 
 from canbusd._events import BadRecord, Events
+from canbusd._rates import Rates
 from canbusd._replayed import Bus
 from canbusd._steps import FATES, KINDS, RESTART, moment_of, numbers_in
 from canbusd._text import NAME, times
@@ -142,29 +143,41 @@ def named(numbers: Sequence[int], names: Sequence[str]) -> tuple[str, ...]:
     return tuple(names[number] for number in numbers)
 
 
-def read_record(path: Path, names: Optional[Sequence[str]] = None, cut: bool = False) -> Record:
+def read_record(
+    path: Path, names: Optional[Sequence[str]] = None, cut: bool = False, rates: Optional[Rates] = None
+) -> Record:
     """Returns the record in this file.
 
     `names` names the interfaces, as a list or as `can0,can1`. Without it they have the names in the log beside the
     record (can0.log beside can0.rec), as far as they won an attempt there; the others are called `interface 0` and so
     on. With `cut` a record may end before its last line, as a run that was killed leaves it; `is_cut` says whether it
-    does, and its entries are those whose lines are whole.
+    does, and its entries are those whose lines are whole. With the bit rates of its bus its steps have the time on the
+    wire.
     """
     with open(path, "rb") as file:
-        return parse_record(file.read(), path, names, cut)
+        return parse_record(file.read(), path, names, cut, rates)
 
 
 def parse_record(
-    data: bytes, path: Optional[Path] = None, names: Optional[Sequence[str]] = None, cut: bool = False
+    data: bytes,
+    path: Optional[Path] = None,
+    names: Optional[Sequence[str]] = None,
+    cut: bool = False,
+    rates: Optional[Rates] = None,
 ) -> Record:
     """Returns the record that these bytes spell, as read_record does; `path` says beside which file a log may be."""
-    run = Replay()
-    with Events(cut) as events:
+    run = Replay(rates)
+    with Events(cut, rates) as events:
         for lines in events.lines(data):
             run.take(lines)
     assert run.bus is not None
-    text = data[: data.rfind(b"\n") + 1]
+    run.text = text = data[: data.rfind(b"\n") + 1]
     return Record(**vars(run.bus), text=text, is_cut=not run.is_whole, names=names_of(run, path, names), replay=run)
+
+
+def timed(run: Replay, rates: Rates) -> Replay:
+    """Returns a run whose steps have the time on the wire at these bit rates: it is read again if they have not."""
+    return run if run.rates == rates else parse_record(run.text, cut=not run.is_whole, rates=rates).replay
 
 
 def names_of(run: Replay, path: Optional[Path], given: Optional[Sequence[str]]) -> tuple[str, ...]:

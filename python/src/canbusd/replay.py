@@ -8,6 +8,7 @@ from collections.abc import Callable, Iterable
 from typing import Optional
 
 from canbusd._program import ProgramNotFound
+from canbusd._rates import Rates
 from canbusd._replayed import OFF, Bus, Interface, Socket, bus_of
 from canbusd._steps import DROPPED, TAKEN, UNREAD, WAITING, Counts, Items, Met, Places, Row, Steps, numbers_in
 
@@ -21,7 +22,11 @@ TRIED = 11
 class Replay:
     """A run, as far as the lines of its events were taken."""
 
-    def __init__(self) -> None:
+    def __init__(self, rates: Optional[Rates] = None) -> None:
+        #: The bit rates by which lines say how long attempts took the wire; None where they don't.
+        self.rates = rates
+        #: The text of its record, where that was read at once.
+        self.text = b""
         #: The configuration of the bus, once its line was taken.
         self.bus: Optional[Bus] = None
         self.ifaces: list[Interface] = []
@@ -144,29 +149,33 @@ class Replay:
     # Attempts and restarts.
 
     def _attempt(self, line: str) -> None:
+        line, _, wire = line.partition("; wire ")
         event, _, parts = line.partition("; ")
         words = event.split(" ")
         if len(words) != TRIED:
-            self._restart_after(words, parts)
+            self._restart_after(words, parts, wire)
             return
         iface, kind, verdict = int(words[5]), words[8], words[2]
-        waiting = tuple(self._waiting)
-        met = tuple(sorted(self._heads.items())) if len(self._heads) > 1 else ()
+        waiting, texts = tuple(self._waiting), self.texts
+        # Texts get their places line by line, so that these are the same however many lines are taken at once.
+        frame = texts[words[7]]
+        met = tuple((i, texts[head]) for i, head in sorted(self._heads.items())) if len(self._heads) > 1 else ()
         hit = int(verdict[-4:], 16) & self._on & ~(1 << iface) if ":" in verdict else 0
         if kind == "done":
             self.ifaces[iface].done += 1
             self._leave(iface)
         if parts:
             self._take_parts(parts, kind == "done" and verdict == "good")
-        self._add(words, waiting, hit, met)
+        self._add(words, frame, waiting, hit, met, wire)
         self.attempts += 1
 
-    def _restart_after(self, words: list[str], parts: str) -> None:
+    def _restart_after(self, words: list[str], parts: str, wire: str) -> None:
         """An attempt that was idle, or that restarted interfaces in its end."""
         restarted = int(words[-1], 16) if words[-2] == "restarted" else 0
         if words[4] == "tried":
             own = self._parts_of(parts, ~restarted)
-            self._attempt("; ".join([" ".join(words[:TRIED]), *([own] if own else [])]))
+            took = f"wire {wire}" if wire else ""
+            self._attempt("; ".join(filter(None, [" ".join(words[:TRIED]), own, took])))
         else:
             self.idle += 1
             self.idle_since += 1
@@ -186,11 +195,11 @@ class Replay:
         words = ["", moment, "", "", "", number, "0", "", "restart", "0000", "0000"]
         waiting = tuple(self._waiting)
         self._take_parts(parts, is_good=False)
-        self._add(words, waiting, 0, ())
+        self._add(words, self.texts[""], waiting, 0, ())
 
-    def _add(self, words: list[str], waiting: tuple[int, ...], hit: int, met: Met) -> None:
+    def _add(self, words: list[str], frame: int, waiting: tuple[int, ...], hit: int, met: Met, wire: str = "") -> None:
         """Adds a step that has happened."""
-        row = words, self.entries, self.attempts, waiting, hit, met, self._counts_place, self.idle_since
+        row = words, frame, self.entries, self.attempts, waiting, hit, met, self._counts_place, self.idle_since, wire
         self._fresh.append(row)
         self._count += 1
         self.idle_since = 0

@@ -27,10 +27,10 @@ from canbusd import comparison
 from canbusd.frames import Frame, is_error, meaning
 from canbusd.record import Record
 from canbusd._protocol import STATES
+from canbusd._rates import Rates
 from canbusd._replayed import Socket
 from canbusd._report_wire import wire_of
 from canbusd._steps import IDLE, KINDS, RESTART, Items, Places, WireFrame
-from canbusd._wire import Rates
 from canbusd.replay import UNKNOWN, Replay
 from canbusd.signals import Database
 from canbusd.story import Event, events_of, facts_of, heading_of, verdict_words
@@ -159,8 +159,8 @@ class Timeline:
             "accepted": block.column("H", self.rows(steps.accepted)),
             "hit": block.column("H", self.rows(steps.hit)),
             "off": block.column("H", self.rows(steps.off)),
-            "seconds": block.column("d", (moment // 1000000 for moment in moments)),
-            "micros": block.column("I", (moment % 1000000 for moment in moments)),
+            "seconds": block.column("d", map(operator.floordiv, moments, itertools.repeat(1000000))),
+            "micros": block.column("I", map(operator.mod, moments, itertools.repeat(1000000))),
             # How many took part where it was more than one.
             "met": block.column("B", self.rows(steps.met)),
         }
@@ -194,7 +194,7 @@ def looked_up(values: Sequence[int], places: "array[int]") -> "array[int]":
 def items_of(items: Items, most: int, places: Sequence[int], block: Block) -> Json:
     """The first items: their sender and number are those of their step, unless they are error message frames."""
     steps = array("I", map(places.__getitem__, items.steps[:most]))
-    gone = (places[end - 1] + 1 if end else 0 for end in items.ends[:most])
+    later = (places[end - 1] + 1 - step if end else 0 for step, end in zip(steps, items.ends))
     return {
         "socket": block.column("I", items.sockets[:most]),
         "step": block.rising(steps),
@@ -202,7 +202,7 @@ def items_of(items: Items, most: int, places: Sequence[int], block: Block) -> Js
         "error": block.column("I", items.errors[:most]),
         "fate": block.column("B", items.fates[:most]),
         # How many steps later it was no longer in its queue.
-        "later": block.column("I", (max(0, after - step) for step, after in zip(steps, gone))),
+        "later": block.column("I", later),
     }
 
 
@@ -256,7 +256,8 @@ def decoded_of(texts: Iterable[str], database: Optional[Database]) -> Json:
     """The messages and the signals of the frames that the file knows, by the places of the frames."""
     messages: Json = {}
     signals: Json = {}
-    for place, text in enumerate(texts):
+    # Without a file no text is looked at: there may be a million.
+    for place, text in enumerate(texts) if database is not None else ():
         is_frame = text not in ("", UNKNOWN)
         decoded = database.decode(Frame.parse(text)) if database is not None and is_frame else None
         if decoded is not None:

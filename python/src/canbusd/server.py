@@ -236,8 +236,8 @@ class Server(Expectations, SimulatesNodes, RunsPrograms, ProgramRun):
         """
         first = self._recorded(name)
         if self._record_when == "live":
-            return self._records[first].record()
-        return read_record(self._file(name, "rec"), self._by_bus[first][:-1])
+            return self._records[first].record(self._rates)
+        return read_record(self._file(name, "rec"), self._by_bus[first][:-1], rates=self._rates)
 
     def attempts(self, name: Optional[str] = None) -> list[Attempt]:
         """Returns the attempts on the bus of this interface: with ``record="live"`` those that were written so far.

@@ -4,7 +4,7 @@ import argparse
 from typing import Optional
 
 from canbusd._command import BadWords
-from canbusd._wire import LEAST_BITRATE, MOST_BITRATE, MOST_DBITRATE, Rates
+from canbusd._rates import LEAST_BITRATE, MOST_BITRATE, MOST_DBITRATE, Rates
 from canbusd.signals import Database, load_database
 
 

@@ -48,8 +48,8 @@ def add_arguments(parser: argparse.ArgumentParser) -> None:
 def run(options: argparse.Namespace) -> int:
     """Writes a line for each attempt and restart, what there is to say of their times, and the verdict."""
     rates = rates_of(options)
-    record = replayed(options.record, options.names, options.cut)
-    slots = slots_of(record.replay, rates) if rates else []
+    record = replayed(options.record, options.names, options.cut, rates)
+    slots = slots_of(record.replay) if rates else []
     if options.json:
         for fields in objects_of(record):
             print(json.dumps(fields))

@@ -60,12 +60,12 @@ def add_arguments(parser: argparse.ArgumentParser) -> None:
 def run(options: argparse.Namespace) -> None:
     """Writes the page, or the drawings, on standard output."""
     rates = rates_of(options)
-    record = replayed(options.record, options.names, options.cut)
+    record = replayed(options.record, options.names, options.cut, rates)
     other = None if options.other is None else replayed(options.other, options.names, options.cut)
     if options.text or options.counters or options.arbitration:
         if options.text:
             write(_summary.story(record, MOST_EVENTS) if other is None else beside(record, other))
-            write([load_words(load_of(slots_of(record.replay, rates)))] if rates else [])
+            write([load_words(load_of(slots_of(record.replay)))] if rates else [])
         if options.text or options.arbitration:
             write(drawings.arbitration(record, options.first, options.last))
         if options.text or options.counters:

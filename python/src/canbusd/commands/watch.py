@@ -6,10 +6,11 @@ import itertools
 import json
 import operator
 import select
+import sys
 import threading
 import time
 from collections import deque
-from collections.abc import Iterator, Sequence
+from collections.abc import Iterable, Iterator, Sequence
 from http import HTTPStatus
 from http.server import BaseHTTPRequestHandler, ThreadingHTTPServer
 from typing import Any, Optional
@@ -18,8 +19,10 @@ import canbusd._python_can  # noqa: F401  it says what is missing, so it comes f
 
 from can.exceptions import CanOperationError
 
-from canbusd._wire import Rates, Wire
 from canbusd._arguments import seconds
+from canbusd._frame_times import FrameTimes
+from canbusd._program import ProgramNotFound
+from canbusd._rates import Rates
 from canbusd.bus import CanbusdBus, interfaces
 from canbusd.commands import add_address, add_database, database_of
 from canbusd.frames import SENDING, Frame, frame_like
@@ -202,7 +205,7 @@ class Watcher:
         self.buses = [Watched(name, address=address, fd=True, receive_own_messages=True) for name in names]
         # A server has the same bit rates on all its buses, so one is asked.
         load = next((bus.load() for bus in self.buses), None)
-        self.wire = Wire(Rates(load.bitrate, load.data_bitrate)) if load and load.bitrate else None
+        self.wire = times_of(Rates(load.bitrate, load.data_bitrate)) if load and load.bitrate else None
 
     def tick(self, seconds: float) -> tuple[Json, list[Row]]:
         """Returns how the interfaces are after these seconds, and the frames that came in them."""
@@ -223,6 +226,7 @@ class Watcher:
         ifaces = [[*bus.error_counters(), *one[3:]] for bus, one in zip(self.buses, stats)]
         missed = sum(one.dropped for one in stats)
         tick = {"time": time.time(), "ifaces": ifaces, "faults": faults, "loads": loads, "missed": missed}
+        self.note_times(rows.values())
         return tick, list(rows.values())
 
     def take(self, number: int, rows: dict[tuple[float, str, int], Row], faults: list[int]) -> None:
@@ -244,7 +248,7 @@ class Watcher:
             if key not in rows:
                 decoded = self.decoded(frame)
                 signals = None if decoded is None else [decoded.message, decoded.signals]
-                rows[key] = [frame.timestamp, str(frame), 0, says(frame, decoded), -1, self.busy(frame), signals]
+                rows[key] = [frame.timestamp, str(frame), 0, says(frame, decoded), -1, 0, signals]
             row = rows[key]
             row[2] |= 1 << number
             row[4] = row[4] if frame.is_rx else number
@@ -257,11 +261,21 @@ class Watcher:
         """What an error message frame says, or one that a file knows."""
         return says(frame, self.decoded(frame))
 
-    def busy(self, frame: Frame) -> int:
-        """How many nanoseconds a frame took the wire, with those that follow it; 0 where there is no bit rate."""
-        if self.wire is None or frame.is_error_frame:
-            return 0
-        return self.wire.times(str(frame), "done", "good").attempt
+    def note_times(self, rows: Iterable[Row]) -> None:
+        """Adds how many nanoseconds each frame took the wire, with the bits that follow it, where there is a bit rate."""
+        if self.wire is not None:
+            frames = list(filter(is_frame, rows))
+            for row, nanos in zip(frames, self.wire.of(row[1] for row in frames)):
+                row[5] = nanos
+
+
+def times_of(rates: Rates) -> Optional[FrameTimes]:
+    """How long frames take at these bit rates; None, and a note, where there is no program that says it."""
+    try:
+        return FrameTimes(rates)
+    except ProgramNotFound as fault:
+        print(f"canbusd watch: without bus load: {fault}", file=sys.stderr)
+        return None
 
 
 def says(frame: Frame, decoded: Optional[Decoded]) -> str:
