@@ -1,5 +1,5 @@
 #!/usr/bin/env python3
-"""How fast virtual time is: an idle hour, two nodes at 10 ms with candump, ten nodes at 10 ms.
+"""How fast virtual time is: an idle hour, two nodes at 10 ms with candump, ten nodes at 10 ms, ten with an empty filter.
 
     benches/virtual.py [SECONDS]    so many seconds of bus time (20), from which the rest is computed
 
@@ -28,32 +28,51 @@ TEN = SERVER + (
     'for k in 1 2 3 4 5 6 7 8 9; do aside "$NODES/cyclic" can$k 10$k 10000 $FRAMES; done; '
     'inside "$NODES/cyclic" can0 100 10000 $FRAMES; stop'
 )
+#: Seconds until all queues are full.
+FIRST = 10
+#: Its name, its source and a flag.
+NODES = (("cyclic", "cyclic", "-g0"), ("respond", "respond", "-g0"), ("sender", "cyclic", "-DSENDS_ONLY"))
+SENDERS = TEN.replace("cyclic", "sender")
 
 
-def measure(name, script, seconds, frames, whole, folder):
-    """Runs a script of so many seconds and frames; prints its cost, and that of the `whole`, in seconds of bus time."""
+def run(name, script, seconds, folder):
+    """Runs a script of so many seconds: the time of a processor, and the turns."""
     env = {**os.environ, "RUN": RUN, "CASES": CASES, "NODES": folder, "FRAMES": str(seconds * 100)}
     env.setdefault("CANBUSD", os.path.join(ROOT, "dist", "canbusd"))
-    env.update(OUT=os.path.join(folder, name.split()[0]), CANBUSD_RUN_DEBUG="1")
+    env.update(OUT=os.path.join(folder, f"{name.split()[0]}.{seconds}"), CANBUSD_RUN_DEBUG="1")
     before = resource.getrusage(resource.RUSAGE_CHILDREN)
     words = [RUN, "--virtual", "--", "bash", "-c", script]
     ended = subprocess.run(words, env=env, stderr=subprocess.PIPE, text=True, check=True)
     after = resource.getrusage(resource.RUSAGE_CHILDREN)
     used = after.ru_utime + after.ru_stime - before.ru_utime - before.ru_stime
-    turns = int(re.search(r"(\d+) turns", ended.stderr).group(1))
-    rate = f"{turns / frames:.1f} turns a frame, {used / turns * 1e6:.1f} us a turn, " if frames else ""
-    print(f"{name}: {rate}{used * whole / seconds:.1f} s of a processor for {whole} s of bus time", flush=True)
+    return used, int(re.search(r"(\d+) turns", ended.stderr).group(1))
+
+
+def measure(name, script, seconds, frames, whole, folder):
+    """Prints what so many seconds of a script cost after its first ones, in which queues become full, and what the
+    `whole` does. A second has so many frames; where it has none the whole is run."""
+    first, turns = run(name, script, FIRST if frames else whole, folder)
+    if not frames:
+        print(f"{name}: {first:.1f} s of a processor for {whole} s of bus time", flush=True)
+        return
+    used, all_turns = run(name, script, FIRST + seconds, folder)
+    used, turns = (used - first) / seconds, (all_turns - turns) / seconds
+    rate = f"{turns / frames:.1f} turns and {used / frames * 1e6:.1f} us a frame, {used / turns * 1e6:.1f} us a turn"
+    print(
+        f"{name}: {rate}, {first + used * (whole - FIRST):.1f} s of a processor for {whole} s of bus time", flush=True
+    )
 
 
 def main():
     seconds = int(sys.argv[1]) if len(sys.argv) > 1 else 20
     with tempfile.TemporaryDirectory() as folder:
-        for node in ("cyclic", "respond"):
-            source = os.path.join(ROOT, "tests", "virtual_c", f"{node}.c")
-            subprocess.run(["gcc", "-O1", "-o", os.path.join(folder, node), source], check=True)
+        for node, name, flag in NODES:
+            source = os.path.join(ROOT, "tests", "virtual_c", f"{name}.c")
+            subprocess.run(["gcc", "-O1", flag, "-o", os.path.join(folder, node), source], check=True)
         measure("idle, with candump", IDLE, 3600, 0, 3600, folder)
-        measure("two nodes and candump", TWO, seconds, 200 * seconds, 600, folder)
-        measure("ten nodes", TEN, seconds, 1000 * seconds, 3600, folder)
+        measure("two nodes and candump", TWO, seconds, 200, 600, folder)
+        measure("ten nodes", TEN, seconds, 1000, 3600, folder)
+        measure("senders, ten", SENDERS, seconds, 1000, 3600, folder)
 
 
 if __name__ == "__main__":

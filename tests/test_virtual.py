@@ -30,7 +30,7 @@ needs_tools = needs("candump", "cangen", "canplayer")
 def nodes(tmp_path_factory):
     """The folder of the C programs."""
     folder = tmp_path_factory.mktemp("nodes")
-    for name in ("bcm", "cyclic", "isotp", "race", "respond", "unseen", "waits"):
+    for name in ("bcm", "cyclic", "full", "isotp", "lent", "race", "respond", "slow_end", "unseen", "waits"):
         source = os.path.join(SOURCES, f"{name}.c")
         subprocess.run(["gcc", *FLAGS, "-o", str(folder / name), source], check=True)
     return folder
@@ -130,7 +130,8 @@ def test_isotp(tmp_path, nodes):
 
 
 SAME = [
-    *(("nodes", ""), ("tools", ""), ("isotp", ""), ("bcm", ""), ("davis", ""), ("bus_off", "auto")),
+    *(("nodes", ""), ("tools", ""), ("isotp", ""), ("bcm", ""), ("davis", ""), ("senders", "")),
+    ("bus_off", "auto"),
     *(pytest.param(*words, marks=needs_can) for words in (("bus_off", "program"), ("pytest", ""))),
     *(pytest.param("python", kind, marks=needs_can) for kind in ("socketcan", "canbusd")),
 ]
@@ -168,6 +169,55 @@ def test_same_bytes_beside_others(tmp_path, nodes, name, kind):
         for burner in burners:
             burner.kill()
             burner.wait()
+
+
+def sockets(folder, nodes, script):
+    """Runs a shell script between start and stop of a server; what it printed, the frames of can0, the turns taken."""
+    settings = {"RUN": command(), "CANBUSD": program(), "NODES": str(nodes), "CASES": CASES, "OUT": str(folder)}
+    script = f'. "$CASES/server.sh"; start can0,can1; {script}; stop; cat "$OUT/errors"'
+    ended = virtual("bash", "-c", script, env={**os.environ, **settings, "CANBUSD_RUN_DEBUG": "1"})
+    assert ended.returncode == 0, ended
+    frames = (folder / "can0.log").read_text().count("\n")
+    return ended.stdout, frames, int(re.search(r"(\d+) turns", ended.stderr).group(1))
+
+
+@needs_gcc
+def test_full_queue(tmp_path, nodes):
+    """a program that does not read keeps the frames that came first, and gets those again that come once it reads"""
+    script = 'aside "$NODES/full" can1 8 9>&-; node=$!; inside "$NODES/cyclic" can0 100 1000 12000; wait $node'
+    text, frames, _ = sockets(tmp_path / "run", nodes, script)
+    parts = [[int(number) for number in part.split("-")] for part in text.split()]
+    assert frames == 12000 + 800
+    assert len(parts) == 2 and parts[0][0] == 0 and 4096 <= parts[0][1] < 6000, text
+    assert parts[1][0] < 8200 and parts[1][1] == 11999, text
+
+
+@needs_gcc
+def test_turns_of_a_sender(tmp_path, nodes):
+    """a frame takes four turns where its sender does not read: two of it, and two of the server"""
+    few, many = (
+        sockets(tmp_path / str(count), nodes, f'inside "$NODES/lent" turns {count}')[1:] for count in (1000, 3000)
+    )
+    assert (many[0] - few[0], many[1] - few[1]) == (2000, pytest.approx(8000, abs=100))
+
+
+@needs_gcc
+def test_lent_sessions(tmp_path, nodes):
+    """programs that only send: the same verdicts, frames that are theirs, descriptors and processes that come and go"""
+    plain = sockets(tmp_path / "plain", nodes, 'inside "$NODES/lent" plain')
+    assert plain[0] == 3 * (10 * "0 " + 30 * "105 " + "\n") and plain[1] == 30
+    assert sockets(tmp_path / "filter", nodes, 'inside "$NODES/lent" filter')[:2] == plain[:2]
+    own = sockets(tmp_path / "own", nodes, 'inside "$NODES/lent" own')
+    assert own[:2] == ("16 40 1\n16 41 1\n16 42 1\n", 43)
+    for word, count in (("many", 800), ("fork", 48), ("closed", 16)):
+        assert sockets(tmp_path / word, nodes, f'inside "$NODES/lent" {word}')[:2] == ("", count), word
+    script = 'aside "$NODES/lent" gone; node=$!; sleep 1; exec 9>&-; wait $node'
+    assert sockets(tmp_path / "gone", nodes, script)[:2] == ("-1 No such device\n", 8)
+    for number in range(5):
+        script = (
+            f'aside "$NODES/lent" turns 500; node=$!; sleep 0.{number}1; kill -9 $node; inside "$NODES/lent" filter'
+        )
+        assert sockets(tmp_path / f"killed{number}", nodes, script)[0] == plain[0]
 
 
 @needs_gcc
@@ -365,6 +415,33 @@ def test_slow_start(tmp_path):
     subprocess.run(["gcc", *FLAGS, "-shared", "-fPIC", "-o", library, str(tmp_path / "slow.c")], check=True)
     ended = virtual("sleep", "1", env={**os.environ, "LD_PRELOAD": library})
     assert (ended.returncode, ended.stdout, ended.stderr) == (0, "", ""), ended
+
+
+#: Prints after how many seconds its input has ended.
+END_OF_INPUT = """
+import select, sys, time
+begun = time.monotonic()
+ready = select.select([sys.stdin], [], [], 60)[0]
+print(f"{time.monotonic() - begun:.3f}", ready and sys.stdin.read())
+"""
+
+
+@needs_gcc
+def test_slow_end(nodes):
+    """no time passes while a program that has ended still has threads that are to end, on a busy processor"""
+    processor = {min(os.sched_getaffinity(0))}
+    burners = [subprocess.Popen(["sh", "-c", "while :; do :; done"]) for _ in range(2)]
+    try:
+        for burner in burners:
+            os.sched_setaffinity(burner.pid, processor)
+        script = '"$0" | "$1" -c "$2"'
+        words = ("sh", "-c", script, nodes / "slow_end", sys.executable, END_OF_INPUT)
+        runs = [virtual(*words, preexec_fn=lambda: os.sched_setaffinity(0, processor)) for _ in range(3)]
+    finally:
+        for burner in burners:
+            burner.kill()
+            burner.wait()
+    assert [(ended.returncode, ended.stdout) for ended in runs] == 3 * [(0, "1.000 \n")], runs
 
 
 @pytest.mark.parametrize(

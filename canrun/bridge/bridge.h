@@ -12,6 +12,7 @@
 #include <stdbool.h>
 #include <stddef.h>
 #include <stdint.h>
+#include <sys/types.h>
 
 /* The bridge's end of the pair. */
 #define PROGRAM 3
@@ -21,6 +22,7 @@
 #define PATIENCE 5
 #define SECOND 1000000000ull
 #define MIN(a, b) ((a) < (b) ? (a) : (b))
+#define MAX(a, b) ((a) > (b) ? (a) : (b))
 
 /* A frame, as it comes and goes: of 16 bytes or, an FD frame, of 72. */
 struct item {
@@ -75,7 +77,10 @@ enum due { DUE_NOTHING, DUE_ECHO, DUE_VERDICT };
 
 struct session {
     int fd;                     /* -1: it has ended */
+    uint32_t number;            /* no other session of this bridge has it, and none has 0 */
     int index;                  /* of its interface */
+    bool is_local;              /* by a Unix socket, which takes a command whole, or not at all */
+    bool is_shared;             /* programs have copies of its descriptor */
     bool is_receiving;          /* for what the socket is bound to, and not only to send */
     bool is_counting;           /* a reply to session_ask_counts is due */
     uint32_t dropped;           /* by the server, as far as is known */
@@ -106,6 +111,16 @@ int session_command(struct session *session, const char *text);
 
 /* Sends a frame, and returns the server's verdict. */
 int session_send(struct session *session, const struct canfd_frame *frame, bool is_fd);
+
+/* Whether the server sends nothing by this session but replies, and none is due. */
+bool session_brings_nothing(const struct session *session);
+
+/* A program has sent a frame by this session, which got this number. */
+void session_note_number(struct session *session, uint64_t number);
+
+/* Waits for the reply to a frame that a program has sent by this session, and has read this much of; `is_new` where the
+ * program has not waited in vain. Returns 0, or an errno. */
+int session_take_over(struct session *session, const char *text, size_t length, bool is_new);
 
 /* Asks for the counts, which come in the order of the frames; nothing waits for them. */
 void session_ask_counts(struct session *session);
@@ -157,6 +172,9 @@ void room_forget(void (*done)(const struct later *later, int error));
 
 /* What waits at this interface is given up. */
 void room_leave(int index);
+
+/* Whether no frame waits. */
+bool room_is_idle(void);
 
 /* Whether a frame waits whose write has returned. */
 bool room_has_unasked(void);
@@ -218,13 +236,18 @@ void outbox_put(const void *data, size_t length, uint64_t moment, int index, uin
 /* Wakes who waits for the socket to be read: it has an error. */
 void outbox_ring(void);
 
-/* Hands over what the program's socket has room for. */
+/* Hands over what the program's socket has room for; poll has said that it has. */
 void outbox_flush(void);
+void outbox_has_room(void);
 bool outbox_is_empty(void);
 
 /* Whether the server should keep what comes, as the program reads too slowly. One that has set SO_RCVBUF is to lose it.
  */
 bool outbox_is_crowded(void);
+
+/* Whether what comes is lost, as the program does not read: from the first loss on until half of the room is free. Not
+ * where the program wants to know how many were lost. */
+bool outbox_is_full(void);
 
 /* An option of SOL_SOCKET that the program has set. */
 void outbox_set(int option, int number);
@@ -261,6 +284,10 @@ int raw_send(struct session *to, const struct canfd_frame *frame, bool is_fd, co
 /* Whether writes wait for room. */
 bool raw_waits(void);
 
+/* In virtual time, has the server queue nothing for a program that would lose it, so that nobody takes a turn for it.
+ */
+void raw_note_room(void);
+
 void raw_receive(const struct item *item, int index);
 
 /* Writes the commands that change what the session has into what the socket has, and notes it as given. */
@@ -272,6 +299,16 @@ int raw_want(const struct can_filter *filters, size_t count);
 void raw_want_fd(bool has_fd);
 void raw_want_own(void);
 
+/* ---- turn.c: virtual time ---- */
+
+bool is_virtual(void);
+
+/* Wakes who waits for a reply with this number. */
+void wake_number(uint64_t number);
+
+/* As recv, but waits for at most this many nanoseconds; it does not look before what is there. */
+ssize_t receive_within(int fd, void *data, size_t length, uint64_t nanoseconds);
+
 /* ---- quick.c: replies in memory ---- */
 
 /* Sends the descriptor of the memory by this end of a pair; returns SENT_LATER. */
@@ -279,6 +316,11 @@ int quick_share(int to);
 
 /* Carries out a quick write; false where the data are none. */
 bool quick_serve(const char *data, size_t length);
+
+/* In virtual time: lends the session to the programs of the socket, where that can be; and takes it back, after what
+ * they have begun. */
+bool quick_lend(void);
+void quick_take_back(void);
 
 /* ---- bcm.c: CAN_BCM ---- */
 

@@ -79,6 +79,7 @@ static bool close_is_over(void) {
 static void serve(void) {
     uint64_t closed = 0;
     for (;;) {
+        raw_note_room();
         int64_t due = do_due();
         request_release();
         if (closed && (!is_busy(closed) || close_is_over())) {
@@ -112,5 +113,6 @@ int main(void) {
         raw_want_own();
     }
     serve();
+    sessions_leave();
     return 0;
 }

@@ -27,7 +27,10 @@ static char ring[RING];
 /* Messages are from `first` on; where `end` is not after it, they go on at 0 after `wrap`. */
 static size_t first, end, wrap;
 static unsigned count, room = USUAL_ROOM;
-static uint32_t dropped;
+static uint32_t dropped, dropped_before;
+static bool is_full;
+/* In virtual time: the program's socket has no room, until poll says so; looking again is a call of the kernel. */
+static bool is_blocked;
 static bool is_counted, is_stamped;
 static unsigned uncounted;
 static uint64_t count_at;
@@ -95,8 +98,12 @@ static size_t after(size_t at) {
     return next == wrap && end <= first ? 0 : next;
 }
 
+void outbox_has_room(void) {
+    is_blocked = false;
+}
+
 void outbox_flush(void) {
-    while (count) {
+    while (count && !is_blocked) {
         struct mmsghdr messages[BATCH] = {0};
         struct iovec parts[BATCH];
         unsigned batch = MIN(count, BATCH);
@@ -113,6 +120,7 @@ void outbox_flush(void) {
             first = after(first);
         }
         if (sent < (int)batch) {
+            is_blocked = count > 0 && is_virtual();
             return;
         }
     }
@@ -120,6 +128,16 @@ void outbox_flush(void) {
 
 bool outbox_is_crowded(void) {
     return room == USUAL_ROOM && count >= CROWDED;
+}
+
+bool outbox_is_full(void) {
+    if (!is_full && dropped != dropped_before) {
+        is_full = !is_counted;
+    } else if (is_full) {
+        is_full = count > room / 2 && !is_counted;
+    }
+    dropped_before = dropped;
+    return is_full;
 }
 
 bool outbox_is_empty(void) {

@@ -33,19 +33,32 @@ static void make_memory(void) {
     }
 }
 
-static void send_descriptor(int to) {
+/* The one session that may be lent; NULL where there is none. */
+static struct session *session_to_lend(void) {
+    bool is_one = is_virtual() && memory && session_count == 1 && is_bound && sessions[0]->index == bound_index;
+    return is_one && sessions[0]->fd >= 0 && sessions[0]->is_local ? sessions[0] : NULL;
+}
+
+static void send_descriptors(int to) {
+    struct session *session = session_to_lend();
+    int fds[2] = {shared, session ? session->fd : -1};
+    size_t size = session ? sizeof fds : sizeof *fds;
     union {
-        char room[CMSG_SPACE(sizeof(int))];
+        char room[CMSG_SPACE(sizeof fds)];
         struct cmsghdr align;
     } control = {.room = {0}};
     struct iovec part = {"", 1};
     struct msghdr message = {
-        .msg_iov = &part, .msg_iovlen = 1, .msg_control = &control, .msg_controllen = sizeof control};
+        .msg_iov = &part, .msg_iovlen = 1, .msg_control = &control, .msg_controllen = CMSG_SPACE(size)};
     struct cmsghdr *rights = CMSG_FIRSTHDR(&message);
     rights->cmsg_level = SOL_SOCKET;
     rights->cmsg_type = SCM_RIGHTS;
-    rights->cmsg_len = CMSG_LEN(sizeof(int));
-    memcpy(CMSG_DATA(rights), &shared, sizeof(int));
+    rights->cmsg_len = CMSG_LEN(size);
+    memcpy(CMSG_DATA(rights), fds, size);
+    memory->loan.shared = session ? session->number : 0;
+    if (session) {
+        session->is_shared = true;
+    }
     if (sendmsg(to, &message, MSG_NOSIGNAL | MSG_DONTWAIT) < 0) {
         /* Who asked is gone. */
     }
@@ -56,7 +69,7 @@ int quick_share(int to) {
         make_memory();
     }
     if (memory) {
-        send_descriptor(to);
+        send_descriptors(to);
     }
     close(to);
     return SENT_LATER;
@@ -66,7 +79,39 @@ static void put_reply(struct wire_place *place, int error, int value, bool is_no
     place->reply = (struct wire_reply){error, value, is_nowhere};
     snprintf(place->text, sizeof place->text, "%s", error ? refusal : "");
     __atomic_store_n(&place->state, PLACE_REPLIED, __ATOMIC_RELEASE);
-    syscall(SYS_futex, &place->state, FUTEX_WAKE, 1, NULL, NULL, 0);
+    if (is_virtual()) {
+        wake_number(memory->key + (uint64_t)(place - memory->places));
+    } else {
+        syscall(SYS_futex, &place->state, FUTEX_WAKE, 1, NULL, NULL, 0);
+    }
+}
+
+bool quick_lend(void) {
+    struct session *session = session_to_lend();
+    bool may = session && session_brings_nothing(session) && room_is_idle() && !raw_waits();
+    if (may) {
+        memory->loan.session = session->number;
+    }
+    return may;
+}
+
+void quick_take_back(void) {
+    struct wire_loan *loan = memory ? &memory->loan : NULL;
+    if (!loan || !loan->session) {
+        return;
+    }
+    struct session *session = sessions[0];
+    uint32_t asked = loan->asked, left = loan->left;
+    for (uint32_t i = 0; i < MIN(loan->count, WIRE_NUMBERS); i++) {
+        session_note_number(session, loan->numbers[i]);
+    }
+    loan->session = loan->asked = loan->left = loan->count = 0;
+    if ((asked || left) && MAX(asked, left) <= WIRE_PLACES) {
+        struct wire_place *place = &memory->places[MAX(asked, left) - 1];
+        __atomic_store_n(&place->state, PLACE_TAKEN, __ATOMIC_RELEASE);
+        size_t length = left ? MIN(place->reply.length, sizeof place->text) : 0;
+        put_reply(place, session_take_over(session, place->text, length, asked), CAN_MTU, false);
+    }
 }
 
 bool quick_serve(const char *data, size_t length) {
@@ -77,6 +122,9 @@ bool quick_serve(const char *data, size_t length) {
     memcpy(&quick, data, sizeof quick);
     if (quick.key != memory->key || quick.place >= WIRE_PLACES) {
         return false;
+    }
+    if (quick.ifindex == WIRE_LEFT) {
+        return true; /* It has its reply since this bridge woke. */
     }
     data += sizeof quick;
     length -= sizeof quick;

@@ -73,10 +73,14 @@ static size_t filter_command(char *text, size_t size, bool is_none) {
     return (size_t)snprintf(text, size, "< filter %d%s >", count, is_none ? "" : words);
 }
 
+/* Whether the program's queue is full, and the server queues nothing for it. */
+static bool is_full;
+
 void raw_setup(struct session *session, char *text, size_t size) {
     struct options wanted = options, *given = &session->given;
-    if (session->is_receiving) {
+    if (session->is_receiving && !is_full) {
         wanted.errors = error_classes();
+        wanted.filters = filter_count ? wanted.filters : NO_FILTERS;
     } else {
         wanted.errors = 0;
         wanted.receive_own = 0;
@@ -206,6 +210,13 @@ bool raw_is_error(const void *data) {
     canid_t identifier;
     memcpy(&identifier, data, sizeof identifier);
     return identifier & CAN_ERR_FLAG;
+}
+
+void raw_note_room(void) {
+    if (is_virtual() && protocol == WIRE_RAW && outbox_is_full() != is_full) {
+        is_full = !is_full;
+        sessions_apply();
+    }
 }
 
 int raw_write(int index, const void *data, size_t length, const struct later *later) {

@@ -154,6 +154,10 @@ int64_t room_due(void) {
     return next;
 }
 
+bool room_is_idle(void) {
+    return count == 0;
+}
+
 bool room_takes_requests(void) {
     return count < WAITERS;
 }

@@ -41,6 +41,9 @@ static void lose(struct session *session) {
 
 void session_end(struct session *session) {
     if (session && session->fd >= 0) {
+        if (session->is_shared) {
+            shutdown(session->fd, SHUT_RDWR); /* Programs have copies. */
+        }
         close(session->fd);
     }
     free(session);
@@ -145,9 +148,17 @@ static void handle_input(struct session *session) {
     }
 }
 
+/* How long a read waits, in nanoseconds: writes of several threads do not wait one after the other for a server that
+ * does not reply. */
+static uint64_t patience_with(const struct session *session) {
+    return session->is_silent ? SECOND / 10 : PATIENCE * SECOND;
+}
+
 bool session_read(struct session *session, bool waits) {
-    ssize_t length = recv(session->fd, session->input + session->have, sizeof session->input - session->have,
-                          waits ? 0 : MSG_DONTWAIT);
+    char *at = session->input + session->have;
+    size_t room = sizeof session->input - session->have;
+    ssize_t length = waits && is_virtual() ? receive_within(session->fd, at, room, patience_with(session))
+                                           : recv(session->fd, at, room, waits ? 0 : MSG_DONTWAIT);
     if (length > 0) {
         session->have += (size_t)length;
         handle_input(session);
@@ -180,10 +191,10 @@ static void put_text(struct session *session, const char *text, size_t length) {
     }
 }
 
-/* How long a read waits: writes of several threads do not wait one after the other for a server that does not reply. */
 static void set_silent(struct session *session, bool is_silent) {
-    const struct timeval time = {is_silent ? 0 : PATIENCE, is_silent ? 100000 : 0};
     session->is_silent = is_silent;
+    const uint64_t patience = patience_with(session);
+    const struct timeval time = {(time_t)(patience / SECOND), (suseconds_t)(patience % SECOND / 1000)};
     setsockopt(session->fd, SOL_SOCKET, SO_RCVTIMEO, &time, sizeof time);
 }
 
@@ -201,21 +212,48 @@ static bool settle(struct session *session) {
     return true;
 }
 
-/* Gives commands that end with this reply, and waits for it; after what was given up as the server did not reply. */
-static int give(struct session *session, const char *text, size_t length, enum due due) {
-    static const char silent[] = "the server does not reply";
+/* Waits for what is due. Returns 0, or the errno of the refusal. */
+static int verdict(struct session *session) {
     if (!settle(session)) {
-        return refused(ETIMEDOUT, silent);
-    }
-    session->reply[0] = 0;
-    session->due = due;
-    put_text(session, text, length);
-    if (!settle(session)) {
-        return refused(ETIMEDOUT, silent);
+        return refused(ETIMEDOUT, "the server does not reply");
     }
     /* What it said before its end counts: it may have too many sessions. */
     int error = error_of(session->reply);
     return error ? error : session->due ? refused(ENXIO, "the server is gone") : 0;
+}
+
+/* Gives commands that end with this reply, and waits for it; after what was given up as the server did not reply. */
+static int give(struct session *session, const char *text, size_t length, enum due due) {
+    if (!settle(session)) {
+        return refused(ETIMEDOUT, "the server does not reply");
+    }
+    session->reply[0] = 0;
+    session->due = due;
+    put_text(session, text, length);
+    return verdict(session);
+}
+
+/* ---- what a program did with the session while that was lent ---- */
+
+bool session_brings_nothing(const struct session *session) {
+    return session->fd >= 0 && session->is_local && session->given.filters == NO_FILTERS && !session->given.errors &&
+           !session->have && !session->due && !session->is_counting && !session->is_silent;
+}
+
+void session_note_number(struct session *session, uint64_t number) {
+    keep_number(session, number);
+}
+
+int session_take_over(struct session *session, const char *text, size_t length, bool is_new) {
+    if (!length && !is_new) {
+        set_silent(session, true); /* The program has waited already. */
+    }
+    memcpy(session->input, text, length);
+    session->have = length;
+    session->reply[0] = 0;
+    session->due = DUE_VERDICT;
+    handle_input(session);
+    return verdict(session);
 }
 
 int session_command(struct session *session, const char *text) {
@@ -245,6 +283,11 @@ struct session *session_start(int *error) {
     } else if ((session->fd = address_connect(&address)) < 0) {
         *error = refused(ENODEV, "there is no server at CANBUSD_ADDRESS");
     } else {
+        static uint32_t count;
+        int domain = 0;
+        session->number = ++count;
+        getsockopt(session->fd, SOL_SOCKET, SO_DOMAIN, &domain, &(socklen_t){sizeof domain});
+        session->is_local = domain == AF_UNIX;
         set_silent(session, false);
         *error = session_command(session, "");
         if (!*error && strcmp(session->reply, "hi") != 0) {

@@ -27,13 +27,18 @@ bool wait_for_input(int64_t nanoseconds, bool takes_requests) {
     polled[0] = (struct pollfd){is_closing ? request_closer() : PROGRAM, is_closing ? POLLIN : events, 0};
     polled[0].events &= (short)(news >= 0 ? ~POLLIN : ~0);
     polled[1] = (struct pollfd){news, POLLIN, 0};
+    /* Who has borrowed the session reads its replies; only its end is for this bridge. */
+    short news_of_session = quick_lend() ? POLLRDHUP : POLLIN;
     for (int i = 0; i < session_count; i++) {
-        polled[2 + i] = (struct pollfd){outbox_is_crowded() ? -1 : sessions[i]->fd, POLLIN, 0};
+        polled[2 + i] = (struct pollfd){outbox_is_crowded() ? -1 : sessions[i]->fd, news_of_session, 0};
     }
-    if (wait_for(polled, 2 + (nfds_t)session_count, is_kept ? 0 : nanoseconds) <= 0) {
+    int ready = wait_for(polled, 2 + (nfds_t)session_count, is_kept ? 0 : nanoseconds);
+    quick_take_back();
+    if (ready <= 0) {
         return is_kept;
     }
     if (polled[0].revents & POLLOUT) {
+        outbox_has_room();
         outbox_flush();
     }
     for (int i = 0; i < session_count; i++) {

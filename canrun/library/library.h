@@ -134,6 +134,25 @@ enum quick { QUICK_DONE, QUICK_REFUSED, QUICK_NO_ROOM, QUICK_NONE };
 enum quick ask_quickly(int fd, const struct kind *kind, const struct wire_request *request, const struct iovec *data,
                        size_t pieces, struct answer *answer);
 
+/* ---- loan.c: in virtual time, writes by a session that the bridge lends ---- */
+
+/* A copy of its descriptor. */
+struct loaned {
+    int fd; /* 0: none */
+    uint32_t session;
+    uint64_t inode;
+};
+void loan_keep(struct loaned *copy, int fd, uint32_t session);
+void loan_forget(struct loaned *copy);
+/* Whether a session is lent of which this is no copy. */
+bool loan_is_new(const struct wire_memory *memory, const struct loaned *copy);
+
+/* Makes a write by the session, whose reply comes at this place: it is there; the bridge is to look at what is left; or
+ * the write can't be made so. */
+enum talk { TALK_DONE, TALK_LEFT, TALK_NONE };
+enum talk loan_talk(struct wire_memory *memory, const struct loaned *copy, const struct wire_request *request,
+                    const struct iovec *data, size_t pieces, uint32_t at);
+
 /* Takes the error that a socket has by itself, as SO_ERROR does; 0 where it has none. It leaves errno as it was. */
 int take_error(int fd);
 

@@ -2,7 +2,7 @@
  *
  * The memory is that of the socket with this name, whatever becomes of descriptors: so nothing has to be seen of close,
  * dup, fork and SCM_RIGHTS. A process asks for it once it has written some frames to a socket, and keeps it for a few
- * sockets, as a cache does. In virtual time replies come by pipes, whose waits the run sees. */
+ * sockets, as a cache does. In virtual time it waits as the run's library has it, which knows the wait by its key. */
 #define _GNU_SOURCE
 #include "library.h"
 
@@ -31,8 +31,13 @@ static struct known {
     uint32_t writes;
     char name[WIRE_NAME_ROOM];
     struct wire_memory *memory;
+    struct loaned copy;
 } known[KNOWN];
 static bool is_off;
+
+/* The run's library has it, where there is one. */
+__attribute__((weak)) long canbusd_virtual_wait(uint32_t *word, uint32_t expected, uint64_t key,
+                                                const struct timespec *time);
 
 /* Other threads are not in the child of a fork. */
 static void forget_users(void) {
@@ -45,7 +50,7 @@ static void forget_users(void) {
 }
 
 __attribute__((constructor)) static void start(void) {
-    is_off = getenv("CANBUSD_RUN_VIRTUAL") || pthread_atfork(NULL, NULL, forget_users);
+    is_off = (getenv("CANBUSD_RUN_VIRTUAL") && !canbusd_virtual_wait) || pthread_atfork(NULL, NULL, forget_users);
 }
 
 static void leave(struct known *one) {
@@ -61,6 +66,7 @@ static void change(struct known *one, const char *name) {
     if (one->memory) {
         syscall(SYS_munmap, one->memory, sizeof *one->memory);
     }
+    loan_forget(&one->copy);
     one->memory = NULL;
     one->writes = 0;
     memcpy(one->name, name, sizeof one->name);
@@ -88,10 +94,10 @@ static struct known *enter(const char *name) {
 
 /* ---- getting the memory ---- */
 
-/* The descriptor that comes by this end of a pair; -1 where none does. */
-static int receive_descriptor(int from) {
+/* The descriptors that come by this end of a pair: of the memory, and of a session that may be lent; -1 for none. */
+static void receive_descriptors(int from, int fds[2]) {
     union {
-        char room[CMSG_SPACE(sizeof(int))];
+        char room[CMSG_SPACE(2 * sizeof(int))];
         struct cmsghdr align;
     } control;
     char byte;
@@ -102,45 +108,59 @@ static int receive_descriptor(int from) {
     while ((length = syscall(SYS_recvmsg, from, &message, MSG_CMSG_CLOEXEC)) < 0 && errno == EINTR) {
     }
     struct cmsghdr *rights = length > 0 ? CMSG_FIRSTHDR(&message) : NULL;
-    int fd = -1;
     if (rights) {
-        memcpy(&fd, CMSG_DATA(rights), sizeof fd);
+        memcpy(fds, CMSG_DATA(rights), MIN(rights->cmsg_len - CMSG_LEN(0), 2 * sizeof(int)));
     }
-    return fd;
 }
 
-static int ask_for_descriptor(int fd) {
-    int pair[2], shared = -1;
+static void ask_for_descriptors(int fd, int fds[2]) {
+    int pair[2];
     if (syscall(SYS_socketpair, AF_UNIX, SOCK_STREAM | SOCK_CLOEXEC, 0, pair)) {
-        return -1;
+        return;
     }
     int error = put_request(fd, pair[1], &(struct wire_request){.kind = WIRE_SHARE}, NULL, 0);
     syscall(SYS_close, pair[1]);
-    shared = error ? -1 : receive_descriptor(pair[0]);
+    if (!error) {
+        receive_descriptors(pair[0], fds);
+    }
     syscall(SYS_close, pair[0]);
-    return shared;
 }
 
 /* The descriptor may be another socket's by now. */
-static struct wire_memory *map(int fd, const char *name) {
-    int before = errno, shared = ask_for_descriptor(fd);
+static struct wire_memory *map(int fd, const char *name, struct loaned *copy) {
+    int before = errno, fds[2] = {-1, -1};
     struct wire_memory *memory = MAP_FAILED;
-    if (shared >= 0) {
-        memory = mmap(NULL, sizeof *memory, PROT_READ | PROT_WRITE, MAP_SHARED, shared, 0);
-        syscall(SYS_close, shared);
+    ask_for_descriptors(fd, fds);
+    if (fds[0] >= 0) {
+        memory = mmap(NULL, sizeof *memory, PROT_READ | PROT_WRITE, MAP_SHARED, fds[0], 0);
+        syscall(SYS_close, fds[0]);
     }
     errno = before;
     if (memory != MAP_FAILED && memcmp(memory->name, name, sizeof memory->name)) {
         munmap(memory, sizeof *memory);
         memory = MAP_FAILED;
     }
+    loan_keep(copy, fds[1], memory == MAP_FAILED ? 0 : memory->loan.shared);
+    errno = before;
     return memory == MAP_FAILED ? NULL : memory;
+}
+
+/* Asks for the descriptor of the session that is lent now. */
+static void borrow(struct known *one, int fd) {
+    int before = errno, fds[2] = {-1, -1};
+    uint32_t session = one->memory->loan.session;
+    ask_for_descriptors(fd, fds);
+    if (fds[0] >= 0) {
+        syscall(SYS_close, fds[0]);
+    }
+    loan_keep(&one->copy, fds[1], fds[1] >= 0 ? one->memory->loan.shared : session);
+    errno = before;
 }
 
 static struct wire_memory *memory_of(struct known *one, int fd) {
     if (__atomic_load_n(&one->writes, __ATOMIC_RELAXED) < ASKING &&
         __atomic_add_fetch(&one->writes, 1, __ATOMIC_RELAXED) == ASKING) {
-        __atomic_store_n(&one->memory, map(fd, one->name), __ATOMIC_RELEASE);
+        __atomic_store_n(&one->memory, map(fd, one->name, &one->copy), __ATOMIC_RELEASE);
     }
     return __atomic_load_n(&one->memory, __ATOMIC_ACQUIRE);
 }
@@ -167,7 +187,11 @@ static int put_quick(int fd, const struct wire_quick *quick, const struct iovec 
     struct msghdr message = {.msg_iov = parts, .msg_iovlen = 1 + pieces};
     parts[0] = (struct iovec){(void *)quick, sizeof *quick};
     memcpy(parts + 1, data, pieces * sizeof *data);
-    return syscall(SYS_sendmsg, fd, &message, MSG_NOSIGNAL) >= 0 ? 0 : errno;
+    /* There is room nearly always; looking for it first is a call more, in virtual time. */
+    return syscall(SYS_sendmsg, fd, &message, MSG_NOSIGNAL | MSG_DONTWAIT) >= 0 ? 0
+           : errno != EAGAIN                                                    ? errno
+           : syscall(SYS_sendmsg, fd, &message, MSG_NOSIGNAL) >= 0              ? 0
+                                                                                : errno;
 }
 
 /* Whether no reply will come: the bridge is gone, or the descriptor was another socket's when the request was sent. */
@@ -177,13 +201,21 @@ static bool is_lost(int fd, const char *name) {
            (syscall(SYS_ppoll, &polled, 1L, &(struct timespec){0, 0}, NULL, 0L) > 0 && polled.revents & POLLHUP);
 }
 
-/* Waits for the reply. No signal ends that: the verdict comes soon. */
-static bool await_reply(int fd, const char *name, struct wire_place *place) {
+static uint32_t state_of(const struct wire_place *place) {
+    return __atomic_load_n(&place->state, __ATOMIC_ACQUIRE);
+}
+
+static long wait_for_reply(struct wire_place *place, uint32_t state, uint64_t key) {
     const struct timespec look = {1, 0};
-    while (__atomic_load_n(&place->state, __ATOMIC_ACQUIRE) == PLACE_ASKED) {
-        long result = syscall(SYS_futex, &place->state, FUTEX_WAIT, PLACE_ASKED, &look, NULL, 0);
-        if (result < 0 && errno == ETIMEDOUT && is_lost(fd, name) &&
-            __atomic_load_n(&place->state, __ATOMIC_ACQUIRE) == PLACE_ASKED) {
+    return canbusd_virtual_wait ? canbusd_virtual_wait(&place->state, state, key, &look)
+                                : syscall(SYS_futex, &place->state, FUTEX_WAIT, state, &look, NULL, 0);
+}
+
+/* Waits for the reply. No signal ends that: the verdict comes soon. */
+static bool await_reply(int fd, const char *name, struct wire_place *place, uint64_t key) {
+    for (uint32_t state; (state = state_of(place)) != PLACE_REPLIED;) {
+        long result = wait_for_reply(place, state, key);
+        if (result < 0 && errno == ETIMEDOUT && is_lost(fd, name) && state_of(place) != PLACE_REPLIED) {
             return false;
         }
     }
@@ -203,22 +235,27 @@ static enum quick get_reply(const struct wire_place *place, struct answer *answe
     return QUICK_DONE;
 }
 
-static enum quick write_by(struct wire_memory *memory, int fd, const struct kind *kind,
-                           const struct wire_request *request, const struct iovec *data, size_t pieces,
-                           struct answer *answer) {
+static enum quick write_by(struct known *one, int fd, const struct kind *kind, const struct wire_request *request,
+                           const struct iovec *data, size_t pieces, struct answer *answer) {
+    struct wire_memory *memory = one->memory;
     struct wire_place *place = take_place(memory);
     int before = errno;
     if (!place) {
         return QUICK_NONE;
     }
     struct wire_quick quick = {memory->key, request->ifindex, (uint32_t)(place - memory->places)};
-    int error = put_quick(fd, &quick, data, pieces);
+    enum talk talk = loan_talk(memory, &one->copy, request, data, pieces, quick.place);
+    if (talk == TALK_LEFT) {
+        quick.ifindex = WIRE_LEFT;
+        pieces = 0;
+    }
+    int error = talk == TALK_DONE ? 0 : put_quick(fd, &quick, data, pieces);
     if (error) {
         free_place(place);
         refuse_unsent("write", error);
         return QUICK_REFUSED;
     }
-    if (!await_reply(fd, kind->name, place)) {
+    if (!await_reply(fd, kind->name, place, memory->key + quick.place)) {
         refuse_unsent("write", EPIPE);
         return QUICK_REFUSED; /* The place stays taken, as a reply may come even so. */
     }
@@ -235,7 +272,10 @@ enum quick ask_quickly(int fd, const struct kind *kind, const struct wire_reques
         return QUICK_NONE;
     }
     struct wire_memory *memory = memory_of(one, fd);
-    enum quick result = memory ? write_by(memory, fd, kind, request, data, pieces, answer) : QUICK_NONE;
+    if (memory && loan_is_new(memory, &one->copy)) {
+        borrow(one, fd);
+    }
+    enum quick result = memory ? write_by(one, fd, kind, request, data, pieces, answer) : QUICK_NONE;
     leave(one);
     return result;
 }

@@ -73,15 +73,36 @@ struct wire_place {
     struct wire_reply reply; /* without data; its error may be WIRE_NO_ROOM */
     char text[240];          /* why there is an error */
 };
-enum wire_state { PLACE_FREE, PLACE_ASKED, PLACE_REPLIED };
+enum wire_state {
+    PLACE_FREE,
+    PLACE_ASKED,
+    PLACE_TAKEN, /* the bridge has taken back what it had lent, and reads the reply */
+    PLACE_REPLIED
+};
 /* There is no room, and the write is to wait for it: it is asked for again, by a pipe. */
 #define WIRE_NO_ROOM (-1)
+
+/* In virtual time: the session of a socket to which the server sends nothing but replies. While the bridge waits it
+ * lends the session to the programs of the socket, which have a copy of its descriptor. One of them at a time sends a
+ * frame there, and reads the reply. Who has the turn may change all of this. */
+#define WIRE_NUMBERS 1024
+struct wire_loan {
+    uint32_t session; /* the number of the session, where it is lent; 0: none */
+    uint32_t shared;  /* that of the session whose descriptor came with that of the memory; 0: none */
+    uint32_t asked;   /* the place of the write whose reply is due, and one; 0: none */
+    uint32_t left;    /* the same of a write that leaves the text of its reply, in its place, to the bridge */
+    uint32_t count;   /* how many numbers the bridge has not noted yet */
+    uint64_t numbers[WIRE_NUMBERS]; /* that frames have got */
+};
+/* In place of an index: no write, but the bridge is to look at what is left. */
+#define WIRE_LEFT INT32_MIN
 
 /* What they share: one for each socket. */
 #define WIRE_PLACES 15
 struct wire_memory {
     uint64_t key;
     char name[WIRE_NAME_ROOM]; /* of the socket */
+    struct wire_loan loan;
     struct wire_place places[WIRE_PLACES];
 };
 

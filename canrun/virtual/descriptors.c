@@ -104,8 +104,8 @@ static void unwatch(int fd, int watched) {
     }
 }
 
-/* Waits until one of these may be ready; the flags of wait_turn. */
-static uint32_t wait_for(const struct pollfd *fds, nfds_t count, uint64_t deadline) {
+/* Waits until one of these may be ready, or the key is woken; the flags of wait_turn. */
+static uint32_t wait_with_key(const struct pollfd *fds, nfds_t count, uint64_t deadline, uint64_t key) {
     int watched[POLL_MOST];
     uint64_t timers = timers_due();
     count = count > POLL_MOST ? POLL_MOST : count;
@@ -116,11 +116,15 @@ static uint32_t wait_for(const struct pollfd *fds, nfds_t count, uint64_t deadli
         short events = may_stay ? events_of(fds, count, fds[i].fd) : fds[i].events;
         watched[i] = fds[i].fd < 0 ? -1 : watch(fds[i].fd, events, may_stay);
     }
-    uint32_t flags = wait_turn(deadline < timers ? deadline : timers, 0, KIND_DESCRIPTOR);
+    uint32_t flags = wait_turn(deadline < timers ? deadline : timers, key, KIND_DESCRIPTOR);
     for (nfds_t i = 0; i < count; i++) {
         unwatch(fds[i].fd, watched[i]);
     }
     return flags;
+}
+
+static uint32_t wait_for(const struct pollfd *fds, nfds_t count, uint64_t deadline) {
+    return wait_with_key(fds, count, deadline, 0);
 }
 
 int poll_until(struct pollfd *fds, nfds_t count, uint64_t deadline) {
@@ -229,7 +233,8 @@ bool await_ready(int fd, short events, int flags) {
 }
 
 static ssize_t receive(int fd, void *data, size_t length, int flags, struct sockaddr *from, socklen_t *room) {
-    uint64_t deadline = 0;
+    /* The sockets of a server block, and have no timeouts. */
+    uint64_t deadline = is_server ? NEVER : 0;
     my.has_talked = true;
     if (!run || flags & (MSG_DONTWAIT | MSG_WAITALL)) {
         return await_ready(fd, POLLIN, flags) ? answer(RAW(SYS_recvfrom, fd, data, length, flags, from, room)) : -1;
@@ -245,11 +250,57 @@ static ssize_t receive(int fd, void *data, size_t length, int flags, struct sock
     }
 }
 
+#ifdef FOR_BRIDGE
+ssize_t receive_within(int fd, void *data, size_t length, uint64_t nanoseconds);
+
+ssize_t receive_within(int fd, void *data, size_t length, uint64_t nanoseconds) {
+    uint64_t deadline = after(nanoseconds);
+    for (;;) {
+        wait_for(&(struct pollfd){fd, POLLIN, 0}, 1, deadline);
+        long result = RAW(SYS_recvfrom, fd, data, length, MSG_DONTWAIT, NULL, NULL);
+        if (result != -EAGAIN || run->now >= deadline) {
+            return answer(result);
+        }
+    }
+}
+#endif
+
 EXPORT ssize_t CALL(recv)(int fd, void *data, size_t length, int flags) {
     return receive(fd, data, length, flags, NULL, NULL);
 }
 
 #ifndef FOR_BRIDGE
+
+/* For libcanbusd-run.so: has the turn. */
+EXPORT bool canbusd_virtual_turn(void);
+/* For libcanbusd-run.so: sends a text, and reads the reply into it; its length. -1 where it was not sent, and 0 where
+ * there is no reply after this time, or somebody else has changed the word and woken the key. */
+EXPORT long canbusd_virtual_talk(int fd, char *text, size_t length, size_t room, uint32_t *word, uint64_t key,
+                                 const struct timespec *t);
+
+bool canbusd_virtual_turn(void) {
+    if (run) {
+        regain_turn();
+    }
+    return run;
+}
+
+long canbusd_virtual_talk(int fd, char *text, size_t length, size_t room, uint32_t *word, uint64_t key,
+                          const struct timespec *t) {
+    uint64_t deadline = after(length_of(t));
+    uint32_t expected = *word;
+    if (RAW(SYS_sendto, fd, text, length, MSG_DONTWAIT | MSG_NOSIGNAL, NULL, 0) != (long)length) {
+        return -1;
+    }
+    for (;;) {
+        wait_with_key(&(struct pollfd){fd, POLLIN, 0}, 1, deadline, key_of_number(key));
+        long result =
+            *(volatile uint32_t *)word != expected ? 0 : RAW(SYS_recvfrom, fd, text, room, MSG_DONTWAIT, NULL, NULL);
+        if (result != -EAGAIN || run->now >= deadline) {
+            return result < 0 ? 0 : result;
+        }
+    }
+}
 
 EXPORT int __poll_chk(struct pollfd *fds, nfds_t count, int ms, size_t room);
 EXPORT int __ppoll_chk(struct pollfd *fds, nfds_t count, const struct timespec *t, const sigset_t *mask, size_t room);

@@ -18,10 +18,7 @@ static uint64_t key_of_word(long word, int operation) {
     return operation & FUTEX_PRIVATE_FLAG ? key_of(at, 0) : key_of_any(at, 0);
 }
 
-static long wait_on_word(long word, int operation, long expected, const struct timespec *t) {
-    bool is_relative = (operation & FUTEX_CMD_MASK) == FUTEX_WAIT;
-    clockid_t id = operation & FUTEX_CLOCK_REALTIME ? CLOCK_REALTIME : CLOCK_MONOTONIC;
-    uint64_t deadline = !t ? NEVER : is_relative ? after(length_of(t)) : moment_of(id, t);
+static long wait_until(long word, long expected, uint64_t key, uint64_t deadline) {
     regain_turn();
     if (*(volatile uint32_t *)word != (uint32_t)expected) {
         return -EAGAIN;
@@ -32,8 +29,23 @@ static long wait_on_word(long word, int operation, long expected, const struct t
         return *(volatile uint32_t *)word != (uint32_t)expected ? -EAGAIN : -ETIMEDOUT;
     }
     my.has_to_return = true;
-    uint32_t flags = wait_turn(deadline, key_of_word(word, operation), KIND_LOCK);
+    uint32_t flags = wait_turn(deadline, key, KIND_LOCK);
     return flags & IS_WOKEN ? 0 : flags & IS_INTERRUPTED ? -EINTR : flags ? 0 : -ETIMEDOUT;
+}
+
+static long wait_on_word(long word, int operation, long expected, const struct timespec *t) {
+    bool is_relative = (operation & FUTEX_CMD_MASK) == FUTEX_WAIT;
+    clockid_t id = operation & FUTEX_CLOCK_REALTIME ? CLOCK_REALTIME : CLOCK_MONOTONIC;
+    uint64_t deadline = !t ? NEVER : is_relative ? after(length_of(t)) : moment_of(id, t);
+    return wait_until(word, expected, key_of_word(word, operation), deadline);
+}
+
+/* A wait on a word of memory that other processes have elsewhere: who wakes it gives the same key. */
+EXPORT long canbusd_virtual_wait(uint32_t *word, uint32_t expected, uint64_t key, const struct timespec *t);
+
+long canbusd_virtual_wait(uint32_t *word, uint32_t expected, uint64_t key, const struct timespec *t) {
+    return answer(run ? wait_until((long)word, (long)expected, key_of_number(key), after(length_of(t)))
+                      : RAW(SYS_futex, word, FUTEX_WAIT, expected, t, NULL, 0));
 }
 
 /* Those that wait in this library. */
@@ -55,7 +67,9 @@ static long futex(long word, long operation, long value, long fourth, long fifth
     }
     if (what == FUTEX_WAKE || what == FUTEX_WAKE_BITSET) {
         long woken = wake_word(word, (int)operation, (int)value);
-        long rest = woken < (int)value ? RAW(SYS_futex, word, operation, value - woken, fourth, fifth, sixth) : 0;
+        /* All waits of a server are in this library. */
+        long rest =
+            woken < (int)value && !is_server ? RAW(SYS_futex, word, operation, value - woken, fourth, fifth, sixth) : 0;
         return rest < 0 ? rest : woken + rest;
     }
     return RAW(SYS_futex, word, operation, value, fourth, fifth, sixth);

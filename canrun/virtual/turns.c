@@ -348,6 +348,10 @@ uint64_t key_of_any(const volatile void *at, uint64_t salt) {
     return mixed(((uint64_t)(uintptr_t)at & 4095) + salt, 0);
 }
 
+uint64_t key_of_number(uint64_t number) {
+    return mixed(number, 0x6e756d62);
+}
+
 uint64_t key_of_children(uint32_t pid) {
     return mixed(pid, 0x6368696c64);
 }

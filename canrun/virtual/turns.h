@@ -83,6 +83,7 @@ void settle(uint32_t pid);
 /* Keys of what is waited for in one process, and in any. */
 uint64_t key_of(const volatile void *at, uint64_t salt);
 uint64_t key_of_any(const volatile void *at, uint64_t salt);
+uint64_t key_of_number(uint64_t number);
 uint64_t key_of_children(uint32_t pid);
 uint64_t key_of_signals(uint32_t pid);
 

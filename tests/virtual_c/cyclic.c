@@ -1,5 +1,5 @@
 /* cyclic NAME ID MICROSECONDS COUNT [DATA]: sends frames at exact moments, from the next whole second on. They have
- * these data, in hexadecimal digits, or their number in two bytes. */
+ * these data, in hexadecimal digits, or their number in two bytes. With SENDS_ONLY its socket has an empty filter. */
 #include "node.h"
 
 static void read_data(struct can_frame *frame, const char *digits) {
@@ -16,6 +16,9 @@ int main(int count, char **words) {
         return 2;
     }
     int fd = open_can(words[1]), has_data = count == 6;
+#ifdef SENDS_ONLY
+    setsockopt(fd, SOL_CAN_RAW, CAN_RAW_FILTER, NULL, 0);
+#endif
     frame.can_id = (canid_t)strtoul(words[2], NULL, 16);
     if (has_data) {
         read_data(&frame, words[5]);

@@ -1,0 +1,26 @@
+/* slow_end: ends a second after its start, by its first thread. Another one gets a processor only where nobody else
+ * wants it, so that it ends late, and what the program has open stays open until then. */
+#define _GNU_SOURCE
+#include <pthread.h>
+#include <sched.h>
+#include <stdlib.h>
+#include <unistd.h>
+
+static void *idle(void *nothing) {
+    if (sched_setscheduler(0, SCHED_IDLE, &(struct sched_param){0})) {
+        exit(1);
+    }
+    sleep(1000);
+    return nothing;
+}
+
+int main(void) {
+    pthread_t thread;
+    for (int k = 0; k < 8; k++) {
+        if (pthread_create(&thread, NULL, idle, NULL)) {
+            return 1;
+        }
+    }
+    sleep(1);
+    _exit(0);
+}
