@@ -4,6 +4,7 @@ import contextlib
 import os
 import pty
 import re
+import select
 import shutil
 import signal
 import socket
@@ -279,6 +280,23 @@ def test_status_and_pid():
         server.end()
 
 
+def pressed(terminal):
+    """What a terminal shows from Ctrl-C to the end of its program.
+
+    Python sees one that comes just before it waits only once it is woken, whatever it waits for: so it is pressed again.
+    """
+    shown = b""
+    for _ in range(WAIT):
+        os.write(terminal, b"\3")
+        try:
+            while select.select([terminal], [], [], 1)[0]:
+                shown += os.read(terminal, 1000)
+        except OSError:
+            # The end of its last process, which the system reports as EIO.
+            return shown
+    raise AssertionError(f"it goes on: {shown!r}")
+
+
 def test_interrupt():
     """Ctrl-C at a terminal ends the program, which has the terminal, and its bridges"""
     with serving("can0,can1") as server:
@@ -289,10 +307,7 @@ def test_interrupt():
         while b"ready" not in shown:
             shown += os.read(terminal, 1000)
         assert len(bridges(environment(server)["CANBUSD_ADDRESS"])) == 1
-        os.write(terminal, b"\3")
-        with contextlib.suppress(OSError):
-            while piece := os.read(terminal, 1000):
-                shown += piece
+        shown += pressed(terminal)
         _, status = os.waitpid(pid, 0)
         os.close(terminal)
         assert b"KeyboardInterrupt" in shown and os.WTERMSIG(status) == signal.SIGINT, shown
