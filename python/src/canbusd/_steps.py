@@ -181,8 +181,14 @@ class Steps(Sequence[Step]):
         self._time(wires)
 
     def _time(self, wires: Sequence[str]) -> None:
+        columns = self.frame_nanos, self.busy_nanos, self.nominal_bits, self.fast_bits
+        if not any(wires):
+            # As in each run that was read without bit rates.
+            for column in columns:
+                column.frombytes(bytes(column.itemsize * len(wires)))
+            return
         numbers = list(map(int, " ".join([wire or "0 0 0 0" for wire in wires]).split(" ")))
-        for place, column in enumerate((self.frame_nanos, self.busy_nanos, self.nominal_bits, self.fast_bits)):
+        for place, column in enumerate(columns):
             column.extend(numbers[place::4])
 
     def _meet(self, met: Sequence[Met]) -> None:
