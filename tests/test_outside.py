@@ -93,6 +93,15 @@ def test_a_suite_that_hangs(outside, tmp_path, monkeypatch):
     assert counts == (0, 1, ()) and written.endswith("\nended after 1 seconds\n")
 
 
+def test_a_test_that_hangs(outside, tmp_path):
+    """it fails after its seconds, and those after it run"""
+    pytest.importorskip("pytest_timeout", reason="no pytest-timeout (python3-pytest-timeout)")
+    assert outside.LIMIT in outside.OUTSIDE.words and outside.LIMIT in outside.PACKAGE.words
+    text = "import time\ndef test_hangs():\n    time.sleep(1000)\ndef test_goes_on():\n    pass\n"
+    counts, failed, written = suite(outside, tmp_path, text).run("--timeout=1")
+    assert (counts, failed) == ((1, 1, ()), ["test_some.py::test_hangs"]), written
+
+
 def test_what_fails_is_tried_again(outside, tmp_path, capsys):
     """alone, and each try is shown"""
     assert outside.quiet(suite(outside, tmp_path, TRIED)) == (2, 1, ())

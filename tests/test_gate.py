@@ -1,0 +1,92 @@
+"""scripts/test: what it counts, and where the tests of the program run beside the proofs. Its parts are stand-ins that note each call."""
+
+import os
+import shutil
+import subprocess
+
+import pytest
+
+from serving import ROOT
+
+# Each notes how it was called, and writes the last line of its part.
+STAND_INS = {
+    "bin/nproc": "echo ${PROCESSORS:-4}",
+    "bin/rt": """
+echo "rt: can_memory_tests proved"
+while [ -e wait ] && ! grep -q 'outside busy' calls; do sleep 0.1; done
+echo 'echo the program' >crates/canbusd/out/canbusd && chmod +x crates/canbusd/out/canbusd
+echo "${PROVED:-7 passed, 0 failed}"
+""",
+    "scripts/rattle-tests": 'echo "5 passed, 0 failed"',
+    "scripts/edits": 'echo "3 passed, 0 failed"',
+    "scripts/program": """
+case "$*" in
+"compare dist/canbusd") exit "${DIST:-0}" ;;
+compare) exit "${COMPARED:-0}" ;;
+sources) echo 1234 ;;
+mark*) echo "mark" >>calls ;;
+esac
+""",
+    "scripts/outside": """
+program=${CANBUSD+ $(realpath --relative-to . "$CANBUSD")}
+echo "outside $2$program" >>calls
+if [ "$2" = busy ] && [ "$program" = " dist/canbusd" ]; then echo "${EARLY:-9 passed, 0 failed, 2 skipped}"; exit; fi
+echo "9 passed, 0 failed, 2 skipped"
+""",
+}
+ON_DIST, ON_PROVED = "outside busy dist/canbusd", "outside busy crates/canbusd/out/canbusd"
+
+
+@pytest.fixture
+def gate(tmp_path):
+    """Runs the test command with stand-ins: its status, its lines, and the calls of parts outside of Rattle."""
+    for folder in ("bin", "scripts", "dist", "crates/canbusd/out"):
+        (tmp_path / folder).mkdir(parents=True)
+    for name, text in STAND_INS.items():
+        (tmp_path / name).write_text(f"#!/usr/bin/env bash\n{text}\n")
+        (tmp_path / name).chmod(0o755)
+    shutil.copy(os.path.join(ROOT, "scripts", "test"), tmp_path / "scripts")
+    (tmp_path / "calls").touch()
+    (tmp_path / "wait").touch()
+
+    def run(**env):
+        path = f"{tmp_path}/bin:{os.environ['PATH']}"
+        words = {"cwd": tmp_path, "env": {**os.environ, "PATH": path, **env}, "text": True, "timeout": 60}
+        done = subprocess.run([tmp_path / "scripts" / "test"], capture_output=True, **words)
+        calls = (tmp_path / "calls").read_text().splitlines()
+        return done.returncode, done.stdout.splitlines(), [call for call in calls if "still" not in call]
+
+    return run
+
+
+def test_early(gate):
+    """on four processors the tests of the program run beside the proofs, on that of dist/, and once"""
+    status, lines, calls = gate()
+    assert (status, lines[-1]) == (0, "43 passed, 0 failed, 6 skipped"), lines
+    assert calls == [ON_DIST, "mark", "outside quiet crates/canbusd/out/canbusd"]
+
+
+@pytest.mark.parametrize("early", ["8 passed, 1 failed, 2 skipped", "Killed"])
+def test_early_ones_fail(gate, early):
+    """then they run again after the proofs, and only that counts"""
+    status, lines, calls = gate(EARLY=early)
+    assert (status, lines[-1]) == (0, "43 passed, 0 failed, 6 skipped"), lines
+    assert calls[:3] == [ON_DIST, "mark", ON_PROVED] and early in lines
+
+
+@pytest.mark.parametrize("env", [{"PROCESSORS": "3"}, {"DIST": "3", "COMPARED": "3"}])
+def test_none_early(gate, env, tmp_path):
+    """with fewer processors, or another program in dist/, they run after the proofs"""
+    (tmp_path / "wait").unlink()
+    status, lines, calls = gate(**env)
+    skipped = 7 if "COMPARED" in env else 6
+    assert (status, lines[-1]) == (0, f"{49 - skipped} passed, 0 failed, {skipped} skipped"), lines
+    assert calls[:2] == ["mark", ON_PROVED]
+
+
+@pytest.mark.parametrize("env", [{"PROVED": "6 passed, 1 failed"}, {"COMPARED": "1"}])
+def test_proofs_fail(gate, env):
+    """so does the whole, and the program is not marked as the one of these sources"""
+    status, lines, calls = gate(**env)
+    assert (status, lines[-1]) == (1, "42 passed, 1 failed, 6 skipped"), lines
+    assert "mark" not in calls
