@@ -1,6 +1,7 @@
 use Rattle.std.proofs.Common.{◌≡◌, ℕ, ◌+◌, ◌<◌, List, [], ◌∷◌, ◌++◌, length, take, drop, get_or, set, true, false, Option, Some, None, is_some, if◌then◌else◌, ap, sym, ◌∙◌, append_assoc, add-one, arith}
 use Rattle.std.proofs.lemmas.List.{drop_more, take_more_set, drop-set-lt, set_split}
-use Rattle.can_rules.specs.Rules.{Head, chosen, after_chosen, asked, gives, given_by}
+use Rattle.can_rules.specs.Rules.{Head, deciding, decision_by, after_chosen, asked, gives, given_by}
+use Rattle.can_rules.specs.declared.rule.Decision.{Decision}
 use Rattle.can_rules.specs.declared.rule.Rule.{Rule}
 use Rattle.can_fault.specs.declared.verdict.Verdict.{Verdict}
 
@@ -8,7 +9,7 @@ use Rattle.can_fault.specs.declared.verdict.Verdict.{Verdict}
 
 -- the rules before place i were looked at and gave nothing
 pub record AreLookedAt (before items : List Rule) (i : ℕ) (head : Head) : Type 0 where
-  pub verdict : chosen before head ≡ chosen (drop i items) head
+  pub deciding : deciding before head ≡ deciding (drop i items) head
   pub counts : after_chosen before head ≡ take i items ++ after_chosen (drop i items) head
 
 -- what was given says whether the rule gives
@@ -28,7 +29,7 @@ looked_on before items i head blank given next at below gave is was_none =
     let rest : drop (i + 1) (set items i next) ≡ drop (i + 1) items = drop-set-lt (i + 1) items i next (omega arith) in
     let front : take (i + 1) (set items i next) ≡ take i items ++ next ∷ [] = take_more_set items i next below in
     record {
-      verdict = at.verdict ∙ ap (λ rs. chosen rs head) split ∙ ap (λ b. if b then Some rule.verdict else chosen (drop (i + 1) items) head) nothing ∙ ap (λ rs. chosen rs head) (sym rest);
+      deciding = at.deciding ∙ ap (λ rs. deciding rs head) split ∙ ap (λ b. if b then Some rule else deciding (drop (i + 1) items) head) nothing ∙ ap (λ rs. deciding rs head) (sym rest);
       counts = at.counts
           ∙ ap (λ rs. take i items ++ after_chosen rs head) split
           ∙ ap (λ b. take i items ++ asked rule head ∷ (if b then drop (i + 1) items else after_chosen (drop (i + 1) items) head)) nothing
@@ -38,17 +39,27 @@ looked_on before items i head blank given next at below gave is was_none =
           ∙ ap (λ rs. take (i + 1) (set items i next) ++ after_chosen rs head) (sym rest);
     }
 
+-- what a rule with this number gives
+abbrev pub given_with : Verdict → ℕ → Decision
+given_with verdict number = record { verdict = verdict; rule = Some number }
+
+same_some : (one other : Verdict) → Some one ≡ Some other → one ≡ other
+same_some one other h = cc
+
+-- a rule that gave a verdict gave its own
+gave_its_own : (rule : Rule) (verdict : Verdict) → Some verdict ≡ Some rule.verdict → given_with verdict rule.number ≡ decision_by (Some rule)
+gave_its_own rule verdict same = ap (λ v. given_with v rule.number) (same_some verdict rule.verdict same)
+
 -- the rule at place i gave its verdict
-pub looked_end : (before items : List Rule) (i : ℕ) (head : Head) (blank : Rule) (given : Option Verdict) (next : Rule) → AreLookedAt before items i head → i < length items
-    → given ≡ given_by (get_or items i blank) head → next ≡ asked (get_or items i blank) head → is_some given ≡ true
-    → (given ≡ chosen before head) × (set items i next ≡ after_chosen before head)
-looked_end before items i head blank given next at below gave is was_some =
+pub looked_end : (before items : List Rule) (i : ℕ) (head : Head) (blank : Rule) (verdict : Verdict) (next : Rule) → AreLookedAt before items i head → i < length items
+    → Some verdict ≡ given_by (get_or items i blank) head → next ≡ asked (get_or items i blank) head
+    → (given_with verdict (get_or items i blank).number ≡ decision_by (deciding before head)) × (set items i next ≡ after_chosen before head)
+looked_end before items i head blank verdict next at below gave is =
     let rule : Rule = get_or items i blank in
-    let gives_it : gives rule head ≡ true = gives-is_some rule head given gave ∙ was_some in
+    let gives_it : gives rule head ≡ true = gives-is_some rule head (Some verdict) gave in
     let split : drop i items ≡ rule ∷ drop (i + 1) items = drop_more items i blank below in (
-      gave
-          ∙ ap (λ b. if b then Some rule.verdict else None) gives_it
-          ∙ sym (at.verdict ∙ ap (λ rs. chosen rs head) split ∙ ap (λ b. if b then Some rule.verdict else chosen (drop (i + 1) items) head) gives_it),
+      gave_its_own rule verdict (gave ∙ ap (λ b. if b then Some rule.verdict else None) gives_it)
+          ∙ ap decision_by (sym (at.deciding ∙ ap (λ rs. deciding rs head) split ∙ ap (λ b. if b then Some rule else deciding (drop (i + 1) items) head) gives_it)),
       sym (at.counts
           ∙ ap (λ rs. take i items ++ after_chosen rs head) split
           ∙ ap (λ b. take i items ++ asked rule head ∷ (if b then drop (i + 1) items else after_chosen (drop (i + 1) items) head)) gives_it

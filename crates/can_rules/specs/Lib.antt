@@ -1,3 +1,4 @@
 pub mod Rules
 pub mod RuleWords
 pub mod Plans
+pub mod RunFaults

@@ -1,4 +1,4 @@
-use Rattle.std.specs.Prelude.{◌≡◌, ◌⊎◌, ◌<◌, ◌≤◌, ℕ, ◌+◌, Bool, not, ◌==◌, nat_le, if◌then◌else◌, IsTrue}
+use Rattle.std.specs.Prelude.{◌≡◌, ◌⊎◌, ◌<◌, ◌≤◌, ℕ, ◌+◌, ◌-◌, ◌^◌, min, Bool, not, ◌==◌, nat_le, if◌then◌else◌, IsTrue}
 use Rattle.std.specs.Prelude.{List, [], ◌∷◌, ◌++◌, length, Option, Some, None, unwrap_or, Result, Ok, Err}
 use Rattle.std.specs.FinMap.{get}
 use Rattle.std.specs.List.{list_any}
@@ -11,29 +11,52 @@ use Rattle.can_fault.specs.declared.script.ScriptError.TheVariants as script
 use Rattle.can_fault.specs.declared.verdict.Verdict.{Verdict}
 use Rattle.can_fault.specs.declared.verdict.Verdict.TheVariants.{Good}
 use Rattle.can_rules.specs.declared.rule.Rule.{Rule}
+use Rattle.can_rules.specs.declared.rule.Decision.{Decision}
 use Rattle.can_rules.specs.declared.rules.RuleRefusal.{RuleRefusal}
 use Rattle.can_rules.specs.declared.rules.RuleRefusal.TheVariants as refusal
 use Rattle.can_rules.specs.declared.rule_words.WrongWord.{WrongWord}
 use Rattle.can_rules.specs.declared.rule_words.WrongWord.TheVariants as wrong
 use Rattle.can_rules.specs.declared.plan.PlanError.{PlanError}
 use Rattle.can_rules.specs.declared.plan.PlanError.TheVariants as plan
-use Rattle.can_rules.specs.Rules.{Head, head_of, chosen, after_chosen, unused}
+use Rattle.can_rules.specs.Rules.{Head, head_of, chosen, deciding, decision_by, without_rule, after_chosen, unused}
 use Rattle.can_rules.specs.RuleWords.{is_rule, rule_spelling}
 
 -- The plan of a bus: the lines of a script, and rules (own choice).
 
--- the verdicts that lines give by the numbers of attempts, and the rules, of which none is used up
+-- the verdicts that lines give by the numbers of attempts, the rules, of which none is used up, and how many rules were
+-- taken so far
 pub record PlanSeen : Type 0 where
   pub lines : VerdictMap
   pub rules : List Rule
+  pub taken : ℕ
 
 -- no line, no rule
 abbrev pub no_plan : PlanSeen
-no_plan = record { lines = no_verdicts; rules = [] }
+no_plan = record { lines = no_verdicts; rules = []; taken = 0 }
 
--- one rule more, after the others
+-- one more, as far as a count of 64 bits goes
+abbrev pub one_more : ℕ → ℕ
+one_more n = min (n + 1) (2 ^ 64 - 1)
+
+-- a rule with this number
+abbrev pub numbered : ℕ → Rule → Rule
+numbered number rule = record rule { number = number }
+
+-- one rule more, after the others, with its number among all that were taken
 abbrev pub with_rule : Rule → PlanSeen → PlanSeen
-with_rule rule plan = record plan { rules = plan.rules ++ rule ∷ [] }
+with_rule rule plan = record plan {
+  rules = plan.rules ++ numbered (one_more plan.taken) rule ∷ [];
+  taken = one_more plan.taken;
+}
+
+-- the numbers of rules grow, from above the one up to the other
+abbrev pub NumbersGrow : ℕ → List Rule → ℕ → Type 0
+NumbersGrow low [] high = low ≤ high
+NumbersGrow low (rule ∷ rules) high = (low < rule.number) × NumbersGrow rule.number rules high
+
+-- each rule has a number of its own, and none has one that is still to come
+abbrev pub IsNumbered : PlanSeen → Type 0
+IsNumbered plan = NumbersGrow 0 plan.rules plan.taken
 
 -- the lines with these rules
 abbrev pub with_rules : List Rule → PlanSeen → PlanSeen
@@ -53,6 +76,11 @@ abbrev pub ruled : List Rule → Option Head → Verdict
 ruled rules None = Good
 ruled rules (Some head) = unwrap_or (chosen rules head) Good
 
+-- the same with the number of the rule that gives it
+abbrev pub decided : List Rule → Option Head → Decision
+decided rules None = without_rule Good
+decided rules (Some head) = decision_by (deciding rules head)
+
 -- the rules after it: they are not asked of an idle attempt, and those that are used up go
 abbrev pub after_ruled : List Rule → Option Head → List Rule
 after_ruled rules None = rules
@@ -62,6 +90,11 @@ after_ruled rules (Some head) = unused (after_chosen rules head)
 abbrev pub planned : Option Verdict → List Rule → Option Head → Verdict
 planned (Some verdict) rules head = verdict
 planned None rules head = ruled rules head
+
+-- the same with the number of the rule that gives it
+abbrev pub decided_with : Option Verdict → List Rule → Option Head → Decision
+decided_with (Some verdict) rules head = without_rule verdict
+decided_with None rules head = decided rules head
 
 -- the rules after it: they are not asked where the script has a line
 abbrev pub after_planned : Option Verdict → List Rule → Option Head → List Rule
@@ -73,6 +106,11 @@ abbrev pub given : Verdict → PlanSeen → ℕ → Option (ℕ × CanFrame) →
 given Good plan attempt head = planned (get plan.lines attempt) plan.rules (head_in head)
 given fault plan attempt head = fault
 
+-- the same with the number of the rule that gives it
+abbrev pub decided_for : Verdict → PlanSeen → ℕ → Option (ℕ × CanFrame) → Decision
+decided_for Good plan attempt head = decided_with (get plan.lines attempt) plan.rules (head_in head)
+decided_for fault plan attempt head = without_rule fault
+
 -- the plan after it: a fault of the source counts for no rule
 abbrev pub plan_after : Verdict → PlanSeen → ℕ → Option (ℕ × CanFrame) → PlanSeen
 plan_after Good plan attempt head = record plan {
@@ -80,18 +118,35 @@ plan_after Good plan attempt head = record plan {
 }
 plan_after fault plan attempt head = plan
 
--- whatever an attempt tries, it has this verdict, and no rule is asked
+-- the verdict of an attempt with a number, under a plan, with the number of the rule that gives it
+abbrev pub decided_at : PlanSeen → ℕ → Head → Decision
+decided_at plan attempt head = decided_with (get plan.lines attempt) plan.rules (Some head)
+
+-- the plan after it
+abbrev pub plan_asked : PlanSeen → ℕ → Head → PlanSeen
+plan_asked plan attempt head = with_rules (after_planned (get plan.lines attempt) plan.rules (Some head)) plan
+
+-- whatever an attempt tries, it has this verdict, no rule is asked, and so none gives it
 abbrev pub IsSettled : Verdict → PlanSeen → ℕ → Verdict → Type 0
 IsSettled source plan attempt verdict =
     (head : Option (ℕ × CanFrame))
     → (given source plan attempt head ≡ verdict) × (plan_after source plan attempt head ≡ plan)
+    × (decided_for source plan attempt head ≡ without_rule verdict)
 
 -- there are rules, and they decide the verdict of an attempt, by what it tries
 abbrev pub IsUpToRules : Verdict → PlanSeen → ℕ → Type 0
 IsUpToRules source plan attempt =
     (0 < length plan.rules)
     × ((head : Option (ℕ × CanFrame)) → (given source plan attempt head ≡ ruled plan.rules (head_in head))
-    × (plan_after source plan attempt head ≡ with_rules (after_ruled plan.rules (head_in head)) plan))
+    × (plan_after source plan attempt head ≡ with_rules (after_ruled plan.rules (head_in head)) plan)
+    × (decided_for source plan attempt head ≡ decided plan.rules (head_in head)))
+
+-- a rule is given to a plan, which takes it after the others, where there are not 64
+abbrev pub GivesRule : Rule → PlanSeen → Result (Unit {0}) RuleRefusal → PlanSeen → Type 0
+GivesRule rule old (Ok done) new = (length old.rules < 64) × (new ≡ with_rule rule old)
+GivesRule rule old (Err refusal.TooManyRules) new = (64 ≤ length old.rules) × (new ≡ old)
+GivesRule rule old (Err refusal.NoMemory) new = (length old.rules < 64) × (new ≡ old)
+GivesRule rule old (Err why) new = ⊥
 
 -- how a rule that is none is refused
 abbrev pub refusal_of : WrongWord → RuleRefusal
@@ -140,8 +195,8 @@ line_taken names known n line =
     if is_rule line then with_rule_line known n (rule_spelling names line)
     else with_lines known (line_after known.lines n (line_spelling names line))
 
--- a plan that is gone on with, or a fault
-abbrev pub gone_on : Result PlanSeen PlanError → (PlanSeen → Result PlanSeen PlanError) → Result PlanSeen PlanError
+-- what is gone on with, or a fault
+abbrev pub gone_on : {A B : Type 0} → Result A PlanError → (A → Result B PlanError) → Result B PlanError
 gone_on (Ok known) f = f known
 gone_on (Err why) f = Err why
 

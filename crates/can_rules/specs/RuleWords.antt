@@ -114,7 +114,7 @@ with_senders names rule text = if bytes_eq (word text) (codes "from") then (do
 
 -- a rule for every attempt, good, that gives this many verdicts
 abbrev pub rule_of : Option ℕ → Rule
-rule_of left = record { senders = None; filter = everything; skip = 0; left = left; verdict = Good }
+rule_of left = record { senders = None; filter = everything; skip = 0; left = left; verdict = Good; number = 0 }
 
 -- a rule: `always`, or `next` and a number, and what follows
 unfoldable pub rule_spelling : List (List ℕ) → List ℕ → Result Rule WrongWord

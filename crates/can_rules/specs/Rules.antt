@@ -1,12 +1,15 @@
 use Rattle.std.specs.Prelude.{◌≡◌, ℕ, zero, suc, ◌+◌, ◌-◌, ◌==◌, Bool, true, false, not, ◌&&◌, if◌then◌else◌}
-use Rattle.std.specs.Prelude.{List, [], ◌∷◌, ◌++◌, filter, length, ◌<◌, ◌≤◌, Option, Some, None, Result, Ok, Err}
+use Rattle.std.specs.Prelude.{List, [], ◌∷◌, ◌++◌, filter, length, slice_get, ◌<◌, ◌≤◌}
+use Rattle.std.specs.Prelude.{Option, Some, None, Result, Ok, Err}
 use Rattle.can_frame.specs.Sets.{is_in}
 use Rattle.can_frame.specs.declared.iface.IfaceSet.{IfaceSet}
 use Rattle.can_filter.specs.Filters.{matches as fits}
 use Rattle.can_rules.specs.declared.rule.Rule.{Rule}
+use Rattle.can_rules.specs.declared.rule.Decision.{Decision}
 use Rattle.can_rules.specs.declared.rules.RuleRefusal.{RuleRefusal}
 use Rattle.can_rules.specs.declared.rules.RuleRefusal.TheVariants.{TooManyRules, NoMemory}
 use Rattle.can_fault.specs.declared.verdict.Verdict.{Verdict}
+use Rattle.can_fault.specs.declared.verdict.Verdict.TheVariants.{Good}
 
 -- Rules for the verdicts of attempts (own choice).
 
@@ -67,6 +70,20 @@ abbrev pub chosen : List Rule → Head → Option Verdict
 chosen [] head = None
 chosen (rule ∷ rules) head = if gives rule head then Some rule.verdict else chosen rules head
 
+-- the rule that gives it, as it is before it is asked
+abbrev pub deciding : List Rule → Head → Option Rule
+deciding [] head = None
+deciding (rule ∷ rules) head = if gives rule head then Some rule else deciding rules head
+
+-- a verdict that no rule gives
+abbrev pub without_rule : Verdict → Decision
+without_rule verdict = record { verdict = verdict; rule = None }
+
+-- a rule's verdict, and the rule's number; good where no rule gives one
+abbrev pub decision_by : Option Rule → Decision
+decision_by None = without_rule Good
+decision_by (Some rule) = record { verdict = rule.verdict; rule = Some rule.number }
+
 -- the rules after that: those after the one that gives are not looked at
 abbrev pub after_chosen : List Rule → Head → List Rule
 after_chosen [] head = []
@@ -91,6 +108,15 @@ abbrev pub gives_at : ℕ → List Rule → Head → Bool
 gives_at place [] head = false
 gives_at zero (rule ∷ rules) head = gives rule head
 gives_at (suc place) (rule ∷ rules) head = not (gives rule head) && gives_at place rules head
+
+-- a rule with this number gives an attempt this verdict
+pub record GivesAs (rules : List Rule) (head : Head) (verdict : Verdict) (number : ℕ) : Type 0 where
+  pub place : ℕ
+  pub rule : Rule
+  pub there : slice_get rules place ≡ Some rule
+  pub gives : gives_at place rules head ≡ true
+  pub number_is : rule.number ≡ number
+  pub verdict_is : rule.verdict ≡ verdict
 
 -- how many of these attempts, one after another, it gives the verdict
 abbrev pub times_given : ℕ → List Rule → List Head → ℕ

@@ -1,7 +1,11 @@
-ghost use Rattle.std.specs.Prelude.{◌≡◌, ◌≤◌, ℕ, true, List, [], Option, None, Some, slice_get};
-ghost use Rattle.can_rules.specs.Rules.{Head, chosen, after_chosen, unused, verdicts, gives_at, times_given, AreSwapped};
-ghost use Rattle.can_rules.specs.Plans.{PlanSeen, given, plan_after};
-ghost use Rattle.can_frame.specs.Frames.{CanFrame};
+ghost use Rattle.std.specs.Prelude.{◌≡◌, ◌≤◌, ◌<◌, ◌-◌, ◌^◌, ℕ, true, false, List, [], Option, None, Some, slice_get};
+ghost use Rattle.can_rules.specs.Rules.{Head, head_of, chosen, deciding, after_chosen, unused, verdicts, gives_at, GivesAs, times_given, AreSwapped};
+ghost use Rattle.can_rules.specs.Plans.{PlanSeen, no_plan, with_rule, without_rules, given, plan_after, decided_at, plan_spelling, IsNumbered};
+ghost use Rattle.can_rules.specs.RunFaults.{RunSeen, no_run, made_ready, rule_given, asked_run, is_later, with_plan, run_spelling};
+ghost use Rattle.can_frame.specs.Frames.{CanFrame, word_of};
+ghost use Rattle.can_fault.specs.Scripts.{lines_in};
+ghost use Rattle.std.specs.List.{list_any};
+ghost use Rattle.std.specs.Option.{option_map};
 ghost use Rattle.can_fault.specs.Sources.{verdict_in};
 ghost use Rattle.can_rules.specs.declared.rule.Rule.{Rule};
 ghost use Rattle.can_fault.specs.declared.verdict.Verdict.{Verdict};
@@ -54,4 +58,46 @@ pub fn order_matters_only_where_two_match()
         AreSwapped (after_chosen one head) (after_chosen other head) }
     ensures run { (one other : List Rule) (heads : List Head) → AreSwapped one other →
         verdicts one heads ≡ verdicts other heads }
+{}
+
+/// The verdict that is chosen is that of the rule that decides.
+pub fn the_rule_that_decides_gives_the_verdict()
+    ensures { (rules : List Rule) (head : Head) →
+        chosen rules head ≡ option_map (λ (rule : Rule). rule.verdict) (deciding rules head) }
+{}
+
+/// Each rule has a number of its own: whatever is given, asked or ended, no number is used again.
+pub fn numbers_are_not_used_again()
+    ensures none { IsNumbered no_plan }
+    ensures given { (rule : Rule) (plan : PlanSeen) →
+        IsNumbered plan → plan.taken < 2 ^ 64 - 1 → IsNumbered (with_rule rule plan) }
+    ensures asked { (source : Verdict) (plan : PlanSeen) (attempt : ℕ)
+        (head : Option (ℕ × CanFrame)) →
+        IsNumbered plan → IsNumbered (plan_after source plan attempt head) }
+    ensures ended { (plan : PlanSeen) → IsNumbered plan → IsNumbered (without_rules plan) }
+{}
+
+/// The rule that is named gave the attempt its verdict: among the rules that there were then, it is the first to give one.
+pub fn the_rule_that_is_named_gave_the_verdict()
+    ensures { (run : RunSeen) (head : Head) (verdict : Verdict) (number : ℕ) →
+        rule_given run head verdict ≡ Some number →
+        GivesAs (made_ready run).plan.rules head verdict number }
+{}
+
+/// A run with nothing to come asks exactly as its plan, and names the rule that the plan asks.
+pub fn a_run_without_changes_asks_as_its_plan()
+    ensures after { (run : RunSeen) (winner : ℕ) (frame : CanFrame) → run.later ≡ [] →
+        (asked_run run (head_of winner (word_of frame))).plan
+        ≡ plan_after Good run.plan run.tried (Some (winner, frame)) }
+    ensures rule { (run : RunSeen) (winner : ℕ) (frame : CanFrame) → run.later ≡ [] →
+        rule_given run (head_of winner (word_of frame))
+        (given Good run.plan run.tried (Some (winner, frame)))
+        ≡ (decided_at run.plan run.tried (head_of winner (word_of frame))).rule }
+{}
+
+/// A text without changes spells the run that its plan is.
+pub fn a_text_without_changes_spells_its_plan()
+    ensures { (names : List (List ℕ)) (text : List ℕ) →
+        list_any is_later (lines_in text) ≡ false →
+        run_spelling names text ≡ with_plan no_run (plan_spelling names text) }
 {}

@@ -9,8 +9,10 @@ pub mod plan;
 pub mod rule;
 mod rule_words;
 mod rules;
+pub mod run_faults;
 
 pub use plan::{Plan, PlanError};
-pub use rule::Rule;
+pub use rule::{Decision, Rule};
 pub use rule_words::{WrongWord, begins_as_rule, read_rule};
 pub use rules::{MAX_RULES, RuleRefusal};
+pub use run_faults::{Change, Later, RunFaults, begins_as_later, read_later};

@@ -1,8 +1,9 @@
 ghost use Rattle.std.specs.Prelude.{◌≡◌, ◌≤◌, length, true, IfSome, IfNone};
-ghost use Rattle.can_rules.specs.Plans.{no_plan, IsSettled, IsUpToRules, head_in, ruled, after_ruled, with_rules, without_rules, SpellsRule, Injected, ReadsPlan, TakesPlanLine, at_word, refusal_of};
+ghost use Rattle.can_rules.specs.Plans.{no_plan, IsSettled, IsUpToRules, head_in, ruled, decided, after_ruled, decided_at, plan_asked, with_rules, without_rules, SpellsRule, GivesRule, Injected, ReadsPlan, TakesPlanLine, at_word, refusal_of};
+ghost use Rattle.can_rules.specs.Rules.{head_of};
 ghost use Rattle.can_rules.specs.RuleWords.{is_rule};
 
-use crate::rule::Rule;
+use crate::rule::{Decision, Rule};
 use crate::rule_words::{WrongWord, begins_as_rule, read_rule};
 use crate::rules::{RuleRefusal, Rules};
 use can_fault::{Script, ScriptError, Verdict};
@@ -28,6 +29,8 @@ pub enum PlanError {
 pub struct Plan {
     script: Script,
     rules: Rules,
+    // How many rules it took.
+    taken: u64,
 }
 
 impl Model for Plan {
@@ -39,7 +42,7 @@ impl Model for Plan {
 
     ghost coded = { Prim.hlevel (codes, verdict_map_code) };
 
-    ghost view = { λ p. record { lines = p.script; rules = p.rules } };
+    ghost view = { λ p. record { lines = p.script; rules = p.rules; taken = p.taken } };
 }
 
 impl Plan {
@@ -50,6 +53,7 @@ impl Plan {
         Plan {
             script: Script::new(alloc),
             rules: Rules::new(alloc),
+            taken: 0,
         }
     }
 
@@ -69,8 +73,13 @@ impl Plan {
         Ok(plan)
     }
 
-    // Takes what a line says, which has this number in its text.
-    fn take_line(&mut self, line: &str, number: usize, names: &Names) -> Result<(), PlanError>
+    /// Takes what a line says, which has this number in its text. After an error the plan is not meant to be used.
+    pub(crate) fn take_line(
+        &mut self,
+        line: &str,
+        number: usize,
+        names: &Names,
+    ) -> Result<(), PlanError>
         ensures { TakesPlanLine names.now line.now number self.old result self.new }
     {
         if begins_as_rule(line) {
@@ -91,11 +100,23 @@ impl Plan {
             Ok(rule) => rule,
             Err(which) => return Err(which.at(number)),
         };
-        match self.rules.add(rule) {
+        match self.give(rule) {
             Ok(()) => Ok(()),
             Err(RuleRefusal::TooManyRules) => Err(PlanError::TooManyRules(number)),
             Err(_) => Err(PlanError::Script(ScriptError::NoMemory)),
         }
+    }
+
+    /// One rule more, after the others, with its number. `TooManyRules` exactly where there are 64. A refusal changes
+    /// nothing.
+    pub(crate) fn give(&mut self, mut rule: Rule) -> Result<(), RuleRefusal>
+        ensures { GivesRule rule self.old result self.new }
+    {
+        let number = self.taken.saturating_add(1);
+        rule.number = number;
+        self.rules.add(rule)?;
+        self.taken = number;
+        Ok(())
     }
 
     /// The verdict of the attempt with this number, for which a source has its own, where no rule is asked: the source's,
@@ -128,12 +149,29 @@ impl Plan {
         ensures verdict { result ≡ ruled self.old.rules (head_in head) }
         ensures after { self.new ≡ with_rules (after_ruled self.old.rules (head_in head)) self.old }
     {
+        self.decision_of_rules(head).verdict
+    }
+
+    /// The same verdict, with the number of the rule that gives it.
+    pub fn decision_of_rules(&mut self, head: Option<(Iface, Frame)>) -> Decision
+        ensures decision { result ≡ decided self.old.rules (head_in head) }
+        ensures after { self.new ≡ with_rules (after_ruled self.old.rules (head_in head)) self.old }
+    {
         match head {
-            Some((winner, frame)) => self
-                .rules
-                .verdict(winner, frame.word())
-                .unwrap_or(Verdict::Good),
-            None => Verdict::Good,
+            Some((winner, frame)) => self.rules.decision(winner, frame.word()),
+            None => Decision::good(),
+        }
+    }
+
+    /// The verdict of the attempt with this number, which this interface wins with a frame of this identifier word, where no
+    /// source has a fault: that of the script's line, else that of the rules.
+    pub(crate) fn decision(&mut self, attempt: u64, winner: Iface, word: u32) -> Decision
+        ensures decision { result ≡ decided_at self.old attempt (head_of winner word) }
+        ensures after { self.new ≡ plan_asked self.old attempt (head_of winner word) }
+    {
+        match self.script.line(attempt) {
+            Some(verdict) => Decision::without_rule(verdict),
+            None => self.rules.decision(winner, word),
         }
     }
 
@@ -144,7 +182,7 @@ impl Plan {
         ensures { Injected names.now text.now self.old result self.new }
     {
         let rule = rule_in(text, names)?;
-        self.rules.add(rule)
+        self.give(rule)
     }
 
     /// How many rules are left.
@@ -187,8 +225,8 @@ impl WrongWord {
         }
     }
 
-    // How it is refused in the line of this number.
-    fn at(self, number: usize) -> PlanError
+    /// How it is refused in the line of this number.
+    pub(crate) fn at(self, number: usize) -> PlanError
         ensures { result ≡ at_word number self }
     {
         match self {

@@ -15,6 +15,39 @@ pub struct Rule {
     pub left: Option<u32>,
     /// What it gives.
     pub verdict: Verdict,
+    /// Its number among all that its plan took, from 1; 0 before it was taken.
+    pub number: u64,
+}
+
+/// What rules give an attempt.
+#[derive(Debug, Clone, Copy, PartialEq, Eq)]
+pub struct Decision {
+    /// The verdict: `Good` where no rule gives one.
+    pub verdict: Verdict,
+    /// The number of the rule that gives it, if one does.
+    pub rule: Option<u64>,
+}
+
+impl Decision {
+    ghost use Rattle.std.specs.Prelude.{◌≡◌, None};
+    ghost use Rattle.can_rules.specs.Rules.{decision_by, without_rule};
+
+    /// No rule gives a verdict.
+    pub(crate) fn good() -> Decision
+        ensures { result ≡ decision_by None }
+    {
+        Decision::without_rule(Verdict::Good)
+    }
+
+    /// This verdict, and no rule gives it.
+    pub(crate) fn without_rule(verdict: Verdict) -> Decision
+        ensures { result ≡ without_rule verdict }
+    {
+        Decision {
+            verdict,
+            rule: None,
+        }
+    }
 }
 
 impl Rule {

@@ -8,7 +8,7 @@ use can_filter::Filter;
 use can_frame::{Names, read_decimal, read_hexadecimal};
 use thiserror::Error;
 
-/// Which word of a rule is wrong: its text is the form that the word has.
+/// Which word of a rule, or before it, is wrong: its text is the form that the word has.
 #[derive(Debug, Clone, Copy, PartialEq, Eq, Error)]
 pub enum WrongWord {
     /// It begins with neither `next` nor `always`.
@@ -26,6 +26,9 @@ pub enum WrongWord {
     /// The identifier after `id` is none.
     #[error("id ID: 3 hexadecimal digits up to 7FF or 8 up to 1FFFFFFF; or ID:MASK, 1 to 8 digits each, without bit 29 in MASK")]
     Identifier,
+    /// The number after `at` is none.
+    #[error("at N: N has 1 to 10 digits")]
+    Attempt,
     /// The number after `skip` is none.
     #[error("skip K: K has 1 to 8 digits")]
     Skip,
@@ -72,6 +75,7 @@ fn rule_of(left: Option<u32>) -> Rule
         skip: 0,
         left,
         verdict: Verdict::Good,
+        number: 0,
     }
 }
 

@@ -1,8 +1,7 @@
 ghost use Rattle.std.specs.Prelude.{◌≡◌, ◌==◌, [], ◌≤◌, length};
-ghost use Rattle.can_rules.specs.Rules.{chosen, after_chosen, head_of, unused, Adds};
+ghost use Rattle.can_rules.specs.Rules.{deciding, decision_by, after_chosen, head_of, unused, Adds};
 
-use crate::rule::Rule;
-use can_fault::Verdict;
+use crate::rule::{Decision, Rule};
 use can_frame::Iface;
 use std::alloc::Global;
 use std::marker::Model;
@@ -54,12 +53,12 @@ impl Rules {
         }
     }
 
-    /// The verdict that a rule gives an attempt, if one does. A rule that is used up by it goes.
-    pub fn verdict(&mut self, winner: Iface, word: u32) -> Option<Verdict>
-        ensures verdict { result ≡ chosen self.old (head_of winner word) }
+    /// What the rules give an attempt. A rule that is used up by it goes.
+    pub fn decision(&mut self, winner: Iface, word: u32) -> Decision
+        ensures decision { result ≡ decision_by (deciding self.old (head_of winner word)) }
         ensures counts { self.new ≡ unused (after_chosen self.old (head_of winner word)) }
     {
-        let given = verdict_among(&mut self.rules, winner, word);
+        let given = decision_among(&mut self.rules, winner, word);
         keep_unused(&mut self.rules);
         given
     }
@@ -100,18 +99,21 @@ impl Rules {
     }
 }
 
-// The verdict that the first of the rules to give one gives an attempt.
-fn verdict_among(rules: &mut [Rule], winner: Iface, word: u32) -> Option<Verdict>
-    ensures verdict { result ≡ chosen rules.old (head_of winner word) }
+// What the first of the rules to give a verdict gives an attempt.
+fn decision_among(rules: &mut [Rule], winner: Iface, word: u32) -> Decision
+    ensures decision { result ≡ decision_by (deciding rules.old (head_of winner word)) }
     ensures counts { rules.new ≡ after_chosen rules.old (head_of winner word) }
 {
     for rule in rules.iter_mut() {
-        let given = rule.ask(winner, word);
-        if given.is_some() {
-            return given;
+        let number = rule.number;
+        if let Some(verdict) = rule.ask(winner, word) {
+            return Decision {
+                verdict,
+                rule: Some(number),
+            };
         }
     }
-    None
+    Decision::good()
 }
 
 // Lets those go that are used up.

@@ -1,0 +1,176 @@
+use Rattle.std.specs.Prelude.{◌≡◌, ℕ, ◌+◌, ◌-◌, Bool, true, false, IsTrue, ◌&&◌, ◌==◌, nat_le, if◌then◌else◌, codes}
+use Rattle.std.specs.Prelude.{List, [], ◌∷◌, ◌++◌, length, slice_get, Option, Some, None, Result, Ok, Err}
+use Rattle.std.specs.List.{list_any}
+use Rattle.std.specs.Option.{ok_or}
+use Rattle.std.specs.Str.{bytes_eq}
+use Rattle.can_frame.specs.Numbers.{number_in}
+use Rattle.can_fault.specs.Scripts.{word, after, lines_in}
+use Rattle.can_fault.specs.declared.script.ScriptError.TheVariants as script
+use Rattle.can_fault.specs.declared.verdict.GlobalKind.{GlobalKind}
+use Rattle.can_fault.specs.declared.verdict.GlobalKind.TheVariants as global
+use Rattle.can_fault.specs.declared.verdict.LocalKind.{LocalKind}
+use Rattle.can_fault.specs.declared.verdict.LocalKind.TheVariants as local
+use Rattle.can_fault.specs.declared.verdict.Verdict.{Verdict}
+use Rattle.can_fault.specs.declared.verdict.Verdict.TheVariants.{Good, Global, Local, LastBit}
+use Rattle.can_rules.specs.declared.rule.Rule.{Rule}
+use Rattle.can_rules.specs.declared.rule.Decision.{Decision}
+use Rattle.can_rules.specs.declared.rule_words.WrongWord.{WrongWord}
+use Rattle.can_rules.specs.declared.rule_words.WrongWord.TheVariants as wrong
+use Rattle.can_rules.specs.declared.plan.PlanError.{PlanError}
+use Rattle.can_rules.specs.declared.plan.PlanError.TheVariants as plan
+use Rattle.can_rules.specs.declared.run_faults.Change.{Change}
+use Rattle.can_rules.specs.declared.run_faults.Change.TheVariants as change
+use Rattle.can_rules.specs.declared.run_faults.Later.{Later}
+use Rattle.can_rules.specs.Rules.{Head}
+use Rattle.can_rules.specs.RuleWords.{◌>>=◌, second, beyond, rule_spelling}
+use Rattle.can_rules.specs.Plans.{PlanSeen, no_plan, one_more, with_rule, without_rules, decided_at, plan_asked}
+use Rattle.can_rules.specs.Plans.{at_word, line_taken, gone_on, has_bytes}
+
+-- The faults of a run that is over, to find which rule gave an attempt its verdict: a plan, and what was given or ended
+-- while the run went on (own choice).
+
+-- the plan, what is still to come, and how many attempts tried a frame so far
+pub record RunSeen : Type 0 where
+  pub plan : PlanSeen
+  pub later : List Later
+  pub tried : ℕ
+
+-- no line, no rule, nothing to come
+abbrev pub no_run : RunSeen
+no_run = record { plan = no_plan; later = []; tried = 0 }
+
+-- What becomes of the plan.
+
+-- the plan after a change: a rule is not taken where 64 are left
+abbrev pub after_change : Change → PlanSeen → PlanSeen
+after_change (change.Give rule) known = if nat_le 64 (length known.rules) then known else with_rule rule known
+after_change change.End known = without_rules known
+
+-- the plan when the changes are made that come before the attempt with this number
+abbrev pub changed : PlanSeen → ℕ → List Later → PlanSeen
+changed known attempt [] = known
+changed known attempt (next ∷ later) =
+    if nat_le next.attempt attempt then changed (after_change next.change known) attempt later else known
+
+-- what is to come after them
+abbrev pub still_later : ℕ → List Later → List Later
+still_later attempt [] = []
+still_later attempt (next ∷ later) = if nat_le next.attempt attempt then still_later attempt later else next ∷ later
+
+-- the run when the next attempt tries a frame
+abbrev pub made_ready : RunSeen → RunSeen
+made_ready run = record run {
+  plan = changed run.plan run.tried run.later;
+  later = still_later run.tried run.later;
+}
+
+-- Which rule gave a verdict.
+
+-- two faults that every interface sees are the same
+abbrev pub same_global : GlobalKind → GlobalKind → Bool
+same_global global.Bit global.Bit = true
+same_global global.Form global.Form = true
+same_global one other = false
+
+-- two faults that some interfaces see are the same
+abbrev pub same_local : LocalKind → LocalKind → Bool
+same_local local.Stuff local.Stuff = true
+same_local local.Crc local.Crc = true
+same_local local.Form local.Form = true
+same_local one other = false
+
+-- two verdicts are the same
+abbrev pub same_verdict : Verdict → Verdict → Bool
+same_verdict Good Good = true
+same_verdict LastBit LastBit = true
+same_verdict (Global one) (Global other) = same_global one other
+same_verdict (Local seen one) (Local also other) = (seen.0 == also.0) && same_local one other
+same_verdict one other = false
+
+-- the number of the rule that gives a decision, where its verdict is this one
+abbrev pub rule_for : Verdict → Decision → Option ℕ
+rule_for verdict decision = if same_verdict decision.verdict verdict then decision.rule else None
+
+-- the number of the rule that gave the next attempt that tries a frame its verdict, if one did
+abbrev pub rule_given : RunSeen → Head → Verdict → Option ℕ
+rule_given run head verdict = rule_for verdict (decided_at (made_ready run).plan run.tried head)
+
+-- the run after that attempt
+abbrev pub asked_run : RunSeen → Head → RunSeen
+asked_run run head = record (made_ready run) {
+  plan = plan_asked (made_ready run).plan run.tried head;
+  tried = one_more run.tried;
+}
+
+-- Runs as texts: the lines of a plan, and lines `at N RULE` and `at N nofaults`.
+
+-- a line that begins with `at`
+abbrev pub is_later : List ℕ → Bool
+is_later line = bytes_eq (word line) (codes "at")
+
+-- the number of an attempt: 1 to 10 decimal digits
+abbrev pub attempt_spelling : List ℕ → Option ℕ
+attempt_spelling text = number_in 10 10 text
+
+-- a change: a rule that is given, or `nofaults`, which ends all
+unfoldable pub change_spelling : List (List ℕ) → List ℕ → Result Change WrongWord
+change_spelling names text =
+    if bytes_eq text (codes "nofaults") then Ok change.End
+    else (do
+      rule ← rule_spelling names text
+      Ok (change.Give rule))
+
+-- a line that begins with `at`: a number, and a change
+unfoldable pub later_spelling : List (List ℕ) → List ℕ → Result Later WrongWord
+later_spelling names line = do
+  attempt ← ok_or (attempt_spelling (second line)) wrong.Attempt
+  change ← change_spelling names (beyond line)
+  Ok (record { attempt = attempt; change = change })
+
+-- a change before this attempt may follow that one, or none
+abbrev pub may_follow : ℕ → Option Later → Bool
+may_follow attempt None = true
+may_follow attempt (Some before) = nat_le before.attempt attempt
+
+-- numbers do not decrease
+abbrev pub may_come : List Later → ℕ → Bool
+may_come later attempt = may_follow attempt (slice_get later (length later - 1))
+
+-- a run with one change more, after the others, or the fault of the line with this number
+abbrev pub with_later : RunSeen → ℕ → Result Later WrongWord → Result RunSeen PlanError
+with_later known n (Ok next) =
+    if may_come known.later next.attempt
+    then Ok (record known { later = known.later ++ next ∷ [] })
+    else Err (plan.Script (script.BadLine n))
+with_later known n (Err which) = Err (at_word n which)
+
+-- a run with this plan, or the plan's fault
+abbrev pub with_plan : RunSeen → Result PlanSeen PlanError → Result RunSeen PlanError
+with_plan known read = gone_on read (λ next. Ok (record known { plan = next }))
+
+-- the run after a line with this number, where the lines before it gave `known`
+abbrev pub run_line : List (List ℕ) → RunSeen → ℕ → List ℕ → Result RunSeen PlanError
+run_line names known n line =
+    if is_later line then with_later known n (later_spelling names line)
+    else with_plan known (line_taken names known.plan n line)
+
+-- the run after lines, the first of them with this number
+abbrev pub run_lines : List (List ℕ) → RunSeen → ℕ → List (List ℕ) → Result RunSeen PlanError
+run_lines names known n [] = Ok known
+run_lines names known n (line ∷ more) =
+    gone_on (run_line names known n line) (λ next. run_lines names next (n + 1) more)
+
+-- the run that a text spells, or its first fault
+abbrev pub run_spelling : List (List ℕ) → List ℕ → Result RunSeen PlanError
+run_spelling names text = run_lines names no_run 1 (lines_in text)
+
+-- what reading a text returns: what the text spells, or NoMemory, where it has a line
+abbrev pub ReadsRunFaults : List (List ℕ) → List ℕ → Result RunSeen PlanError → Type 0
+ReadsRunFaults names text (Err (plan.Script script.NoMemory)) = IsTrue (list_any has_bytes (lines_in text))
+ReadsRunFaults names text answer = run_spelling names text ≡ answer
+
+-- taking a line with this number: the run after it, or its fault, or NoMemory, where it is not empty
+abbrev pub TakesRunLine : List (List ℕ) → List ℕ → ℕ → RunSeen → Result (Unit {0}) PlanError → RunSeen → Type 0
+TakesRunLine names line n known (Ok done) new = run_line names known n line ≡ Ok new
+TakesRunLine names line n known (Err (plan.Script script.NoMemory)) new = IsTrue (has_bytes line)
+TakesRunLine names line n known (Err why) new = run_line names known n line ≡ Err why
