@@ -9,16 +9,21 @@ use Rattle.can_event.specs.declared.event.Event.TheVariants.{Attempt}
 use Rattle.can_event.specs.declared.received.Received.{Received}
 use Rattle.can_event.specs.declared.reply.Reply.{Reply}
 use Rattle.can_event.specs.declared.reply.Reply.TheVariants as reply
+use Rattle.can_frame.specs.Frames.{word_of}
 use Rattle.can_record_text.specs.declared.version.Version.{Version}
 use Rattle.can_record_text.specs.Spelling.{spell, entry_line, bus_words, end_words}
 use Rattle.can_bus.specs.Counters.{counts_of}
 use Rattle.can_bus.specs.Sockets.{open_sockets}
+use Rattle.can_rules.specs.Rules.{head_of}
+use Rattle.can_rules.specs.RunFaults.{RunSeen, asked_run, rule_given}
 use Rattle.can_wire.specs.Timings.{BusTiming}
+use Rattle.can_events.specs.declared.wanted.Wanted.{Wanted}
 use Rattle.can_events.specs.Brought.{is_step, put_to, dropped_by, lost_by}
-use Rattle.can_events.specs.Words.{counts_part, lost_part, named, part, put_word, dropped_words, wire_words}
+use Rattle.can_events.specs.Words.{counts_part, lost_part, named, numbered, part, put_word, dropped_words, wire_words}
 
--- The text of a record's events: each entry's line with what the entry brought about, and where the timing of the bus
--- is given, with the times and the bits of each frame that was tried (own choice).
+-- The text of a record's events: each entry's line with what the entry brought about; where the timing of the bus is
+-- given, with the times and the bits of each frame that was tried; and where the run's faults are, with the rule that
+-- gave the attempt its verdict (own choice).
 
 -- the error counts that the entry changed, by interface
 abbrev pub counts_parts : BusConfig → List Entry → Entry → List ℕ
@@ -55,44 +60,79 @@ abbrev pub tried_part : BusTiming → Event → Reply → List ℕ
 tried_part t (Attempt m v) (reply.Attempted (attempt.Tried a)) = part (wire_words t a.frame a.class v)
 tried_part t _ _ = []
 
--- the last part of an entry's line: nothing where no timing is given, or no frame was tried
+-- the part of an entry's line that is about the wire: nothing where no timing is given, or no frame was tried
 unfoldable pub wire_part : Option BusTiming → Entry → List ℕ
 wire_part None e = []
 wire_part (Some t) e = tried_part t e.event e.reply
+
+-- the rule that gave an attempt its verdict: nothing where it tried no frame, where no rule gave it one, and where that
+-- is not the verdict which it had
+abbrev pub rule_by : RunSeen → Event → Reply → Option ℕ
+rule_by run (Attempt m v) (reply.Attempted (attempt.Tried a)) = rule_given run (head_of a.winner (word_of a.frame)) v
+rule_by run _ _ = None
+
+-- the last part of an entry's line, by the faults as they are before the entry
+unfoldable pub rule_part : Option RunSeen → Entry → List ℕ
+rule_part None e = []
+rule_part (Some run) e = numbered (codes "rule") (rule_by run e.event e.reply)
+
+-- the faults after an entry: an attempt that tried a frame asks the rules, no other entry does
+abbrev pub asked_by : RunSeen → Event → Reply → RunSeen
+asked_by run (Attempt m v) (reply.Attempted (attempt.Tried a)) = asked_run run (head_of a.winner (word_of a.frame))
+asked_by run _ _ = run
+
+-- the same, where there may be none
+unfoldable pub asked_of : Option RunSeen → Entry → Option RunSeen
+asked_of None e = None
+asked_of (Some run) e = Some (asked_by run e.event e.reply)
+
+-- the faults after these entries
+abbrev pub faults_after : Option RunSeen → List Entry → Option RunSeen
+faults_after faults [] = faults
+faults_after faults (e ∷ past) = asked_of (faults_after faults past) e
+
+-- what is wanted of the entry that follows these: the timing, and the faults as they are then
+abbrev pub wanted_after : Wanted → List Entry → Wanted
+wanted_after w past = record w { faults = faults_after w.faults past }
+
+-- nothing is wanted but what entries brought about
+abbrev pub nothing_wanted : Wanted
+nothing_wanted = record { timing = None; faults = None }
 
 -- a line without the LF at its end
 abbrev pub unended : List ℕ → List ℕ
 unended line = take (length line - 1) line
 
--- a line, and before its LF what the entry brought about
-unfoldable pub with_parts : Option BusTiming → BusConfig → List Entry → Entry → List ℕ → List ℕ
-with_parts t c past e line = unended line ++ parts_of c past e ++ wire_part t e ++ 10 ∷ []
+-- a line, and before its LF what the entry brought about, and what else is wanted of it
+unfoldable pub with_parts : Wanted → BusConfig → List Entry → Entry → List ℕ → List ℕ
+with_parts w c past e line =
+    unended line ++ parts_of c past e ++ wire_part w.timing e ++ rule_part w.faults e ++ 10 ∷ []
 
 -- the line of an entry in the record, with what the entry brought about
-abbrev pub events_line : Option BusTiming → BusConfig → List Entry → Entry → List ℕ
-events_line t c past e = with_parts t c past e (entry_line e [])
+abbrev pub events_line : Wanted → BusConfig → List Entry → Entry → List ℕ
+events_line w c past e = with_parts (wanted_after w past) c past e (entry_line e [])
 
--- the lines of a history, the oldest entry first
-abbrev pub events_lines : Option BusTiming → BusConfig → List Entry → List ℕ
-events_lines t c [] = []
-events_lines t c (e ∷ past) = events_lines t c past ++ events_line t c past e
+-- the lines of a history, the oldest entry first: what is wanted is as it was before them
+abbrev pub events_lines : Wanted → BusConfig → List Entry → List ℕ
+events_lines w c [] = []
+events_lines w c (e ∷ past) = events_lines w c past ++ events_line w c past e
 
 -- the first line: the version of the format
 abbrev pub first_line : List ℕ
 first_line = codes "canbus events 1" ++ 10 ∷ []
 
 -- the text up to a history's last entry: the second line is the bus's, as the record has it
-abbrev pub events_front : Option BusTiming → Version → BusConfig → List Entry → List ℕ
-events_front t v c past = first_line ++ spell (bus_words v c) [] ++ events_lines t c past
+abbrev pub events_front : Wanted → Version → BusConfig → List Entry → List ℕ
+events_front w v c past = first_line ++ spell (bus_words v c) [] ++ events_lines w c past
 
 -- the last line of a record's text that is cut off: how many entries there were
 abbrev pub cut_words : ℕ → List (List ℕ)
 cut_words count = codes "cut" ∷ decimal count ∷ []
 
 -- the text of a history's events
-abbrev pub events_text : Option BusTiming → Version → BusConfig → List Entry → List ℕ
-events_text t v c past = events_front t v c past ++ spell (end_words (length past)) []
+abbrev pub events_text : Wanted → Version → BusConfig → List Entry → List ℕ
+events_text w v c past = events_front w v c past ++ spell (end_words (length past)) []
 
 -- the same where the record's text is cut off after these entries
-abbrev pub cut_events_text : Option BusTiming → Version → BusConfig → List Entry → List ℕ
-cut_events_text t v c past = events_front t v c past ++ spell (cut_words (length past)) []
+abbrev pub cut_events_text : Wanted → Version → BusConfig → List Entry → List ℕ
+cut_events_text w v c past = events_front w v c past ++ spell (cut_words (length past)) []

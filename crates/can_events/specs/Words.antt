@@ -1,4 +1,5 @@
 use Rattle.std.specs.Prelude.{ℕ, ◌==◌, ◌&&◌, List, [], ◌∷◌, ◌++◌, codes, decimal, if◌then◌else◌}
+use Rattle.std.specs.Prelude.{Option, Some, None}
 use Rattle.std.specs.List.{flat_map}
 use Rattle.can_confine.specs.Confinement.{ErrorCounts}
 use Rattle.can_fault.specs.declared.verdict.Verdict.{Verdict}
@@ -24,6 +25,11 @@ part words = 59 ∷ parted words
 abbrev pub named : List ℕ → List (List ℕ) → List ℕ
 named name [] = []
 named name (w ∷ ws) = part (name ∷ w ∷ ws)
+
+-- a part with this name and a number, where there is one
+unfoldable pub numbered : List ℕ → Option ℕ → List ℕ
+numbered name None = []
+numbered name (Some n) = part (name ∷ decimal n ∷ [])
 
 -- the error counts of interface i after an entry that changed them
 unfoldable pub counts_part : ℕ → ErrorCounts → ErrorCounts → List ℕ

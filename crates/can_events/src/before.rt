@@ -1,24 +1,25 @@
-ghost use Rattle.std.specs.Prelude.{◌≡◌, ◌++◌, ◌∷◌, [], List, None, OnOk, IfOk, Some, length, replicate, true};
+ghost use Rattle.std.specs.Prelude.{◌≡◌, ◌++◌, ◌∷◌, [], List, OnOk, IfOk, length, replicate, true};
 ghost use Rattle.can_bus.specs.Lean.{IsAfter};
 ghost use Rattle.can_confine.specs.Confinement.{at_start};
 ghost use Rattle.can_event.specs.declared.entry.Entry.{Entry as AnEntry};
 ghost use Rattle.can_events.specs.Brought.{is_step};
-ghost use Rattle.can_events.specs.EventsText.{parts_of, unended, with_parts};
+ghost use Rattle.can_events.specs.EventsText.{asked_of, nothing_wanted, parts_of, unended, with_parts};
 ghost use Rattle.can_events.specs.inner.Seen.{HasSeen, seen_in, told_parts};
 
 use crate::changed::changed_sockets;
 use crate::parts::{put_all_counts, put_all_lost, put_queued, put_refused};
+use crate::ruled::put_rule;
+use crate::wanted::Wanted;
 use crate::wire::put_wire;
 use can_bus::{LeanRingBus, RingState};
 use can_confine::Counters;
 use can_event::{Closed, Entry};
-use can_wire::Timing;
 use std::alloc::{AllocError, Global};
 use std::marker::Model;
 
 /// What a bus was like before an entry, as far as an entry can change it.
 ///
-/// `look` before an attempt or a restart, then the bus's answer, then `put_line` or `put_timed_line`. Memory is taken once,
+/// `look` before an attempt or a restart, then the bus's answer, then `put_line` or `put_wanted_line`. Memory is taken once,
 /// by `new`.
 #[derive(Drop)]
 pub struct Before {
@@ -83,30 +84,33 @@ impl Before {
         ensures { (past : List AnEntry) (e : AnEntry) → HasSeen bus.now.config past self.now →
             IsAfter bus.now (e ∷ past) → is_step e.event ≡ true →
             OnOk result (out.new.items ≡ out.old.items ++
-            with_parts None bus.now.config past e line.now) }
+            with_parts nothing_wanted bus.now.config past e line.now) }
     {
         self.put_front(out, bus, line)?;
         out.extend_from_slice(b"\n")?;
         Ok(())
     }
 
-    /// The same of this entry on a bus of this timing. Where an attempt tried a frame, the last part has its times and its
-    /// bits on the wire.
-    pub fn put_timed_line(
+    /// The same of this entry, with what else is wanted of it. Where it is of an attempt that tried a frame, the rules of
+    /// the faults are asked, so each such entry of a run has to come here, one after another.
+    pub fn put_wanted_line(
         &self,
         out: &mut Vec<u8>,
         bus: &LeanRingBus,
         line: &[u8],
-        timing: Timing,
+        wanted: &mut Wanted,
         entry: &Entry,
     ) -> Result<(), AllocError>
-        ensures { (past : List AnEntry) → HasSeen bus.now.config past self.now →
+        ensures line { (past : List AnEntry) → HasSeen bus.now.config past self.now →
             IsAfter bus.now (entry.now ∷ past) → is_step entry.now.event ≡ true →
             OnOk result (out.new.items ≡ out.old.items ++
-            with_parts (Some timing) bus.now.config past entry.now line.now) }
+            with_parts wanted.old bus.now.config past entry.now line.now) }
+        ensures asked { OnOk result (wanted.new
+            ≡ record wanted.old { faults = asked_of wanted.old.faults entry.now }) }
     {
         self.put_front(out, bus, line)?;
-        put_wire(out, timing, entry)?;
+        put_wire(out, wanted.timing, entry)?;
+        put_rule(out, &mut wanted.faults, entry)?;
         out.extend_from_slice(b"\n")?;
         Ok(())
     }

@@ -1,4 +1,4 @@
-ghost use Rattle.std.specs.Prelude.{◌≡◌, ◌++◌, ◌∷◌, [], codes, decimal, OnOk, Some};
+ghost use Rattle.std.specs.Prelude.{◌≡◌, ◌++◌, ◌∷◌, [], codes, decimal, OnOk};
 ghost use Rattle.can_events.specs.EventsText.{wire_part};
 ghost use Rattle.can_events.specs.Words.{part, wire_words};
 ghost use Rattle.can_wire.specs.FrameBits.{frame_bits_of};
@@ -13,12 +13,19 @@ use std::alloc::AllocError;
 /// Room for the part: its name and four numbers.
 type WireText = Text<96>;
 
-/// The part with the times and the bits of the frame that an entry's attempt tried, on a bus of this timing. Nothing where
-/// it tried none.
+/// The part with the times and the bits of the frame that an entry's attempt tried. Nothing where it tried none, or no
+/// timing of the bus is given.
 #[tactic(auto, unfolding(crate::specs::EventsText::wire_part))]
-pub(crate) fn put_wire(out: &mut Vec<u8>, timing: Timing, entry: &Entry) -> Result<(), AllocError>
-    ensures { OnOk result (out.new.items ≡ out.old.items ++ wire_part (Some timing) entry.now) }
+pub(crate) fn put_wire(
+    out: &mut Vec<u8>,
+    timing: Option<Timing>,
+    entry: &Entry,
+) -> Result<(), AllocError>
+    ensures { OnOk result (out.new.items ≡ out.old.items ++ wire_part timing entry.now) }
 {
+    let Some(timing) = timing else {
+        return Ok(());
+    };
     let Event::Attempt(_, verdict) = &entry.event else {
         return Ok(());
     };

@@ -1,6 +1,6 @@
 -- What one more line brought about.
 use Rattle.std.proofs.Common.{◌≡◌, ◌≢◌, ◌≤◌, ◌+◌, ◌-◌, ◌&&◌, not, ℕ, Bool, true, false, All, List, [], ◌∷◌, ◌++◌, length, take, Option, Some, None, IfOk, Result, Ok, Err, inl, inr, append_assoc, length-append, refl, sym, ap, subst, ◌∙◌, arith}
-use Rattle.std.specs.Prelude.{reverse}
+use Rattle.std.specs.Prelude.{codes, reverse}
 use Rattle.std.proofs.Math.Seq.{take-append_seam}
 use Rattle.std.proofs.lemmas.Bool.{cases_lt}
 use Rattle.std.proofs.lemmas.List.{append-nil, length-reverse, reverse-append, take-append-le}
@@ -15,7 +15,10 @@ use Rattle.can_bus.specs.Lean.{IsAfter}
 use Rattle.can_bus.specs.Legal.{IsLegal}
 use Rattle.can_wire.specs.Timings.{BusTiming}
 use Rattle.can_events.specs.Brought.{is_step}
-use Rattle.can_events.specs.EventsText.{events_front, events_line, parts_of, tried_part, unended, wire_part, with_parts}
+use Rattle.can_rules.specs.RunFaults.{RunSeen}
+use Rattle.can_events.specs.declared.wanted.Wanted.{Wanted}
+use Rattle.can_events.specs.Words.{numbered}
+use Rattle.can_events.specs.EventsText.{asked_by, asked_of, events_front, events_line, faults_after, parts_of, rule_by, rule_part, tried_part, unended, wanted_after, wire_part, with_parts}
 use Rattle.can_events.specs.EventsText.{first_line as events_first_line}
 use Rattle.can_record_text.specs.declared.version.Version.{Version}
 use Rattle.can_record_text.specs.Spelling.{bus_words, entry_line, entry_words, first_line, spell, version_of}
@@ -24,13 +27,13 @@ use Rattle.can_replay.specs.Audits.{IsFirstWrong}
 use Rattle.can_replay.specs.Histories.{before}
 use Rattle.can_replay.specs.declared.entry_audit.EntryAudit.{EntryAudit}
 use Rattle.can_replay.specs.declared.text_fault.WrongLine.{WrongLine}
-use Rattle.can_events.specs.inner.Seen.{Seen, HasSeen}
+use Rattle.can_events.specs.inner.Seen.{HasSeen}
 use Rattle.can_replay.specs.declared.events_text.EventsText.{EventsText}
 use Rattle.can_replay.specs.declared.text_audit.Phase.TheVariants as phase
 use Rattle.can_replay.specs.declared.text_fault.Cut.{Cut}
 use Rattle.can_replay.specs.declared.text_fault.Cut.TheVariants as cut
 use Rattle.can_replay.specs.declared.text_fault.TextFault.{TextFault}
-use Rattle.can_replay.specs.EventTexts.{AreWritten, Completes, EndsCutEvents, EndsEvents, IsReached, IsWhole, WritesOn, WritesParts, cut_line, end_line, events_of, is_legal_yet, is_none, legal_part}
+use Rattle.can_replay.specs.EventTexts.{AreWritten, Completes, EndsCutEvents, EndsEvents, IsReached, IsWantedAfter, IsWhole, WritesOn, WritesParts, cut_line, end_line, events_of, is_legal_yet, is_none, legal_part, legal_past}
 use Rattle.can_replay.specs.TextAudits.{IsLine}
 use Rattle.can_replay.specs.inner.EntryAudits.{IsBegun, IsGoing, IsSettled}
 use Rattle.can_replay.proofs.Auditing.{last-right, none-wrong, one-first}
@@ -114,21 +117,50 @@ unfolding wire_part
 no_wire None e plain = refl
 no_wire (Some t) e plain = none_tried t e.event e.reply plain
 
+none_ruled : (run : RunSeen) (v : Event) (r : Reply) → is_step v ≡ false → rule_by run v r ≡ None
+none_ruled run (Attempt m w) r plain = absurd cc
+none_ruled run (Restart i m) r plain = refl
+none_ruled run (Open i k) r plain = refl
+none_ruled run (Close s) r plain = refl
+none_ruled run (SetFilters s f) r plain = refl
+none_ruled run (SetOption s o) r plain = refl
+none_ruled run (Send s f) r plain = refl
+none_ruled run (Receive s) r plain = refl
+
+no_rule : (faults : Option RunSeen) (e : Entry) → is_step e.event ≡ false → rule_part faults e ≡ []
+unfolding rule_part numbered
+no_rule None e plain = refl
+no_rule (Some run) e plain = ap (numbered (codes "rule")) (none_ruled run e.event e.reply plain)
+
+none_asked : (run : RunSeen) (v : Event) (r : Reply) → is_step v ≡ false → asked_by run v r ≡ run
+none_asked run (Attempt m w) r plain = absurd cc
+none_asked run (Restart i m) r plain = refl
+none_asked run (Open i k) r plain = refl
+none_asked run (Close s) r plain = refl
+none_asked run (SetFilters s f) r plain = refl
+none_asked run (SetOption s o) r plain = refl
+none_asked run (Send s f) r plain = refl
+none_asked run (Receive s) r plain = refl
+
+-- an entry that is no attempt and no restart asks no rule
+plain_asked : (faults : Option RunSeen) (e : Entry) → is_step e.event ≡ false → asked_of faults e ≡ faults
+unfolding asked_of
+plain_asked None e plain = refl
+plain_asked (Some run) e plain = ap Some (none_asked run e.event e.reply plain)
+
 -- an entry that is no attempt and no restart has only its line
-pub plain_line : (t : Option BusTiming) (c : BusConfig) (past : List Entry) (e : Entry) → is_step e.event ≡ false → events_line t c past e ≡ entry_line e []
+pub plain_line : (w : Wanted) (c : BusConfig) (past : List Entry) (e : Entry) → is_step e.event ≡ false → events_line w c past e ≡ entry_line e []
 unfolding with_parts
-plain_line t c past e plain =
+plain_line w c past e plain =
     let end = ends_line (entry_words e) (event_words_then e) in
-    let none : unended (entry_line e []) ++ [] ++ [] ++ 10 ∷ [] ≡ unended (entry_line e []) ++ 10 ∷ [] = simp append-nil in
-    ap (λ (x : List ℕ). unended (entry_line e []) ++ x ++ wire_part t e ++ 10 ∷ []) (no_parts c past e plain)
-    ∙ ap (λ (x : List ℕ). unended (entry_line e []) ++ [] ++ x ++ 10 ∷ []) (no_wire t e plain)
+    let faults = faults_after w.faults past in
+    let none : unended (entry_line e []) ++ [] ++ [] ++ [] ++ 10 ∷ [] ≡ unended (entry_line e []) ++ 10 ∷ [] = simp append-nil in
+    ap (λ (x : List ℕ). unended (entry_line e []) ++ x ++ wire_part w.timing e ++ rule_part faults e ++ 10 ∷ []) (no_parts c past e plain)
+    ∙ ap (λ (x : List ℕ). unended (entry_line e []) ++ [] ++ x ++ rule_part faults e ++ 10 ∷ []) (no_wire w.timing e plain)
+    ∙ ap (λ (x : List ℕ). unended (entry_line e []) ++ [] ++ [] ++ x ++ 10 ∷ []) (no_rule faults e plain)
     ∙ none ∙ unended_line (entry_line e []) end.0 end.1
 
 -- ---- the events of the lines
-
-events_same : (t : Option BusTiming) (old new : EntryAudit) (es ds : List Entry) → new.version ≡ old.version → new.config ≡ old.config → ds ≡ es → events_front t new.version new.config (reverse ds) ≡ events_front t old.version old.config (reverse es)
-events_same t old new es ds v c is =
-    ap (λ (x : Version). events_front t x new.config (reverse ds)) v ∙ ap (λ (x : BusConfig). events_front t old.version x (reverse ds)) c ∙ ap (λ (x : List Entry). events_front t old.version old.config (reverse x)) is
 
 is_going : (a b : Bool) → (not a && b) ≡ true → (a ≡ false) × (b ≡ true)
 is_going true b h = absurd cc
@@ -140,16 +172,22 @@ never b h k = absurd cc
 settled_in : (text : List ℕ) (b : EntryAudit) (g : IsGoing text b) (c : BusConfig) (es : List Entry) → b.config ≡ c → g.read.entries ≡ es → IsSettled c es b.wrong
 settled_in text b g c es config are = subst (λ (x : BusConfig). IsSettled x es b.wrong) config (subst (λ (xs : List Entry). IsSettled b.config xs b.wrong) are g.read.settled)
 
-module _ (t : Option BusTiming) (text line : List ℕ) (old new : EntryAudit) (g : IsGoing text old) (h : IsGoing (text ++ line) new) (is : IsLine line) where
+-- a line brought nothing about: the legal entries are those of before
+pub record NothingMore (text line : List ℕ) (old new : EntryAudit) (g : IsGoing text old) (h : IsGoing (text ++ line) new) : Type 0 where
+  pub version : new.version ≡ old.version
+  pub config : new.config ≡ old.config
+  pub past : legal_past (text ++ line) new h ≡ legal_past text old g
+
+module _ (text line : List ℕ) (old new : EntryAudit) (g : IsGoing text old) (h : IsGoing (text ++ line) new) (is : IsLine line) where
   -- the end brings nothing about
-  no_more : (more : List Entry) → new.version ≡ old.version → new.config ≡ old.config → h.read.entries ≡ g.read.entries ++ more → more ≡ [] → events_of t (text ++ line) new h ≡ events_of t text old g
+  no_more : (more : List Entry) → new.version ≡ old.version → new.config ≡ old.config → h.read.entries ≡ g.read.entries ++ more → more ≡ [] → NothingMore text line old new g h
   no_more more v c are none =
       let same : h.read.entries ≡ g.read.entries = are ∙ ap (λ (x : List Entry). g.read.entries ++ x) none ∙ append-nil g.read.entries in
       let part = ap (λ (x : List Entry). legal_part x new.wrong) same ∙ part_same old.config g.read.entries old.wrong new.wrong g.read.settled (settled_in (text ++ line) new h old.config g.read.entries c same) in
-      events_same t old new (legal_part g.read.entries old.wrong) (legal_part h.read.entries new.wrong) v c part
+      record { version = v; config = c; past = ap (λ (x : List Entry). reverse x) part }
 
   -- nor does what follows the end, or a wrong entry
-  after_wrong : (b : Bool) → old.is_ended ≡ b → (not b && is_none old.wrong) ≡ false → events_of t (text ++ line) new h ≡ events_of t text old g
+  after_wrong : (b : Bool) → old.is_ended ≡ b → (not b && is_none old.wrong) ≡ false → NothingMore text line old new g h
   after_wrong true ended stopped =
       let on = goes_on text line old new g h in
       no_more on.more on.version on.config on.are (none_after_end old.is_ended old.version old.config g.read.entries on.more line (last_of new.is_ended h.read.entries) ended on.lines on.rest)
@@ -157,9 +195,9 @@ module _ (t : Option BusTiming) (text line : List ℕ) (old new : EntryAudit) (g
       let on = goes_on text line old new g h in
       let part = ap (λ (x : List Entry). legal_part x new.wrong) on.are
       ∙ part_stays old.config g.read.entries on.more old.wrong new.wrong stopped g.read.settled (settled_in (text ++ line) new h old.config (g.read.entries ++ on.more) on.config on.are) in
-      events_same t old new (legal_part g.read.entries old.wrong) (legal_part h.read.entries new.wrong) on.version on.config part
+      record { version = on.version; config = on.config; past = ap (λ (x : List Entry). reverse x) part }
 
-  pub nothing_more : is_legal_yet old ≡ false → events_of t (text ++ line) new h ≡ events_of t text old g
+  pub nothing_more : is_legal_yet old ≡ false → NothingMore text line old new g h
   nothing_more stopped = after_wrong old.is_ended refl stopped
 
   not_ended : (b : Bool) (es : List Entry) → last_of b es ≡ [] → b ≡ false
@@ -167,7 +205,7 @@ module _ (t : Option BusTiming) (text line : List ℕ) (old new : EntryAudit) (g
   not_ended false es none = refl
 
   -- a line after legal ones, after which they are no longer going: it is the end, or that of a wrong entry
-  pub nothing_legal : is_legal_yet old ≡ true → is_legal_yet new ≡ false → events_of t (text ++ line) new h ≡ events_of t text old g
+  pub nothing_legal : is_legal_yet old ≡ true → is_legal_yet new ≡ false → NothingMore text line old new g h
   nothing_legal legal stopped =
       let on = goes_on text line old new g h in
       let going = is_going old.is_ended (is_none old.wrong) legal in
@@ -179,11 +217,11 @@ module _ (t : Option BusTiming) (text line : List ℕ) (old new : EntryAudit) (g
             let are : h.read.entries ≡ g.read.entries ++ e ∷ [] = on.are ∙ ap (λ (x : List Entry). g.read.entries ++ x) one in
             let part = ap (λ (x : List Entry). legal_part x new.wrong) are
             ∙ part_ends old.config g.read.entries e old.wrong new.wrong going.1 wrong g.read.settled (settled_in (text ++ line) new h old.config (g.read.entries ++ e ∷ []) on.config are) in
-            events_same t old new (legal_part g.read.entries old.wrong) (legal_part h.read.entries new.wrong) on.version on.config part
+            record { version = on.version; config = on.config; past = ap (λ (x : List Entry). reverse x) part }
       ]
 
 -- the line of one more legal entry
-pub record OneMore (t : Option BusTiming) (text line : List ℕ) (old new : EntryAudit) (g : IsGoing text old) (h : IsGoing (text ++ line) new) : Type 0 where
+pub record OneMore (text line : List ℕ) (old new : EntryAudit) (g : IsGoing text old) (h : IsGoing (text ++ line) new) : Type 0 where
   pub entry : Entry
   pub past : List Entry
   pub is_line : line ≡ entry_line entry []
@@ -191,17 +229,18 @@ pub record OneMore (t : Option BusTiming) (text line : List ℕ) (old new : Entr
   pub before : IsAfter old.bus past
   pub after : IsAfter new.bus (entry ∷ past)
   pub same : old.bus.config ≡ new.bus.config
-  pub events : events_of t (text ++ line) new h ≡ events_of t text old g ++ events_line t new.bus.config past entry
-
-front_more : (t : Option BusTiming) (v : Version) (c : BusConfig) (past : List Entry) (e : Entry) → events_front t v c (e ∷ past) ≡ events_front t v c past ++ events_line t c past e
-front_more t v c past e = search append_assoc
+  pub was : legal_past text old g ≡ past
+  pub now : legal_past (text ++ line) new h ≡ entry ∷ past
+  pub version : new.version ≡ old.version
+  pub config : new.config ≡ old.config
+  pub kept : new.bus.config ≡ new.config
 
 wrong_none : (o : Option WrongLine) → is_none o ≡ true → o ≡ None
 wrong_none None h = refl
 wrong_none (Some w) h = absurd cc
 
-pub one_more : (t : Option BusTiming) (text line : List ℕ) (old new : EntryAudit) (g : IsGoing text old) (h : IsGoing (text ++ line) new) → IsLine line → is_legal_yet old ≡ true → is_legal_yet new ≡ true → OneMore t text line old new g h
-one_more t text line old new g h is legal legal_too =
+pub one_more : (text line : List ℕ) (old new : EntryAudit) (g : IsGoing text old) (h : IsGoing (text ++ line) new) → IsLine line → is_legal_yet old ≡ true → is_legal_yet new ≡ true → OneMore text line old new g h
+one_more text line old new g h is legal legal_too =
     let on = goes_on text line old new g h in
     let going = is_going old.is_ended (is_none old.wrong) legal in
     let still = is_going new.is_ended (is_none new.wrong) legal_too in
@@ -213,12 +252,6 @@ one_more t text line old new g h is legal legal_too =
           let turned : reverse h.read.entries ≡ e ∷ past = ap reverse are ∙ reverse-append g.read.entries (e ∷ []) in
           let of_old : old.bus.config ≡ old.config = g.config going.0 in
           let of_new : new.bus.config ≡ new.config = h.config still.0 in
-          let config : old.config ≡ new.bus.config = sym on.config ∙ sym of_new in
-          let all : events_of t (text ++ line) new h ≡ events_front t old.version old.config (e ∷ past) =
-          ap (λ (x : List Entry). events_front t new.version new.config (reverse x)) (part_whole h.read.entries new.wrong still.1)
-          ∙ ap (events_front t new.version new.config) turned
-          ∙ ap (λ (x : Version). events_front t x new.config (e ∷ past)) on.version
-          ∙ ap (λ (x : BusConfig). events_front t old.version x (e ∷ past)) on.config in
           let first : HasLine old.version old.config e = All-head (HasLine old.version old.config) e [] (subst (All (HasLine old.version old.config)) one on.lines) in
           let good : HasLine new.version new.config e =
           subst (λ (x : Version). HasLine x new.config e) (sym on.version) (subst (λ (x : BusConfig). HasLine old.version x e) (sym on.config) first) in
@@ -229,94 +262,147 @@ one_more t text line old new g h is legal legal_too =
             good = good;
             before = g.is_after going.0 (wrong_none old.wrong going.1);
             after = subst (IsAfter new.bus) turned (h.is_after still.0 (wrong_none new.wrong still.1));
-            same = of_old ∙ config;
-            events = all ∙ front_more t old.version old.config past e
-                ∙ ap (λ (x : List ℕ). x ++ events_line t old.config past e) (ap (λ (x : List Entry). events_front t old.version old.config (reverse x)) (sym (part_whole g.read.entries old.wrong going.1)))
-                ∙ ap (λ (x : BusConfig). events_of t text old g ++ events_line t x past e) config;
+            same = of_old ∙ sym on.config ∙ sym of_new;
+            was = ap (λ (x : List Entry). reverse x) (part_whole g.read.entries old.wrong going.1);
+            now = ap (λ (x : List Entry). reverse x) (part_whole h.read.entries new.wrong still.1) ∙ turned;
+            version = on.version;
+            config = on.config;
+            kept = of_new;
           }
     ]
 
 -- ---- one more line is written
+
+-- the events are these, and what is wanted is as it is after their entries
+abbrev pub IsUpTo : (w : Wanted) (text : List ℕ) (b : EntryAudit) → IsGoing text b → List ℕ → Wanted → Type 0
+IsUpTo w text b g events now = (events ≡ events_of w text b g) × (now ≡ wanted_after w (legal_past text b g))
+
+-- nothing is
+pub stays_written : (w : Wanted) (text line : List ℕ) (old new : EntryAudit) (g : IsGoing text old) (h : IsGoing (text ++ line) new) (events : List ℕ) (now : Wanted) → NothingMore text line old new g h → events ≡ events_of w text old g → now ≡ wanted_after w (legal_past text old g)
+    → IsUpTo w (text ++ line) new h events now
+stays_written w text line old new g h events now none complete wanted =
+    let past = legal_past (text ++ line) new h in
+    let same : events_of w (text ++ line) new h ≡ events_of w text old g =
+    ap (λ (x : Version). events_front w x new.config past) none.version ∙ ap (λ (x : BusConfig). events_front w old.version x past) none.config ∙ ap (events_front w old.version old.config) none.past in
+    (complete ∙ sym same, wanted ∙ ap (wanted_after w) (sym none.past))
+
+front_more : (w : Wanted) (v : Version) (c : BusConfig) (past : List Entry) (e : Entry) → events_front w v c (e ∷ past) ≡ events_front w v c past ++ events_line w c past e
+front_more w v c past e = search append_assoc
+
+events_more : (w : Wanted) (text line : List ℕ) (old new : EntryAudit) (g : IsGoing text old) (h : IsGoing (text ++ line) new) (one : OneMore text line old new g h) → events_of w (text ++ line) new h ≡ events_of w text old g ++ events_line w new.bus.config one.past one.entry
+events_more w text line old new g h one =
+    let past = legal_past (text ++ line) new h in
+    ap (λ (x : Version). events_front w x new.config past) one.version
+    ∙ ap (λ (x : BusConfig). events_front w old.version x past) one.config
+    ∙ ap (events_front w old.version old.config) one.now
+    ∙ front_more w old.version old.config one.past one.entry
+    ∙ ap (λ (x : List Entry). events_front w old.version old.config x ++ events_line w old.config one.past one.entry) (sym one.was)
+    ∙ ap (λ (x : BusConfig). events_of w text old g ++ events_line w x one.past one.entry) (sym one.config ∙ sym one.kept)
+
+wanted_more : (w : Wanted) (text line : List ℕ) (old new : EntryAudit) (g : IsGoing text old) (h : IsGoing (text ++ line) new) (one : OneMore text line old new g h) (now next : Wanted) → now ≡ wanted_after w (legal_past text old g)
+    → next ≡ record now { faults = asked_of now.faults one.entry } → next ≡ wanted_after w (legal_past (text ++ line) new h)
+wanted_more w text line old new g h one now next is asked =
+    asked
+    ∙ ap (λ (x : Wanted). record x { faults = asked_of x.faults one.entry }) (is ∙ ap (wanted_after w) one.was)
+    ∙ ap (wanted_after w) (sym one.now)
 
 written_more : (cleared old new line before after : List ℕ) → cleared ++ old ≡ before → new ≡ old ++ line → after ≡ before ++ line → cleared ++ new ≡ after
 written_more cleared old new line before after complete wrote is =
     ap (λ (x : List ℕ). cleared ++ x) wrote ∙ sym (append_assoc cleared old line) ∙ ap (λ (x : List ℕ). x ++ line) complete ∙ sym is
 
 -- as it is
-pub plain_more : (t : Option BusTiming) (text line : List ℕ) (old new : EntryAudit) (g : IsGoing text old) (h : IsGoing (text ++ line) new) (cleared before after : List ℕ) (one : OneMore t text line old new g h) → is_step one.entry.event ≡ false → after ≡ before ++ line
-    → cleared ++ before ≡ events_of t text old g → cleared ++ after ≡ events_of t (text ++ line) new h
-plain_more t text line old new g h cleared before after one plain wrote complete =
-    written_more cleared before after (events_line t new.bus.config one.past one.entry) (events_of t text old g) (events_of t (text ++ line) new h) complete
-    (wrote ∙ ap (λ (x : List ℕ). before ++ x) (one.is_line ∙ sym (plain_line t new.bus.config one.past one.entry plain))) one.events
+pub plain_more : (w : Wanted) (text line : List ℕ) (old new : EntryAudit) (g : IsGoing text old) (h : IsGoing (text ++ line) new) (cleared before after : List ℕ) (now : Wanted) (one : OneMore text line old new g h) → is_step one.entry.event ≡ false → after ≡ before ++ line
+    → cleared ++ before ≡ events_of w text old g → now ≡ wanted_after w (legal_past text old g) → IsUpTo w (text ++ line) new h (cleared ++ after) now
+plain_more w text line old new g h cleared before after now one plain wrote complete wanted = (
+  written_more cleared before after (events_line w new.bus.config one.past one.entry) (events_of w text old g) (events_of w (text ++ line) new h) complete
+      (wrote ∙ ap (λ (x : List ℕ). before ++ x) (one.is_line ∙ sym (plain_line w new.bus.config one.past one.entry plain))) (events_more w text line old new g h one),
+  wanted_more w text line old new g h one now now wanted (ap (λ (x : Option RunSeen). record now { faults = x }) (sym (plain_asked now.faults one.entry plain))),
+)
 
 -- with what it brought about
-pub step_more : (t : Option BusTiming) (text line : List ℕ) (old new : EntryAudit) (g : IsGoing text old) (h : IsGoing (text ++ line) new) (cleared before after : List ℕ) (seen : Seen) (one : OneMore t text line old new g h) → is_step one.entry.event ≡ true
-    → HasSeen old.bus.config one.past seen → WritesParts t seen new line before after → cleared ++ before ≡ events_of t text old g → cleared ++ after ≡ events_of t (text ++ line) new h
-step_more t text line old new g h cleared before after seen one step saw wrote complete =
-    written_more cleared before after (events_line t new.bus.config one.past one.entry) (events_of t text old g) (events_of t (text ++ line) new h) complete
-    (wrote one.past one.entry (subst (λ (x : BusConfig). HasSeen x one.past seen) one.same saw) one.after step one.good one.is_line) one.events
+pub step_more : (w : Wanted) (text line : List ℕ) (old new : EntryAudit) (g : IsGoing text old) (h : IsGoing (text ++ line) new) (cleared : List ℕ) (before after : EventsText) (one : OneMore text line old new g h) → is_step one.entry.event ≡ true
+    → HasSeen old.bus.config one.past before.before → WritesParts before new line after → cleared ++ before.text.items ≡ events_of w text old g → before.wanted ≡ wanted_after w (legal_past text old g)
+    → IsUpTo w (text ++ line) new h (cleared ++ after.text.items) after.wanted
+step_more w text line old new g h cleared before after one step saw writes complete wanted =
+    let c = new.bus.config in
+    let wrote = writes one.past one.entry (subst (λ (x : BusConfig). HasSeen x one.past before.before) one.same saw) one.after step one.good one.is_line in
+    let parts : after.text.items ≡ before.text.items ++ events_line w c one.past one.entry =
+    wrote.0
+    ∙ ap (λ (x : Wanted). before.text.items ++ with_parts x c one.past one.entry line) (wanted ∙ ap (wanted_after w) one.was)
+    ∙ ap (λ (l : List ℕ). before.text.items ++ with_parts (wanted_after w one.past) c one.past one.entry l) one.is_line in (
+      written_more cleared before.text.items after.text.items (events_line w c one.past one.entry) (events_of w text old g) (events_of w (text ++ line) new h) complete parts (events_more w text line old new g h one),
+      wanted_more w text line old new g h one before.wanted after.wanted wanted wrote.1,
+    )
 
 -- ---- the first lines and the last one
 
-pub begun_events : (t : Option BusTiming) (v : Version) (line : List ℕ) (b : EntryAudit) (begun : IsBegun v line b) → events_first_line ++ line ≡ events_of t (first_line v ++ line) b begun.going
-begun_events t v line b begun =
-    let front : events_first_line ++ spell (bus_words b.version b.config) [] ≡ events_front t b.version b.config [] = simp append-nil in
-    let part : legal_part begun.going.read.entries b.wrong ≡ [] = ap (legal_part begun.going.read.entries) begun.legal ∙ begun.none in
-    ap (λ (x : List ℕ). events_first_line ++ x) begun.is_line ∙ front ∙ ap (λ (x : List Entry). events_front t b.version b.config (reverse x)) (sym part)
+none_begun : (v : Version) (line : List ℕ) (b : EntryAudit) (begun : IsBegun v line b) → legal_past (first_line v ++ line) b begun.going ≡ []
+none_begun v line b begun = ap (λ (x : List Entry). reverse x) (ap (legal_part begun.going.read.entries) begun.legal ∙ begun.none)
 
-pub begins : (v : Version) (line cleared : List ℕ) (b : EntryAudit) (held : Option EventsText) (begun : IsBegun v line b) → Completes held cleared (events_first_line ++ line) → AreWritten (first_line v ++ line) cleared (phase.Entries b) held
-begins v line cleared b None begun complete = record { taken = begun.going; complete = complete }
-begins v line cleared b (Some e) begun complete = record { taken = begun.going; complete = complete ∙ begun_events e.timing v line b begun }
+pub begun_events : (w : Wanted) (v : Version) (line : List ℕ) (b : EntryAudit) (begun : IsBegun v line b) → events_first_line ++ line ≡ events_of w (first_line v ++ line) b begun.going
+begun_events w v line b begun =
+    let front : events_first_line ++ spell (bus_words b.version b.config) [] ≡ events_front w b.version b.config [] = simp append-nil in
+    ap (λ (x : List ℕ). events_first_line ++ x) begun.is_line ∙ front ∙ ap (events_front w b.version b.config) (sym (none_begun v line b begun))
+
+pub begins : (w : Wanted) (v : Version) (line cleared : List ℕ) (b : EntryAudit) (held : Option EventsText) (begun : IsBegun v line b) → Completes held cleared (events_first_line ++ line) → IsWantedAfter w held []
+    → AreWritten w (first_line v ++ line) cleared (phase.Entries b) held
+begins w v line cleared b None begun complete wanted = record { taken = begun.going; complete = complete; wanted = tt }
+begins w v line cleared b (Some e) begun complete wanted = record {
+  taken = begun.going;
+  complete = complete ∙ begun_events w v line b begun;
+  wanted = wanted ∙ ap (wanted_after w) (sym (none_begun v line b begun));
+}
 
 legal_all : (text : List ℕ) (b : EntryAudit) (g : IsGoing text b) → b.wrong ≡ None → IsLegal b.config (reverse g.read.entries)
 legal_all text b g none = subst (IsSettled b.config g.read.entries) none g.read.settled
 
-events_all : (t : Option BusTiming) (text : List ℕ) (b : EntryAudit) (g : IsGoing text b) → b.wrong ≡ None → events_of t text b g ≡ events_front t b.version b.config (reverse g.read.entries)
-events_all t text b g none = ap (λ (o : Option WrongLine). events_front t b.version b.config (reverse (legal_part g.read.entries o))) none
+events_all : (w : Wanted) (text : List ℕ) (b : EntryAudit) (g : IsGoing text b) → b.wrong ≡ None → events_of w text b g ≡ events_front w b.version b.config (reverse g.read.entries)
+events_all w text b g none = ap (λ (o : Option WrongLine). events_front w b.version b.config (reverse (legal_part g.read.entries o))) none
 
-pub ends_events : (text cleared : List ℕ) (b : EntryAudit) (held : Option EventsText) (r : Result ℕ TextFault) (w : AreWritten text cleared (phase.Entries b) held) → IfOk r (IsWhole text b w.taken) → IfOk r (EndsEvents held text cleared)
-ends_events text cleared b held (Err why) w h = tt
-ends_events text cleared b None (Ok count) w h = tt
-ends_events text cleared b (Some e) (Ok count) w h =
-    let es = w.taken.read.entries in
+pub ends_events : (w : Wanted) (text cleared : List ℕ) (b : EntryAudit) (held : Option EventsText) (r : Result ℕ TextFault) (written : AreWritten w text cleared (phase.Entries b) held) → IfOk r (IsWhole text b written.taken) → IfOk r (EndsEvents w held text cleared)
+ends_events w text cleared b held (Err why) written h = tt
+ends_events w text cleared b None (Ok count) written h = tt
+ends_events w text cleared b (Some e) (Ok count) written h =
+    let es = written.taken.read.entries in
     record {
       config = b.config;
       entries = es;
       whole = h.whole;
-      legal = legal_all text b w.taken h.legal;
+      legal = legal_all text b written.taken h.legal;
       are =
-          ap (λ (x : List ℕ). x ++ end_line count) (w.complete ∙ events_all e.timing text b w.taken h.legal)
-          ∙ ap (λ (v : Version). events_front e.timing v b.config (reverse es) ++ end_line count) h.version
-          ∙ ap (λ (n : ℕ). events_front e.timing (version_of b.config es) b.config (reverse es) ++ end_line n) (h.counted ∙ sym (length-reverse es));
+          ap (λ (x : List ℕ). x ++ end_line count) (written.complete ∙ events_all w text b written.taken h.legal)
+          ∙ ap (λ (v : Version). events_front w v b.config (reverse es) ++ end_line count) h.version
+          ∙ ap (λ (n : ℕ). events_front w (version_of b.config es) b.config (reverse es) ++ end_line n) (h.counted ∙ sym (length-reverse es));
     }
 
-pub ends_cut_events : (text torn cleared : List ℕ) (b : EntryAudit) (held : Option EventsText) (r : Result Cut TextFault) (w : AreWritten text cleared (phase.Entries b) held) → IfOk r (IsReached text torn b w.taken)
-    → IfOk r (EndsCutEvents held (text ++ torn) cleared)
-ends_cut_events text torn cleared b held (Err why) w h = tt
-ends_cut_events text torn cleared b held (Ok (cut.Whole count)) w h =
-    subst (λ (x : List ℕ). EndsEvents held x cleared count) (sym (ap (λ (x : List ℕ). text ++ x) h.0 ∙ append-nil text)) (ends_events text cleared b held (Ok count) w h.1)
-ends_cut_events text torn cleared b None (Ok (cut.Off count)) w h = tt
-ends_cut_events text torn cleared b (Some e) (Ok (cut.Off count)) w h =
-    let es = w.taken.read.entries in
+pub ends_cut_events : (w : Wanted) (text torn cleared : List ℕ) (b : EntryAudit) (held : Option EventsText) (r : Result Cut TextFault) (written : AreWritten w text cleared (phase.Entries b) held) → IfOk r (IsReached text torn b written.taken)
+    → IfOk r (EndsCutEvents w held (text ++ torn) cleared)
+ends_cut_events w text torn cleared b held (Err why) written h = tt
+ends_cut_events w text torn cleared b held (Ok (cut.Whole count)) written h =
+    subst (λ (x : List ℕ). EndsEvents w held x cleared count) (sym (ap (λ (x : List ℕ). text ++ x) h.0 ∙ append-nil text)) (ends_events w text cleared b held (Ok count) written h.1)
+ends_cut_events w text torn cleared b None (Ok (cut.Off count)) written h = tt
+ends_cut_events w text torn cleared b (Some e) (Ok (cut.Off count)) written h =
+    let es = written.taken.read.entries in
     record {
       config = b.config;
       entries = es;
       front = h.front;
-      legal = legal_all text b w.taken h.legal;
+      legal = legal_all text b written.taken h.legal;
       are =
-          ap (λ (x : List ℕ). x ++ cut_line count) (w.complete ∙ events_all e.timing text b w.taken h.legal)
-          ∙ ap (λ (v : Version). events_front e.timing v b.config (reverse es) ++ cut_line count) (sym h.version)
-          ∙ ap (λ (n : ℕ). events_front e.timing h.front.version b.config (reverse es) ++ cut_line n) (h.counted ∙ sym (length-reverse es));
+          ap (λ (x : List ℕ). x ++ cut_line count) (written.complete ∙ events_all w text b written.taken h.legal)
+          ∙ ap (λ (v : Version). events_front w v b.config (reverse es) ++ cut_line count) (sym h.version)
+          ∙ ap (λ (n : ℕ). events_front w h.front.version b.config (reverse es) ++ cut_line n) (h.counted ∙ sym (length-reverse es));
     }
 
 -- ---- an audit after one more line
 
-pub goes_plain : (text line cleared : List ℕ) (old new : EntryAudit) (held : Option EventsText) → held ≡ None → AreWritten text cleared (phase.Entries old) held → IsGoing (text ++ line) new → AreWritten (text ++ line) cleared (phase.Entries new) held
-goes_plain text line cleared old new None none w g = record { taken = g; complete = w.complete }
-goes_plain text line cleared old new (Some e) none w g = absurd cc
+pub goes_plain : (w : Wanted) (text line cleared : List ℕ) (old new : EntryAudit) (held : Option EventsText) → held ≡ None → AreWritten w text cleared (phase.Entries old) held → IsGoing (text ++ line) new → AreWritten w (text ++ line) cleared (phase.Entries new) held
+goes_plain w text line cleared old new None none written g = record { taken = g; complete = written.complete; wanted = tt }
+goes_plain w text line cleared old new (Some e) none written g = absurd cc
 
-pub goes_written : (text line cleared : List ℕ) (old new : EntryAudit) (held : Option EventsText) (before after : EventsText) → held ≡ Some before → AreWritten text cleared (phase.Entries old) held → IsGoing (text ++ line) new → IsLine line
-    → after.timing ≡ before.timing → WritesOn before old after new line → AreWritten (text ++ line) cleared (phase.Entries new) (Some after)
-goes_written text line cleared old new held before after some w g is same writes =
-    let v : AreWritten text cleared (phase.Entries old) (Some before) = subst (AreWritten text cleared (phase.Entries old)) some w in
-    record { taken = g; complete = writes text cleared v.taken g is v.complete ∙ ap (λ (t : Option BusTiming). events_of t (text ++ line) new g) (sym same) }
+pub goes_written : (w : Wanted) (text line cleared : List ℕ) (old new : EntryAudit) (held : Option EventsText) (before after : EventsText) → held ≡ Some before → AreWritten w text cleared (phase.Entries old) held → IsGoing (text ++ line) new → IsLine line → WritesOn before old after new line
+    → AreWritten w (text ++ line) cleared (phase.Entries new) (Some after)
+goes_written w text line cleared old new held before after some written g is writes =
+    let so : AreWritten w text cleared (phase.Entries old) (Some before) = subst (AreWritten w text cleared (phase.Entries old)) some written in
+    let more = writes w text cleared so.taken g is so.complete so.wanted in
+    record { taken = g; complete = more.0; wanted = more.1 }

@@ -4,10 +4,11 @@ use Rattle.can_event.specs.declared.bus_config.BusConfig.{BusConfig}
 use Rattle.can_event.specs.declared.entry.Entry.{Entry}
 use Rattle.can_bus.specs.Legal.{IsLegal}
 use Rattle.can_bus.specs.Lean.{IsAfter}
-use Rattle.can_wire.specs.Timings.{BusTiming}
 use Rattle.can_events.specs.Brought.{is_step}
-use Rattle.can_events.specs.EventsText.{cut_events_text, cut_words, events_front, events_line, events_text}
-use Rattle.can_events.specs.inner.Seen.{Seen, HasSeen}
+use Rattle.can_events.specs.declared.wanted.Wanted.{Wanted}
+use Rattle.can_events.specs.EventsText.{asked_of, wanted_after, with_parts}
+use Rattle.can_events.specs.EventsText.{cut_events_text, cut_words, events_front, events_text}
+use Rattle.can_events.specs.inner.Seen.{HasSeen}
 use Rattle.can_record_text.specs.declared.fault.Unread.{Unread}
 use Rattle.can_record_text.specs.declared.fault.Unread.TheVariants as unread
 use Rattle.can_record_text.specs.RecordFaults.{IsTextOf}
@@ -24,26 +25,27 @@ use Rattle.can_replay.specs.declared.text_fault.WrongLine.{WrongLine}
 use Rattle.can_replay.specs.TextAudits.{HasCome, IsFrontOf, IsLine}
 use Rattle.can_replay.specs.inner.EntryAudits.{IsGoing}
 
--- What an audit with events writes: what the entries brought about, as far as they are legal, on a bus whose timing is
--- given or is not (own choice).
+-- What an audit with events writes: what the entries brought about, as far as they are legal, and what else is wanted
+-- of their lines. That is named as it was at the start: while entries are taken, the rules of its faults are asked (own
+-- choice).
 
 -- ---- the text of a record's events
 
 -- these are the events of a legal record, whose text this is
-pub record IsEventsText (t : Option BusTiming) (text events : List ℕ) : Type 0 where
+pub record IsEventsText (w : Wanted) (text events : List ℕ) : Type 0 where
   pub config : BusConfig
   pub entries : List Entry
   pub whole : IsTextOf text config entries
   pub legal : IsLegal config (reverse entries)
-  pub are : events ≡ events_text t (version_of config entries) config (reverse entries)
+  pub are : events ≡ events_text w (version_of config entries) config (reverse entries)
 
 -- these are the events of a legal record whose text is cut off: this is its front
-pub record IsCutEventsText (t : Option BusTiming) (text events : List ℕ) : Type 0 where
+pub record IsCutEventsText (w : Wanted) (text events : List ℕ) : Type 0 where
   pub config : BusConfig
   pub entries : List Entry
   pub front : IsFrontOf text config entries
   pub legal : IsLegal config (reverse entries)
-  pub are : events ≡ cut_events_text t front.version config (reverse entries)
+  pub are : events ≡ cut_events_text w front.version config (reverse entries)
 
 -- the last line, where the record is whole
 abbrev pub end_line : ℕ → List ℕ
@@ -68,28 +70,35 @@ abbrev pub legal_part : List Entry → Option WrongLine → List Entry
 legal_part entries None = entries
 legal_part entries (Some w) = take w.place entries
 
--- what the entries that were read brought about, as far as they are legal
-abbrev pub events_of : Option BusTiming → (text : List ℕ) (b : EntryAudit) → IsGoing text b → List ℕ
-events_of t text b g = events_front t b.version b.config (reverse (legal_part g.read.entries b.wrong))
+-- the history of the entries that were read, as far as they are legal
+abbrev pub legal_past : (text : List ℕ) (b : EntryAudit) → IsGoing text b → List Entry
+legal_past text b g = reverse (legal_part g.read.entries b.wrong)
 
--- a line was taken, and its events follow those of the lines before it
+-- what they brought about
+abbrev pub events_of : Wanted → (text : List ℕ) (b : EntryAudit) → IsGoing text b → List ℕ
+events_of w text b g = events_front w b.version b.config (legal_past text b g)
+
+-- a line was taken: its events follow those of the lines before it, and the faults are those after its entry
 abbrev pub WritesOn : EventsText → EntryAudit → EventsText → EntryAudit → List ℕ → Type 0
 WritesOn old before new after line =
-    (text cleared : List ℕ) (g : IsGoing text before) (h : IsGoing (text ++ line) after) → IsLine line
-    → cleared ++ old.text.items ≡ events_of old.timing text before g
-    → cleared ++ new.text.items ≡ events_of old.timing (text ++ line) after h
+    (w : Wanted) (text cleared : List ℕ) (g : IsGoing text before) (h : IsGoing (text ++ line) after) → IsLine line
+    → cleared ++ old.text.items ≡ events_of w text before g → old.wanted ≡ wanted_after w (legal_past text before g)
+    → (cleared ++ new.text.items ≡ events_of w (text ++ line) after h)
+    × (new.wanted ≡ wanted_after w (legal_past (text ++ line) after h))
 
 -- this entry was read, unless memory was refused
 abbrev pub IsReadAs : Entry → Result Entry Unread → Type 0
 IsReadAs e (Ok read) = read ≡ e
 IsReadAs e (Err why) = why ≡ unread.NoMemory
 
--- the line of an attempt or a restart was written with its parts, by what the bus was like before it
-abbrev pub WritesParts : Option BusTiming → Seen → EntryAudit → List ℕ → List ℕ → List ℕ → Type 0
-WritesParts t before audit line old new =
-    (past : List Entry) (e : Entry) → HasSeen audit.bus.config past before → IsAfter audit.bus (e ∷ past)
+-- the line of an attempt or a restart was written with its parts, by what the bus was like before it, and the faults
+-- are those after it
+abbrev pub WritesParts : EventsText → EntryAudit → List ℕ → EventsText → Type 0
+WritesParts old audit line new =
+    (past : List Entry) (e : Entry) → HasSeen audit.bus.config past old.before → IsAfter audit.bus (e ∷ past)
     → is_step e.event ≡ true → HasLine audit.version audit.config e → line ≡ entry_line e []
-    → new ≡ old ++ events_line t audit.bus.config past e
+    → (new.text.items ≡ old.text.items ++ with_parts old.wanted audit.bus.config past e line)
+    × (new.wanted ≡ record old.wanted { faults = asked_of old.wanted.faults e })
 
 -- the text has ended, and this is what is known of it
 pub record IsWhole (text : List ℕ) (b : EntryAudit) (g : IsGoing text b) (count : ℕ) : Type 0 where
@@ -113,14 +122,14 @@ IsReached text torn b g (cut.Off count) = IsOff text torn b g count
 -- ---- an audit
 
 -- what the lines brought about that were taken
-abbrev pub events_so_far : Option BusTiming → (text : List ℕ) (p : Phase) → HasCome text p → List ℕ
-events_so_far t text (phase.Entries b) come = events_of t text b come
-events_so_far t text _ come = []
+abbrev pub events_so_far : Wanted → (text : List ℕ) (p : Phase) → HasCome text p → List ℕ
+events_so_far w text (phase.Entries b) come = events_of w text b come
+events_so_far w text _ come = []
 
--- the timing by which events are written, if one was given
-abbrev pub timing_in : Option EventsText → Option BusTiming
-timing_in None = None
-timing_in (Some e) = e.timing
+-- the history of their entries, as far as they are legal
+abbrev pub past_so_far : (text : List ℕ) (p : Phase) → HasCome text p → List Entry
+past_so_far text (phase.Entries b) come = legal_past text b come
+past_so_far text _ come = []
 
 -- what is written and was not cleared yet
 abbrev pub held_events : Option EventsText → List ℕ
@@ -132,15 +141,21 @@ abbrev pub Completes : Option EventsText → List ℕ → List ℕ → Type 0
 Completes None cleared events = cleared ≡ []
 Completes (Some e) cleared events = cleared ++ e.text.items ≡ events
 
--- the lines that were taken make this text, and what they brought about was written: first what was cleared, then what
--- is held
-pub record AreWritten (text cleared : List ℕ) (p : Phase) (held : Option EventsText) : Type 0 where
+-- the events are written as is wanted after these entries
+abbrev pub IsWantedAfter : Wanted → Option EventsText → List Entry → Type 0
+IsWantedAfter w None past = Unit {0}
+IsWantedAfter w (Some e) past = e.wanted ≡ wanted_after w past
+
+-- the lines that were taken make this text, and what they brought about was written, as was wanted at the start: first
+-- what was cleared, then what is held
+pub record AreWritten (w : Wanted) (text cleared : List ℕ) (p : Phase) (held : Option EventsText) : Type 0 where
   pub taken : HasCome text p
-  pub complete : Completes held cleared (events_so_far (timing_in held) text p taken)
+  pub complete : Completes held cleared (events_so_far w text p taken)
+  pub wanted : IsWantedAfter w held (past_so_far text p taken)
 
 -- the same of an audit
-abbrev pub HasWritten : List ℕ → List ℕ → TextAudit → Type 0
-HasWritten text cleared audit = AreWritten text cleared audit.phase audit.events
+abbrev pub HasWritten : Wanted → List ℕ → List ℕ → TextAudit → Type 0
+HasWritten w text cleared audit = AreWritten w text cleared audit.phase audit.events
 
 -- an audit has events
 abbrev pub has_events : Option EventsText → Bool
@@ -153,13 +168,13 @@ wrong_so_far (phase.Entries b) = b.wrong
 wrong_so_far _ = None
 
 -- with this last line all events of a legal record are written, where there are any
-abbrev pub EndsEvents : Option EventsText → List ℕ → List ℕ → ℕ → Type 0
-EndsEvents None text cleared count = Unit {0}
-EndsEvents (Some e) text cleared count = IsEventsText e.timing text ((cleared ++ e.text.items) ++ end_line count)
+abbrev pub EndsEvents : Wanted → Option EventsText → List ℕ → List ℕ → ℕ → Type 0
+EndsEvents w None text cleared count = Unit {0}
+EndsEvents w (Some e) text cleared count = IsEventsText w text ((cleared ++ e.text.items) ++ end_line count)
 
 -- the same of a text that may be cut off
-abbrev pub EndsCutEvents : Option EventsText → List ℕ → List ℕ → Cut → Type 0
-EndsCutEvents held text cleared (cut.Whole count) = EndsEvents held text cleared count
-EndsCutEvents None text cleared (cut.Off count) = Unit {0}
-EndsCutEvents (Some e) text cleared (cut.Off count) =
-    IsCutEventsText e.timing text ((cleared ++ e.text.items) ++ cut_line count)
+abbrev pub EndsCutEvents : Wanted → Option EventsText → List ℕ → List ℕ → Cut → Type 0
+EndsCutEvents w held text cleared (cut.Whole count) = EndsEvents w held text cleared count
+EndsCutEvents w None text cleared (cut.Off count) = Unit {0}
+EndsCutEvents w (Some e) text cleared (cut.Off count) =
+    IsCutEventsText w text ((cleared ++ e.text.items) ++ cut_line count)

@@ -1,18 +1,17 @@
 //! What the entries of a record brought about, as text.
-ghost use Rattle.std.specs.Prelude.{◌≡◌, ◌++◌, ◌↔◌, [], true, false, IfErr, IfOk, IsTrue, List, None, OnOk, Some, ℕ};
+ghost use Rattle.std.specs.Prelude.{◌≡◌, ◌++◌, ◌↔◌, [], true, false, IfErr, IfOk, IsTrue, List, OnOk, ℕ};
 ghost use Rattle.can_event.specs.declared.entry.Entry.{Entry as AnEntry};
 ghost use Rattle.can_events.specs.Brought.{is_step};
-ghost use Rattle.can_events.specs.EventsText.{first_line as events_first_line};
+ghost use Rattle.can_events.specs.EventsText.{nothing_wanted, first_line as events_first_line};
 ghost use Rattle.can_record_text.specs.Spelling.{entry_line};
 ghost use Rattle.can_replay.specs.EventTexts.{WritesOn, WritesParts, is_legal_yet};
 ghost use Rattle.can_replay.specs.TextAudits.{FailsNext, TakesOn};
 ghost use Rattle.can_replay.specs.inner.EntryAudits.{IsGoing};
 
 use crate::entry_audit::EntryAudit;
-use can_events::{Before, first_line};
+use can_events::{Before, Wanted, first_line};
 use can_record_text::ReadFault;
 use can_record_text::rooms::Rooms;
-use can_wire::Timing;
 use std::alloc::{AllocError, Global};
 
 /// The text of what the entries brought about, as far as they are legal, but for what was cleared of it. It grows by whole
@@ -24,21 +23,21 @@ pub struct EventsText {
     line: Vec<u8>,
     /// What the bus was like before an attempt or a restart.
     before: Before,
-    /// The timing of the bus, where it was given: by it the times and the bits of frames are written, too.
-    timing: Option<Timing>,
+    /// What else is wanted. Of its faults the rules were asked by the entries so far.
+    wanted: Wanted,
 }
 
 impl EventsText {
     /// No text yet.
-    pub fn new(alloc: Global, timing: Option<Timing>) -> Result<EventsText, AllocError>
+    pub fn new(alloc: Global, wanted: Wanted) -> Result<EventsText, AllocError>
         ensures text { IfOk result (λ events. events.text.items ≡ []) }
-        ensures timing { IfOk result (λ events. events.timing ≡ timing) }
+        ensures wanted { IfOk result (λ events. events.wanted ≡ wanted) }
     {
         Ok(EventsText {
             text: Vec::new(alloc),
             line: Vec::new(alloc),
             before: Before::new(alloc)?,
-            timing,
+            wanted,
         })
     }
 
@@ -52,7 +51,7 @@ impl EventsText {
     /// Clears what was written.
     pub fn clear(&mut self)
         ensures text { self.new.text.items ≡ [] }
-        ensures timing { self.new.timing ≡ self.old.timing }
+        ensures wanted { self.new.wanted ≡ self.old.wanted }
     {
         self.text.clear();
     }
@@ -62,7 +61,7 @@ impl EventsText {
         ensures begun { OnOk result
             (self.new.text.items ≡ self.old.text.items ++ (events_first_line ++ line.now)) }
         ensures kept { IfErr result (λ why. self.new.text.items ≡ self.old.text.items) }
-        ensures timing { self.new.timing ≡ self.old.timing }
+        ensures wanted { self.new.wanted ≡ self.old.wanted }
     {
         self.line.clear();
         self.line.extend_from_slice(first_line())?;
@@ -83,7 +82,6 @@ impl EventsText {
         ensures fault { IfErr result (FailsNext IsGoing audit.old line.now) }
         ensures written { OnOk result (WritesOn self.old audit.old self.new audit.new line.now) }
         ensures kept { IfErr result (λ why. self.new.text.items ≡ self.old.text.items) }
-        ensures timing { self.new.timing ≡ self.old.timing }
     {
         if !audit.is_legal_yet() {
             audit.carry(alloc, rooms, line)
@@ -108,7 +106,6 @@ impl EventsText {
         ensures fault { IfErr result (FailsNext IsGoing audit.old line.now) }
         ensures written { OnOk result (WritesOn self.old audit.old self.new audit.new line.now) }
         ensures kept { IfErr result (λ why. self.new.text.items ≡ self.old.text.items) }
-        ensures timing { self.new.timing ≡ self.old.timing }
     {
         let Ok(()) = self.before.look(audit.bus()) else {
             return Err(ReadFault::NoMemory);
@@ -137,7 +134,6 @@ impl EventsText {
         ensures fault { IfErr result (FailsNext IsGoing audit.old line.now) }
         ensures written { OnOk result (WritesOn self.old audit.old self.new audit.new line.now) }
         ensures kept { IfErr result (λ why. self.new.text.items ≡ self.old.text.items) }
-        ensures timing { self.new.timing ≡ self.old.timing }
     {
         audit.carry(alloc, rooms, line)?;
         if !audit.is_legal_yet() {
@@ -157,50 +153,46 @@ impl EventsText {
         rooms: &mut Rooms,
         line: &[u8],
     ) -> Result<(), AllocError>
-        ensures written { OnOk result (WritesParts self.old.timing self.old.before audit.now
-            line.now self.old.text.items self.new.text.items) }
+        ensures written { OnOk result (WritesParts self.old audit.now line.now self.new) }
         ensures kept { IfErr result (λ why. self.new.text.items ≡ self.old.text.items) }
-        ensures timing { self.new.timing ≡ self.old.timing }
     {
-        match self.timing {
-            None => self.write_parts(audit, line),
-            Some(timing) => self.write_timed_parts(alloc, timing, audit, rooms, line),
+        if self.wanted.is_nothing() {
+            self.write_parts(audit, line)
+        } else {
+            self.write_wanted_parts(alloc, audit, rooms, line)
         }
     }
 
-    // The same where no timing was given.
+    // The same where nothing else is wanted.
     fn write_parts(&mut self, audit: &EntryAudit, line: &[u8]) -> Result<(), AllocError>
-        ensures written { OnOk result (WritesParts None self.old.before audit.now line.now
-            self.old.text.items self.new.text.items) }
+        requires { self.old.wanted ≡ nothing_wanted }
+        ensures written { OnOk result (WritesParts self.old audit.now line.now self.new) }
         ensures kept { IfErr result (λ why. self.new.text.items ≡ self.old.text.items) }
-        ensures timing { self.new.timing ≡ self.old.timing }
     {
         self.line.clear();
         self.before.put_line(&mut self.line, audit.bus(), line)?;
         self.text.extend_from_slice(&self.line)
     }
 
-    // The same where it was. The line is read again, since its entry is needed.
+    // The same where more is. The line is read again, since its entry is needed.
     #[inline(never)]
-    fn write_timed_parts(
+    fn write_wanted_parts(
         &mut self,
         alloc: Global,
-        timing: Timing,
         audit: &EntryAudit,
         rooms: &mut Rooms,
         line: &[u8],
     ) -> Result<(), AllocError>
-        ensures written { OnOk result (WritesParts (Some timing) self.old.before audit.now line.now
-            self.old.text.items self.new.text.items) }
+        ensures written { OnOk result (WritesParts self.old audit.now line.now self.new) }
         ensures kept { IfErr result (λ why. self.new.text.items ≡ self.old.text.items) }
-        ensures timing { self.new.timing ≡ self.old.timing }
     {
         let Ok(entry) = audit.read_again(alloc, rooms, line) else {
             return Err(AllocError);
         };
         self.line.clear();
+        let wanted = &mut self.wanted;
         self.before
-            .put_timed_line(&mut self.line, audit.bus(), line, timing, &entry)?;
+            .put_wanted_line(&mut self.line, audit.bus(), line, wanted, &entry)?;
         self.text.extend_from_slice(&self.line)
     }
 }

@@ -1,21 +1,22 @@
-ghost use Rattle.std.specs.Prelude.{◌≡◌, ◌++◌, [], Err, IfErr, IfOk, List, None, OnOk, Some, false, true, ℕ};
+ghost use Rattle.std.specs.Prelude.{◌≡◌, ◌++◌, [], Err, IfErr, IfOk, List, OnOk, Some, false, true, ℕ};
 ghost use Rattle.can_events.specs.EventsText.{first_line as events_first_line};
+ghost use Rattle.can_events.specs.declared.wanted.Wanted.{Wanted as AWanted};
 ghost use Rattle.can_record_text.specs.declared.fault.ReadFault.{ReadFault as AFault};
 ghost use Rattle.can_record_text.specs.RecordFaults.{LacksFirst};
 ghost use Rattle.can_record_text.specs.Spelling.{first_line};
 ghost use Rattle.can_record_text.specs.Texts.{StartsWith};
 ghost use Rattle.can_replay.specs.declared.text_fault.WrongLine.{WrongLine as AWrongLine};
-ghost use Rattle.can_replay.specs.EventTexts.{Completes, EndsCutEvents, EndsEvents, HasWritten, has_events, held_events, timing_in, wrong_so_far};
+ghost use Rattle.can_replay.specs.EventTexts.{Completes, EndsCutEvents, EndsEvents, HasWritten, IsWantedAfter, has_events, held_events, wrong_so_far};
 ghost use Rattle.can_replay.specs.TextAudits.{AreTaken, EndsNoLine, FailsAfter, FailsNext, HasFailed, IsLine, TakesOn, Reports, ReportsCut, first_taken, has_end_line};
 
 use crate::entry_audit::EntryAudit;
 use crate::events_text::EventsText;
 use crate::text_fault::{Cut, TextFault};
+use can_events::Wanted;
 use can_record_text::ReadFault;
 use can_record_text::lines::read_version;
 use can_record_text::rooms::Rooms;
 use can_record_text::version::Version;
-use can_wire::Timing;
 use std::alloc::{AllocError, Global};
 
 /// How far the lines of a text have come.
@@ -49,10 +50,9 @@ impl TextAudit {
     /// An audit that was given nothing yet.
     pub fn new(alloc: Global) -> TextAudit
         ensures taken { AreTaken [] result }
-        ensures written { HasWritten [] [] result }
+        ensures written { (w : AWanted) → HasWritten w [] [] result }
         ensures none { held_events result.events ≡ [] }
         ensures events { has_events result.events ≡ false }
-        ensures timing { timing_in result.events ≡ None }
     {
         TextAudit {
             phase: Phase::Start,
@@ -61,18 +61,16 @@ impl TextAudit {
         }
     }
 
-    /// The same with events. Memory is taken for what they are compared with. Where the timing of the bus is given, each
-    /// frame that was tried also has its times and its bits on the wire.
-    pub fn with_events(alloc: Global, timing: Option<Timing>) -> Result<TextAudit, AllocError>
-        ensures written { IfOk result (λ audit. HasWritten [] [] audit) }
+    /// The same with events, and with what else is wanted of their lines. Memory is taken for what they are compared with.
+    pub fn with_events(alloc: Global, wanted: Wanted) -> Result<TextAudit, AllocError>
+        ensures written { IfOk result (λ audit. HasWritten wanted [] [] audit) }
         ensures none { IfOk result (λ audit. held_events audit.events ≡ []) }
         ensures events { IfOk result (λ audit. has_events audit.events ≡ true) }
-        ensures timing { IfOk result (λ audit. timing_in audit.events ≡ timing) }
     {
         Ok(TextAudit {
             phase: Phase::Start,
             rooms: Rooms::new(alloc),
-            events: Some(EventsText::new(alloc, timing)?),
+            events: Some(EventsText::new(alloc, wanted)?),
         })
     }
 
@@ -91,10 +89,10 @@ impl TextAudit {
     pub fn clear_events(&mut self)
         ensures phase { self.new.phase ≡ self.old.phase }
         ensures events { has_events self.new.events ≡ has_events self.old.events }
-        ensures timing { timing_in self.new.events ≡ timing_in self.old.events }
         ensures none { held_events self.new.events ≡ [] }
-        ensures written { (text cleared : List ℕ) → HasWritten text cleared self.old →
-            HasWritten text (cleared ++ held_events self.old.events) self.new }
+        ensures written { (w : AWanted) (text cleared : List ℕ) →
+            HasWritten w text cleared self.old →
+            HasWritten w text (cleared ++ held_events self.old.events) self.new }
     {
         if let Some(events) = &mut self.events {
             events.clear();
@@ -110,12 +108,11 @@ impl TextAudit {
         ensures fault { IfErr result (FailsNext AreTaken self.old line.now) }
         ensures failed { IfErr result (λ why. HasFailed why self.new) }
         ensures again { (why : AFault) → HasFailed why self.old → result ≡ Err why }
-        ensures written { OnOk result ((cleared : List ℕ) →
-            TakesOn (λ text audit. HasWritten text cleared audit) self.old self.new line.now) }
+        ensures written { OnOk result ((w : AWanted) (cleared : List ℕ) →
+            TakesOn (λ text audit. HasWritten w text cleared audit) self.old self.new line.now) }
         ensures held { IfErr result
             (λ why. held_events self.new.events ≡ held_events self.old.events) }
         ensures events { has_events self.new.events ≡ has_events self.old.events }
-        ensures timing { timing_in self.new.events ≡ timing_in self.old.events }
     {
         match self.take(alloc, line) {
             Ok(()) => Ok(()),
@@ -139,12 +136,11 @@ impl TextAudit {
         ensures taken { OnOk result (TakesOn AreTaken self.old self.new line.now) }
         ensures fault { IfErr result (FailsNext AreTaken self.old line.now) }
         ensures again { (why : AFault) → HasFailed why self.old → result ≡ Err why }
-        ensures written { OnOk result ((cleared : List ℕ) →
-            TakesOn (λ text audit. HasWritten text cleared audit) self.old self.new line.now) }
+        ensures written { OnOk result ((w : AWanted) (cleared : List ℕ) →
+            TakesOn (λ text audit. HasWritten w text cleared audit) self.old self.new line.now) }
         ensures held { IfErr result
             (λ why. held_events self.new.events ≡ held_events self.old.events) }
         ensures events { has_events self.new.events ≡ has_events self.old.events }
-        ensures timing { timing_in self.new.events ≡ timing_in self.old.events }
     {
         match &mut self.phase {
             Phase::Start => self.take_first(line),
@@ -165,8 +161,9 @@ impl TextAudit {
     fn take_first(&mut self, line: &[u8]) -> Result<(), ReadFault>
         ensures taken { OnOk result (IsLine line.now → AreTaken line.now self.new) }
         ensures fault { IfErr result (FailsAfter [] line.now) }
-        ensures written { OnOk result (IsLine line.now → (cleared : List ℕ) →
-            Completes self.old.events cleared [] → HasWritten line.now cleared self.new) }
+        ensures written { OnOk result (IsLine line.now → (w : AWanted) (cleared : List ℕ) →
+            Completes self.old.events cleared [] → IsWantedAfter w self.old.events [] →
+            HasWritten w line.now cleared self.new) }
         ensures events { self.new.events ≡ self.old.events }
     {
         self.phase = Phase::Front(first_version(line)?);
@@ -179,13 +176,12 @@ impl TextAudit {
         ensures taken { OnOk result
             (IsLine line.now → AreTaken (first_line version ++ line.now) self.new) }
         ensures fault { IfErr result (FailsAfter (first_line version) line.now) }
-        ensures written { OnOk result (IsLine line.now → (cleared : List ℕ) →
-            Completes self.old.events cleared [] →
-            HasWritten (first_line version ++ line.now) cleared self.new) }
+        ensures written { OnOk result (IsLine line.now → (w : AWanted) (cleared : List ℕ) →
+            Completes self.old.events cleared [] → IsWantedAfter w self.old.events [] →
+            HasWritten w (first_line version ++ line.now) cleared self.new) }
         ensures held { IfErr result
             (λ why. held_events self.new.events ≡ held_events self.old.events) }
         ensures events { has_events self.new.events ≡ has_events self.old.events }
-        ensures timing { timing_in self.new.events ≡ timing_in self.old.events }
     {
         let audit = EntryAudit::read(alloc, &mut self.rooms, version, line)?;
         begin_events(&mut self.events, line)?;
@@ -197,8 +193,8 @@ impl TextAudit {
     pub fn finish(self) -> Result<usize, TextFault>
         ensures told { (text : List ℕ) → AreTaken text self → Reports text result }
         ensures again { (why : AFault) → HasFailed why self → result ≡ Err (TextFault.Read why) }
-        ensures events { (text cleared : List ℕ) → HasWritten text cleared self →
-            IfOk result (EndsEvents self.events text cleared) }
+        ensures events { (w : AWanted) (text cleared : List ℕ) → HasWritten w text cleared self →
+            IfOk result (EndsEvents w self.events text cleared) }
         ensures wrong { (w : AWrongLine) → result ≡ Err (TextFault.Wrong w) →
             wrong_so_far self.phase ≡ Some w }
     {
@@ -219,9 +215,9 @@ impl TextAudit {
         ensures told { (text : List ℕ) →
             AreTaken text self → EndsNoLine torn.now → ReportsCut (text ++ torn.now) result }
         ensures again { (why : AFault) → HasFailed why self → result ≡ Err (TextFault.Read why) }
-        ensures events { (text cleared : List ℕ) → HasWritten text cleared self →
+        ensures events { (w : AWanted) (text cleared : List ℕ) → HasWritten w text cleared self →
             EndsNoLine torn.now →
-            IfOk result (EndsCutEvents self.events (text ++ torn.now) cleared) }
+            IfOk result (EndsCutEvents w self.events (text ++ torn.now) cleared) }
         ensures wrong { (w : AWrongLine) → result ≡ Err (TextFault.Wrong w) →
             wrong_so_far self.phase ≡ Some w }
     {
@@ -263,7 +259,7 @@ fn begin_events(events: &mut Option<EventsText>, line: &[u8]) -> Result<(), Read
     ensures held { IfErr result (λ why. held_events events.new ≡ held_events events.old) }
     ensures memory { IfErr result (λ why. why ≡ ReadFault.NoMemory) }
     ensures kind { has_events events.new ≡ has_events events.old }
-    ensures timing { timing_in events.new ≡ timing_in events.old }
+    ensures wanted { (w : AWanted) → IsWantedAfter w events.old [] → IsWantedAfter w events.new [] }
 {
     match events {
         None => Ok(()),

@@ -19,16 +19,16 @@ returns-in-None-clause-taken c = on_ok _ _ c.carry.result (λ h text taken. h te
 
 pub returns-in-None-clause-written : goal.returns-in-None-clause-written
 returns-in-None-clause-written c = on_ok _ _ c.carry.result
-    (λ h cleared text written is.
-    let w = subst (λ (p : Phase). AreWritten text cleared p c.args.self.now.events) c.in-Entries.is written in
-    goes_plain text c.args.line.now cleared c.in-Entries.audit c.carry.new.self c.args.self.now.events c.in-None.is w (h text w.taken is)) c.carry.ensures.taken
+    (λ h w cleared text written is.
+    let so = subst (λ (p : Phase). AreWritten w text cleared p c.args.self.now.events) c.in-Entries.is written in
+    goes_plain w text c.args.line.now cleared c.in-Entries.audit c.carry.new.self c.args.self.now.events c.in-None.is so (h text so.taken is)) c.carry.ensures.taken
 
 pub returns-in-Some-clause-taken : goal.returns-in-Some-clause-taken
 returns-in-Some-clause-taken c = on_ok _ _ c.carry-in-Some.result (λ h text taken. h text (subst (HasCome text) c.in-Entries.is taken)) c.carry-in-Some.ensures.taken
 
 pub returns-in-Some-clause-written : goal.returns-in-Some-clause-written
 returns-in-Some-clause-written c = on_both _ _ _ c.carry-in-Some.result
-    (λ h writes cleared text written is.
-    let w = subst (λ (p : Phase). AreWritten text cleared p c.args.self.now.events) c.in-Entries.is written in
-    goes_written text c.args.line.now cleared c.in-Entries.audit c.carry-in-Some.new.audit c.args.self.now.events c.in-Some.events c.carry-in-Some.new.self c.in-Some.is w (h text w.taken is) is c.carry-in-Some.ensures.timing writes)
+    (λ h writes w cleared text written is.
+    let so = subst (λ (p : Phase). AreWritten w text cleared p c.args.self.now.events) c.in-Entries.is written in
+    goes_written w text c.args.line.now cleared c.in-Entries.audit c.carry-in-Some.new.audit c.args.self.now.events c.in-Some.events c.carry-in-Some.new.self c.in-Some.is so (h text so.taken is) is writes)
     c.carry-in-Some.ensures.taken c.carry-in-Some.ensures.written

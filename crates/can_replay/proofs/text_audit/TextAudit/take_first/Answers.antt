@@ -12,11 +12,12 @@ returns-clause-taken c = λ is.
     cut_first v c.args.line.now (drop (length (first_line v)) c.args.line.now) is c.in_ok-first_version.ensures.found
 
 pub returns-clause-written : goal.returns-clause-written
-returns-clause-written c = λ is cleared complete.
+returns-clause-written c = λ is w cleared complete wanted.
     let v = c.in_ok-first_version.field-0 in
     record {
       taken = cut_first v c.args.line.now (drop (length (first_line v)) c.args.line.now) is c.in_ok-first_version.ensures.found;
       complete = complete;
+      wanted = wanted;
     }
 
 pub returns-in_err-first_version-clause-fault : goal.returns-in_err-first_version-clause-fault

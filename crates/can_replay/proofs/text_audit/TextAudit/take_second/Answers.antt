@@ -5,5 +5,5 @@ pub returns-clause-taken : goal.returns-clause-taken
 returns-clause-taken c = λ is. (c.in_ok-audit.ensures.taken is).going
 
 pub returns-clause-written : goal.returns-clause-written
-returns-clause-written c = λ is cleared complete.
-    begins c.args.version c.args.line.now cleared c.in_ok-audit.audit c.begin_events.new.events (c.in_ok-audit.ensures.taken is) (c.in_ok-begin_events.ensures.begun cleared complete)
+returns-clause-written c = λ is w cleared complete wanted.
+    begins w c.args.version c.args.line.now cleared c.in_ok-audit.audit c.begin_events.new.events (c.in_ok-audit.ensures.taken is) (c.in_ok-begin_events.ensures.begun cleared complete) (c.begin_events.ensures.wanted w wanted)
