@@ -17,10 +17,11 @@ use Rattle.can_bus.specs.Answer.{Answers, Refuses}
 use Rattle.can_bus.specs.Attempts.{winner, attempt_reply, tried_head}
 use Rattle.can_bus.specs.Heads.{next_head, head_at, with_frame}
 use Rattle.can_bus.specs.Transmit.{head_of}
+use Rattle.can_rules.specs.declared.rule.Decision.{Decision}
 use Rattle.can_rules.specs.Plans.{PlanSeen}
 use Rattle.can_session.specs.AttemptLines.{attempt_line}
-use Rattle.can_session.specs.BusSteps.{NamedBus, verdict_on, plan_left}
-use Rattle.can_session.specs.Benches.{BenchState, IsTriedIf, IsFull, is_due, tries, sourced, next_moment, said_moment, passed}
+use Rattle.can_session.specs.BusSteps.{NamedBus, verdict_on, decision_on, plan_left}
+use Rattle.can_session.specs.Benches.{BenchState, IsTriedIf, IsFull, is_due, tries, sourced, next_moment, said_moment, said_decision, passed}
 use Rattle.can_session.specs.declared.wire_times.WireUse.{WireUse}
 use Rattle.can_session.specs.inner.Acts.{Puts}
 
@@ -72,35 +73,39 @@ bus_left b bus source of_source is names plan used =
     ∙ ap (λ (p : PlanSeen). record { names = b.names; journal = bus.journal; plan = p; used = bus.used }) (plan ∙ ap (plan_left b) is)
     ∙ ap (λ (u : Option WireUse). record { names = b.names; journal = bus.journal; plan = plan_left b of_source; used = u }) used
 
--- the verdict, the moment, and what is put out, as they were made one after another
-pub record Made (verdicts : VerdictMap) (b : BenchState) (bus : NamedBus) (source verdict : Verdict) (moment : ℕ) (when : Option ℕ) (outcome : Result Attempt Refusal) : Type 0 where
+-- the decision, the moment, and what is put out of both, as they were made one after another
+pub record Made (verdicts : VerdictMap) (b : BenchState) (bus : NamedBus) (source : Verdict) (decision : Decision) (moment : ℕ) (when : Option ℕ) (shown : Option Decision) (outcome : Result Attempt Refusal) : Type 0 where
   pub source_is : source ≡ sourced verdicts b.bus
-  pub verdict_is : verdict ≡ verdict_on b.bus source
+  pub decision_is : decision ≡ decision_on b.bus source
+  pub verdict_is : decision.verdict ≡ verdict_on b.bus source
   pub moment_is : moment ≡ next_moment b
   pub when_is : when ≡ said_moment b.wire moment
+  pub shown_is : shown ≡ said_decision b.shows_faults decision
   pub answers : Answers reply.Attempted b.bus.journal (event.Attempt moment (verdict_on b.bus source)) outcome bus.journal
   pub names : bus.names ≡ b.bus.names
   pub plan : bus.plan ≡ plan_left b.bus source
   pub used : bus.used ≡ b.bus.used
 
-answers_of : (verdicts : VerdictMap) (b : BenchState) (bus : NamedBus) (source verdict : Verdict) (moment : ℕ) (when : Option ℕ) (outcome : Result Attempt Refusal) → Made verdicts b bus source verdict moment when outcome
+answers_of : (verdicts : VerdictMap) (b : BenchState) (bus : NamedBus) (source : Verdict) (decision : Decision) (moment : ℕ) (when : Option ℕ) (shown : Option Decision) (outcome : Result Attempt Refusal) → Made verdicts b bus source decision moment when shown outcome
     → Answers reply.Attempted b.bus.journal (event.Attempt (next_moment b) (verdict_on b.bus (sourced verdicts b.bus))) outcome bus.journal
-answers_of verdicts b bus source verdict moment when outcome h =
+answers_of verdicts b bus source decision moment when shown outcome h =
     subst (λ (s : Verdict). Answers reply.Attempted b.bus.journal (event.Attempt (next_moment b) (verdict_on b.bus s)) outcome bus.journal) h.source_is
     (subst (λ (m : ℕ). Answers reply.Attempted b.bus.journal (event.Attempt m (verdict_on b.bus source)) outcome bus.journal) h.moment_is h.answers)
 
-pub tried_by : (verdicts : VerdictMap) (b after : BenchState) (bus : NamedBus) (source verdict : Verdict) (moment : ℕ) (when : Option ℕ) (outcome : Result Attempt Refusal) (names : List (List ℕ)) (said new : List ℕ) (is : Bool)
-    → Made verdicts b bus source verdict moment when outcome → names ≡ bus.names → new ≡ said ++ attempt_line names when outcome
-    → after ≡ passed verdict outcome (record b { bus = bus }) → is ≡ tries outcome → Puts (IsTriedIf is verdicts) b said after new
-tried_by verdicts b after bus source verdict moment when outcome names said new is h names_are put passes is_tried = (
-  attempt_line names when outcome,
+pub tried_by : (verdicts : VerdictMap) (b after : BenchState) (bus : NamedBus) (source : Verdict) (decision : Decision) (moment : ℕ) (when : Option ℕ) (shown : Option Decision) (outcome : Result Attempt Refusal) (names : List (List ℕ)) (said new : List ℕ) (is : Bool)
+    → Made verdicts b bus source decision moment when shown outcome → names ≡ bus.names → new ≡ said ++ attempt_line names when shown outcome
+    → after ≡ passed decision.verdict outcome (record b { bus = bus }) → is ≡ tries outcome → Puts (IsTriedIf is verdicts) b said after new
+tried_by verdicts b after bus source decision moment when shown outcome names said new is h names_are put passes is_tried = (
+  attempt_line names when shown outcome,
   (
     record {
       outcome = outcome;
       journal = bus.journal;
-      answers = answers_of verdicts b bus source verdict moment when outcome h;
-      text_is = ap (λ (ns : List (List ℕ)). attempt_line ns when outcome) (names_are ∙ h.names)
-          ∙ ap (λ (w : Option ℕ). attempt_line b.bus.names w outcome) (h.when_is ∙ ap (said_moment b.wire) h.moment_is);
+      answers = answers_of verdicts b bus source decision moment when shown outcome h;
+      text_is = ap (λ (ns : List (List ℕ)). attempt_line ns when shown outcome) (names_are ∙ h.names)
+          ∙ ap (λ (w : Option ℕ). attempt_line b.bus.names w shown outcome) (h.when_is ∙ ap (said_moment b.wire) h.moment_is)
+          ∙ ap (λ (d : Option Decision). attempt_line b.bus.names (said_moment b.wire (next_moment b)) d outcome)
+          (h.shown_is ∙ ap (said_decision b.shows_faults) (h.decision_is ∙ ap (decision_on b.bus) h.source_is));
       after_is = passes
           ∙ ap (λ (v : Verdict). passed v outcome (record b { bus = bus })) (h.verdict_is ∙ ap (verdict_on b.bus) h.source_is)
           ∙ ap (λ (x : NamedBus). passed (verdict_on b.bus (sourced verdicts b.bus)) outcome (record b { bus = x })) (bus_left b.bus bus source (sourced verdicts b.bus) h.source_is h.names h.plan h.used);

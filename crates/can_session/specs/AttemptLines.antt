@@ -6,6 +6,11 @@ use Rattle.can_frame.specs.Sets.{is_in}
 use Rattle.can_frame.specs.Moments.{moment_text}
 use Rattle.can_frame.specs.declared.iface.IfaceSet.{IfaceSet}
 use Rattle.can_attempt.specs.Words.{class_word}
+use Rattle.can_fault.specs.Grammar.{kind_word}
+use Rattle.can_fault.specs.declared.verdict.GlobalKind.TheVariants as global
+use Rattle.can_fault.specs.declared.verdict.Verdict.{Verdict}
+use Rattle.can_fault.specs.declared.verdict.Verdict.TheVariants.{Good, Global, Local, LastBit}
+use Rattle.can_rules.specs.declared.rule.Decision.{Decision}
 use Rattle.can_event.specs.declared.attempt.Attempt.{Attempt}
 use Rattle.can_event.specs.declared.attempt.Attempt.TheVariants as attempt
 use Rattle.can_event.specs.declared.refusal.Refusal.{Refusal}
@@ -65,21 +70,49 @@ abbrev pub when_text : Option ℕ → List ℕ
 when_text None = []
 when_text (Some moment) = codes " at " ++ moment_text moment
 
+-- who was restarted, and when it was
+abbrev pub after_text : List (List ℕ) → Option ℕ → IfaceSet → List ℕ
+after_text names when restarted = restarted_text names restarted ++ when_text when
+
+-- a verdict in the words of a script, with the names of a local fault by rising number
+abbrev pub verdict_text : List (List ℕ) → Verdict → List ℕ
+verdict_text names Good = codes "good"
+verdict_text names (Global global.Bit) = codes "global bit"
+verdict_text names (Global global.Form) = codes "global form"
+verdict_text names (Local set kind) = codes "local " ++ kind_word kind ++ codes " " ++ set_text names set
+verdict_text names LastBit = codes "lastbit"
+
+-- the fault of an attempt, if it has one
+abbrev pub fault_text : List (List ℕ) → Verdict → List ℕ
+fault_text names Good = []
+fault_text names fault = codes "; fault " ++ verdict_text names fault
+
+-- the number of the rule that gave it its verdict, also a good one, if a rule did
+abbrev pub rule_text : Option ℕ → List ℕ
+rule_text None = []
+rule_text (Some number) = codes "; rule " ++ decimal number
+
+-- its fault and the rule, where the line says so
+abbrev pub decision_text : List (List ℕ) → Option Decision → List ℕ
+decision_text names None = []
+decision_text names (Some decision) = fault_text names decision.verdict ++ rule_text decision.rule
+
 -- how the line ends
-abbrev pub end_text : List (List ℕ) → Option ℕ → IfaceSet → List ℕ
-end_text names when restarted = restarted_text names restarted ++ when_text when ++ codes "\n"
+abbrev pub end_text : List (List ℕ) → Option ℕ → Option Decision → IfaceSet → List ℕ
+end_text names when decision restarted =
+    after_text names when restarted ++ decision_text names decision ++ codes "\n"
 
 -- a frame that was tried
-abbrev pub tried_line : List (List ℕ) → Option ℕ → Tried → List ℕ
-tried_line names when t = whose_text names t ++ ending_text names t ++ end_text names when t.restarted
+abbrev pub tried_line : List (List ℕ) → Option ℕ → Option Decision → Tried → List ℕ
+tried_line names when decision t = whose_text names t ++ ending_text names t ++ end_text names when decision t.restarted
 
 -- no frame was tried
 abbrev pub idle_line : List (List ℕ) → Option ℕ → IfaceSet → List ℕ
-idle_line names when restarted = codes "idle" ++ end_text names when restarted
+idle_line names when restarted = codes "idle" ++ end_text names when None restarted
 
--- the line of an attempt, with its moment if that is to be said; the only refusal that there is says that the record is
--- full, and has no moment
-abbrev pub attempt_line : List (List ℕ) → Option ℕ → Result Attempt Refusal → List ℕ
-attempt_line names when (Ok (attempt.Tried t)) = tried_line names when t
-attempt_line names when (Ok (attempt.Idle restarted)) = idle_line names when restarted
-attempt_line names when (Err why) = codes "record full\n"
+-- the line of an attempt, with its moment, and with its fault and the rule that gave it, if they are to be said; the
+-- only refusal that there is says that the record is full, and has neither
+abbrev pub attempt_line : List (List ℕ) → Option ℕ → Option Decision → Result Attempt Refusal → List ℕ
+attempt_line names when decision (Ok (attempt.Tried t)) = tried_line names when decision t
+attempt_line names when decision (Ok (attempt.Idle restarted)) = idle_line names when restarted
+attempt_line names when decision (Err why) = codes "record full\n"

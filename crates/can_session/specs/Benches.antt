@@ -6,6 +6,7 @@ use Rattle.can_fault.specs.Sources.{VerdictMap, verdict_in}
 use Rattle.can_fault.specs.declared.verdict.Verdict.{Verdict}
 use Rattle.can_rules.specs.declared.rules.RuleRefusal.{RuleRefusal}
 use Rattle.can_rules.specs.declared.rules.RuleRefusal.TheVariants as refusal
+use Rattle.can_rules.specs.declared.rule.Decision.{Decision}
 use Rattle.can_rules.specs.Plans.{PlanSeen, Injected}
 use Rattle.can_event.specs.declared.event.Event.TheVariants as event
 use Rattle.can_event.specs.declared.refusal.Refusal.{Refusal}
@@ -21,7 +22,7 @@ use Rattle.can_dialog.specs.Plans.{Plays}
 use Rattle.can_dialog.specs.Turns.{ending, delivery, greeting}
 use Rattle.can_dialog.specs.Deliveries.{AreGiven}
 use Rattle.can_dialog.specs.Sessions.{SessionState, Turns, beginning}
-use Rattle.can_session.specs.BusSteps.{NamedBus, BusStep, next_number, head_on, verdict_on, plan_left}
+use Rattle.can_session.specs.BusSteps.{NamedBus, BusStep, next_number, head_on, verdict_on, decision_on, plan_left}
 use Rattle.can_session.specs.Wires.{Wire, attempt_moment, wire_left, used_left, moment_left, begins_before}
 use Rattle.can_session.specs.declared.ignored_input.IgnoredInput.{IgnoredInput}
 use Rattle.can_session.specs.IgnoredInput.{ignored_then}
@@ -31,10 +32,11 @@ use Rattle.can_session.specs.AttemptLines.{attempt_line}
 
 -- What the bench does and writes: its lines, one after another (own choice).
 
--- the state of a bench: how many items a socket holds, the bus, the sessions by number, the moment set, the wire if the
--- bus has bit rates, and what was fed that is in no message
+-- the state of a bench: how many items a socket holds, whether the lines of attempts have their faults, the bus, the
+-- sessions by number, the moment set, the wire if the bus has bit rates, and what was fed that is in no message
 pub record BenchState : Type 0 where
   pub capacity : ℕ
+  pub shows_faults : Bool
   pub bus : NamedBus
   pub sessions : List (Option SessionState)
   pub moment : ℕ
@@ -123,6 +125,11 @@ next_moment b = attempt_moment b.wire b.moment (head_on b.bus)
 abbrev pub said_moment : Option Wire → ℕ → Option ℕ
 said_moment wire moment = option_map (λ w. moment) wire
 
+-- what it says of what was decided on the attempt: its fault and the rule that gave it, where faults are shown
+abbrev pub said_decision : Bool → Decision → Option Decision
+said_decision true decision = Some decision
+said_decision false decision = None
+
 -- the bench when the time of an attempt has passed that came to this and had this verdict
 abbrev pub passed : Verdict → Result Attempt Refusal → BenchState → BenchState
 passed v outcome b = record b {
@@ -137,7 +144,8 @@ pub record IsTried (verdicts : VerdictMap) (b : BenchState) (text : List ℕ) (a
   pub journal : Journal
   pub answers : Answers reply.Attempted b.bus.journal
       (event.Attempt (next_moment b) (verdict_on b.bus (sourced verdicts b.bus))) outcome journal
-  pub text_is : text ≡ attempt_line b.bus.names (said_moment b.wire (next_moment b)) outcome
+  pub text_is : text ≡ attempt_line b.bus.names (said_moment b.wire (next_moment b))
+      (said_decision b.shows_faults (decision_on b.bus (sourced verdicts b.bus))) outcome
   pub after_is : after ≡ passed (verdict_on b.bus (sourced verdicts b.bus)) outcome (record b {
     bus = record b.bus { journal = journal; plan = plan_left b.bus (sourced verdicts b.bus) };
   })

@@ -11,6 +11,8 @@ use Rattle.can_frame.specs.Frames.{CanFrame}
 use Rattle.can_fault.specs.declared.verdict.Verdict.{Verdict}
 use Rattle.can_rules.specs.declared.rules.RuleRefusal.{RuleRefusal}
 use Rattle.can_rules.specs.Plans.{PlanSeen, given, plan_after, without_rules, Injected}
+use Rattle.can_rules.specs.Plans.{decided_for}
+use Rattle.can_rules.specs.declared.rule.Decision.{Decision}
 use Rattle.can_record.specs.Journal.{Journal}
 use Rattle.can_record.specs.Tapes.{tape}
 use Rattle.can_bus.specs.Heads.{next_head}
@@ -48,6 +50,10 @@ head_on bus = next_head bus.journal.config bus.journal.history
 -- the verdict of the next attempt, for which the source has this one
 abbrev pub verdict_on : NamedBus → Verdict → Verdict
 verdict_on bus source = given source bus.plan (next_number bus) (head_on bus)
+
+-- the same, with the rule that gives it, if one does
+abbrev pub decision_on : NamedBus → Verdict → Decision
+decision_on bus source = decided_for source bus.plan (next_number bus) (head_on bus)
 
 -- the plan after that attempt
 abbrev pub plan_left : NamedBus → Verdict → PlanSeen

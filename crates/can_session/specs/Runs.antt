@@ -31,10 +31,12 @@ pub record IsBench (names : List (List ℕ)) (config : BusConfig) (capacity : �
   pub some_items : 1 ≤ capacity
   pub few_items : capacity ≤ max_rx_capacity
 
--- a bench before its first line, with a plan of faults, and bit rates if its bus has some
-abbrev pub at_start_with : PlanSeen → Option BusTiming → List (List ℕ) → BusConfig → ℕ → BenchState
-at_start_with plan timing names config capacity = record {
+-- a bench before its first line, whose lines of attempts have their faults or do not, with a plan of faults, and bit
+-- rates if its bus has some
+abbrev pub at_start_with : Bool → PlanSeen → Option BusTiming → List (List ℕ) → BusConfig → ℕ → BenchState
+at_start_with shows_faults plan timing names config capacity = record {
   capacity = capacity;
+  shows_faults = shows_faults;
   bus = record {
     names = names;
     journal = record { config = config; history = [] };
@@ -48,8 +50,8 @@ at_start_with plan timing names config capacity = record {
 }
 
 -- a bench before its first line, without a plan
-abbrev pub at_start : Option BusTiming → List (List ℕ) → BusConfig → ℕ → BenchState
-at_start timing names config capacity = at_start_with no_plan timing names config capacity
+abbrev pub at_start : Bool → Option BusTiming → List (List ℕ) → BusConfig → ℕ → BenchState
+at_start shows_faults timing names config capacity = at_start_with shows_faults no_plan timing names config capacity
 
 -- Of a reader that does not say what its bytes are nothing is said of the lines.
 

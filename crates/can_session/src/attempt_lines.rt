@@ -1,25 +1,28 @@
 ghost use Rattle.std.specs.Prelude.{ℕ, ◌≡◌, ◌<◌, ◌≤◌, ◌++◌, OnOk, true, false, length, slice_get};
 ghost use Rattle.can_frame.specs.Sets.{is_in};
-ghost use Rattle.can_session.specs.AttemptLines.{set_text, name_text, run_text, whose_text, ending_text, restarted_text, when_text, end_text};
+ghost use Rattle.can_session.specs.AttemptLines.{set_text, name_text, run_text, whose_text, ending_text, restarted_text, when_text, after_text, end_text};
 ghost use Rattle.can_session.specs.AttemptLines.{attempt_line, idle_line, tried_line};
 
+use crate::attempt_faults::put_decision;
 use crate::numbers::put_number;
 use can_bus::{Attempt, Refusal, Tried};
 use can_frame::{Iface, IfaceSet, Moment, Names, Text};
+use can_rules::Decision;
 use std::alloc::AllocError;
 
-/// Adds the line of an attempt, with its moment if that is to be said.
+/// Adds the line of an attempt, with its moment, and with its fault and the rule that gave it, if they are to be said.
 pub fn put_attempt(
     said: &mut Vec<u8>,
     names: &Names,
     when: Option<Moment>,
+    decision: Option<Decision>,
     outcome: &Result<Attempt, Refusal>,
 ) -> Result<(), AllocError>
     ensures { OnOk result (said.new.items ≡ said.old.items
-        ++ attempt_line names.now when outcome.now) }
+        ++ attempt_line names.now when decision outcome.now) }
 {
     match outcome {
-        Ok(Attempt::Tried(tried)) => put_tried(said, names, when, tried),
+        Ok(Attempt::Tried(tried)) => put_tried(said, names, when, decision, tried),
         Ok(Attempt::Idle { restarted }) => put_idle(said, names, when, *restarted),
         Err(_) => said.extend_from_slice(b"record full\n"),
     }
@@ -29,13 +32,15 @@ fn put_tried(
     said: &mut Vec<u8>,
     names: &Names,
     when: Option<Moment>,
+    decision: Option<Decision>,
     tried: &Tried,
 ) -> Result<(), AllocError>
-    ensures { OnOk result (said.new.items ≡ said.old.items ++ tried_line names.now when tried.now) }
+    ensures { OnOk result (said.new.items ≡ said.old.items
+        ++ tried_line names.now when decision tried.now) }
 {
     put_whose(said, names, tried)?;
     put_ending(said, names, tried)?;
-    put_end(said, names, when, tried.restarted)
+    put_end(said, names, when, decision, tried.restarted)
 }
 
 fn put_idle(
@@ -47,20 +52,35 @@ fn put_idle(
     ensures { OnOk result (said.new.items ≡ said.old.items ++ idle_line names.now when restarted) }
 {
     said.extend_from_slice(b"idle")?;
-    put_end(said, names, when, restarted)
+    put_end(said, names, when, None, restarted)
 }
 
 fn put_end(
     said: &mut Vec<u8>,
     names: &Names,
     when: Option<Moment>,
+    decision: Option<Decision>,
     restarted: IfaceSet,
 ) -> Result<(), AllocError>
-    ensures { OnOk result (said.new.items ≡ said.old.items ++ end_text names.now when restarted) }
+    ensures { OnOk result (said.new.items ≡ said.old.items
+        ++ end_text names.now when decision restarted) }
+{
+    put_after(said, names, when, restarted)?;
+    put_decision(said, names, decision)?;
+    said.extend_from_slice(b"\n")
+}
+
+// Who came back, and when it was.
+fn put_after(
+    said: &mut Vec<u8>,
+    names: &Names,
+    when: Option<Moment>,
+    restarted: IfaceSet,
+) -> Result<(), AllocError>
+    ensures { OnOk result (said.new.items ≡ said.old.items ++ after_text names.now when restarted) }
 {
     put_restarted(said, names, restarted)?;
-    put_when(said, when)?;
-    said.extend_from_slice(b"\n")
+    put_when(said, when)
 }
 
 // The moment of an attempt, if it is to be said.
@@ -117,8 +137,8 @@ fn put_name(said: &mut Vec<u8>, names: &Names, iface: Iface) -> Result<(), Alloc
     }
 }
 
-// The names by rising number, joined by commas, or a dash.
-fn put_set(said: &mut Vec<u8>, names: &Names, set: IfaceSet) -> Result<(), AllocError>
+/// Adds the names of a set by rising number, joined by commas, or a dash.
+pub fn put_set(said: &mut Vec<u8>, names: &Names, set: IfaceSet) -> Result<(), AllocError>
     ensures { OnOk result (said.new.items ≡ said.old.items ++ set_text names.now set) }
 {
     if set.is_empty() {

@@ -55,6 +55,8 @@ pub struct BenchConfig<F> {
     pub rx_capacity: u32,
     /// How fast the bits of the bus go, if its attempts are to take time. Without it each has the moment that is set.
     pub timing: Option<Timing>,
+    /// Whether the lines of attempts have their faults, and the rules that gave them.
+    pub shows_faults: bool,
 }
 
 /// Carries out the lines of an input on one bus, and writes what they put out: the bus's record.
@@ -75,7 +77,7 @@ pub fn bench<F: FaultSource + Drop, R: Read + Drop, W: Write>(
     ensures untouched { result ≡ Err BenchFault.BadConfig → out.new ≡ out.old }
     ensures runs { result ≢ Err BenchFault.BadConfig →
         EndsOver W.contents (F.verdicts config.script) (R.remaining input)
-        (at_start config.timing config.names config.config config.rx_capacity)
+        (at_start config.shows_faults config.timing config.names config.config config.rx_capacity)
         out.old result out.new }
     ensures good { OnOk result (IsBench config.names config.config config.rx_capacity) }
     ensures config { IfOk result (λ r. r.config ≡ config.config) }
@@ -101,10 +103,12 @@ pub fn bench_noting<F: FaultSource + Drop, R: Read + Drop, W: Write>(
     ensures untouched { result ≡ Err BenchFault.BadConfig → out.new ≡ out.old }
     ensures runs { result ≢ Err BenchFault.BadConfig →
         EndsOver W.contents (F.verdicts config.script) (R.remaining input)
-        (at_start_with plan config.timing config.names config.config config.rx_capacity)
+        (at_start_with config.shows_faults plan config.timing config.names config.config
+        config.rx_capacity)
         out.old result out.new }
     ensures notes { OnOk result (Notes W.contents (F.verdicts config.script) (R.remaining input)
-        (at_start_with plan config.timing config.names config.config config.rx_capacity)
+        (at_start_with config.shows_faults plan config.timing config.names config.config
+        config.rx_capacity)
         out.old ignored.new out.new) }
     ensures same { OnErr result (ignored.new ≡ ignored.old) }
     ensures good { OnOk result (IsBench config.names config.config config.rx_capacity) }
@@ -119,6 +123,7 @@ pub fn bench_noting<F: FaultSource + Drop, R: Read + Drop, W: Write>(
         config.config,
         config.rx_capacity,
         config.timing,
+        config.shows_faults,
         plan,
     )?;
     let Ok(mut lines) = Lines::new(alloc, input) else {
@@ -144,7 +149,7 @@ pub fn bench_lines<F: FaultSource + Drop, R: Read + Drop, W: Write>(
         (out.new ≡ out.old) × (lines.new ≡ lines.old) }
     ensures runs { result ≢ Err BenchFault.BadConfig →
         Ends IsRecordOf W.contents (F.verdicts config.script) lines.old.coming
-        (at_start config.timing config.names config.config config.rx_capacity)
+        (at_start config.shows_faults config.timing config.names config.config config.rx_capacity)
         out.old result lines.new out.new }
     ensures good { OnOk result (IsBench config.names config.config config.rx_capacity) }
     ensures config { IfOk result (λ r. r.config ≡ config.config) }
@@ -159,6 +164,7 @@ pub fn bench_lines<F: FaultSource + Drop, R: Read + Drop, W: Write>(
         config.config,
         config.rx_capacity,
         config.timing,
+        config.shows_faults,
         plan,
     )?;
     run(alloc, &mut state, &mut script, lines, out)?;

@@ -4,7 +4,7 @@ ghost use Rattle.can_bus.specs.Legal.{IsLegal};
 ghost use Rattle.can_session.specs.Runs.{IsBench, IsRecordOf, IsStartFault, at_start_with};
 ghost use Rattle.can_session.specs.Orders.{order_of};
 ghost use Rattle.can_session.specs.Benches.{session_at, Speaks, IsStarted, IsTriedIf, IsRun, IsWrongRun, IsInjected, IsWrongRule, IsCarriedOut, IsRefused};
-ghost use Rattle.can_session.specs.Benches.{AreMade, is_due, next_moment, said_moment, passed, tries};
+ghost use Rattle.can_session.specs.Benches.{AreMade, is_due, next_moment, said_moment, said_decision, passed, tries};
 ghost use Rattle.can_session.specs.inner.Acts.{done_by, noted, noted_by, Puts};
 
 use crate::attempt_lines::put_attempt;
@@ -21,7 +21,7 @@ use can_dialog::Session;
 use can_event::MAX_RX_CAPACITY;
 use can_fault::{FaultSource, Verdict};
 use can_frame::{Moment, Names};
-use can_rules::{Plan, RuleRefusal};
+use can_rules::{Decision, Plan, RuleRefusal};
 use can_wire::{Timing, Wire};
 use std::alloc::{AllocError, Global};
 use std::marker::Model;
@@ -32,6 +32,7 @@ pub struct Bench {
     alloc: Global,
     port: BenchPort,
     capacity: u32,
+    shows_faults: bool,
     sessions: Vec<Option<Session>>,
     moment: Moment,
     wire: Option<Wire>,
@@ -50,6 +51,7 @@ impl Model for Bench {
 
     ghost view = { λ s. record {
       capacity = s.capacity;
+      shows_faults = s.shows_faults;
       bus = s.port;
       sessions = s.sessions.items;
       moment = s.moment;
@@ -68,9 +70,11 @@ impl Bench {
         config: BusConfig,
         capacity: u32,
         timing: Option<Timing>,
+        shows_faults: bool,
         plan: Plan,
     ) -> Result<Bench, BenchFault>
-        ensures made { IfOk result (λ s. s ≡ at_start_with plan timing names config capacity) }
+        ensures made { IfOk result (λ s.
+            s ≡ at_start_with shows_faults plan timing names config capacity) }
         ensures good { OnOk result (IsBench names config capacity) }
         ensures bad { (result ≡ Err BenchFault.BadConfig) ↔ (¬ IsBench names config capacity) }
         ensures faults { IfErr result IsStartFault }
@@ -87,6 +91,7 @@ impl Bench {
             alloc,
             port: BusPort::with_plan(alloc, names, bus, plan, used),
             capacity,
+            shows_faults,
             sessions,
             moment: the_start(),
             wire: unused_wire(timing),
@@ -222,9 +227,10 @@ impl Bench {
         let source = script.verdict(self.port.next_attempt());
         let moment = self.next_moment();
         let when = self.said_moment(moment);
-        let (verdict, outcome) = self.port.attempt(moment, source);
-        put_attempt(said, self.port.names(), when, &outcome)?;
-        self.pass(verdict, &outcome);
+        let (decision, outcome) = self.port.attempt(moment, source);
+        let shown = self.said_decision(decision);
+        put_attempt(said, self.port.names(), when, shown, &outcome)?;
+        self.pass(decision.verdict, &outcome);
         Ok(tries(&outcome))
     }
 
@@ -300,6 +306,17 @@ impl Bench {
         match self.wire {
             Some(_) => Some(moment),
             None => None,
+        }
+    }
+
+    /// What it says of its fault and of the rule that gave it.
+    fn said_decision(&self, decision: Decision) -> Option<Decision>
+        ensures { result ≡ said_decision self.now.shows_faults decision }
+    {
+        if self.shows_faults {
+            Some(decision)
+        } else {
+            None
         }
     }
 

@@ -3,7 +3,7 @@ ghost use Rattle.can_bus.specs.Answer.{Answers};
 ghost use Rattle.can_event.specs.declared.reply.Reply.TheVariants as reply;
 ghost use Rattle.can_event.specs.declared.event.Event.TheVariants as event;
 ghost use Rattle.can_rules.specs.Plans.{no_plan, Injected};
-ghost use Rattle.can_session.specs.BusSteps.{next_number, head_on, verdict_on, plan_left, passed_on};
+ghost use Rattle.can_session.specs.BusSteps.{next_number, head_on, verdict_on, decision_on, plan_left, passed_on};
 ghost use Rattle.can_session.specs.Wires.{taken};
 
 use crate::wire_times::WireUse;
@@ -17,7 +17,7 @@ use can_fault::Verdict;
 use can_frame::{Frame, Iface, Moment, Names};
 use can_proto::BusLoad;
 use can_queue::BoundedQueue;
-use can_rules::{Plan, RuleRefusal};
+use can_rules::{Decision, Plan, RuleRefusal};
 use std::alloc::{AllocError, Global};
 use std::marker::Model;
 
@@ -102,22 +102,23 @@ impl<T: BoundedQueue<Pending>, R: BoundedQueue<Received>, A: Arbiter> BusPort<T,
 
     /// Tries the frame that wins the bus, if a live interface has one to send, and restarts the interfaces whose time it
     /// is. The attempt has the verdict that the source has for it, or where that is good, the plan's: it is returned
-    /// with what the attempt came to. Refusal: `RecordFull`.
+    /// with the rule that gave it, if one did, and with what the attempt came to. Refusal: `RecordFull`.
     pub fn attempt(
         &mut self,
         moment: Moment,
         source: Verdict,
-    ) -> (Verdict, Result<Attempt, Refusal>)
-        ensures verdict { result.0 ≡ verdict_on self.old source }
+    ) -> (Decision, Result<Attempt, Refusal>)
+        ensures decision { result.0 ≡ decision_on self.old source }
+        ensures verdict { result.0.verdict ≡ verdict_on self.old source }
         ensures answer { Answers reply.Attempted self.old.journal
             (event.Attempt moment (verdict_on self.old source)) result.1 self.new.journal }
         ensures names { self.new.names ≡ self.old.names }
         ensures plan { self.new.plan ≡ plan_left self.old source }
         ensures used { self.new.used ≡ self.old.used }
     {
-        let verdict = self.next_verdict(source);
-        let outcome = self.bus.attempt(moment, verdict);
-        (verdict, outcome)
+        let decision = self.next_decision(source);
+        let outcome = self.bus.attempt(moment, decision.verdict);
+        (decision, outcome)
     }
 
     /// Gives the plan a rule of faults, after those that it has.
@@ -141,15 +142,20 @@ impl<T: BoundedQueue<Pending>, R: BoundedQueue<Received>, A: Arbiter> BusPort<T,
         }
     }
 
-    /// The verdict of the next attempt, for which the source has this one. The plan counts it.
-    fn next_verdict(&mut self, source: Verdict) -> Verdict
-        ensures verdict { result ≡ verdict_on self.old source }
+    /// The verdict of the next attempt, for which the source has this one, and the rule that gives it, if one does. The
+    /// plan counts it.
+    fn next_decision(&mut self, source: Verdict) -> Decision
+        ensures decision { result ≡ decision_on self.old source }
+        ensures verdict { result.verdict ≡ verdict_on self.old source }
         ensures after { self.new ≡ record self.old { plan = plan_left self.old source } }
     {
         let number = self.bus.next_attempt();
         match self.plan.verdict_without_rules(source, number) {
-            Some(verdict) => verdict,
-            None => self.plan.verdict_of_rules(self.bus.next_head()),
+            Some(verdict) => Decision {
+                verdict,
+                rule: None,
+            },
+            None => self.plan.decision_of_rules(self.bus.next_head()),
         }
     }
 }

@@ -2,7 +2,8 @@ ghost use Rattle.std.specs.Prelude.{◌≡◌, ◌<◌, ◌≤◌, ◌*◌, ◌^
 ghost use Rattle.can_fault.specs.declared.verdict.Verdict.{Verdict};
 ghost use Rattle.can_event.specs.declared.attempt.Attempt.{Attempt};
 ghost use Rattle.can_event.specs.declared.refusal.Refusal.{Refusal};
-ghost use Rattle.can_session.specs.Benches.{BenchState, is_due, next_moment, passed, said_moment};
+ghost use Rattle.can_rules.specs.declared.rule.Decision.{Decision};
+ghost use Rattle.can_session.specs.Benches.{BenchState, is_due, next_moment, passed, said_decision, said_moment};
 ghost use Rattle.can_session.specs.Wires.{Wire, begin_of, wire_after};
 ghost use Rattle.can_session.specs.Lines.{FindsEnd, Given, Input, IsWithin, Stops, StopsAfter, TakesLine, left_of, lines_of};
 ghost use Rattle.can_session.specs.declared.lines.InputFault.{InputFault};
@@ -48,6 +49,12 @@ pub fn attempts_take_no_time_without_bit_rates()
     ensures passed { (b : BenchState) (v : Verdict) (outcome : Result Attempt Refusal) →
         b.wire ≡ None → passed v outcome b ≡ b }
     ensures due { (b : BenchState) (moment : ℕ) → b.wire ≡ None → is_due moment b ≡ false }
+{}
+
+/// Where faults are not shown, the lines of attempts do not say what was decided on them.
+pub fn lines_have_faults_only_where_they_are_shown()
+    ensures { (b : BenchState) (decision : Decision) → b.shows_faults ≡ false →
+        said_decision b.shows_faults decision ≡ None }
 {}
 
 /// On one with bit rates an attempt begins neither before the moment that is set nor before the wire is free, and

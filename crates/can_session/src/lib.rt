@@ -6,6 +6,7 @@
 //! named through this crate too.
 #![tactic(auto)]
 
+mod attempt_faults;
 mod attempt_lines;
 pub mod bench_run;
 mod bench_start;

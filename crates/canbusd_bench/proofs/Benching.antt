@@ -26,19 +26,19 @@ use Rattle.canbusd_bench.proofs.Watching.{Watching, loudly, nothing, quiet_if, s
 -- A run of the bench over the configuration that options describe.
 
 -- what a bench of this configuration replied
-pub record Answered {W : Type 0} (contents : W → Option (List ℕ)) (timing : Option BusTiming) (c : BusConfig) (capacity : ℕ) (names : List (List ℕ)) (plan : PlanSeen) (input : Option (List ℕ)) (out : W) (r : Result Kept BenchFault) (new : W) : Type 0 where
+pub record Answered {W : Type 0} (contents : W → Option (List ℕ)) (shows : Bool) (timing : Option BusTiming) (c : BusConfig) (capacity : ℕ) (names : List (List ℕ)) (plan : PlanSeen) (input : Option (List ℕ)) (out : W) (r : Result Kept BenchFault) (new : W) : Type 0 where
   pub bad : (r ≡ Err BadConfig) ↔ (IsBench names c capacity → ⊥)
   pub untouched : r ≡ Err BadConfig → new ≡ out
-  pub runs : r ≢ Err BadConfig → EndsOver contents no_verdicts input (at_start_with plan timing names c capacity) out r new
+  pub runs : r ≢ Err BadConfig → EndsOver contents no_verdicts input (at_start_with shows plan timing names c capacity) out r new
 
 -- a run that came to its end
 pub ended : {W : Type 0} (contents : W → Option (List ℕ)) (c : BusConfig) (o : BenchOptions) (names : List (List ℕ)) (plan : PlanSeen) (input : Option (List ℕ)) (out new : W) (r : Kept)
-    → c ≡ config_of o.settings (length names) → Answered contents o.timing c o.settings.rx_capacity names plan input out (Ok r) new
+    → c ≡ config_of o.settings (length names) → Answered contents o.shows_faults o.timing c o.settings.rx_capacity names plan input out (Ok r) new
     → EndsOver contents no_verdicts input (begun plan o names) out (Ok r) new
-ended contents c o names plan input out new r is a = subst (λ (k : BusConfig). EndsOver contents no_verdicts input (at_start_with plan o.timing names k o.settings.rx_capacity) out (Ok r) new) is (a.runs (search rules))
+ended contents c o names plan input out new r is a = subst (λ (k : BusConfig). EndsOver contents no_verdicts input (at_start_with o.shows_faults plan o.timing names k o.settings.rx_capacity) out (Ok r) new) is (a.runs (search rules))
 
 stops : {W : Type 0} (contents : W → Option (List ℕ)) (o : BenchOptions) (names : List (List ℕ)) (plan : PlanSeen) (input : Option (List ℕ)) (out new : W) (why : BenchFault)
-    → Answered contents o.timing (config_of o.settings (length names)) o.settings.rx_capacity names plan input out (Err why) new
+    → Answered contents o.shows_faults o.timing (config_of o.settings (length names)) o.settings.rx_capacity names plan input out (Err why) new
     → StopsBy contents o names plan input out (fault.Bench why) new
 stops contents o names plan input out new BadConfig a = (a.bad.0 refl, a.untouched refl)
 stops contents o names plan input out new (BadLine n) a = a.runs (search rules)
@@ -49,11 +49,11 @@ stops contents o names plan input out new NoMemory a = a.runs (search rules)
 
 -- a run that ended in a fault
 pub stopped : {W : Type 0} (contents : W → Option (List ℕ)) (c : BusConfig) (o : BenchOptions) (names : List (List ℕ)) (plan : PlanSeen) (input : Option (List ℕ)) (out new : W) (why : BenchFault) (f : ProgramError)
-    → c ≡ config_of o.settings (length names) → f ≡ fault.Bench why → Answered contents o.timing c o.settings.rx_capacity names plan input out (Err why) new
+    → c ≡ config_of o.settings (length names) → f ≡ fault.Bench why → Answered contents o.shows_faults o.timing c o.settings.rx_capacity names plan input out (Err why) new
     → StopsBy contents o names plan input out f new
 stopped contents c o names plan input out new why f is told a =
     subst (λ (x : ProgramError). StopsBy contents o names plan input out x new) (sym told)
-    (stops contents o names plan input out new why (subst (λ (k : BusConfig). Answered contents o.timing k o.settings.rx_capacity names plan input out (Err why) new) is a))
+    (stops contents o names plan input out new why (subst (λ (k : BusConfig). Answered contents o.shows_faults o.timing k o.settings.rx_capacity names plan input out (Err why) new) is a))
 
 -- the same under the faults of the script that the options name
 pub ran : {W : Type 0} (E : Type 0) (contents : W → Option (List ℕ)) (o : BenchOptions) (names : List (List ℕ)) (plan : PlanSeen) (input : Option (List ℕ)) (out new : W) (r : Result Kept E)

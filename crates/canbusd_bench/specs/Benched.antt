@@ -21,7 +21,8 @@ use Rattle.canbusd_io.specs.declared.program_error.ProgramError.TheVariants as f
 
 -- the bench that options describe, with these faults and names, before its first line
 abbrev pub begun : PlanSeen → BenchOptions → List (List ℕ) → BenchState
-begun plan o names = at_start_with plan o.timing names (config_of o.settings (length names)) o.settings.rx_capacity
+begun plan o names =
+    at_start_with o.shows_faults plan o.timing names (config_of o.settings (length names)) o.settings.rx_capacity
 
 -- how a run that options describe ends in a fault: nothing was read or written where a number is outside its limits
 abbrev pub StopsBy : {W : Type 0} → (W → Option (List ℕ)) → BenchOptions → List (List ℕ) → PlanSeen

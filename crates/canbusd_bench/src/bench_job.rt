@@ -177,6 +177,7 @@ fn run_on<'a, R: Read + Drop, W: Write>(
         script: Perfect,
         rx_capacity: options.settings.rx_capacity,
         timing: options.timing,
+        shows_faults: options.shows_faults,
     };
     let mut input = Recent::new(alloc, input);
     match bench_noting(alloc, config, plan, &mut input, output, ignored) {

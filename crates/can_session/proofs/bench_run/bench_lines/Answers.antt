@@ -1,4 +1,4 @@
-use Rattle.std.proofs.Common.{◌≡◌, ℕ, List, Option, Err, sym, ap, subst, ◌∙◌}
+use Rattle.std.proofs.Common.{◌≡◌, ℕ, Bool, List, Option, Err, sym, ap, subst, ◌∙◌}
 use Rattle.can_session.specs.Benches.{BenchState}
 use Rattle.can_event.specs.declared.bus_config.BusConfig.{BusConfig}
 use Rattle.can_rules.specs.Plans.{PlanSeen, no_plan}
@@ -9,8 +9,8 @@ use Rattle.can_session.proofs.Running.{err_is, ends_unmade, ends_err}
 use Rattle.can_session.proofs.bench_run.bench_lines.Goals as goal
 
 -- a bench that was made without a plan
-without_plan : (timing : Option BusTiming) (names : List (List ℕ)) (config : BusConfig) (capacity : ℕ) (b : BenchState) (plan : PlanSeen) → b ≡ at_start_with plan timing names config capacity → plan ≡ no_plan → b ≡ at_start timing names config capacity
-without_plan timing names config capacity b plan made none = made ∙ ap (λ (p : PlanSeen). at_start_with p timing names config capacity) none
+without_plan : (shows : Bool) (timing : Option BusTiming) (names : List (List ℕ)) (config : BusConfig) (capacity : ℕ) (b : BenchState) (plan : PlanSeen) → b ≡ at_start_with shows plan timing names config capacity → plan ≡ no_plan → b ≡ at_start shows timing names config capacity
+without_plan shows timing names config capacity b plan made none = made ∙ ap (λ (p : PlanSeen). at_start_with shows p timing names config capacity) none
 
 pub returns-in_err-state-clause-runs : goal.returns-in_err-state-clause-runs
 returns-in_err-state-clause-runs g c =
@@ -18,7 +18,7 @@ returns-in_err-state-clause-runs g c =
     let v = g.F.FaultSource.verdicts c.args.config.script in
     let fault = c.in_err-state.field-0.0 in
     let is = err_is c.from_residual.result fault c.from_residual.ensures in
-    let start = at_start c.args.config.timing c.args.config.names c.args.config.config c.args.config.rx_capacity in
+    let start = at_start c.args.config.shows_faults c.args.config.timing c.args.config.names c.args.config.config c.args.config.rx_capacity in
     let now = c.args.lines.now in
     λ good. subst (λ r. Ends IsRecordOf contents v now.coming start c.args.out.now r now c.args.out.now) (sym is)
     (ends_unmade IsRecordOf contents v now.coming start c.args.out.now now fault c.in_err-state.ensures.faults (λ bad. good (is ∙ ap (λ e. Err e) bad)))
@@ -29,11 +29,11 @@ returns-in_err-run-clause-runs g c =
     let v = g.F.FaultSource.verdicts c.args.config.script in
     let fault = c.in_err-run.field-0.0 in
     let is = err_is c.from_residual-in_err-run.result fault c.from_residual-in_err-run.ensures in
-    let start = at_start c.args.config.timing c.args.config.names c.args.config.config c.args.config.rx_capacity in
+    let start = at_start c.args.config.shows_faults c.args.config.timing c.args.config.names c.args.config.config c.args.config.rx_capacity in
     let coming = c.args.lines.now.coming in
     let now = c.run.new.lines in
     let leaves : Unit {0} → BenchState → Type 0 = λ _ after. after ≡ c.run.new.state in
-    let made = without_plan c.args.config.timing c.args.config.names c.args.config.config c.args.config.rx_capacity c.in_ok-state.state c.new-plan.result c.in_ok-state.ensures.made c.new-plan.ensures in
+    let made = without_plan c.args.config.shows_faults c.args.config.timing c.args.config.names c.args.config.config c.args.config.rx_capacity c.in_ok-state.state c.new-plan.result c.in_ok-state.ensures.made c.new-plan.ensures in
     let ended = ends_err leaves IsRecordOf contents v coming c.in_ok-state.state c.args.out.now now c.run.new.out fault c.in_err-run.ensures in
     λ _. subst (λ r. Ends IsRecordOf contents v coming start c.args.out.now r now c.run.new.out) (sym is)
     (subst (λ (b : BenchState). Ends IsRecordOf contents v coming b c.args.out.now (Err fault) now c.run.new.out) made ended)
@@ -41,7 +41,7 @@ returns-in_err-run-clause-runs g c =
 pub returns-clause-runs : goal.returns-clause-runs
 returns-clause-runs g c =
     let ran = c.in_ok-run.ensures in
-    let made = without_plan c.args.config.timing c.args.config.names c.args.config.config c.args.config.rx_capacity c.in_ok-state.state c.new-plan.result c.in_ok-state.ensures.made c.new-plan.ensures in
+    let made = without_plan c.args.config.shows_faults c.args.config.timing c.args.config.names c.args.config.config c.args.config.rx_capacity c.in_ok-state.state c.new-plan.result c.in_ok-state.ensures.made c.new-plan.ensures in
     λ _. (
       ran.0,
       ran.1,

@@ -10,7 +10,7 @@ pub returns-in_err-state-clause-runs : goal.returns-in_err-state-clause-runs
 returns-in_err-state-clause-runs g c =
     let fault = c.in_err-state.field-0.0 in
     let is = err_is c.from_residual.result fault c.from_residual.ensures in
-    let start = at_start_with c.args.plan c.args.config.timing c.args.config.names c.args.config.config c.args.config.rx_capacity in
+    let start = at_start_with c.args.config.shows_faults c.args.plan c.args.config.timing c.args.config.names c.args.config.config c.args.config.rx_capacity in
     let now = unread (g.R.Read.remaining c.args.input) in
     λ good. (
       now,
@@ -20,7 +20,7 @@ returns-in_err-state-clause-runs g c =
 
 pub returns-in_default-clause-runs : goal.returns-in_default-clause-runs
 returns-in_default-clause-runs g c =
-    let start = at_start_with c.args.plan c.args.config.timing c.args.config.names c.args.config.config c.args.config.rx_capacity in
+    let start = at_start_with c.args.config.shows_faults c.args.plan c.args.config.timing c.args.config.names c.args.config.config c.args.config.rx_capacity in
     let now = unread (g.R.Read.remaining c.args.input) in
     λ _. (now, ends_before IsRecordOf g.W.Write.contents (g.F.FaultSource.verdicts c.args.config.script) (g.R.Read.remaining c.args.input) start c.args.out.now now)
 
@@ -31,7 +31,7 @@ returns-in_err-run-clause-runs g c =
     let fault = c.in_err-run.field-0.0 in
     let is = err_is c.from_residual-in_err-run.result fault c.from_residual-in_err-run.ensures in
     let coming = ap (λ (i : Input). i.coming) c.in-Ok.ensures in
-    let start = at_start_with c.args.plan c.args.config.timing c.args.config.names c.args.config.config c.args.config.rx_capacity in
+    let start = at_start_with c.args.config.shows_faults c.args.plan c.args.config.timing c.args.config.names c.args.config.config c.args.config.rx_capacity in
     let now = c.run.new.lines in
     let leaves : Unit {0} → BenchState → Type 0 = λ _ after. after ≡ c.run.new.state in
     let ended = ends_err leaves IsRecordOf contents v c.in-Ok.lines.coming c.in_ok-state.state c.args.out.now now c.run.new.out fault c.in_err-run.ensures in
