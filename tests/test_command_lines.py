@@ -29,6 +29,8 @@ NO_JOB = [
     "bench --log",
     "bench --strict=1 can0",
     "bench --strict --strict can0",
+    "bench --show-faults=1 can0",
+    "bench --show-faults --show-faults can0",
     "bench --bitrate 1000001 can0",
     "bench --bitrate +500000 can0",
     "bench --bitrate 500000 --dbitrate 20000001 can0",
@@ -36,6 +38,7 @@ NO_JOB = [
     "serve --bitrate +500000 can0",
     "serve --bitrate 500000 --dbitrate 20000001 can0",
     "serve --strict can0",
+    "serve --show-faults can0",
     "bench --record run.rec --log run.rec can0",
     "bench --record run.rec --log ./run.rec can0",
     "bench --log=/a/./b --record=//a//b can0",
@@ -72,6 +75,13 @@ NO_JOB = [
     "audit --events --bitrate 500000 --dbitrate 20000001 run.rec",
     "audit --events --bitrate 500000 --bitrate 500000 run.rec",
     "audit --cut --bitrate 500000 run.rec",
+    "audit --events --faults",
+    "audit --events --faults= run.rec",
+    "audit --events --faults can0 run.rec",
+    "audit --events --faults can0@a --faults can0@a run.rec",
+    "audit --cut --faults can0@a run.rec",
+    "bench --faults can0@a can0",
+    "serve --faults can0@a can0",
 ]
 # Words that are taken: what is reported is of the bus.
 A_JOB = [
@@ -79,6 +89,8 @@ A_JOB = [
     "bench --record run.rec --log a/run.rec can0,can0",
     "bench --record ../run.rec --log run.rec can0,can0",
     "bench --strict can0,can0",
+    "bench --show-faults can0,can0",
+    "bench --show-faults --strict can0,can0",
     "bench --bitrate 5000 --dbitrate 20000000 can0,can0",
     "bench --bitrate 1000000 --dbitrate 1000000 can0,can0",
     "serve --bitrate 5000 --dbitrate 20000000 can0,can0",
@@ -116,6 +128,11 @@ REFUSED = [
     ("audit --bitrate 500000 --dbitrate 500000 run.rec", "error: '--bitrate' needs '--events'\n"),
     ("audit --dbitrate 500000 run.rec", "error: '--dbitrate' needs '--bitrate'\n"),
     ("audit --events --dbitrate 500000 run.rec", "error: '--dbitrate' needs '--bitrate'\n"),
+    ("audit --faults can0@a run.rec", "error: '--faults' needs '--events'\n"),
+    (
+        "audit --events --faults can0,can1 run.rec",
+        "error: invalid value 'can0,can1' for '--faults': NAMES@FILE, where FILE is the script of faults\n",
+    ),
     (
         "audit --events --bitrate 4999 run.rec",
         "error: invalid value '4999' for '--bitrate': not a number from 5000 to 1000000 in decimal digits\n",

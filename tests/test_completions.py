@@ -33,6 +33,8 @@ TYPED = [
     ("canbusd audit --cut ru", "n.rec "),
     ("canbusd audit --cut logs/kept.rec ru", "n.rec "),
     ("canbusd audit --events --bitrate 500000 ru", "n.rec "),
+    ("canbusd audit --faults can0,can1@fau", "lts.script "),
+    ("canbusd audit --faults can0@faults.script ru", "n.rec "),
     ("canbusd bench --ack pe", "ers "),
     ("canbusd bench --ack=pe", "ers "),
     ("canbusd bench --ack=always --rep", "ort "),
@@ -41,6 +43,7 @@ TYPED = [
     ("canbusd bench --log ou", "t.txt "),
     ("canbusd bench --log=ou", "t.txt "),
     ("canbusd bench --str", "ict "),
+    ("canbusd bench --sho", "w-faults "),
     ("canbusd serve --out=lo", "gs/"),
     ("canbusd serve --out lo", "gs/"),
     ("canbusd serve --until", "-eof "),
@@ -75,6 +78,7 @@ OPTIONS = [
     ("canbusd serve --auto-restart=5 --pa", "ce"),
     ("canbusd audit --bitr", "ate"),
     ("canbusd audit --db", "itrate"),
+    ("canbusd audit --fau", "lts"),
 ]
 
 

@@ -319,12 +319,14 @@ def test_an_audit_without_memory(refusing):
     print(summed(runs))
 
 
-def test_events_without_memory(refusing):
+@pytest.mark.parametrize("part, options", [("put", []), ("rule", ["--faults", "can0,can1@run.faults"])])
+def test_events_without_memory(refusing, part, options):
     """an audit's: they are as ever, or the fault follows whole lines of them"""
     Bench(refusing, ["can0,can1"], COMMANDS)
-    words = ["audit", "--events", "run.rec"]
+    (refusing.folder / "run.faults").write_text("next 1 good\nat 1 always good\nat 1 next 1 lastbit\n")
+    words = ["audit", "--events", *options, "run.rec"]
     ample, asked = refusing.run(words)
-    assert ample.returncode == 0 and ample.stdout.count("; put ") > 1
+    assert ample.returncode == 0 and ample.stdout.count(f"; {part} ") > 1
     for first, last in windows(asked):
         done, _ = refusing.run(words, "", first, last)
         if done.returncode == 0:

@@ -14,13 +14,15 @@ _canbusd() {
     *,audit)
         case $before,$text in
         --bitrate,* | --dbitrate,*) ;;
-        *,-*) _canbusd_offer "--cut --events --bitrate --dbitrate --help" ;;
+        *@*) _canbusd_files -f default ;;
+        --faults,*) ;;
+        *,-*) _canbusd_offer "--cut --events --bitrate --dbitrate --faults --help" ;;
         *) compopt -o default ;;
         esac
         ;;
     *,restbus | *,convert | *,report | *,replay) compopt -o default ;;
     *,help) _canbusd_offer "bench serve audit $package" ;;
-    *,bench) _canbusd_word "$options --record --log --strict" ;;
+    *,bench) _canbusd_word "$options --record --log --strict --show-faults" ;;
     *,serve) _canbusd_word "$options --listen --sessions --pace --write --out --record --flush --sync --until-eof --verbose" ;;
     esac
 }

@@ -38,6 +38,8 @@ complete -c canbusd -n "__fish_seen_subcommand_from audit" -l cut -d "Audit a re
 complete -c canbusd -n "__fish_seen_subcommand_from audit" -l events -d "Write what each entry brought about"
 complete -c canbusd -n "__fish_seen_subcommand_from audit" -x -l bitrate -d "Bits a second, for what attempts take on the wire"
 complete -c canbusd -n "__fish_seen_subcommand_from audit" -x -l dbitrate -d "Bits a second of the data of FD frames"
+complete -c canbusd -n "__fish_seen_subcommand_from audit" -x -l faults -a "(__canbusd_scripts)" \
+    -d "Names and script of faults of the run"
 complete -c canbusd -n $runs -a "(__canbusd_scripts)"
 complete -c canbusd -n $runs -x -l ack -a "always peers" -d "Who acknowledges frames"
 complete -c canbusd -n $runs -l report -d "Make error message frames for each fault"
@@ -50,6 +52,7 @@ complete -c canbusd -n $runs -x -l dbitrate -d "Bits a second of the data of FD 
 complete -c canbusd -n "__fish_seen_subcommand_from bench" -r -F -l record -d "Write the record of the run"
 complete -c canbusd -n "__fish_seen_subcommand_from bench" -r -F -l log -d "Write the frames as candump logs them"
 complete -c canbusd -n "__fish_seen_subcommand_from bench" -f -l strict -d "End with status 1 if a message was refused"
+complete -c canbusd -n "__fish_seen_subcommand_from bench" -f -l show-faults -d "End lines of attempts with their faults and rules"
 set -l serves "__fish_seen_subcommand_from serve"
 complete -c canbusd -n $serves -r -F -l listen -d "Where clients connect"
 complete -c canbusd -n $serves -x -l sessions -d "How many sessions before the end"

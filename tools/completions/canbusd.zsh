@@ -47,6 +47,7 @@ _canbusd() {
             '--record=[write the record of the run]:file:_files' \
             '--log=[write the frames of the run as candump logs them]:file:_files' \
             '--strict[end with status 1 if a message was refused]' \
+            '--show-faults[end lines of attempts with their faults and rules]' \
             '1:bus:_canbusd_bus'
         ;;
     serve)
@@ -69,6 +70,7 @@ _canbusd() {
             '--events[write what each entry brought about]' \
             '--bitrate=[bits a second, for what attempts take on the wire]:bits:' \
             '--dbitrate=[bits a second of the data of FD frames]:bits:' \
+            '--faults=[names and script of faults of the run]:bus:_canbusd_bus' \
             '*:record:_files'
         ;;
     restbus | convert | report | replay) _arguments '*:file:_files' ;;

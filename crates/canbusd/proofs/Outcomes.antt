@@ -1,7 +1,7 @@
 use Rattle.std.proofs.Common.{Bool, true, false, List, ℕ, Option, inl, inr}
 use Rattle.std.specs.Io.KnownBytes.{Keeps}
 use Rattle.std.proofs.KnownBytes.{Appends-kept, Keeps-trans}
-use Rattle.canbusd_options.specs.declared.audit_options.AuditOutput.{AuditOutput}
+use Rattle.can_events.specs.declared.wanted.Wanted.{Wanted}
 use Rattle.canbusd_options.specs.declared.command_line.Job.{Job}
 use Rattle.canbusd_options.specs.declared.command_line.Job.TheVariants as job
 use Rattle.canbusd_audit.specs.Audited.{IsAudited, IsAuditedBy}
@@ -10,13 +10,13 @@ use Rattle.canbusd.specs.Outcomes.{IsDone}
 -- A job that was done, and what is written after it.
 
 -- an audit whose text was written stays so
-whole-kept : (has : AuditOutput) (text : List ℕ) (old mid new : Option (List ℕ)) → IsAudited has text old mid → Keeps mid new → IsAudited has text old new
-whole-kept has text old mid new done kept = record { config = done.config; entries = done.entries; whole = done.whole; legal = done.legal; wrote = Appends-kept old mid new _ done.wrote kept }
+whole-kept : (asked : Option Wanted) (text : List ℕ) (old mid new : Option (List ℕ)) → IsAudited asked text old mid → Keeps mid new → IsAudited asked text old new
+whole-kept asked text old mid new done kept = record { config = done.config; entries = done.entries; whole = done.whole; legal = done.legal; wrote = Appends-kept old mid new _ done.wrote kept }
 
-audited-kept : (is_cut : Bool) (has : AuditOutput) (text : List ℕ) (old mid new : Option (List ℕ)) → IsAuditedBy is_cut has text old mid → Keeps mid new → IsAuditedBy is_cut has text old new
-audited-kept false has text old mid new done kept = whole-kept has text old mid new done kept
-audited-kept true has text old mid new (inl done) kept = inl (whole-kept has text old mid new done kept)
-audited-kept true has text old mid new (inr done) kept = inr (record { config = done.config; entries = done.entries; front = done.front; legal = done.legal; wrote = Appends-kept old mid new _ done.wrote kept })
+audited-kept : (is_cut : Bool) (asked : Option Wanted) (text : List ℕ) (old mid new : Option (List ℕ)) → IsAuditedBy is_cut asked text old mid → Keeps mid new → IsAuditedBy is_cut asked text old new
+audited-kept false asked text old mid new done kept = whole-kept asked text old mid new done kept
+audited-kept true asked text old mid new (inl done) kept = inl (whole-kept asked text old mid new done kept)
+audited-kept true asked text old mid new (inr done) kept = inr (record { config = done.config; entries = done.entries; front = done.front; legal = done.legal; wrote = Appends-kept old mid new _ done.wrote kept })
 
 -- it stays done where what was put out stays
 pub done-kept : {W : Type 0} (contents : W → Option (List ℕ)) (j : Job) (input : Option (List ℕ)) (old mid new : W) → IsDone contents j input old mid → Keeps (contents mid) (contents new) → IsDone contents j input old new
@@ -28,7 +28,9 @@ done-kept contents (job.Bench o) input old mid new done kept = record {
   flushed = Keeps-trans (contents done.written) (contents mid) (contents new) done.flushed kept;
   strict = done.strict;
 }
-done-kept contents (job.Audit o) input old mid new done kept = (done.0, audited-kept o.is_cut o.output done.0 (contents old) (contents mid) (contents new) done.1 kept)
+done-kept contents (job.Audit o) input old mid new done kept =
+    let (asked, by, audited) = done in
+    (asked, by, (audited.0, audited-kept o.is_cut asked audited.0 (contents old) (contents mid) (contents new) audited.1 kept))
 done-kept contents (job.Serve o) input old mid new done kept = record {
   named = done.named;
   ends = done.ends;

@@ -11,8 +11,8 @@ use Rattle.canbusd_serve.specs.Served.{IsServed}
 -- What a command line comes to that ends with status 0 (own choice).
 
 -- a job was done over the rest of an input, and what it puts out was written: the bench that its options
--- describe, an audit of a text that is a legal record's, or its front where it may be cut off, with its events where
--- they are asked for, or a server whose records are legal
+-- describe, an audit of a text that is a legal record's, or its front where it may be cut off, with its events and with
+-- the rules that decided where they are asked for, or a server whose records are legal
 abbrev pub IsDone : {W : Type 0} → (W → Option (List ℕ)) → Job → Option (List ℕ) → W → W → Type 0
 IsDone contents (job.Bench o) input old new = IsBenched contents o input old new
 IsDone contents (job.Audit o) input old new = AuditsFiles o.is_cut o.output contents old new

@@ -1,14 +1,14 @@
 -- What was written of a text's events before a fault.
-use Rattle.std.proofs.Common.{◌≡◌, ◌≤◌, ◌⊎◌, ℕ, inl, inr, Bool, true, false, List, [], ◌++◌, Option, Some, None, Result, Ok, Err, arith, append-nil, length, refl, sym, ap, subst, ◌∙◌}
-use Rattle.std.specs.Prelude.{reverse, take}
+use Rattle.std.proofs.Common.{◌≡◌, ◌⊎◌, ℕ, inl, inr, Bool, List, [], ◌++◌, Option, Some, None, Result, Ok, Err, arith, append-nil, length, refl, sym, ap, subst, ◌∙◌}
+use Rattle.std.specs.Prelude.{reverse}
 use Rattle.std.proofs.lemmas.Option.{none-some, same_Some}
 use Rattle.std.specs.Io.KnownBytes.{Appends, Consumes}
 use Rattle.can_event.specs.declared.bus_config.BusConfig.{BusConfig}
 use Rattle.can_event.specs.declared.entry.Entry.{Entry}
 use Rattle.can_bus.specs.Legal.{IsLegal}
 use Rattle.can_events.specs.EventsText.{events_front}
+use Rattle.can_events.specs.declared.wanted.Wanted.{Wanted}
 use Rattle.can_record_text.specs.declared.fault.ReadFault.{ReadFault}
-use Rattle.can_record_text.specs.declared.version.Version.{Version}
 use Rattle.can_replay.specs.Audits.{IsFirstWrong}
 use Rattle.can_replay.specs.Histories.{before}
 use Rattle.can_replay.specs.declared.entry_audit.EntryAudit.{EntryAudit}
@@ -19,17 +19,15 @@ use Rattle.can_replay.specs.declared.text_audit.TextAudit.{TextAudit}
 use Rattle.can_replay.specs.declared.text_fault.TextFault.{TextFault}
 use Rattle.can_replay.specs.declared.text_fault.TextFault.TheVariants as found
 use Rattle.can_replay.specs.declared.text_fault.WrongLine.{WrongLine}
-use Rattle.can_replay.specs.EventTexts.{AreWritten, HasWritten, held_events, legal_part, wrong_so_far}
-use Rattle.can_replay.specs.inner.EntryAudits.{IsGoing, IsSettled}
+use Rattle.can_replay.specs.EventTexts.{AreWritten, HasWritten, has_events, held_events, legal_part, wrong_so_far}
+use Rattle.can_replay.specs.inner.EntryAudits.{IsSettled}
 use Rattle.can_replay.proofs.Before.{before_all}
 use Rattle.can_replay.proofs.GoingOn.{last_of, read_rest}
 use Rattle.canbusd_io.specs.declared.program_error.ProgramError.{ProgramError}
 use Rattle.canbusd_io.specs.declared.program_error.ProgramError.TheVariants as fault
 use Rattle.canbusd_io.specs.Files.{IsOfReading}
-use Rattle.canbusd_options.specs.declared.audit_options.AuditOutput.{AuditOutput}
-use Rattle.canbusd_options.specs.declared.audit_options.AuditOutput.TheVariants as writes
 use Rattle.canbusd_audit.specs.Audited.{IsAfter, IsFrontWritten, IsOfLine, IsPut, IsTextIn, IsTold, IsUnderway, LeavesFront, Puts, StopsAfter, output_of}
-use Rattle.canbusd_audit.proofs.Underway.{puts_more}
+use Rattle.canbusd_audit.proofs.Underway.{puts_more, same_output}
 
 -- ---- which entry a fault names
 
@@ -79,11 +77,11 @@ counted why b es o is names = tt
 
 -- ---- what was written
 
-front_at : (text rest cleared : List ℕ) (p : Phase) (e : EventsText) (why : ProgramError) (old new : Option (List ℕ)) → AreWritten text cleared p (Some e) → Names why p → Appends old new (cleared ++ e.text.items)
-    → Appends old new [] ⊎ IsFrontWritten e.timing (text ++ rest) why old new
-front_at text rest cleared phase.Start e why old new w names wrote = inl (subst (Appends old new) w.complete wrote)
-front_at text rest cleared (phase.Front v) e why old new w names wrote = inl (subst (Appends old new) w.complete wrote)
-front_at text rest cleared (phase.Entries b) e why old new w names wrote =
+front_at : (v : Wanted) (text rest cleared : List ℕ) (p : Phase) (e : EventsText) (why : ProgramError) (old new : Option (List ℕ)) → AreWritten v text cleared p (Some e) → Names why p → Appends old new (cleared ++ e.text.items)
+    → Appends old new [] ⊎ IsFrontWritten v (text ++ rest) why old new
+front_at v text rest cleared phase.Start e why old new w names wrote = inl (subst (Appends old new) w.complete wrote)
+front_at v text rest cleared (phase.Front version) e why old new w names wrote = inl (subst (Appends old new) w.complete wrote)
+front_at v text rest cleared (phase.Entries b) e why old new w names wrote =
     let g = w.taken in
     let es = g.read.entries in
     let p = part_of b.config es b.wrong g.read.settled in
@@ -98,21 +96,19 @@ front_at text rest cleared (phase.Entries b) e why old new w names wrote =
       legal = p.legal;
       last = p.last;
       names = counted why b es b.wrong refl names;
-      wrote = subst (Appends old new) (w.complete ∙ ap (events_front e.timing b.version b.config) p.part) wrote;
+      wrote = subst (Appends old new) (w.complete ∙ ap (events_front v b.version b.config) p.part) wrote;
     })
-front_at text rest cleared (phase.Failed what) e why old new w names wrote = absurd w.taken
+front_at v text rest cleared (phase.Failed what) e why old new w names wrote = absurd w.taken
 
-by_kind : {W : Type 0} (has : AuditOutput) (first : Option (List ℕ)) (text rest events : List ℕ) (p : Phase) (held : Option EventsText) (why : ProgramError) (contents : W → Option (List ℕ)) (start out : W) → has ≡ output_of held → AreWritten text events p held
-    → Names why p → IsTextIn first (text ++ rest) → Puts has contents start out (events ++ held_events held) → LeavesFront has first why contents start out
-by_kind writes.Count first text rest events p held why contents start out has w names is put = put
-by_kind (writes.Events t) first text rest events p None why contents start out has w names is put = absurd cc
-by_kind (writes.Events t) first text rest events p (Some e) why contents start out has w names is put =
-    subst (λ (o : AuditOutput). LeavesFront o first why contents start out) (sym has) (text ++ rest, is, front_at text rest events p e why (contents start) (contents out) w names put)
+by_kind : {W : Type 0} (v : Wanted) (first : Option (List ℕ)) (text rest events : List ℕ) (p : Phase) (held : Option EventsText) (why : ProgramError) (contents : W → Option (List ℕ)) (start out : W) → AreWritten v text events p held
+    → Names why p → IsTextIn first (text ++ rest) → Puts (has_events held) contents start out (events ++ held_events held) → LeavesFront (output_of v held) first why contents start out
+by_kind v first text rest events p None why contents start out w names is put = put
+by_kind v first text rest events p (Some e) why contents start out w names is put = (text ++ rest, is, front_at v text rest events p e why (contents start) (contents out) w names put)
 
 -- all events of these lines were put out
-pub leaves_front : {W : Type 0} (has : AuditOutput) (first : Option (List ℕ)) (text rest events : List ℕ) (audit : TextAudit) (why : ProgramError) (contents : W → Option (List ℕ)) (start out : W) → has ≡ output_of audit.events → HasWritten text events audit
-    → Names why audit.phase → IsTextIn first (text ++ rest) → Puts has contents start out (events ++ held_events audit.events) → LeavesFront has first why contents start out
-leaves_front has first text rest events audit why contents start out kind w names is put = by_kind has first text rest events audit.phase audit.events why contents start out kind w names is put
+pub leaves_front : {W : Type 0} (v : Wanted) (first : Option (List ℕ)) (text rest events : List ℕ) (audit : TextAudit) (why : ProgramError) (contents : W → Option (List ℕ)) (start out : W) → HasWritten v text events audit
+    → Names why audit.phase → IsTextIn first (text ++ rest) → Puts (has_events audit.events) contents start out (events ++ held_events audit.events) → LeavesFront (output_of v audit.events) first why contents start out
+leaves_front v first text rest events audit why contents start out w names is put = by_kind v first text rest events audit.phase audit.events why contents start out w names is put
 
 -- the text of which these bytes were read
 text_with : (first now : Option (List ℕ)) (text : List ℕ) → Consumes first now text → (rest : List ℕ) × IsTextIn first (text ++ rest)
@@ -120,27 +116,30 @@ text_with None now text h = ([], tt)
 text_with (Some all) None text h = absurd h
 text_with (Some all) (Some rest) text h = (rest, sym h)
 
-pub leaves_underway : {W : Type 0} (has : AuditOutput) (first now : Option (List ℕ)) (events : List ℕ) (audit : TextAudit) (why : ProgramError) (contents : W → Option (List ℕ)) (start out : W) → has ≡ output_of audit.events → IsUnderway first now audit events
-    → Names why audit.phase → Puts has contents start out (events ++ held_events audit.events) → LeavesFront has first why contents start out
-leaves_underway has first now events audit why contents start out kind u names put =
+pub leaves_underway : {W : Type 0} (v : Wanted) (first now : Option (List ℕ)) (events : List ℕ) (audit : TextAudit) (why : ProgramError) (contents : W → Option (List ℕ)) (start out : W) → IsUnderway v first now audit events
+    → Names why audit.phase → Puts (has_events audit.events) contents start out (events ++ held_events audit.events) → LeavesFront (output_of v audit.events) first why contents start out
+leaves_underway v first now events audit why contents start out u names put =
     let t = text_with first now u.text u.consumed in
-    leaves_front has first u.text t.0 events audit why contents start out kind u.written names t.1 put
+    leaves_front v first u.text t.0 events audit why contents start out u.written names t.1 put
 
-pub none_more : {W : Type 0} (has : AuditOutput) (contents : W → Option (List ℕ)) (start out : W) (events held : List ℕ) → held ≡ [] → Puts has contents start out events → Puts has contents start out (events ++ held)
+pub none_more : {W : Type 0} (has : Bool) (contents : W → Option (List ℕ)) (start out : W) (events held : List ℕ) → held ≡ [] → Puts has contents start out events → Puts has contents start out (events ++ held)
 none_more has contents start out events held none put = subst (Puts has contents start out) (sym (ap (λ (x : List ℕ). events ++ x) none ∙ append-nil events)) put
 
-pub leaves_put : {W : Type 0} (has : AuditOutput) (first now : Option (List ℕ)) (audit : TextAudit) (why : ProgramError) (contents : W → Option (List ℕ)) (start out : W) → has ≡ output_of audit.events → held_events audit.events ≡ []
-    → IsPut first now audit contents start out → Names why audit.phase → LeavesFront has first why contents start out
-leaves_put has first now audit why contents start out kind none p names =
-    leaves_underway has first now p.events audit why contents start out kind p.underway names
-    (none_more has contents start out p.events (held_events audit.events) none (subst (λ (o : AuditOutput). Puts o contents start out p.events) (sym kind) p.put))
+pub leaves_put : {W : Type 0} (v : Wanted) (first now : Option (List ℕ)) (begun : Option EventsText) (audit : TextAudit) (why : ProgramError) (contents : W → Option (List ℕ)) (start out : W) → has_events begun ≡ has_events audit.events → held_events audit.events ≡ []
+    → IsPut v first now audit contents start out → Names why audit.phase → LeavesFront (output_of v begun) first why contents start out
+leaves_put v first now begun audit why contents start out kind none p names =
+    subst (λ (asked : Option Wanted). LeavesFront asked first why contents start out) (sym (same_output v begun audit.events kind))
+    (leaves_underway v first now p.events audit why contents start out p.underway names (none_more (has_events audit.events) contents start out p.events (held_events audit.events) none p.put))
 
 -- the events of the lines before a fault were put out too
-pub leaves_stopped : {W : Type 0} (has : AuditOutput) (first old new : Option (List ℕ)) (before after : TextAudit) (why : ProgramError) (contents : W → Option (List ℕ)) (start out end : W) → output_of before.events ≡ has → output_of after.events ≡ output_of before.events
-    → IsPut first old before contents start out → StopsAfter old new before after → Puts (output_of after.events) contents out end (held_events after.events) → ((p : Phase) → Names why p) → LeavesFront has first why contents start end
-leaves_stopped has first old new before after why contents start out end kind same p stops put names =
+pub leaves_stopped : {W : Type 0} (v : Wanted) (first old new : Option (List ℕ)) (begun : Option EventsText) (before after : TextAudit) (why : ProgramError) (contents : W → Option (List ℕ)) (start out end : W) → has_events before.events ≡ has_events begun
+    → has_events after.events ≡ has_events before.events → IsPut v first old before contents start out → StopsAfter old new before after → Puts (has_events after.events) contents out end (held_events after.events) → ((p : Phase) → Names why p)
+    → LeavesFront (output_of v begun) first why contents start end
+leaves_stopped v first old new begun before after why contents start out end kind same p stops put names =
     let last = stops.0 in
-    let so_far : Puts has contents start out p.events = subst (λ (o : AuditOutput). Puts o contents start out p.events) kind p.put in
-    let more : Puts has contents out end (held_events last.events) =
-    subst (Puts has contents out end) stops.3 (subst (λ (o : AuditOutput). Puts o contents out end (held_events after.events)) (same ∙ kind) put) in
-    leaves_underway has first new p.events last why contents start end (sym (stops.2 ∙ kind)) (stops.1 first p.events p.underway) (names last.phase) (puts_more has contents start out end p.events (held_events last.events) so_far more)
+    let so_far : Puts (has_events last.events) contents start out p.events = subst (λ (b : Bool). Puts b contents start out p.events) (sym stops.2) p.put in
+    let more : Puts (has_events last.events) contents out end (held_events last.events) =
+    subst (Puts (has_events last.events) contents out end) stops.3 (subst (λ (b : Bool). Puts b contents out end (held_events after.events)) (same ∙ sym stops.2) put) in
+    subst (λ (asked : Option Wanted). LeavesFront asked first why contents start end) (same_output v last.events begun (stops.2 ∙ kind))
+    (leaves_underway v first new p.events last why contents start end (stops.1 v first p.events p.underway) (names last.phase)
+    (puts_more (has_events last.events) contents start out end p.events (held_events last.events) so_far more))

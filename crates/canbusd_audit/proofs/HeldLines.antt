@@ -9,6 +9,7 @@ use Rattle.std.specs.Io.{IsEmptyOrEndsWith, StartsWith, StopsAt}
 use Rattle.std.specs.Io.KnownBytes.{Consumes}
 use Rattle.std.specs.Prelude.{IfSome, IsSome}
 use Rattle.memchr.specs.Find.{IsFirstByte, is_byte}
+use Rattle.can_events.specs.declared.wanted.Wanted.{Wanted}
 use Rattle.can_record_text.specs.declared.fault.ReadFault.{ReadFault}
 use Rattle.can_record_text.specs.RecordFaults.{Reads}
 use Rattle.can_replay.specs.declared.text_audit.TextAudit.{TextAudit}
@@ -61,9 +62,9 @@ module _ (held : List ℕ) (len place : ℕ) (text : List ℕ) where
 
 -- a line more was taken
 pub takes_more : (held : List ℕ) (len place : ℕ) (old now new : TextAudit) → IsFirstByte (is_byte 10) (drop len held) (Some place) → TakesMore old (take len held) now
-    → ((events text : List ℕ) → HasWritten text events now → IsLine (take (place + 1) (drop len held)) → HasWritten (text ++ take (place + 1) (drop len held)) events new) → TakesMore old (take (len + (place + 1)) held) new
-takes_more held len place old now new found taken step text events start =
-    subst (λ (x : List ℕ). HasWritten x events new) (one_more held len place text) (step events (text ++ take len held) (taken text events start) (is_line (drop len held) place found))
+    → ((w : Wanted) (events text : List ℕ) → HasWritten w text events now → IsLine (take (place + 1) (drop len held)) → HasWritten w (text ++ take (place + 1) (drop len held)) events new) → TakesMore old (take (len + (place + 1)) held) new
+takes_more held len place old now new found taken step w text events start =
+    subst (λ (x : List ℕ). HasWritten w x events new) (one_more held len place text) (step w events (text ++ take len held) (taken w text events start) (is_line (drop len held) place found))
 
 -- the line is at fault
 pub fails_in : (held : List ℕ) (len place : ℕ) (old now : TextAudit) (why : ReadFault) → IsFirstByte (is_byte 10) (drop len held) (Some place) → TakesMore old (take len held) now
@@ -77,32 +78,32 @@ fails_in held len place old now why found taken step =
       rest = drop (len + (place + 1)) held;
       begins = sym (take-append-drop (len + (place + 1)) held);
       ended = (take len held ++ end.0, take-add len (place + 1) held ∙ ap (λ (x : List ℕ). take len held ++ x) end.1 ∙ sym (append_assoc (take len held) end.0 (10 ∷ [])));
-      wrong = λ text events after start.
-          subst (λ (x : List ℕ). Reads x (Err why)) (with_more held len place text after) (step (text ++ take len held) after (taken text events start).taken (is_line left place found) (may_follow left place found after));
+      wrong = λ w text events after start.
+          subst (λ (x : List ℕ). Reads x (Err why)) (with_more held len place text after) (step (text ++ take len held) after (taken w text events start).taken (is_line left place found) (may_follow left place found after));
     }
 
 -- ---- what a reader shows
 
 pub goes_on_by : (old new : Option (List ℕ)) (before after : TextAudit) (bytes : List ℕ) → Consumes old new bytes → TakesMore before bytes after → GoesOn old new before after
-goes_on_by old new before after bytes consumed taken = λ first events u.
-    record { text = u.text ++ bytes; consumed = more_read first old new u.text bytes u.consumed consumed; written = taken u.text events u.written }
+goes_on_by old new before after bytes consumed taken = λ w first events u.
+    record { text = u.text ++ bytes; consumed = more_read first old new u.text bytes u.consumed consumed; written = taken w u.text events u.written }
 
 -- it begins with lines that are at fault
-held_fault : (text events held after : List ℕ) (audit : TextAudit) (why : ReadFault) → HasWritten text events audit → IsWrongNext audit held why → FaultsUncut (text ++ (held ++ after)) why
-held_fault text events held after audit why written w =
+held_fault : (v : Wanted) (text events held after : List ℕ) (audit : TextAudit) (why : ReadFault) → HasWritten v text events audit → IsWrongNext audit held why → FaultsUncut (text ++ (held ++ after)) why
+held_fault v text events held after audit why written w =
     let whole : (text ++ w.lines) ++ (w.rest ++ after) ≡ text ++ (held ++ after) =
     append_assoc text w.lines (w.rest ++ after) ∙ ap (λ (x : List ℕ). text ++ x) (sym (append_assoc w.lines w.rest after) ∙ ap (λ (x : List ℕ). x ++ after) (sym w.begins)) in
     let ended : EndsLine (text ++ w.lines) = (text ++ w.ended.0, ap (λ (x : List ℕ). text ++ x) w.ended.1 ∙ sym (append_assoc text w.ended.0 (10 ∷ []))) in
     subst (λ (x : List ℕ). FaultsUncut x why) whole
-    (line_uncut (text ++ w.lines) (w.rest ++ after) why ended (λ more. subst (λ (x : List ℕ). Reads x (Err why)) (sym (append_assoc text w.lines more)) (w.wrong text events more written)))
+    (line_uncut (text ++ w.lines) (w.rest ++ after) why ended (λ more. subst (λ (x : List ℕ). Reads x (Err why)) (sym (append_assoc text w.lines more)) (w.wrong v text events more written)))
 
 at_fault : (old : Option (List ℕ)) (audit : TextAudit) (why : ReadFault) (held : List ℕ) → IfSome old (λ xs. StartsWith xs held) → IsWrongNext audit held why → IsAtFault old audit why
-at_fault None audit why held shows fails None events u = (u.text ++ (held ++ []), tt, held_fault u.text events held [] audit why u.written fails)
-at_fault None audit why held shows fails (Some all) events u = absurd u.consumed
-at_fault (Some xs) audit why held shows fails None events u = (u.text ++ (held ++ []), tt, held_fault u.text events held [] audit why u.written fails)
-at_fault (Some xs) audit why held shows fails (Some all) events u =
+at_fault None audit why held shows fails w None events u = (u.text ++ (held ++ []), tt, held_fault w u.text events held [] audit why u.written fails)
+at_fault None audit why held shows fails w (Some all) events u = absurd u.consumed
+at_fault (Some xs) audit why held shows fails w None events u = (u.text ++ (held ++ []), tt, held_fault w u.text events held [] audit why u.written fails)
+at_fault (Some xs) audit why held shows fails w (Some all) events u =
     let split : held ++ drop (length held) xs ≡ xs = ap (λ (x : List ℕ). x ++ drop (length held) xs) (sym shows) ∙ take-append-drop (length held) xs in
-    (u.text ++ (held ++ drop (length held) xs), ap (λ (x : List ℕ). u.text ++ x) split ∙ sym u.consumed, held_fault u.text events held (drop (length held) xs) audit why u.written fails)
+    (u.text ++ (held ++ drop (length held) xs), ap (λ (x : List ℕ). u.text ++ x) split ∙ sym u.consumed, held_fault w u.text events held (drop (length held) xs) audit why u.written fails)
 
 pub may_be_at_fault : (old : Option (List ℕ)) (audit : TextAudit) (found : Option ReadFault) (why : ReadFault) (held : List ℕ) → found ≡ Some why → IfSome old (λ xs. StartsWith xs held)
     → IfSome found (λ why. IsWrongNext audit held why) → IsAtFault old audit why

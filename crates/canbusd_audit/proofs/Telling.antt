@@ -18,14 +18,14 @@ use Rattle.can_record_text.specs.declared.fault.ReadFault.TheVariants as read
 use Rattle.can_record_text.specs.declared.version.Version.{Version}
 use Rattle.can_record_text.specs.Spelling.{version_of}
 use Rattle.can_record_text.specs.Values.{HasLine, HasLines}
-use Rattle.can_wire.specs.Timings.{BusTiming}
+use Rattle.can_events.specs.declared.wanted.Wanted.{Wanted}
 use Rattle.can_replay.specs.Histories.{before}
 use Rattle.can_replay.specs.declared.text_fault.Cut.{Cut}
 use Rattle.can_replay.specs.declared.text_fault.Cut.TheVariants as cut
 use Rattle.can_replay.specs.declared.text_fault.TextFault.{TextFault}
 use Rattle.can_replay.specs.declared.text_fault.TextFault.TheVariants as found
 use Rattle.can_replay.specs.declared.text_fault.WrongLine.{WrongLine}
-use Rattle.can_replay.specs.EventTexts.{EndsCutEvents, EndsEvents, HasWritten, IsCutEventsText, IsEventsText, end_line, held_events, wrong_so_far}
+use Rattle.can_replay.specs.EventTexts.{EndsCutEvents, EndsEvents, HasWritten, end_line, has_events, held_events, wrong_so_far}
 use Rattle.can_replay.specs.EventTexts.{cut_line as cut_end_line}
 use Rattle.can_replay.specs.TextAudits.{AreTaken, EndsNoLine, IsCutText, IsLegalText, Reports, ReportsCut}
 use Rattle.can_replay.specs.inner.EntryAudits.{IsWrongIn}
@@ -37,9 +37,9 @@ use Rattle.canbusd_io.specs.declared.program_error.ProgramError.TheVariants as f
 use Rattle.canbusd_io.specs.Files.{IsOfFile}
 use Rattle.canbusd_options.specs.declared.audit_options.AuditOutput.{AuditOutput}
 use Rattle.canbusd_options.specs.declared.audit_options.AuditOutput.TheVariants as writes
-use Rattle.canbusd_audit.specs.Audited.{Audits, AuditsBy, AuditsCut, AuditsFiles, Faults, FaultsBy, FaultsCut, FaultsFiles, FaultsInput, FaultsLast, FaultsLine, FaultsWhole, FitsLines, HasNote, IsAudited, IsAuditedBy, IsAuditedCut, IsBlamedCut, IsCutWritten, IsInputTaken, IsOfFiles, IsOfSomeLine, IsQuiet, IsTextIn, IsTold, IsWritten, Leaves, LeavesFront, Puts, StopsEvents, TakesLast, cut_line, entries_line, last_cut_line, last_line, output_of}
+use Rattle.canbusd_audit.specs.Audited.{Audits, AuditsBy, AuditsCut, AuditsFiles, AuditsSome, Faults, FaultsBy, FaultsCut, FaultsFiles, FaultsInput, FaultsLast, FaultsLine, FaultsWhole, FitsLines, HasNote, IsAskedBy, IsAudited, IsAuditedBy, IsAuditedCut, IsBlamedCut, IsCutWritten, IsInputTaken, IsOfAsked, IsOfFiles, IsOfSomeLine, IsQuiet, IsTextIn, IsTold, IsWritten, Leaves, LeavesFiles, LeavesFront, Puts, StopsEvents, TakesLast, are_events, asks_events, cut_line, entries_line, last_cut_line, last_line, wanted_of}
 use Rattle.canbusd_audit.proofs.Fronts.{Names, leaves_front, names_line, names_told, none_more}
-use Rattle.canbusd_audit.proofs.Underway.{puts_more}
+use Rattle.canbusd_audit.proofs.Underway.{asked_so, puts_more}
 
 -- a reply that is told is the legal one
 told-lawful : (past_limit : Bool) (law r : Reply) → Some r ≡ (if past_limit then None else Some law) → r ≡ law
@@ -70,52 +70,47 @@ noted_cut text (Err (found.Read why)) h = tt
 noted_cut text (Err (found.Wrong w)) (inl h) = fits (version_of h.config h.entries) h.config h.entries w h.whole.0 h.wrong
 noted_cut text (Err (found.Wrong w)) (inr h) = fits h.front.version h.config h.entries w h.front.good h.wrong
 
--- what is asked for has one timing
-same_timing : (t u : Option BusTiming) → writes.Events t ≡ writes.Events u → t ≡ u
-same_timing t u same = cc
-
 -- the last line of a legal record's audit was written, after its events where there are any
-whole_written : {W : Type 0} (has : AuditOutput) (held : Option EventsText) (contents : W → Option (List ℕ)) (start out new : W) (text events : List ℕ) (count : ℕ) → has ≡ output_of held → held_events held ≡ [] → Puts has contents start out events
-    → EndsEvents held text events count → IsLegalText text count → Appends (contents out) (contents new) (last_line has count) → IsAudited has text (contents start) (contents new)
-whole_written {W = W} writes.Count held contents start out new text events count kind none put ends h wrote = record {
+whole_written : {W : Type 0} (asked : Option Wanted) (held : Option EventsText) (contents : W → Option (List ℕ)) (start out new : W) (text events : List ℕ) (count : ℕ) → has_events held ≡ asks_events asked → held_events held ≡ []
+    → Puts (asks_events asked) contents start out events → EndsEvents (wanted_of asked) held text events count → IsLegalText text count → Appends (contents out) (contents new) (last_line (asks_events asked) count) → IsAudited asked text (contents start) (contents new)
+whole_written {W = W} None held contents start out new text events count kind none put ends h wrote = record {
   config = h.config;
   entries = h.entries;
   whole = h.whole;
   legal = h.legal;
   wrote = subst (λ (w : W). Appends (contents w) (contents new) (entries_line (length h.entries))) put (subst (λ (n : ℕ). Appends (contents out) (contents new) (entries_line n)) h.counted wrote);
 }
-whole_written (writes.Events t) None contents start out new text events count kind none put ends h wrote = absurd cc
-whole_written (writes.Events t) (Some e) contents start out new text events count kind none put ends h wrote =
-    let timed = subst (λ (x : Option BusTiming). IsEventsText x text ((events ++ e.text.items) ++ end_line count)) (sym (same_timing t e.timing kind)) ends in
+whole_written (Some w) None contents start out new text events count kind none put ends h wrote = absurd cc
+whole_written (Some w) (Some e) contents start out new text events count kind none put ends h wrote =
     let all : events ++ end_line count ≡ (events ++ e.text.items) ++ end_line count = ap (λ (x : List ℕ). x ++ end_line count) (sym (ap (λ (x : List ℕ). events ++ x) none ∙ append-nil events)) in
     record {
-      config = timed.config;
-      entries = timed.entries;
-      whole = timed.whole;
-      legal = timed.legal;
-      wrote = subst (Appends (contents start) (contents new)) (all ∙ timed.are) (Appends-trans (contents start) (contents out) (contents new) events (end_line count) put wrote);
+      config = ends.config;
+      entries = ends.entries;
+      whole = ends.whole;
+      legal = ends.legal;
+      wrote = subst (Appends (contents start) (contents new)) (all ∙ ends.are) (Appends-trans (contents start) (contents out) (contents new) events (end_line count) put wrote);
     }
 
 -- the same of a record that is cut off
-off_written : {W : Type 0} (has : AuditOutput) (held : Option EventsText) (contents : W → Option (List ℕ)) (start out new : W) (text events : List ℕ) (count : ℕ) → has ≡ output_of held → held_events held ≡ [] → Puts has contents start out events
-    → EndsCutEvents held text events (cut.Off count) → IsCutText text count → Appends (contents out) (contents new) (last_cut_line has count) → IsAuditedCut has text (contents start) (contents new)
-off_written {W = W} writes.Count held contents start out new text events count kind none put ends h wrote = record {
+off_written : {W : Type 0} (asked : Option Wanted) (held : Option EventsText) (contents : W → Option (List ℕ)) (start out new : W) (text events : List ℕ) (count : ℕ) → has_events held ≡ asks_events asked → held_events held ≡ []
+    → Puts (asks_events asked) contents start out events → EndsCutEvents (wanted_of asked) held text events (cut.Off count) → IsCutText text count → Appends (contents out) (contents new) (last_cut_line (asks_events asked) count)
+    → IsAuditedCut asked text (contents start) (contents new)
+off_written {W = W} None held contents start out new text events count kind none put ends h wrote = record {
   config = h.config;
   entries = h.entries;
   front = h.front;
   legal = h.legal;
   wrote = subst (λ (w : W). Appends (contents w) (contents new) (cut_line (length h.entries))) put (subst (λ (n : ℕ). Appends (contents out) (contents new) (cut_line n)) h.counted wrote);
 }
-off_written (writes.Events t) None contents start out new text events count kind none put ends h wrote = absurd cc
-off_written (writes.Events t) (Some e) contents start out new text events count kind none put ends h wrote =
-    let timed = subst (λ (x : Option BusTiming). IsCutEventsText x text ((events ++ e.text.items) ++ cut_end_line count)) (sym (same_timing t e.timing kind)) ends in
+off_written (Some w) None contents start out new text events count kind none put ends h wrote = absurd cc
+off_written (Some w) (Some e) contents start out new text events count kind none put ends h wrote =
     let all : events ++ cut_end_line count ≡ (events ++ e.text.items) ++ cut_end_line count = ap (λ (x : List ℕ). x ++ cut_end_line count) (sym (ap (λ (x : List ℕ). events ++ x) none ∙ append-nil events)) in
     record {
-      config = timed.config;
-      entries = timed.entries;
-      front = timed.front;
-      legal = timed.legal;
-      wrote = subst (Appends (contents start) (contents new)) (all ∙ timed.are) (Appends-trans (contents start) (contents out) (contents new) events (cut_end_line count) put wrote);
+      config = ends.config;
+      entries = ends.entries;
+      front = ends.front;
+      legal = ends.legal;
+      wrote = subst (Appends (contents start) (contents new)) (all ∙ ends.are) (Appends-trans (contents start) (contents out) (contents new) events (cut_end_line count) put wrote);
     }
 
 told : (text : List ℕ) (r : Result ℕ TextFault) (why : ProgramError) → Reports text r → IsTold r why → Faults text why
@@ -145,120 +140,118 @@ pub line_told : (first : Option (List ℕ)) (why : ProgramError) → FaultsLine 
 line_told first why h = (h.0, h.1, plain h.0 why h.2)
 
 -- all lines of a text were taken, and their events put out
-pub record IsReady {W : Type 0} (first : Option (List ℕ)) (audit : TextAudit) (torn : List ℕ) (contents : W → Option (List ℕ)) (start out : W) : Type 0 where
+pub record IsReady {W : Type 0} (w : Wanted) (first : Option (List ℕ)) (audit : TextAudit) (torn : List ℕ) (contents : W → Option (List ℕ)) (start out : W) : Type 0 where
   pub text : List ℕ
   pub events : List ℕ
   pub is_text : IsTextIn first (text ++ torn)
-  pub written : HasWritten text events audit
+  pub written : HasWritten w text events audit
   pub none_held : held_events audit.events ≡ []
-  pub put : Puts (output_of audit.events) contents start out events
+  pub put : Puts (has_events audit.events) contents start out events
 
-pub ready : {W : Type 0} (first : Option (List ℕ)) (audit : TextAudit) (torn : List ℕ) (contents : W → Option (List ℕ)) (start out : W) → IsInputTaken first audit torn contents start out → IsReady first audit torn contents start out
-ready first audit torn contents start out t = record { text = t.lines; events = t.events; is_text = t.is_text; written = t.written; none_held = t.none_held; put = t.put }
+pub ready : {W : Type 0} (w : Wanted) (first : Option (List ℕ)) (audit : TextAudit) (torn : List ℕ) (contents : W → Option (List ℕ)) (start out : W) → IsInputTaken w first audit torn contents start out → IsReady w first audit torn contents start out
+ready w first audit torn contents start out t = record { text = t.lines; events = t.events; is_text = t.is_text; written = t.written; none_held = t.none_held; put = t.put }
 
 -- the last line too, if there is one
-pub ready_last : {W : Type 0} (first : Option (List ℕ)) (before after last : TextAudit) (torn : List ℕ) (contents : W → Option (List ℕ)) (start out new : W) → IsInputTaken first before torn contents start out → TakesLast before torn after
-    → output_of after.events ≡ output_of before.events → output_of last.events ≡ output_of after.events → ((text events : List ℕ) → HasWritten text events after → HasWritten text (events ++ held_events after.events) last)
-    → held_events last.events ≡ [] → Puts (output_of after.events) contents out new (held_events after.events) → IsReady first last [] contents start new
-ready_last first before after last torn contents start out new t takes kind kind_too written none put = record {
+pub ready_last : {W : Type 0} (w : Wanted) (first : Option (List ℕ)) (before after last : TextAudit) (torn : List ℕ) (contents : W → Option (List ℕ)) (start out new : W) → IsInputTaken w first before torn contents start out → TakesLast before torn after
+    → has_events after.events ≡ has_events before.events → has_events last.events ≡ has_events after.events → ((w : Wanted) (text events : List ℕ) → HasWritten w text events after → HasWritten w text (events ++ held_events after.events) last)
+    → held_events last.events ≡ [] → Puts (has_events after.events) contents out new (held_events after.events) → IsReady w first last [] contents start new
+ready_last w first before after last torn contents start out new t takes kind kind_too written none put = record {
   text = t.lines ++ torn;
   events = t.events ++ held_events after.events;
   is_text = subst (IsTextIn first) (sym (append-nil (t.lines ++ torn))) t.is_text;
-  written = written (t.lines ++ torn) t.events (takes t.lines t.events t.written);
+  written = written w (t.lines ++ torn) t.events (takes w t.lines t.events t.written);
   none_held = none;
-  put = subst (λ (o : AuditOutput). Puts o contents start new (t.events ++ held_events after.events)) (sym kind_too)
-      (puts_more (output_of after.events) contents start out new t.events (held_events after.events) (subst (λ (o : AuditOutput). Puts o contents start out t.events) (sym kind) t.put) put);
+  put = subst (λ (b : Bool). Puts b contents start new (t.events ++ held_events after.events)) (sym kind_too)
+      (puts_more (has_events after.events) contents start out new t.events (held_events after.events) (subst (λ (b : Bool). Puts b contents start out t.events) (sym kind) t.put) put);
 }
 
--- what was put out, of an audit of this kind
-put_as : {W : Type 0} (has : AuditOutput) (first : Option (List ℕ)) (audit : TextAudit) (torn : List ℕ) (contents : W → Option (List ℕ)) (start out : W) (t : IsReady first audit torn contents start out) → has ≡ output_of audit.events → Puts has contents start out t.events
-put_as has first audit torn contents start out t kind = subst (λ (o : AuditOutput). Puts o contents start out t.events) (sym kind) t.put
-
-pub all_written : {W : Type 0} (has : AuditOutput) (first : Option (List ℕ)) (audit : TextAudit) (contents : W → Option (List ℕ)) (start out new : W) (found : Result ℕ TextFault) (r : Result (Unit {0}) Report) → has ≡ output_of audit.events
-    → IsReady first audit [] contents start out → ((text : List ℕ) → AreTaken text audit → Reports text found) → ((text events : List ℕ) → HasWritten text events audit → IfOk found (EndsEvents audit.events text events))
-    → OnOk r (IsWritten has found (contents out) (contents new)) → OnOk r (Audits has first contents start new)
-all_written has first audit contents start out new (Ok count) (Ok u) kind t tells ends h = (
+pub all_written : {W : Type 0} (asked : Option Wanted) (has : Bool) (first : Option (List ℕ)) (audit : TextAudit) (contents : W → Option (List ℕ)) (start out new : W) (found : Result ℕ TextFault) (r : Result (Unit {0}) Report) → has ≡ asks_events asked
+    → has_events audit.events ≡ asks_events asked → IsReady (wanted_of asked) first audit [] contents start out → ((text : List ℕ) → AreTaken text audit → Reports text found)
+    → ((w : Wanted) (text events : List ℕ) → HasWritten w text events audit → IfOk found (EndsEvents w audit.events text events)) → OnOk r (IsWritten has found (contents out) (contents new)) → OnOk r (Audits asked first contents start new)
+all_written asked has first audit contents start out new (Ok count) (Ok u) same kind t tells ends h = (
   t.text,
   subst (IsTextIn first) (append-nil t.text) t.is_text,
-  whole_written has audit.events contents start out new t.text t.events count kind t.none_held (put_as has first audit [] contents start out t kind)
-      (ends t.text t.events t.written) (tells t.text t.written.taken) h,
+  whole_written asked audit.events contents start out new t.text t.events count kind t.none_held (subst (λ (b : Bool). Puts b contents start out t.events) kind t.put)
+      (ends (wanted_of asked) t.text t.events t.written) (tells t.text t.written.taken) (subst (λ (b : Bool). Appends (contents out) (contents new) (last_line b count)) same h),
 )
-all_written has first audit contents start out new (Err what) (Ok u) kind t tells ends h = absurd h
-all_written has first audit contents start out new found (Err why) kind t tells ends h = tt
+all_written asked has first audit contents start out new (Err what) (Ok u) same kind t tells ends h = absurd h
+all_written asked has first audit contents start out new found (Err why) same kind t tells ends h = tt
 
-pub all_told : {W : Type 0} (first : Option (List ℕ)) (audit : TextAudit) (contents : W → Option (List ℕ)) (start out : W) (found : Result ℕ TextFault) (r : Result (Unit {0}) Report) → IsReady first audit [] contents start out
+pub all_told : {W : Type 0} (w : Wanted) (first : Option (List ℕ)) (audit : TextAudit) (contents : W → Option (List ℕ)) (start out : W) (found : Result ℕ TextFault) (r : Result (Unit {0}) Report) → IsReady w first audit [] contents start out
     → ((text : List ℕ) → AreTaken text audit → Reports text found) → IfErr r (λ failure. IsTold found failure.error) → IfErr r (λ failure. FaultsInput first failure.error)
-all_told first audit contents start out found (Ok u) t tells h = tt
-all_told first audit contents start out found (Err failure) t tells h = (t.text, subst (IsTextIn first) (append-nil t.text) t.is_text, told t.text found failure.error (tells t.text t.written.taken) h)
+all_told w first audit contents start out found (Ok u) t tells h = tt
+all_told w first audit contents start out found (Err failure) t tells h = (t.text, subst (IsTextIn first) (append-nil t.text) t.is_text, told t.text found failure.error (tells t.text t.written.taken) h)
 
 -- what was written before the text's fault was found
-all_left : {W : Type 0} (has : AuditOutput) (first : Option (List ℕ)) (audit : TextAudit) (torn : List ℕ) (contents : W → Option (List ℕ)) (start out new : W) (why : ProgramError) → has ≡ output_of audit.events → IsReady first audit torn contents start out
-    → Names why audit.phase → IsQuiet why out new → Leaves has first why contents start new
-all_left has first audit torn contents start out new why kind t names (inl is) = inl is
-all_left has first audit torn contents start out new why kind t names (inr same) =
-    inr (subst (LeavesFront has first why contents start) (sym same)
-    (leaves_front has first t.text torn t.events audit why contents start out kind t.written names t.is_text
-    (none_more has contents start out t.events (held_events audit.events) t.none_held (put_as has first audit torn contents start out t kind))))
+all_left : {W : Type 0} (asked : Option Wanted) (first : Option (List ℕ)) (audit : TextAudit) (torn : List ℕ) (contents : W → Option (List ℕ)) (start out new : W) (why : ProgramError) → has_events audit.events ≡ asks_events asked
+    → IsReady (wanted_of asked) first audit torn contents start out → Names why audit.phase → IsQuiet why out new → Leaves asked first why contents start new
+all_left asked first audit torn contents start out new why kind t names (inl is) = inl is
+all_left asked first audit torn contents start out new why kind t names (inr same) =
+    inr (subst (LeavesFront asked first why contents start) (sym same)
+    (subst (λ (o : Option Wanted). LeavesFront o first why contents start out) (sym (asked_so asked audit.events kind))
+    (leaves_front (wanted_of asked) first t.text torn t.events audit why contents start out t.written names t.is_text
+    (none_more (has_events audit.events) contents start out t.events (held_events audit.events) t.none_held t.put))))
 
-pub left : {W A : Type 0} (has : AuditOutput) (first : Option (List ℕ)) (audit : TextAudit) (torn : List ℕ) (contents : W → Option (List ℕ)) (start out new : W) (what : Result A TextFault) (r : Result (Unit {0}) Report) → has ≡ output_of audit.events
-    → IsReady first audit torn contents start out → ((w : WrongLine) → what ≡ Err (found.Wrong w) → wrong_so_far audit.phase ≡ Some w) → IfErr r (λ failure. IsTold what failure.error) → IfErr r (λ failure. IsQuiet failure.error out new)
-    → IfErr r (λ failure. Leaves has first failure.error contents start new)
-left has first audit torn contents start out new what (Ok u) kind t wrong tells quiet = tt
-left has first audit torn contents start out new what (Err failure) kind t wrong tells quiet =
-    all_left has first audit torn contents start out new failure.error kind t (names_told what failure.error audit.phase wrong tells) quiet
+pub left : {W A : Type 0} (asked : Option Wanted) (first : Option (List ℕ)) (audit : TextAudit) (torn : List ℕ) (contents : W → Option (List ℕ)) (start out new : W) (what : Result A TextFault) (r : Result (Unit {0}) Report) → has_events audit.events ≡ asks_events asked
+    → IsReady (wanted_of asked) first audit torn contents start out → ((w : WrongLine) → what ≡ Err (found.Wrong w) → wrong_so_far audit.phase ≡ Some w) → IfErr r (λ failure. IsTold what failure.error) → IfErr r (λ failure. IsQuiet failure.error out new)
+    → IfErr r (λ failure. Leaves asked first failure.error contents start new)
+left asked first audit torn contents start out new what (Ok u) kind t wrong tells quiet = tt
+left asked first audit torn contents start out new what (Err failure) kind t wrong tells quiet =
+    all_left asked first audit torn contents start out new failure.error kind t (names_told what failure.error audit.phase wrong tells) quiet
 
 -- the last line is at fault
-pub last_told : {W : Type 0} (first : Option (List ℕ)) (torn : List ℕ) (audit : TextAudit) (contents : W → Option (List ℕ)) (start out : W) (why : ProgramError) → IsInputTaken first audit torn contents start out → FaultsLast audit torn why → FaultsInput first why
-last_told first torn audit contents start out why t h = (t.lines ++ torn, t.is_text, h t.lines t.written.taken)
+pub last_told : {W : Type 0} (w : Wanted) (first : Option (List ℕ)) (torn : List ℕ) (audit : TextAudit) (contents : W → Option (List ℕ)) (start out : W) (why : ProgramError) → IsInputTaken w first audit torn contents start out → FaultsLast audit torn why
+    → FaultsInput first why
+last_told w first torn audit contents start out why t h = (t.lines ++ torn, t.is_text, h t.lines t.written.taken)
 
 -- the same of a text that may be cut off
-pub cut_written : {W : Type 0} (has : AuditOutput) (first : Option (List ℕ)) (audit : TextAudit) (torn : List ℕ) (contents : W → Option (List ℕ)) (start out new : W) (found : Result Cut TextFault) (r : Result (Unit {0}) Report) → has ≡ output_of audit.events
-    → IsReady first audit torn contents start out → EndsNoLine torn → ((text : List ℕ) → AreTaken text audit → EndsNoLine torn → ReportsCut (text ++ torn) found)
-    → ((text events : List ℕ) → HasWritten text events audit → EndsNoLine torn → IfOk found (EndsCutEvents audit.events (text ++ torn) events))
-    → OnOk r (IsCutWritten has found (contents out) (contents new)) → OnOk r (AuditsCut has first contents start new)
-cut_written has first audit torn contents start out new (Ok (cut.Whole count)) (Ok u) kind t unended tells ends h = (
+pub cut_written : {W : Type 0} (asked : Option Wanted) (has : Bool) (first : Option (List ℕ)) (audit : TextAudit) (torn : List ℕ) (contents : W → Option (List ℕ)) (start out new : W) (found : Result Cut TextFault) (r : Result (Unit {0}) Report)
+    → has ≡ asks_events asked → has_events audit.events ≡ asks_events asked → IsReady (wanted_of asked) first audit torn contents start out → EndsNoLine torn → ((text : List ℕ) → AreTaken text audit → EndsNoLine torn → ReportsCut (text ++ torn) found)
+    → ((w : Wanted) (text events : List ℕ) → HasWritten w text events audit → EndsNoLine torn → IfOk found (EndsCutEvents w audit.events (text ++ torn) events))
+    → OnOk r (IsCutWritten has found (contents out) (contents new)) → OnOk r (AuditsCut asked first contents start new)
+cut_written asked has first audit torn contents start out new (Ok (cut.Whole count)) (Ok u) same kind t unended tells ends h = (
   t.text ++ torn,
   t.is_text,
-  inl (whole_written has audit.events contents start out new (t.text ++ torn) t.events count kind t.none_held (put_as has first audit torn contents start out t kind)
-      (ends t.text t.events t.written unended) (tells t.text t.written.taken unended) h),
+  inl (whole_written asked audit.events contents start out new (t.text ++ torn) t.events count kind t.none_held (subst (λ (b : Bool). Puts b contents start out t.events) kind t.put)
+      (ends (wanted_of asked) t.text t.events t.written unended) (tells t.text t.written.taken unended) (subst (λ (b : Bool). Appends (contents out) (contents new) (last_line b count)) same h)),
 )
-cut_written has first audit torn contents start out new (Ok (cut.Off count)) (Ok u) kind t unended tells ends h = (
+cut_written asked has first audit torn contents start out new (Ok (cut.Off count)) (Ok u) same kind t unended tells ends h = (
   t.text ++ torn,
   t.is_text,
-  inr (off_written has audit.events contents start out new (t.text ++ torn) t.events count kind t.none_held (put_as has first audit torn contents start out t kind)
-      (ends t.text t.events t.written unended) (tells t.text t.written.taken unended) h),
+  inr (off_written asked audit.events contents start out new (t.text ++ torn) t.events count kind t.none_held (subst (λ (b : Bool). Puts b contents start out t.events) kind t.put)
+      (ends (wanted_of asked) t.text t.events t.written unended) (tells t.text t.written.taken unended) (subst (λ (b : Bool). Appends (contents out) (contents new) (last_cut_line b count)) same h)),
 )
-cut_written has first audit torn contents start out new (Err what) (Ok u) kind t unended tells ends h = absurd h
-cut_written has first audit torn contents start out new found (Err why) kind t unended tells ends h = tt
+cut_written asked has first audit torn contents start out new (Err what) (Ok u) same kind t unended tells ends h = absurd h
+cut_written asked has first audit torn contents start out new found (Err why) same kind t unended tells ends h = tt
 
-pub all_told_cut : {W : Type 0} (first : Option (List ℕ)) (audit : TextAudit) (torn : List ℕ) (contents : W → Option (List ℕ)) (start out : W) (found : Result Cut TextFault) (r : Result (Unit {0}) Report) → IsReady first audit torn contents start out → EndsNoLine torn
-    → ((text : List ℕ) → AreTaken text audit → EndsNoLine torn → ReportsCut (text ++ torn) found) → IfErr r (λ failure. IsTold found failure.error) → IfErr r (λ failure. FaultsCut first failure.error)
-all_told_cut first audit torn contents start out found (Ok u) t unended tells h = tt
-all_told_cut first audit torn contents start out found (Err failure) t unended tells h = (t.text ++ torn, t.is_text, told_cut (t.text ++ torn) found failure.error (tells t.text t.written.taken unended) h)
+pub all_told_cut : {W : Type 0} (w : Wanted) (first : Option (List ℕ)) (audit : TextAudit) (torn : List ℕ) (contents : W → Option (List ℕ)) (start out : W) (found : Result Cut TextFault) (r : Result (Unit {0}) Report) → IsReady w first audit torn contents start out
+    → EndsNoLine torn → ((text : List ℕ) → AreTaken text audit → EndsNoLine torn → ReportsCut (text ++ torn) found) → IfErr r (λ failure. IsTold found failure.error) → IfErr r (λ failure. FaultsCut first failure.error)
+all_told_cut w first audit torn contents start out found (Ok u) t unended tells h = tt
+all_told_cut w first audit torn contents start out found (Err failure) t unended tells h = (t.text ++ torn, t.is_text, told_cut (t.text ++ torn) found failure.error (tells t.text t.written.taken unended) h)
 
 -- ---- the same of files
 
-pub files_written : {W : Type 0} (is_cut : Bool) (has : AuditOutput) {by : Bool} (first : Option (List ℕ)) (contents : W → Option (List ℕ)) (old new : W) (r : Result (Unit {0}) Report) → is_cut ≡ by → OnOk r (AuditsBy by has first contents old new)
-    → OnOk r (AuditsFiles is_cut has contents old new)
-files_written is_cut has {by} first contents old new (Ok u) is h = (h.0, subst (λ (b : Bool). IsAuditedBy b has h.0 (contents old) (contents new)) (sym is) h.2)
-files_written is_cut has {by} first contents old new (Err why) is h = tt
+pub files_written : {W : Type 0} (is_cut : Bool) (asked : Option Wanted) {by : Bool} (first : Option (List ℕ)) (contents : W → Option (List ℕ)) (old new : W) (r : Result (Unit {0}) Report) → is_cut ≡ by → OnOk r (AuditsBy by asked first contents old new)
+    → OnOk r (AuditsSome is_cut asked contents old new)
+files_written is_cut asked {by} first contents old new (Ok u) is h = (h.0, subst (λ (b : Bool). IsAuditedBy b asked h.0 (contents old) (contents new)) (sym is) h.2)
+files_written is_cut asked {by} first contents old new (Err why) is h = tt
 
 -- of the text that they hold nothing is known
-front_of_some : {W : Type 0} (has : AuditOutput) (first : Option (List ℕ)) (why : ProgramError) (contents : W → Option (List ℕ)) (old new : W) → LeavesFront has first why contents old new → LeavesFront has None why contents old new
-front_of_some writes.Count first why contents old new h = h
-front_of_some (writes.Events t) first why contents old new h = (h.0, tt, h.2)
+front_of_some : {W : Type 0} (asked : Option Wanted) (first : Option (List ℕ)) (why : ProgramError) (contents : W → Option (List ℕ)) (old new : W) → LeavesFront asked first why contents old new → LeavesFront asked None why contents old new
+front_of_some None first why contents old new h = h
+front_of_some (Some w) first why contents old new h = (h.0, tt, h.2)
 
-pub files_left : {W : Type 0} (has : AuditOutput) (first : Option (List ℕ)) (contents : W → Option (List ℕ)) (old new : W) (r : Result (Unit {0}) Report) → IfErr r (λ failure. Leaves has first failure.error contents old new)
-    → IfErr r (λ failure. Leaves has None failure.error contents old new)
-files_left has first contents old new (Ok u) h = tt
-files_left has first contents old new (Err failure) (inl is) = inl is
-files_left has first contents old new (Err failure) (inr h) = inr (front_of_some has first failure.error contents old new h)
+pub files_left : {W : Type 0} (asked : Option Wanted) (first : Option (List ℕ)) (contents : W → Option (List ℕ)) (old new : W) (r : Result (Unit {0}) Report) → IfErr r (λ failure. Leaves asked first failure.error contents old new)
+    → IfErr r (λ failure. Leaves asked None failure.error contents old new)
+files_left asked first contents old new (Ok u) h = tt
+files_left asked first contents old new (Err failure) (inl is) = inl is
+files_left asked first contents old new (Err failure) (inr h) = inr (front_of_some asked first failure.error contents old new h)
 
 -- before any line was read
-pub nothing_left : {W : Type 0} (has : AuditOutput) (first : Option (List ℕ)) (why : ProgramError) (contents : W → Option (List ℕ)) (out : W) → Leaves has first why contents out out
-nothing_left writes.Count first why contents out = inr refl
-nothing_left (writes.Events t) None why contents out = inr ([], tt, inl (Appends-nil (contents out)))
-nothing_left (writes.Events t) (Some all) why contents out = inr (all, refl, inl (Appends-nil (contents out)))
+pub nothing_left : {W : Type 0} (asked : Option Wanted) (first : Option (List ℕ)) (why : ProgramError) (contents : W → Option (List ℕ)) (out : W) → Leaves asked first why contents out out
+nothing_left None first why contents out = inr refl
+nothing_left (Some w) None why contents out = inr ([], tt, inl (Appends-nil (contents out)))
+nothing_left (Some w) (Some all) why contents out = inr (all, refl, inl (Appends-nil (contents out)))
 
 -- a failure is passed on
 pub passed_on : {A : Type 0} (P : Report → Type 0) (failure : Report) (r : Result A Report) → IsErrAnd r (λ x. x ≡ failure) → P failure → IfErr r P
@@ -285,26 +278,26 @@ of_memory (path ∷ more) i why low is = (path.now, (0, omega arith, refl), subs
 -- ---- one of two faults
 
 -- a fault of the writer, or what a fault says of a text
-abbrev pub Either : AuditOutput → (ProgramError → Type 0) → Report → Type 0
+abbrev pub Either : Bool → (ProgramError → Type 0) → Report → Type 0
 Either has says failure = StopsEvents has failure.error ⊎ says failure.error
 
-pub or_text : {A : Type 0} (has : AuditOutput) (says : ProgramError → Type 0) (r : Result A Report) → IfErr r (λ failure. says failure.error) → IfErr r (Either has says)
+pub or_text : {A : Type 0} (has : Bool) (says : ProgramError → Type 0) (r : Result A Report) → IfErr r (λ failure. says failure.error) → IfErr r (Either has says)
 or_text has says (Ok a) h = tt
 or_text has says (Err failure) h = inr h
 
-pub or_more : {A : Type 0} (has : AuditOutput) (says other : ProgramError → Type 0) (r : Result A Report) → ((why : ProgramError) → says why → other why) → IfErr r (Either has says) → IfErr r (Either has other)
+pub or_more : {A : Type 0} (has : Bool) (says other : ProgramError → Type 0) (r : Result A Report) → ((why : ProgramError) → says why → other why) → IfErr r (Either has says) → IfErr r (Either has other)
 or_more has says other (Ok a) turn h = tt
 or_more has says other (Err failure) turn (inl is) = inl is
 or_more has says other (Err failure) turn (inr h) = inr (turn failure.error h)
 
-pub line_or : (has : AuditOutput) (first : Option (List ℕ)) (failure : Report) → Either has (FaultsLine first) failure → Either has (FaultsInput first) failure
+pub line_or : (has : Bool) (first : Option (List ℕ)) (failure : Report) → Either has (FaultsLine first) failure → Either has (FaultsInput first) failure
 line_or has first failure (inl is) = inl is
 line_or has first failure (inr h) = inr (line_told first failure.error h)
 
 cut_line_told : (first : Option (List ℕ)) (why : ProgramError) → FaultsLine first why → FaultsCut first why
 cut_line_told first why h = (h.0, h.1, inl h.2)
 
-pub line_or_cut : (has : AuditOutput) (first : Option (List ℕ)) (failure : Report) → Either has (FaultsLine first) failure → Either has (FaultsCut first) failure
+pub line_or_cut : (has : Bool) (first : Option (List ℕ)) (failure : Report) → Either has (FaultsLine first) failure → Either has (FaultsCut first) failure
 line_or_cut has first failure (inl is) = inl is
 line_or_cut has first failure (inr h) = inr (cut_line_told first failure.error h)
 
@@ -318,22 +311,45 @@ memory_told_cut None why is = ([], tt, inl (subst (FaultsWhole []) (sym is) tt))
 memory_told_cut (Some all) why is = (all, refl, inl (subst (FaultsWhole all) (sym is) tt))
 
 -- the writer
-pub writer_left : {W : Type 0} (has : AuditOutput) (first : Option (List ℕ)) (why : ProgramError) (contents : W → Option (List ℕ)) (start out : W) → StopsEvents has why → Leaves has first why contents start out
-writer_left writes.Count first why contents start out stops = absurd stops
-writer_left (writes.Events t) first why contents start out stops = inl stops
+pub writer_left : {W : Type 0} (asked : Option Wanted) (first : Option (List ℕ)) (why : ProgramError) (contents : W → Option (List ℕ)) (start out : W) → StopsEvents (asks_events asked) why → Leaves asked first why contents start out
+writer_left None first why contents start out stops = absurd stops
+writer_left (Some w) first why contents start out stops = inl stops
 
 -- the last line is at fault, whose events are none
-pub last_left : {W : Type 0} (has : AuditOutput) (first : Option (List ℕ)) (audit : TextAudit) (torn : List ℕ) (contents : W → Option (List ℕ)) (start out : W) (why : ProgramError) → has ≡ output_of audit.events → IsInputTaken first audit torn contents start out
-    → IsOfSomeLine why → Leaves has first why contents start out
-last_left has first audit torn contents start out why kind t line =
-    all_left has first audit torn contents start out out why kind (ready first audit torn contents start out t) (names_line line.0 why audit.phase line.1) (inr refl)
+pub last_left : {W : Type 0} (asked : Option Wanted) (first : Option (List ℕ)) (audit : TextAudit) (torn : List ℕ) (contents : W → Option (List ℕ)) (start out : W) (why : ProgramError) → has_events audit.events ≡ asks_events asked
+    → IsInputTaken (wanted_of asked) first audit torn contents start out → IsOfSomeLine why → Leaves asked first why contents start out
+last_left asked first audit torn contents start out why kind t line =
+    all_left asked first audit torn contents start out out why kind (ready (wanted_of asked) first audit torn contents start out t) (names_line line.0 why audit.phase line.1) (inr refl)
 
 -- ---- the same of files
 
-pub files_told : (is_cut : Bool) (has : AuditOutput) (paths : List (List ℕ)) (first : Option (List ℕ)) (r : Result (Unit {0}) Report) → is_cut ≡ false → IfErr r (Either has (FaultsInput first)) → IfErr r (Either has (FaultsFiles is_cut paths))
+pub files_told : (is_cut has : Bool) (paths : List (List ℕ)) (first : Option (List ℕ)) (r : Result (Unit {0}) Report) → is_cut ≡ false → IfErr r (Either has (FaultsInput first)) → IfErr r (Either has (FaultsFiles is_cut paths))
 files_told true has paths first r is h = absurd cc
 files_told false has paths first r is h = or_more has (FaultsInput first) (FaultsFiles false paths) r (λ why k. inr (k.0, k.2)) h
 
-pub cut_files_told : (is_cut : Bool) (has : AuditOutput) (paths : List (List ℕ)) (first : Option (List ℕ)) (r : Result (Unit {0}) Report) → is_cut ≡ true → IfErr r (Either has (FaultsCut first)) → IfErr r (Either has (FaultsFiles is_cut paths))
+pub cut_files_told : (is_cut has : Bool) (paths : List (List ℕ)) (first : Option (List ℕ)) (r : Result (Unit {0}) Report) → is_cut ≡ true → IfErr r (Either has (FaultsCut first)) → IfErr r (Either has (FaultsFiles is_cut paths))
 cut_files_told false has paths first r is h = absurd cc
 cut_files_told true has paths first r is h = or_more has (FaultsCut first) (FaultsFiles true paths) r (λ why k. inr (k.0, k.2)) h
+
+-- ---- the same as options say
+
+kinds : (output : AuditOutput) (asked : Option Wanted) → IsAskedBy output asked → asks_events asked ≡ are_events output
+kinds writes.Count None by = refl
+kinds writes.Count (Some w) by = absurd by
+kinds (writes.Events e) None by = absurd by
+kinds (writes.Events e) (Some w) by = refl
+
+pub asked_written : {W : Type 0} (is_cut : Bool) (output : AuditOutput) (asked : Option Wanted) (contents : W → Option (List ℕ)) (old new : W) (r : Result (Unit {0}) Report) → IsAskedBy output asked → OnOk r (AuditsSome is_cut asked contents old new)
+    → OnOk r (AuditsFiles is_cut output contents old new)
+asked_written is_cut output asked contents old new (Ok u) by h = (asked, by, h)
+asked_written is_cut output asked contents old new (Err why) by h = tt
+
+pub asked_told : (is_cut : Bool) (output : AuditOutput) (paths : List (List ℕ)) (asked : Option Wanted) (r : Result (Unit {0}) Report) → IsAskedBy output asked → IfErr r (Either (asks_events asked) (FaultsFiles is_cut paths))
+    → IfErr r (λ failure. IsOfAsked output failure.error ⊎ (StopsEvents (are_events output) failure.error ⊎ FaultsFiles is_cut paths failure.error))
+asked_told is_cut output paths asked (Ok u) by h = tt
+asked_told is_cut output paths asked (Err failure) by h = inr (subst (λ (b : Bool). Either b (FaultsFiles is_cut paths) failure) (kinds output asked by) h)
+
+pub asked_left : {W : Type 0} (output : AuditOutput) (asked : Option Wanted) (contents : W → Option (List ℕ)) (old new : W) (r : Result (Unit {0}) Report) → IsAskedBy output asked → IfErr r (λ failure. Leaves asked None failure.error contents old new)
+    → IfErr r (λ failure. LeavesFiles output failure.error contents old new)
+asked_left output asked contents old new (Ok u) by h = tt
+asked_left output asked contents old new (Err failure) by h = inr (asked, by, h)

@@ -10,35 +10,30 @@ use Rattle.std.proofs.lemmas.List.{append-nil}
 use Rattle.std.proofs.lemmas.List.Elements.{All-cons, All-head, All-nil, All-tail, All-take}
 use Rattle.can_record_text.specs.declared.fault.ReadFault.{ReadFault}
 use Rattle.can_record_text.specs.RecordFaults.{Reads}
-use Rattle.can_wire.specs.Timings.{BusTiming}
+use Rattle.can_events.specs.declared.wanted.Wanted.{Wanted}
 use Rattle.can_replay.specs.declared.events_text.EventsText.{EventsText}
 use Rattle.can_replay.specs.declared.text_audit.TextAudit.{TextAudit}
-use Rattle.can_replay.specs.EventTexts.{HasWritten, has_events, held_events, timing_in}
+use Rattle.can_replay.specs.EventTexts.{HasWritten, has_events, held_events}
 use Rattle.can_replay.specs.TextAudits.{AreTaken, EndsLine, EndsNoLine, FaultsUncut, IsLine, MayFollow}
 use Rattle.can_replay.proofs.LineEnds.{nothing_more}
 use Rattle.can_replay.proofs.Uncut.{line_uncut}
 use Rattle.canbusd_io.specs.declared.program_error.ProgramError.{ProgramError}
 use Rattle.canbusd_io.specs.declared.program_error.ProgramError.TheVariants as fault
 use Rattle.canbusd_io.specs.Files.{IsOfReading}
-use Rattle.canbusd_options.specs.declared.audit_options.AuditOutput.{AuditOutput}
-use Rattle.canbusd_options.specs.declared.audit_options.AuditOutput.TheVariants as writes
-use Rattle.canbusd_audit.specs.Audited.{Faults, FaultsLast, FaultsLine, FaultsWhole, IsAtFault, IsBefore, IsInputTaken, IsNextLine, IsOfLine, IsPut, IsRead, IsTextIn, IsUnderway, Puts, output_of}
+use Rattle.canbusd_audit.specs.Audited.{Faults, FaultsLast, FaultsLine, FaultsWhole, IsAtFault, IsBefore, IsInputTaken, IsNextLine, IsOfLine, IsPut, IsRead, IsTextIn, IsUnderway, Puts, asks_events, output_of, wanted_of}
 
--- what an audit writes stays the same where it has events as before, and their timing
-pub same_output : (after before : Option EventsText) → has_events after ≡ has_events before → timing_in after ≡ timing_in before → output_of after ≡ output_of before
-same_output None None has timing = refl
-same_output None (Some e) has timing = absurd cc
-same_output (Some e) None has timing = absurd cc
-same_output (Some e) (Some f) has timing = ap writes.Events timing
+-- an audit with events is one that is asked for them
+pub asked_so : (asked : Option Wanted) (held : Option EventsText) → has_events held ≡ asks_events asked → asked ≡ output_of (wanted_of asked) held
+asked_so None None has = refl
+asked_so None (Some e) has = absurd cc
+asked_so (Some w) None has = absurd cc
+asked_so (Some w) (Some e) has = refl
 
--- it writes what was asked for
-pub writes_events : (held : Option EventsText) (t : Option BusTiming) → has_events held ≡ true → timing_in held ≡ t → output_of held ≡ writes.Events t
-writes_events None t has timing = absurd cc
-writes_events (Some e) t has timing = ap writes.Events timing
-
-pub writes_count : (held : Option EventsText) → has_events held ≡ false → output_of held ≡ writes.Count
-writes_count None has = refl
-writes_count (Some e) has = absurd cc
+pub same_output : (w : Wanted) (after before : Option EventsText) → has_events after ≡ has_events before → output_of w after ≡ output_of w before
+same_output w None None has = refl
+same_output w None (Some e) has = absurd cc
+same_output w (Some e) None has = absurd cc
+same_output w (Some e) (Some f) has = refl
 
 pub more_read : (a b c : Option (List ℕ)) (x y : List ℕ) → Consumes a b x → Consumes b c y → Consumes a c (x ++ y)
 more_read None b c x y h k = tt
@@ -47,33 +42,33 @@ more_read (Some xs) (Some ys) None x y h k = absurd k
 more_read (Some xs) (Some ys) (Some zs) x y h k = h ∙ ap (λ (z : List ℕ). x ++ z) k ∙ sym (append_assoc x y zs)
 
 -- a line more was taken
-pub goes_on : (first now after : Option (List ℕ)) (line events : List ℕ) (old new : TextAudit) → IsUnderway first now old events → IsRead now after line
-    → ((cleared text : List ℕ) → HasWritten text cleared old → IsLine line → HasWritten (text ++ line) cleared new) → IsUnderway first after new events
-goes_on first now after line events old new u read step = record {
+pub goes_on : (w : Wanted) (first now after : Option (List ℕ)) (line events : List ℕ) (old new : TextAudit) → IsUnderway w first now old events → IsRead now after line
+    → ((cleared text : List ℕ) → HasWritten w text cleared old → IsLine line → HasWritten w (text ++ line) cleared new) → IsUnderway w first after new events
+goes_on w first now after line events old new u read step = record {
   text = u.text ++ line;
   consumed = more_read first now after u.text line u.consumed read.consumed;
   written = step events u.text u.written read.is_line;
 }
 
 -- events more were put out
-pub puts_more : {W : Type 0} (has : AuditOutput) (contents : W → Option (List ℕ)) (a b c : W) (xs ys : List ℕ) → Puts has contents a b xs → Puts has contents b c ys → Puts has contents a c (xs ++ ys)
-puts_more writes.Count contents a b c xs ys h k = k ∙ h
-puts_more (writes.Events t) contents a b c xs ys h k = Appends-trans (contents a) (contents b) (contents c) xs ys h k
+pub puts_more : {W : Type 0} (has : Bool) (contents : W → Option (List ℕ)) (a b c : W) (xs ys : List ℕ) → Puts has contents a b xs → Puts has contents b c ys → Puts has contents a c (xs ++ ys)
+puts_more false contents a b c xs ys h k = k ∙ h
+puts_more true contents a b c xs ys h k = Appends-trans (contents a) (contents b) (contents c) xs ys h k
 
-pub put_more : {W : Type 0} (first now : Option (List ℕ)) (audit next : TextAudit) (contents : W → Option (List ℕ)) (start out new : W) → output_of next.events ≡ output_of audit.events
-    → ((text events : List ℕ) → HasWritten text events audit → HasWritten text (events ++ held_events audit.events) next) → Puts (output_of audit.events) contents out new (held_events audit.events)
-    → IsPut first now audit contents start out → IsPut first now next contents start new
-put_more first now audit next contents start out new has written put p = record {
+pub put_more : {W : Type 0} (w : Wanted) (first now : Option (List ℕ)) (audit next : TextAudit) (contents : W → Option (List ℕ)) (start out new : W) → has_events next.events ≡ has_events audit.events
+    → ((w : Wanted) (text events : List ℕ) → HasWritten w text events audit → HasWritten w text (events ++ held_events audit.events) next) → Puts (has_events audit.events) contents out new (held_events audit.events)
+    → IsPut w first now audit contents start out → IsPut w first now next contents start new
+put_more w first now audit next contents start out new has written put p = record {
   events = p.events ++ held_events audit.events;
-  underway = record { text = p.underway.text; consumed = p.underway.consumed; written = written p.underway.text p.events p.underway.written };
-  put = subst (λ (o : AuditOutput). Puts o contents start new (p.events ++ held_events audit.events)) (sym has) (puts_more (output_of audit.events) contents start out new p.events (held_events audit.events) p.put put);
+  underway = record { text = p.underway.text; consumed = p.underway.consumed; written = written w p.underway.text p.events p.underway.written };
+  put = subst (λ (b : Bool). Puts b contents start new (p.events ++ held_events audit.events)) (sym has) (puts_more (has_events audit.events) contents start out new p.events (held_events audit.events) p.put put);
 }
 
 -- the same lines and events, of an audit that has gone on
-pub put_on : {W : Type 0} (first now after : Option (List ℕ)) (audit next : TextAudit) (contents : W → Option (List ℕ)) (start out : W) → output_of next.events ≡ output_of audit.events
-    → ((events : List ℕ) → IsUnderway first now audit events → IsUnderway first after next events) → IsPut first now audit contents start out → IsPut first after next contents start out
-put_on first now after audit next contents start out has goes p =
-    record { events = p.events; underway = goes p.events p.underway; put = subst (λ (o : AuditOutput). Puts o contents start out p.events) (sym has) p.put }
+pub put_on : {W : Type 0} (w : Wanted) (first now after : Option (List ℕ)) (audit next : TextAudit) (contents : W → Option (List ℕ)) (start out : W) → has_events next.events ≡ has_events audit.events
+    → ((events : List ℕ) → IsUnderway w first now audit events → IsUnderway w first after next events) → IsPut w first now audit contents start out → IsPut w first after next contents start out
+put_on w first now after audit next contents start out has goes p =
+    record { events = p.events; underway = goes p.events p.underway; put = subst (λ (b : Bool). Puts b contents start out p.events) (sym has) p.put }
 
 text_is : (first now : Option (List ℕ)) (text : List ℕ) → Consumes first now text → IsAtEnd now → IsTextIn first text
 text_is None now text h end = tt
@@ -81,9 +76,9 @@ text_is (Some all) None text h end = absurd h
 text_is (Some all) (Some rest) text h end = sym (h ∙ ap (λ (x : List ℕ). text ++ x) end ∙ append-nil text)
 
 -- the text has ended
-pub ends : {W : Type 0} (first now : Option (List ℕ)) (audit : TextAudit) (contents : W → Option (List ℕ)) (start out : W) → held_events audit.events ≡ [] → IsPut first now audit contents start out → IsAtEnd now
-    → IsInputTaken first audit [] contents start out
-ends first now audit contents start out none p end = record {
+pub ends : {W : Type 0} (w : Wanted) (first now : Option (List ℕ)) (audit : TextAudit) (contents : W → Option (List ℕ)) (start out : W) → held_events audit.events ≡ [] → IsPut w first now audit contents start out → IsAtEnd now
+    → IsInputTaken w first audit [] contents start out
+ends w first now audit contents start out none p end = record {
   lines = p.underway.text;
   events = p.events;
   is_text = subst (IsTextIn first) (sym (append-nil p.underway.text)) (text_is first now p.underway.text p.underway.consumed end);
@@ -99,9 +94,9 @@ text_then (Some all) None text line h is = absurd h
 text_then (Some all) (Some rest) text line h is = sym (h ∙ ap (λ (x : List ℕ). text ++ x) (sym is))
 
 -- the same with bytes that end no line
-pub ends_torn : {W : Type 0} (first now : Option (List ℕ)) (audit : TextAudit) (contents : W → Option (List ℕ)) (start out : W) (torn : List ℕ) → held_events audit.events ≡ [] → IsPut first now audit contents start out → IsTextIn now torn
-    → EndsNoLine torn → IsInputTaken first audit torn contents start out
-ends_torn first now audit contents start out torn none p is unended = record {
+pub ends_torn : {W : Type 0} (w : Wanted) (first now : Option (List ℕ)) (audit : TextAudit) (contents : W → Option (List ℕ)) (start out : W) (torn : List ℕ) → held_events audit.events ≡ [] → IsPut w first now audit contents start out → IsTextIn now torn
+    → EndsNoLine torn → IsInputTaken w first audit torn contents start out
+ends_torn w first now audit contents start out torn none p is unended = record {
   lines = p.underway.text;
   events = p.events;
   is_text = text_then first now p.underway.text torn p.underway.consumed is;
@@ -132,12 +127,12 @@ line_fault text line rest audit why taken is end step =
     subst (λ (x : List ℕ). FaultsUncut x why) (append_assoc text line rest)
     (line_uncut (text ++ line) rest why ended (λ more. subst (λ (x : List ℕ). Reads x (Err why)) (sym (append_assoc text line more)) (step text more taken is (follows line more is end))))
 
-fails : (first now after : Option (List ℕ)) (line events : List ℕ) (audit : TextAudit) (why : ReadFault) → IsUnderway first now audit events → IsRead now after line
+fails : (w : Wanted) (first now after : Option (List ℕ)) (line events : List ℕ) (audit : TextAudit) (why : ReadFault) → IsUnderway w first now audit events → IsRead now after line
     → ((text rest : List ℕ) → AreTaken text audit → IsLine line → MayFollow line rest → Reads (text ++ (line ++ rest)) (Err why)) → FaultsLine first (fault.Record why)
-fails None now after line events audit why u read step = (u.text ++ (line ++ []), tt, line_fault u.text line [] audit why u.written.taken read.is_line read.ended step)
-fails (Some all) None after line events audit why u read step = absurd u.consumed
-fails (Some all) (Some xs) None line events audit why u read step = absurd read.consumed
-fails (Some all) (Some xs) (Some rest) line events audit why u read step =
+fails w None now after line events audit why u read step = (u.text ++ (line ++ []), tt, line_fault u.text line [] audit why u.written.taken read.is_line read.ended step)
+fails w (Some all) None after line events audit why u read step = absurd u.consumed
+fails w (Some all) (Some xs) None line events audit why u read step = absurd read.consumed
+fails w (Some all) (Some xs) (Some rest) line events audit why u read step =
     (u.text ++ (line ++ rest), sym (u.consumed ∙ ap (λ (x : List ℕ). u.text ++ x) read.consumed), line_fault u.text line rest audit why u.written.taken read.is_line read.ended step)
 
 of_reading : (text : List ℕ) (why : ProgramError) → IsOfReading why → Faults text why
@@ -156,15 +151,15 @@ stops None why h = ([], tt, reading_whole [] why h)
 stops (Some all) why h = (all, refl, reading_whole all why h)
 
 -- a line was at fault, or the reader failed behind it
-pub fails_so : (first now after : Option (List ℕ)) (line events : List ℕ) (audit : TextAudit) (what : ReadFault) (why : ProgramError) → IsOfLine what why → IsUnderway first now audit events → IsRead now after line
+pub fails_so : (w : Wanted) (first now after : Option (List ℕ)) (line events : List ℕ) (audit : TextAudit) (what : ReadFault) (why : ProgramError) → IsOfLine what why → IsUnderway w first now audit events → IsRead now after line
     → ((text rest : List ℕ) → AreTaken text audit → IsLine line → MayFollow line rest → Reads (text ++ (line ++ rest)) (Err what)) → FaultsLine first why
-fails_so first now after line events audit what why (inl is) u read step = subst (FaultsLine first) (sym is) (fails first now after line events audit what u read step)
-fails_so first now after line events audit what why (inr h) u read step = stops first why h
+fails_so w first now after line events audit what why (inl is) u read step = subst (FaultsLine first) (sym is) (fails w first now after line events audit what u read step)
+fails_so w first now after line events audit what why (inr h) u read step = stops first why h
 
 -- the same of a line that the reader still holds
-pub fails_held : (first now : Option (List ℕ)) (audit : TextAudit) (events : List ℕ) (what : ReadFault) (why : ProgramError) → IsOfLine what why → IsUnderway first now audit events → IsAtFault now audit what → FaultsLine first why
-fails_held first now audit events what why (inl is) u fault = subst (FaultsLine first) (sym is) (fault first events u)
-fails_held first now audit events what why (inr h) u fault = stops first why h
+pub fails_held : (w : Wanted) (first now : Option (List ℕ)) (audit : TextAudit) (events : List ℕ) (what : ReadFault) (why : ProgramError) → IsOfLine what why → IsUnderway w first now audit events → IsAtFault now audit what → FaultsLine first why
+fails_held w first now audit events what why (inl is) u fault = subst (FaultsLine first) (sym is) (fault w first events u)
+fails_held w first now audit events what why (inr h) u fault = stops first why h
 
 -- ---- one line
 

@@ -1,5 +1,5 @@
 use Rattle.std.specs.Prelude.{◌≡◌, ◌⊎◌, ℕ, Bool, true, false, List, [], ◌∷◌, ◌++◌, length}
-use Rattle.std.specs.Prelude.{reverse, codes, decimal, Option, Some, None, Result, Ok, Err}
+use Rattle.std.specs.Prelude.{reverse, codes, decimal, unwrap_or, Option, Some, None, Result, Ok, Err}
 use Rattle.std.specs.List.{Contains}
 use Rattle.std.specs.Io.KnownBytes.{Appends, Consumes, IsAtEnd}
 use Rattle.can_event.specs.declared.bus_config.BusConfig.{BusConfig}
@@ -7,8 +7,9 @@ use Rattle.can_event.specs.declared.entry.Entry.{Entry}
 use Rattle.can_event.specs.declared.reply.Reply.{Reply}
 use Rattle.can_event.specs.Spelled.{FitsReply}
 use Rattle.can_bus.specs.Legal.{IsLegal}
-use Rattle.can_wire.specs.Timings.{BusTiming}
-use Rattle.can_events.specs.EventsText.{cut_events_text, events_front, events_text}
+use Rattle.can_rules.specs.RunFaults.{RunSeen}
+use Rattle.can_events.specs.EventsText.{cut_events_text, events_front, events_text, nothing_wanted}
+use Rattle.can_events.specs.declared.wanted.Wanted.{Wanted}
 use Rattle.can_record_text.specs.declared.fault.ReadFault.{ReadFault}
 use Rattle.can_record_text.specs.declared.version.Version.{Version}
 use Rattle.can_record_text.specs.RecordFaults.{IsTextOf, Reads}
@@ -22,32 +23,35 @@ use Rattle.can_replay.specs.declared.text_fault.TextFault.TheVariants as found
 use Rattle.can_replay.specs.declared.text_fault.WrongLine.{WrongLine}
 use Rattle.can_replay.specs.declared.events_text.EventsText.{EventsText}
 use Rattle.can_replay.specs.declared.text_audit.TextAudit.{TextAudit}
-use Rattle.can_replay.specs.EventTexts.{HasWritten, end_line, held_events, timing_in}
+use Rattle.can_replay.specs.EventTexts.{HasWritten, end_line, has_events, held_events}
 use Rattle.can_replay.specs.EventTexts.{cut_line as cut_end_line}
 use Rattle.can_replay.specs.Histories.{before}
 use Rattle.can_replay.specs.TextAudits.{AreTaken, EndsLine, EndsNoLine, FaultsUncut, IsFrontOf, IsLine, MayFollow}
 use Rattle.canbusd_options.specs.declared.audit_options.AuditOutput.{AuditOutput}
 use Rattle.canbusd_options.specs.declared.audit_options.AuditOutput.TheVariants as writes
+use Rattle.canbusd_options.specs.declared.bus_word.FaultsWord.{FaultsWord}
 use Rattle.canbusd_io.specs.declared.program_error.ProgramError.{ProgramError}
 use Rattle.canbusd_io.specs.declared.program_error.ProgramError.TheVariants as fault
-use Rattle.canbusd_io.specs.Files.{IsOfFile, IsOfReading}
+use Rattle.canbusd_io.specs.Buses.{HadFaults}
+use Rattle.canbusd_io.specs.Files.{IsOfFaults, IsOfFile, IsOfReading}
 use Rattle.canbusd_audit.specs.declared.buffered.Buffered.{Buffered}
 use Rattle.canbusd_audit.specs.declared.buffered.Buffered.TheVariants as held
 
--- What an audit of a text answers (own choice).
+-- What an audit of a text answers (own choice). It is asked for nothing but how many entries a record has, or for what
+-- they brought about and what else is wanted of their lines.
 
 -- the line that says how many entries a legal record has
 abbrev pub entries_line : ℕ → List ℕ
 entries_line n = codes "ok " ++ decimal n ++ codes " entries" ++ 10 ∷ []
 
--- what an audit writes of a legal record: how many entries it has, or with events what they brought about, and where a
--- timing is given also what frames take of the wire
-abbrev pub audit_text : AuditOutput → BusConfig → List Entry → List ℕ
-audit_text writes.Count c entries = entries_line (length entries)
-audit_text (writes.Events t) c entries = events_text t (version_of c entries) c (reverse entries)
+-- what an audit writes of a legal record: how many entries it has, or with events what they brought about, and what
+-- else is wanted of them
+abbrev pub audit_text : Option Wanted → BusConfig → List Entry → List ℕ
+audit_text None c entries = entries_line (length entries)
+audit_text (Some w) c entries = events_text w (version_of c entries) c (reverse entries)
 
 -- the text is that of a legal history, and what is asked for of its audit was written
-pub record IsAudited (asked : AuditOutput) (text : List ℕ) (old new : Option (List ℕ)) : Type 0 where
+pub record IsAudited (asked : Option Wanted) (text : List ℕ) (old new : Option (List ℕ)) : Type 0 where
   pub config : BusConfig
   pub entries : List Entry
   pub whole : IsTextOf text config entries
@@ -59,12 +63,12 @@ abbrev pub cut_line : ℕ → List ℕ
 cut_line n = codes "ok " ++ decimal n ++ codes " entries, then cut off" ++ 10 ∷ []
 
 -- what an audit writes of a legal record in this version that is cut off
-abbrev pub cut_audit_text : AuditOutput → Version → BusConfig → List Entry → List ℕ
-cut_audit_text writes.Count v c entries = cut_line (length entries)
-cut_audit_text (writes.Events t) v c entries = cut_events_text t v c (reverse entries)
+abbrev pub cut_audit_text : Option Wanted → Version → BusConfig → List Entry → List ℕ
+cut_audit_text None v c entries = cut_line (length entries)
+cut_audit_text (Some w) v c entries = cut_events_text w v c (reverse entries)
 
 -- the text is cut off, and as far as it reaches that of a legal history; that of its audit was written
-pub record IsAuditedCut (asked : AuditOutput) (text : List ℕ) (old new : Option (List ℕ)) : Type 0 where
+pub record IsAuditedCut (asked : Option Wanted) (text : List ℕ) (old new : Option (List ℕ)) : Type 0 where
   pub config : BusConfig
   pub entries : List Entry
   pub front : IsFrontOf text config entries
@@ -72,14 +76,31 @@ pub record IsAuditedCut (asked : AuditOutput) (text : List ℕ) (old new : Optio
   pub wrote : Appends old new (cut_audit_text asked front.version config entries)
 
 -- the text was audited: as a whole one, or where it may be cut off as either
-abbrev pub IsAuditedBy : (is_cut : Bool) (asked : AuditOutput) → List ℕ → Option (List ℕ) → Option (List ℕ) → Type 0
+abbrev pub IsAuditedBy : (is_cut : Bool) (asked : Option Wanted) → List ℕ → Option (List ℕ) → Option (List ℕ) → Type 0
 IsAuditedBy false asked text old new = IsAudited asked text old new
 IsAuditedBy true asked text old new = IsAudited asked text old new ⊎ IsAuditedCut asked text old new
 
 -- a text that files may hold was audited, one that may be cut off or not
-abbrev pub AuditsFiles : {W : Type 0} → (is_cut : Bool) (asked : AuditOutput) → (W → Option (List ℕ)) → W → W → Type 0
-AuditsFiles is_cut asked contents old new =
+abbrev pub AuditsSome : {W : Type 0} → (is_cut : Bool) (asked : Option Wanted) → (W → Option (List ℕ)) → W → W → Type 0
+AuditsSome is_cut asked contents old new =
     (text : List ℕ) × IsAuditedBy is_cut asked text (contents old) (contents new)
+
+-- the faults of a run are those that some text spells for the names of a word, where there is one
+abbrev pub AreFaultsOf : Option FaultsWord → Option RunSeen → Type 0
+AreFaultsOf None None = Unit {0}
+AreFaultsOf (Some word) (Some faults) = HadFaults word faults
+AreFaultsOf _ _ = ⊥
+
+-- an audit is asked for what options say, with such faults
+abbrev pub IsAskedBy : AuditOutput → Option Wanted → Type 0
+IsAskedBy writes.Count None = Unit {0}
+IsAskedBy (writes.Events asked) (Some w) = (w.timing ≡ asked.timing) × AreFaultsOf asked.faults w.faults
+IsAskedBy _ _ = ⊥
+
+-- a text that files may hold was audited as options say
+abbrev pub AuditsFiles : {W : Type 0} → Bool → AuditOutput → (W → Option (List ℕ)) → W → W → Type 0
+AuditsFiles is_cut output contents old new =
+    (asked : Option Wanted) × IsAskedBy output asked × AuditsSome is_cut asked contents old new
 
 -- a fault came before anything was written, but for one of the writer
 abbrev pub IsQuiet : {W : Type 0} → ProgramError → W → W → Type 0
@@ -129,17 +150,17 @@ IsTextIn None text = Unit {0}
 IsTextIn (Some all) text = text ≡ all
 
 -- the text that a reader had was audited
-abbrev pub AuditsBy : {W : Type 0} → Bool → AuditOutput → Option (List ℕ) → (W → Option (List ℕ)) → W → W
+abbrev pub AuditsBy : {W : Type 0} → Bool → Option Wanted → Option (List ℕ) → (W → Option (List ℕ)) → W → W
     → Type 0
 AuditsBy is_cut asked input contents old new =
     (text : List ℕ) × IsTextIn input text × IsAuditedBy is_cut asked text (contents old) (contents new)
 
 -- the same of a whole text
-abbrev pub Audits : {W : Type 0} → AuditOutput → Option (List ℕ) → (W → Option (List ℕ)) → W → W → Type 0
+abbrev pub Audits : {W : Type 0} → Option Wanted → Option (List ℕ) → (W → Option (List ℕ)) → W → W → Type 0
 Audits asked input contents old new = AuditsBy false asked input contents old new
 
 -- the same of one that may be cut off
-abbrev pub AuditsCut : {W : Type 0} → AuditOutput → Option (List ℕ) → (W → Option (List ℕ)) → W → W → Type 0
+abbrev pub AuditsCut : {W : Type 0} → Option Wanted → Option (List ℕ) → (W → Option (List ℕ)) → W → W → Type 0
 AuditsCut asked input contents old new = AuditsBy true asked input contents old new
 
 -- what a fault says of the text that a reader had
@@ -155,9 +176,14 @@ abbrev pub FaultsCut : Option (List ℕ) → ProgramError → Type 0
 FaultsCut input why = (text : List ℕ) × IsTextIn input text × FaultsBy true text why
 
 -- with events the writer may fail before the text was read, which says nothing of the text
-abbrev pub StopsEvents : AuditOutput → ProgramError → Type 0
-StopsEvents writes.Count why = ⊥
-StopsEvents (writes.Events t) why = why ≡ fault.Write
+abbrev pub StopsEvents : Bool → ProgramError → Type 0
+StopsEvents false why = ⊥
+StopsEvents true why = why ≡ fault.Write
+
+-- a fault of a run's faults, where a word names them
+abbrev pub IsOfRun : Option FaultsWord → ProgramError → Type 0
+IsOfRun None why = ⊥
+IsOfRun (Some word) why = IsOfFaults word why
 
 -- a fault of one of the files with these paths
 abbrev pub IsOfFiles : List (List ℕ) → ProgramError → Type 0
@@ -167,25 +193,43 @@ IsOfFiles paths why = (path : List ℕ) × Contains paths path × IsOfFile path 
 abbrev pub FaultsFiles : Bool → List (List ℕ) → ProgramError → Type 0
 FaultsFiles is_cut paths why = IsOfFiles paths why ⊎ ((text : List ℕ) × FaultsBy is_cut text why)
 
--- what an audit of a text writes
-abbrev pub output_of : Option EventsText → AuditOutput
-output_of None = writes.Count
-output_of (Some e) = writes.Events (timing_in (Some e))
+-- a fault of the faults that options name
+abbrev pub IsOfAsked : AuditOutput → ProgramError → Type 0
+IsOfAsked writes.Count why = ⊥
+IsOfAsked (writes.Events asked) why = IsOfRun asked.faults why
+
+-- an audit is asked for events
+abbrev pub asks_events : Option Wanted → Bool
+asks_events None = false
+asks_events (Some w) = true
+
+-- options ask for events
+abbrev pub are_events : AuditOutput → Bool
+are_events writes.Count = false
+are_events (writes.Events asked) = true
+
+-- what is wanted of lines: nothing more, where an audit is not asked for events
+abbrev pub wanted_of : Option Wanted → Wanted
+wanted_of asked = unwrap_or asked nothing_wanted
+
+-- what an audit of a text was asked for, where this was wanted at the start
+abbrev pub output_of : Wanted → Option EventsText → Option Wanted
+output_of w None = None
+output_of w (Some e) = Some w
 
 -- these events were written; an audit without events leaves the writer as it was
-abbrev pub Puts : {W : Type 0} → AuditOutput → (W → Option (List ℕ)) → W → W → List ℕ → Type 0
-Puts writes.Count contents old new events = new ≡ old
-Puts (writes.Events t) contents old new events = Appends (contents old) (contents new) events
+abbrev pub Puts : {W : Type 0} → Bool → (W → Option (List ℕ)) → W → W → List ℕ → Type 0
+Puts false contents old new events = new ≡ old
+Puts true contents old new events = Appends (contents old) (contents new) events
 
 -- where a fault names a wrong entry, it is the one after this many
 abbrev pub IsAfter : ProgramError → ℕ → Type 0
 IsAfter (fault.WrongEntry k) count = count ≡ k
 IsAfter _ count = Unit {0}
 
--- the entries that a text begins with were read up to a fault, and the events were written, with this timing, of those
--- before the first wrong one, or of all
-pub record IsFrontWritten (t : Option BusTiming) (text : List ℕ) (why : ProgramError) (old new : Option (List ℕ))
-    : Type 0 where
+-- the entries that a text begins with were read up to a fault, and the events were written, with what else is wanted,
+-- of those before the first wrong one, or of all
+pub record IsFrontWritten (w : Wanted) (text : List ℕ) (why : ProgramError) (old new : Option (List ℕ)) : Type 0 where
   pub version : Version
   pub config : BusConfig
   pub entries : List Entry
@@ -196,37 +240,45 @@ pub record IsFrontWritten (t : Option BusTiming) (text : List ℕ) (why : Progra
   pub legal : IsLegal config (before entries count)
   pub last : (count ≡ length entries) ⊎ IsFirstWrong config entries count
   pub names : IsAfter why count
-  pub wrote : Appends old new (events_front t version config (before entries count))
+  pub wrote : Appends old new (events_front w version config (before entries count))
 
 -- what a fault of the text that a reader had leaves: an audit without events has written nothing, one with events those
 -- of the legal entries before it, or nothing where a text does not begin as that of a record
-abbrev pub LeavesFront : {W : Type 0} → AuditOutput → Option (List ℕ) → ProgramError → (W → Option (List ℕ)) → W → W
+abbrev pub LeavesFront : {W : Type 0} → Option Wanted → Option (List ℕ) → ProgramError → (W → Option (List ℕ)) → W → W
     → Type 0
-LeavesFront writes.Count input why contents old new = new ≡ old
-LeavesFront (writes.Events t) input why contents old new =
+LeavesFront None input why contents old new = new ≡ old
+LeavesFront (Some w) input why contents old new =
     (text : List ℕ) × IsTextIn input text
-    × (Appends (contents old) (contents new) [] ⊎ IsFrontWritten t text why (contents old) (contents new))
+    × (Appends (contents old) (contents new) [] ⊎ IsFrontWritten w text why (contents old) (contents new))
 
 -- the same of any fault; that of the writer says nothing
-abbrev pub Leaves : {W : Type 0} → AuditOutput → Option (List ℕ) → ProgramError → (W → Option (List ℕ)) → W → W → Type 0
+abbrev pub Leaves : {W : Type 0} → Option Wanted → Option (List ℕ) → ProgramError → (W → Option (List ℕ)) → W → W
+    → Type 0
 Leaves asked input why contents old new =
     (why ≡ fault.Write) ⊎ LeavesFront asked input why contents old new
 
+-- what a fault leaves of an audit of files: one of the faults that options name has written nothing, any other one as
+-- above, as options say
+abbrev pub LeavesFiles : {W : Type 0} → AuditOutput → ProgramError → (W → Option (List ℕ)) → W → W → Type 0
+LeavesFiles output why contents old new =
+    (IsOfAsked output why × (new ≡ old))
+    ⊎ ((asked : Option Wanted) × IsAskedBy output asked × Leaves asked None why contents old new)
+
 -- the lines of the text that a reader had were taken, up to bytes that end no line, and their events written
-pub record IsInputTaken {W : Type 0} (input : Option (List ℕ)) (audit : TextAudit) (torn : List ℕ)
+pub record IsInputTaken {W : Type 0} (w : Wanted) (input : Option (List ℕ)) (audit : TextAudit) (torn : List ℕ)
     (contents : W → Option (List ℕ)) (old new : W) : Type 0 where
   pub lines : List ℕ
   pub events : List ℕ
   pub is_text : IsTextIn input (lines ++ torn)
-  pub written : HasWritten lines events audit
+  pub written : HasWritten w lines events audit
   pub none_held : held_events audit.events ≡ []
-  pub put : Puts (output_of audit.events) contents old new events
+  pub put : Puts (has_events audit.events) contents old new events
   pub unended : EndsNoLine torn
 
 -- an audit takes these lines too
 abbrev pub TakesMore : TextAudit → List ℕ → TextAudit → Type 0
 TakesMore before lines after =
-    (text events : List ℕ) → HasWritten text events before → HasWritten (text ++ lines) events after
+    (w : Wanted) (text events : List ℕ) → HasWritten w text events before → HasWritten w (text ++ lines) events after
 
 -- bytes that end no line were taken as the last line, if there are any
 abbrev pub TakesLast : TextAudit → List ℕ → TextAudit → Type 0
@@ -239,7 +291,7 @@ FaultsLast audit torn why = (lines : List ℕ) → AreTaken lines audit → Faul
 -- an audit holds the events of these lines, after which it found a fault
 abbrev pub HoldsBefore : TextAudit → List ℕ → TextAudit → Type 0
 HoldsBefore before lines after =
-    (last : TextAudit) × TakesMore before lines last × (output_of last.events ≡ output_of before.events)
+    (last : TextAudit) × TakesMore before lines last × (has_events last.events ≡ has_events before.events)
     × (held_events after.events ≡ held_events last.events)
 
 -- bytes begin with whole lines that are at fault after the lines that were taken, whatever follows them
@@ -248,7 +300,8 @@ pub record IsWrongNext (audit : TextAudit) (next : List ℕ) (why : ReadFault) :
   pub rest : List ℕ
   pub begins : next ≡ lines ++ rest
   pub ended : EndsLine lines
-  pub wrong : (text events after : List ℕ) → HasWritten text events audit → Reads (text ++ (lines ++ after)) (Err why)
+  pub wrong : (w : Wanted) (text events after : List ℕ) → HasWritten w text events audit
+      → Reads (text ++ (lines ++ after)) (Err why)
 
 -- the fault of a line, or one of reading or of memory
 abbrev pub IsOfLine : ReadFault → ProgramError → Type 0
@@ -276,33 +329,34 @@ IsNextLine true old new line = IsRead old new line
 IsNextLine false old new line = IsTextIn old line × EndsNoLine line
 
 -- the lines of a text were read and taken, and these events of theirs cleared
-pub record IsUnderway (first now : Option (List ℕ)) (audit : TextAudit) (events : List ℕ) : Type 0 where
+pub record IsUnderway (w : Wanted) (first now : Option (List ℕ)) (audit : TextAudit) (events : List ℕ) : Type 0 where
   pub text : List ℕ
   pub consumed : Consumes first now text
-  pub written : HasWritten text events audit
+  pub written : HasWritten w text events audit
 
 -- the same, and these events were put out
-pub record IsPut {W : Type 0} (first now : Option (List ℕ)) (audit : TextAudit) (contents : W → Option (List ℕ))
-    (old new : W) : Type 0 where
+pub record IsPut {W : Type 0} (w : Wanted) (first now : Option (List ℕ)) (audit : TextAudit)
+    (contents : W → Option (List ℕ)) (old new : W) : Type 0 where
   pub events : List ℕ
-  pub underway : IsUnderway first now audit events
-  pub put : Puts (output_of audit.events) contents old new events
+  pub underway : IsUnderway w first now audit events
+  pub put : Puts (has_events audit.events) contents old new events
 
 -- from lines that were taken before, a reader and an audit went on to these
 abbrev pub GoesOn : Option (List ℕ) → Option (List ℕ) → TextAudit → TextAudit → Type 0
 GoesOn old new before after =
-    (first : Option (List ℕ)) (events : List ℕ) → IsUnderway first old before events → IsUnderway first new after events
+    (w : Wanted) (first : Option (List ℕ)) (events : List ℕ)
+    → IsUnderway w first old before events → IsUnderway w first new after events
 
 -- after the lines that were taken, what a reader has left is at fault so
 abbrev pub IsAtFault : Option (List ℕ) → TextAudit → ReadFault → Type 0
 IsAtFault now audit why =
-    (first : Option (List ℕ)) (events : List ℕ) → IsUnderway first now audit events
+    (w : Wanted) (first : Option (List ℕ)) (events : List ℕ) → IsUnderway w first now audit events
     → (text : List ℕ) × IsTextIn first text × FaultsUncut text why
 
 -- a reader and an audit went on to lines before a fault, whose events the audit holds
 abbrev pub StopsAfter : Option (List ℕ) → Option (List ℕ) → TextAudit → TextAudit → Type 0
 StopsAfter old new before after =
-    (last : TextAudit) × GoesOn old new before last × (output_of last.events ≡ output_of before.events)
+    (last : TextAudit) × GoesOn old new before last × (has_events last.events ≡ has_events before.events)
     × (held_events after.events ≡ held_events last.events)
 
 -- what a reader held was taken by an audit
@@ -321,26 +375,26 @@ abbrev pub HasNote : TextFault → Type 0
 HasNote (found.Read why) = Unit {0}
 HasNote (found.Wrong w) = FitsLines w
 
--- the last line that an audit writes of a record with so many entries
-abbrev pub last_line : AuditOutput → ℕ → List ℕ
-last_line writes.Count count = entries_line count
-last_line (writes.Events t) count = end_line count
+-- the last line that an audit writes of a record with so many entries, with events or without
+abbrev pub last_line : Bool → ℕ → List ℕ
+last_line false count = entries_line count
+last_line true count = end_line count
 
 -- the same of a record that is cut off
-abbrev pub last_cut_line : AuditOutput → ℕ → List ℕ
-last_cut_line writes.Count count = cut_line count
-last_cut_line (writes.Events t) count = cut_end_line count
+abbrev pub last_cut_line : Bool → ℕ → List ℕ
+last_cut_line false count = cut_line count
+last_cut_line true count = cut_end_line count
 
 -- the last line of a legal record's audit was written
-abbrev pub IsWritten : AuditOutput → Result ℕ TextFault → Option (List ℕ) → Option (List ℕ) → Type 0
-IsWritten asked (Ok count) old new = Appends old new (last_line asked count)
-IsWritten asked (Err why) old new = ⊥
+abbrev pub IsWritten : Bool → Result ℕ TextFault → Option (List ℕ) → Option (List ℕ) → Type 0
+IsWritten events (Ok count) old new = Appends old new (last_line events count)
+IsWritten events (Err why) old new = ⊥
 
 -- the same of a record that may be cut off
-abbrev pub IsCutWritten : AuditOutput → Result Cut TextFault → Option (List ℕ) → Option (List ℕ) → Type 0
-IsCutWritten asked (Ok (cut.Whole count)) old new = Appends old new (last_line asked count)
-IsCutWritten asked (Ok (cut.Off count)) old new = Appends old new (last_cut_line asked count)
-IsCutWritten asked (Err why) old new = ⊥
+abbrev pub IsCutWritten : Bool → Result Cut TextFault → Option (List ℕ) → Option (List ℕ) → Type 0
+IsCutWritten events (Ok (cut.Whole count)) old new = Appends old new (last_line events count)
+IsCutWritten events (Ok (cut.Off count)) old new = Appends old new (last_cut_line events count)
+IsCutWritten events (Err why) old new = ⊥
 
 -- a fault is that of the text
 abbrev pub IsToldFault : TextFault → ProgramError → Type 0

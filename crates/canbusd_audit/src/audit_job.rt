@@ -1,21 +1,23 @@
 ghost use Rattle.std.specs.Prelude.{◌≡◌, ◌⊎◌, [], IfErr, IfOk, None, OnOk, map};
-ghost use Rattle.can_replay.specs.EventTexts.{HasWritten, held_events};
+ghost use Rattle.can_replay.specs.EventTexts.{HasWritten, has_events, held_events};
 ghost use Rattle.canbusd_io.specs.declared.program_error.ProgramError.TheVariants as told;
-ghost use Rattle.canbusd_audit.specs.Audited.{Audits, AuditsCut, AuditsFiles, FaultsCut, FaultsFiles, FaultsInput, IsOfFiles, Leaves, StopsEvents, output_of};
+ghost use Rattle.canbusd_audit.specs.Audited.{Audits, AuditsCut, AuditsFiles, AuditsSome, FaultsCut, FaultsFiles, FaultsInput, IsAskedBy, IsOfAsked, IsOfFiles, Leaves, LeavesFiles, StopsEvents, are_events, asks_events, wanted_of};
 
 use crate::ends::{tell_cut, tell_end};
 use crate::events::put_events;
 use crate::joined::Joined;
 use crate::line_taking::{take_last, take_lines};
+use can_events::Wanted;
 use can_replay::TextAudit;
-use canbusd_io::{LimitedReads, ProgramError, Report, open_file};
+use canbusd_io::{LimitedReads, ProgramError, Report, open_file, read_faults};
 use canbusd_options::{AuditOptions, AuditOutput};
 use std::alloc::{AllocError, Global};
 use std::io::{BufRead, BufReader, Write};
 use std::rt::Files;
 
 /// Audits the record whose text the files of the options have, one after another, and writes how many entries it has
-/// where it is a legal history, or with events what they brought about, as far as they are legal.
+/// where it is a legal history, or with events what they brought about, as far as they are legal. The faults of the run are
+/// read first, where they are asked for.
 pub fn audit_files<'a, H: Files, W: Write, E: Write>(
     rt: &H,
     alloc: Global,
@@ -25,12 +27,56 @@ pub fn audit_files<'a, H: Files, W: Write, E: Write>(
 ) -> Result<(), Report<'a>>
     ensures legal { OnOk result
         (AuditsFiles options.now.is_cut options.now.output W.contents output.old output.new) }
+    ensures fault { IfErr result (λ failure. IsOfAsked options.now.output failure.error ⊎
+        (StopsEvents (are_events options.now.output) failure.error ⊎
+        FaultsFiles options.now.is_cut (map (λ file. file.now) options.now.files.items)
+        failure.error)) }
+    ensures written { IfErr result (λ failure.
+        LeavesFiles options.now.output failure.error W.contents output.old output.new) }
+{
+    let asked = read_asked(rt, alloc, &options.output)?;
+    audit_asked(rt, alloc, options, asked, output, errors)
+}
+
+// What options ask for, with the faults of the run.
+fn read_asked<'a, H: Files>(
+    rt: &H,
+    alloc: Global,
+    output: &AuditOutput<'a>,
+) -> Result<Option<Wanted>, Report<'a>>
+    ensures asked { IfOk result (λ asked. IsAskedBy output.now asked) }
+    ensures fault { IfErr result (λ failure. IsOfAsked output.now failure.error) }
+{
+    let AuditOutput::Events(asked) = output else {
+        return Ok(None);
+    };
+    let faults = match &asked.faults {
+        Some(word) => Some(read_faults(rt, alloc, *word)?),
+        None => None,
+    };
+    Ok(Some(Wanted {
+        timing: asked.timing,
+        faults,
+    }))
+}
+
+// The same as `audit_files`, with what is asked for.
+fn audit_asked<'a, H: Files, W: Write, E: Write>(
+    rt: &H,
+    alloc: Global,
+    options: &AuditOptions<'a>,
+    asked: Option<Wanted>,
+    output: &mut W,
+    errors: &mut E,
+) -> Result<(), Report<'a>>
+    ensures legal { OnOk result
+        (AuditsSome options.now.is_cut asked W.contents output.old output.new) }
     ensures fault { IfErr result (λ failure.
-        StopsEvents options.now.output failure.error ⊎
+        StopsEvents (asks_events asked) failure.error ⊎
         FaultsFiles options.now.is_cut (map (λ file. file.now) options.now.files.items)
         failure.error) }
     ensures written { IfErr result (λ failure.
-        Leaves options.now.output None failure.error W.contents output.old output.new) }
+        Leaves asked None failure.error W.contents output.old output.new) }
 {
     let files = open_files(rt, alloc, &options.files)?;
     let Ok(name) = joined_name(alloc, &options.files) else {
@@ -39,7 +85,6 @@ pub fn audit_files<'a, H: Files, W: Write, E: Write>(
     let Ok(mut input) = BufReader::new(alloc, Joined::new(files)) else {
         return Err(Report::new(alloc, ProgramError::NoMemory));
     };
-    let asked = &options.output;
     if options.is_cut {
         audit_cut_lines(alloc, &name, &mut input, asked, output, errors)
     } else {
@@ -48,20 +93,26 @@ pub fn audit_files<'a, H: Files, W: Write, E: Write>(
 }
 
 // An audit that was given nothing yet, and writes what is asked for.
-#[tactic(auto, using(crate::proofs::Underway::writes_events, crate::proofs::Underway::writes_count))]
-fn new_audit<'a>(alloc: Global, asked: &AuditOutput) -> Result<TextAudit, Report<'a>>
-    ensures written { IfOk result (λ audit. HasWritten [] [] audit) }
+fn new_audit<'a>(alloc: Global, asked: Option<Wanted>) -> Result<TextAudit, Report<'a>>
+    ensures written { IfOk result (λ audit. HasWritten (wanted_of asked) [] [] audit) }
     ensures none { IfOk result (λ audit. held_events audit.events ≡ []) }
-    ensures asked { IfOk result (λ audit. output_of audit.events ≡ asked.now) }
+    ensures asked { IfOk result (λ audit. has_events audit.events ≡ asks_events asked) }
     ensures fault { IfErr result (λ failure. failure.error ≡ told.NoMemory) }
 {
-    let AuditOutput::Events(timing) = asked else {
+    let Some(wanted) = asked else {
         return Ok(TextAudit::new(alloc));
     };
-    match TextAudit::with_events(alloc, *timing) {
+    match TextAudit::with_events(alloc, wanted) {
         Ok(audit) => Ok(audit),
         Err(_) => Err(Report::new(alloc, ProgramError::NoMemory)),
     }
+}
+
+// Whether an audit is asked for events.
+fn is_with_events(asked: &Option<Wanted>) -> bool
+    ensures { result ≡ asks_events asked.now }
+{
+    asked.is_some()
 }
 
 // The files with these paths.
@@ -103,23 +154,25 @@ pub fn audit_lines<'a, R: BufRead, W: Write>(
     alloc: Global,
     path: &str,
     input: &mut R,
-    asked: &AuditOutput,
+    asked: Option<Wanted>,
     output: &mut W,
 ) -> Result<(), Report<'a>>
     ensures legal { OnOk result
-        (Audits asked.now (R.remaining input.old) W.contents output.old output.new) }
+        (Audits asked (R.remaining input.old) W.contents output.old output.new) }
     ensures fault { IfErr result (λ failure.
-        StopsEvents asked.now failure.error ⊎ FaultsInput (R.remaining input.old) failure.error) }
+        StopsEvents (asks_events asked) failure.error ⊎
+        FaultsInput (R.remaining input.old) failure.error) }
     ensures written { IfErr result (λ failure.
-        Leaves asked.now (R.remaining input.old) failure.error W.contents output.old output.new) }
+        Leaves asked (R.remaining input.old) failure.error W.contents output.old output.new) }
 {
+    let has_events = is_with_events(&asked);
     let mut audit = new_audit(alloc, asked)?;
     let mut torn = Vec::new(alloc);
     let lines = take_lines(alloc, path, input, &mut audit, &mut torn, output)?;
     take_last(alloc, path, lines, &mut audit, &torn)?;
     put_events(alloc, &mut audit, output)?;
     let first = audit.first_line();
-    tell_end(alloc, path, first, audit.finish(), asked, output)
+    tell_end(alloc, path, first, audit.finish(), has_events, output)
 }
 
 /// The same of a text that may be cut off, as a run that was killed leaves it: writes how many entries it has, and
@@ -128,21 +181,23 @@ pub fn audit_cut_lines<'a, R: BufRead, W: Write, E: Write>(
     alloc: Global,
     path: &str,
     input: &mut R,
-    asked: &AuditOutput,
+    asked: Option<Wanted>,
     output: &mut W,
     errors: &mut E,
 ) -> Result<(), Report<'a>>
     ensures legal { OnOk result
-        (AuditsCut asked.now (R.remaining input.old) W.contents output.old output.new) }
+        (AuditsCut asked (R.remaining input.old) W.contents output.old output.new) }
     ensures fault { IfErr result (λ failure.
-        StopsEvents asked.now failure.error ⊎ FaultsCut (R.remaining input.old) failure.error) }
+        StopsEvents (asks_events asked) failure.error ⊎
+        FaultsCut (R.remaining input.old) failure.error) }
     ensures written { IfErr result (λ failure.
-        Leaves asked.now (R.remaining input.old) failure.error W.contents output.old output.new) }
+        Leaves asked (R.remaining input.old) failure.error W.contents output.old output.new) }
 {
+    let has_events = is_with_events(&asked);
     let mut audit = new_audit(alloc, asked)?;
     let mut torn = Vec::new(alloc);
     take_lines(alloc, path, input, &mut audit, &mut torn, output)?;
     let first = audit.first_line();
     let found = audit.finish_cut(&torn);
-    tell_cut(alloc, path, first, found, &torn, asked, output, errors)
+    tell_cut(alloc, path, first, found, &torn, has_events, output, errors)
 }

@@ -1,5 +1,6 @@
 ghost use Rattle.std.specs.Prelude.{◌≡◌, ◌≤◌, IfOk, IfSome, IsNone, IsSome, OnErr, length, take};
-ghost use Rattle.canbusd_audit.specs.Audited.{BecomesOf, HoldsBefore, IsWrongNext, TakesMore, output_of};
+ghost use Rattle.can_replay.specs.EventTexts.{has_events};
+ghost use Rattle.canbusd_audit.specs.Audited.{BecomesOf, HoldsBefore, IsWrongNext, TakesMore};
 
 use can_record_text::ReadFault;
 use can_replay::TextAudit;
@@ -29,7 +30,7 @@ pub fn take_held<R: BufRead>(
     ensures became { IfOk result (λ held.
         BecomesOf held (R.remaining input.old) (R.remaining input.new) audit.old audit.new) }
     ensures failed { OnErr result (audit.new ≡ audit.old) }
-    ensures asked { output_of audit.new.events ≡ output_of audit.old.events }
+    ensures asked { has_events audit.new.events ≡ has_events audit.old.events }
 {
     let held = match input.fill_buf() {
         Ok(held) => held,
@@ -59,7 +60,6 @@ fn unfilled(error: Error) -> io::Result<Buffered>
 
 // Takes the whole lines that these bytes begin with, and counts them: how many bytes they have, and the fault of the line that
 // follows them, if it is at fault.
-#[tactic(auto, using(crate::proofs::Underway::same_output))]
 fn carry_held(
     alloc: Global,
     held: &[u8],
@@ -70,7 +70,7 @@ fn carry_held(
     ensures taken { IsNone result.1 → TakesMore audit.old (take result.0 held.now) audit.new }
     ensures fault { IfSome result.1 (λ why. IsWrongNext audit.old held.now why) }
     ensures before { IsSome result.1 → HoldsBefore audit.old (take result.0 held.now) audit.new }
-    ensures asked { output_of audit.new.events ≡ output_of audit.old.events }
+    ensures asked { has_events audit.new.events ≡ has_events audit.old.events }
 {
     let mut len = 0;
     while let Some(place) = memchr(b'\n', &held[len..]) {

@@ -8,7 +8,6 @@ use crate::wrong_entries::wrong_note;
 use can_record_text::ReadFault;
 use can_replay::{Cut, TextFault, WrongLine};
 use canbusd_io::{OUTPUT, ProgramError, Report, write_failure};
-use canbusd_options::AuditOutput;
 use std::alloc::Global;
 use std::io::Write;
 
@@ -19,17 +18,17 @@ pub fn tell_end<'a, W: Write>(
     path: &str,
     first: &[u8],
     found: Result<usize, TextFault>,
-    asked: &AuditOutput,
+    has_events: bool,
     output: &mut W,
 ) -> Result<(), Report<'a>>
     requires { IfErr found HasNote }
     ensures legal { OnOk result
-        (IsWritten asked.now found (W.contents output.old) (W.contents output.new)) }
+        (IsWritten has_events found (W.contents output.old) (W.contents output.new)) }
     ensures fault { IfErr result (λ failure. IsTold found failure.error) }
     ensures quiet { IfErr result (λ failure. IsQuiet failure.error output.old output.new) }
 {
     match found {
-        Ok(count) => write_count(alloc, count, asked, output),
+        Ok(count) => write_count(alloc, count, has_events, output),
         Err(TextFault::Read(fault)) => {
             let failure = text_failure(alloc, path, first, b"", fault);
             Err(with_cut_note(alloc, failure, fault))
@@ -42,16 +41,17 @@ pub fn tell_end<'a, W: Write>(
 fn write_count<'a, W: Write>(
     alloc: Global,
     count: usize,
-    asked: &AuditOutput,
+    has_events: bool,
     output: &mut W,
 ) -> Result<(), Report<'a>>
     ensures legal { OnOk result
-        (Appends (W.contents output.old) (W.contents output.new) (last_line asked.now count)) }
+        (Appends (W.contents output.old) (W.contents output.new) (last_line has_events count)) }
     ensures fault { IfErr result (λ failure. failure.error ≡ told.Write) }
 {
-    let written = match asked {
-        AuditOutput::Count => writeln!(output, "ok {count} entries"),
-        AuditOutput::Events(_) => writeln!(output, "end {count}"),
+    let written = if has_events {
+        writeln!(output, "end {count}")
+    } else {
+        writeln!(output, "ok {count} entries")
     };
     written.map_err(|error| write_failure(alloc, OUTPUT, &error))
 }
@@ -63,19 +63,19 @@ pub fn tell_cut<'a, W: Write, E: Write>(
     first: &[u8],
     found: Result<Cut, TextFault>,
     torn: &[u8],
-    asked: &AuditOutput,
+    has_events: bool,
     output: &mut W,
     errors: &mut E,
 ) -> Result<(), Report<'a>>
     requires { IfErr found HasNote }
     ensures legal { OnOk result
-        (IsCutWritten asked.now found (W.contents output.old) (W.contents output.new)) }
+        (IsCutWritten has_events found (W.contents output.old) (W.contents output.new)) }
     ensures fault { IfErr result (λ failure. IsTold found failure.error) }
     ensures quiet { IfErr result (λ failure. IsQuiet failure.error output.old output.new) }
 {
     match found {
-        Ok(Cut::Whole(count)) => write_count(alloc, count, asked, output),
-        Ok(Cut::Off(count)) => tell_off(alloc, count, torn, asked, output, errors),
+        Ok(Cut::Whole(count)) => write_count(alloc, count, has_events, output),
+        Ok(Cut::Off(count)) => tell_off(alloc, count, torn, has_events, output, errors),
         Err(TextFault::Read(fault)) => Err(text_failure(alloc, path, first, torn, fault)),
         Err(TextFault::Wrong(wrong)) => Err(wrong_failure(alloc, path, &wrong)),
     }
@@ -86,12 +86,12 @@ fn tell_off<'a, W: Write, E: Write>(
     alloc: Global,
     count: usize,
     torn: &[u8],
-    asked: &AuditOutput,
+    has_events: bool,
     output: &mut W,
     errors: &mut E,
 ) -> Result<(), Report<'a>>
     ensures legal { OnOk result
-        (Appends (W.contents output.old) (W.contents output.new) (last_cut_line asked.now count)) }
+        (Appends (W.contents output.old) (W.contents output.new) (last_cut_line has_events count)) }
     ensures fault { IfErr result (λ failure. failure.error ≡ told.Write) }
 {
     if !torn.is_empty() {
@@ -101,9 +101,10 @@ fn tell_off<'a, W: Write, E: Write>(
             "note: {bytes} bytes of a line without its end were not looked at"
         );
     }
-    let written = match asked {
-        AuditOutput::Count => writeln!(output, "ok {count} entries, then cut off"),
-        AuditOutput::Events(_) => writeln!(output, "cut {count}"),
+    let written = if has_events {
+        writeln!(output, "cut {count}")
+    } else {
+        writeln!(output, "ok {count} entries, then cut off")
     };
     written.map_err(|error| write_failure(alloc, OUTPUT, &error))
 }

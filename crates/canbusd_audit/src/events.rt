@@ -1,8 +1,9 @@
 //! What the entries of a record brought about, as it is written.
 ghost use Rattle.std.specs.Prelude.{◌≡◌, ◌++◌, [], IfErr, List, OnOk, ℕ};
 ghost use Rattle.std.specs.Io.KnownBytes.{Appends};
-ghost use Rattle.can_replay.specs.EventTexts.{HasWritten, held_events};
-ghost use Rattle.canbusd_audit.specs.Audited.{Puts, StopsEvents, output_of};
+ghost use Rattle.can_events.specs.declared.wanted.Wanted.{Wanted as AWanted};
+ghost use Rattle.can_replay.specs.EventTexts.{HasWritten, has_events, held_events};
+ghost use Rattle.canbusd_audit.specs.Audited.{Puts, StopsEvents};
 
 use can_replay::TextAudit;
 use canbusd_io::{OUTPUT, Report, write_failure};
@@ -11,21 +12,21 @@ use std::io;
 use std::io::Write;
 
 /// Writes the events that an audit holds, if it has any.
-#[tactic(auto, using(crate::proofs::Underway::same_output))]
 pub fn put_events<'a, W: Write>(
     alloc: Global,
     audit: &mut TextAudit,
     output: &mut W,
 ) -> Result<(), Report<'a>>
     ensures phase { audit.new.phase ≡ audit.old.phase }
-    ensures asked { output_of audit.new.events ≡ output_of audit.old.events }
-    ensures written { OnOk result ((text events : List ℕ) → HasWritten text events audit.old →
-        HasWritten text (events ++ held_events audit.old.events) audit.new) }
+    ensures asked { has_events audit.new.events ≡ has_events audit.old.events }
+    ensures written { OnOk result ((w : AWanted) (text events : List ℕ) →
+        HasWritten w text events audit.old →
+        HasWritten w text (events ++ held_events audit.old.events) audit.new) }
     ensures none { OnOk result (held_events audit.new.events ≡ []) }
-    ensures put { OnOk result (Puts (output_of audit.old.events) W.contents output.old output.new
+    ensures put { OnOk result (Puts (has_events audit.old.events) W.contents output.old output.new
         (held_events audit.old.events)) }
     ensures fault { IfErr result (λ failure.
-        StopsEvents (output_of audit.old.events) failure.error) }
+        StopsEvents (has_events audit.old.events) failure.error) }
 {
     if audit.events().is_empty() {
         return Ok(());

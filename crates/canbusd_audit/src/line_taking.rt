@@ -1,5 +1,6 @@
 ghost use Rattle.std.specs.Prelude.{◌≡◌, ◌≢◌, ◌-◌, ◌⊎◌, [], IfErr, IfOk, IsTrue, OnOk, Some, false, length, slice_get};
-ghost use Rattle.can_replay.specs.EventTexts.{HasWritten, held_events};
+ghost use Rattle.can_events.specs.declared.wanted.Wanted.{Wanted as AWanted};
+ghost use Rattle.can_replay.specs.EventTexts.{HasWritten, has_events, held_events};
 ghost use Rattle.can_replay.specs.TextAudits.{EndsNoLine};
 ghost use Rattle.canbusd_audit.specs.Audited.{FaultsLast, FaultsLine, IsInputTaken, IsNextLine, IsOfLine, IsOfSomeLine, Leaves, StopsEvents, TakesLast, output_of};
 ghost use Rattle.canbusd_io.specs.Files.{IsOfReading};
@@ -19,7 +20,6 @@ use std::str;
 ///
 /// Where a line is at fault, what follows is read all the same: an input that is no UTF-8 text is reported as such,
 /// wherever it is not.
-#[tactic(auto, using(crate::proofs::Underway::same_output))]
 pub fn take_lines<'a, R: BufRead, W: Write>(
     alloc: Global,
     path: &str,
@@ -28,16 +28,18 @@ pub fn take_lines<'a, R: BufRead, W: Write>(
     torn: &mut Vec<u8>,
     output: &mut W,
 ) -> Result<u64, Report<'a>>
-    requires written { HasWritten [] [] audit.old }
+    requires written { (w : AWanted) × HasWritten w [] [] audit.old }
     requires none { held_events audit.old.events ≡ [] }
-    ensures taken { OnOk result (IsInputTaken (R.remaining input.old) audit.new torn.new.items
+    ensures taken { OnOk result ((w : AWanted) → HasWritten w [] [] audit.old →
+        IsInputTaken w (R.remaining input.old) audit.new torn.new.items
         W.contents output.old output.new) }
     ensures fault { IfErr result (λ failure.
-        StopsEvents (output_of audit.old.events) failure.error ⊎
+        StopsEvents (has_events audit.old.events) failure.error ⊎
         FaultsLine (R.remaining input.old) failure.error) }
-    ensures written { IfErr result (λ failure. Leaves (output_of audit.old.events)
-        (R.remaining input.old) failure.error W.contents output.old output.new) }
-    ensures asked { output_of audit.new.events ≡ output_of audit.old.events }
+    ensures written { IfErr result (λ failure. (w : AWanted) → HasWritten w [] [] audit.old →
+        Leaves (output_of w audit.old.events) (R.remaining input.old) failure.error
+        W.contents output.old output.new) }
+    ensures asked { has_events audit.new.events ≡ has_events audit.old.events }
 {
     let mut lines = 0;
     for _ in 0..u64::MAX {
@@ -70,7 +72,6 @@ pub fn take_lines<'a, R: BufRead, W: Write>(
 }
 
 /// Takes the bytes after the last LF as the last line, if there are any. So many lines come before it.
-#[tactic(auto, using(crate::proofs::Underway::same_output))]
 pub fn take_last<'a>(
     alloc: Global,
     path: &str,
@@ -82,7 +83,7 @@ pub fn take_last<'a>(
     ensures taken { OnOk result (TakesLast audit.old torn.now audit.new) }
     ensures fault { IfErr result (λ failure. FaultsLast audit.old torn.now failure.error) }
     ensures line { IfErr result (λ failure. IsOfSomeLine failure.error) }
-    ensures asked { output_of audit.new.events ≡ output_of audit.old.events }
+    ensures asked { has_events audit.new.events ≡ has_events audit.old.events }
 {
     if torn.is_empty() {
         return Ok(());

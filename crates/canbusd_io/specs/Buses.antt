@@ -1,9 +1,12 @@
 use Rattle.std.specs.Prelude.{◌≡◌, ℕ, ◌-◌, ◌^◌, List, Option, Some, None, Ok, if◌then◌else◌}
 use Rattle.can_frame.specs.declared.iface.IfaceSet.{IfaceSet}
+use Rattle.can_frame.specs.Names.{AreNames, names_in}
 use Rattle.can_frame.specs.Sets.{no_ifaces}
 use Rattle.can_rules.specs.Plans.{PlanSeen, ReadsPlan, no_plan}
+use Rattle.can_rules.specs.RunFaults.{ReadsRunFaults, RunSeen}
 use Rattle.can_event.specs.declared.bus_config.BusConfig.{BusConfig}
 use Rattle.canbusd_options.specs.declared.bus_options.BusSettings.{BusSettings}
+use Rattle.canbusd_options.specs.declared.bus_word.FaultsWord.{FaultsWord}
 
 -- A bus as the words of a command line describe it (own choice).
 
@@ -26,3 +29,8 @@ config_of s n = record {
 abbrev pub IsPlan : {A : Type 0} → Option A → List (List ℕ) → PlanSeen → Type 0
 IsPlan None names plan = plan ≡ no_plan
 IsPlan (Some path) names plan = (text : List ℕ) × ReadsPlan names text (Ok plan)
+
+-- the faults that a bus had in a run: those that some text spells for the names of a word, which a bus may have
+abbrev pub HadFaults : FaultsWord → RunSeen → Type 0
+HadFaults word faults =
+    AreNames (names_in word.names.now) × (text : List ℕ) × ReadsRunFaults (names_in word.names.now) text (Ok faults)

@@ -7,8 +7,10 @@ use Rattle.can_fault.specs.declared.script.ScriptError.TheVariants as script
 use Rattle.can_rules.specs.declared.plan.PlanError.{PlanError}
 use Rattle.can_rules.specs.declared.plan.PlanError.TheVariants as plan
 use Rattle.can_rules.specs.Plans.{ReadsPlan}
+use Rattle.can_rules.specs.RunFaults.{ReadsRunFaults}
 use Rattle.can_frame.specs.Names.{AreNames, names_in}
 use Rattle.canbusd_options.specs.declared.bus_word.BusWord.{BusWord}
+use Rattle.canbusd_options.specs.declared.bus_word.FaultsWord.{FaultsWord}
 use Rattle.canbusd_options.specs.BusWords.{first_name_of}
 use Rattle.canbusd_io.specs.declared.program_error.ProgramError.{ProgramError}
 use Rattle.canbusd_io.specs.declared.program_error.ProgramError.TheVariants as fault
@@ -75,3 +77,18 @@ IsOfScriptFile path names why = IsOfFile path why ⊎ ((text : List ℕ) × IsOf
 abbrev pub IsOfPlan : Option (Bor (List ℕ)) → List (List ℕ) → ProgramError → Type 0
 IsOfPlan None names why = ⊥
 IsOfPlan (Some path) names why = IsOfScriptFile path.now names why
+
+-- the fault of a text that spells no faults of a run for a bus with these names
+abbrev pub IsOfRunText : List (List ℕ) → List ℕ → ProgramError → Type 0
+IsOfRunText names text why =
+    (error : PlanError) × (why ≡ fault_of error) × ReadsRunFaults names text (Err error)
+
+-- a fault of the file with this path, which has the faults of a run, or of a text that it may hold
+abbrev pub IsOfRunFile : List ℕ → List (List ℕ) → ProgramError → Type 0
+IsOfRunFile path names why = IsOfFile path why ⊎ ((text : List ℕ) × IsOfRunText names text why)
+
+-- a fault of the faults of a run, as a word names them: of its names, or else of its file
+abbrev pub IsOfFaults : FaultsWord → ProgramError → Type 0
+IsOfFaults word why =
+    IsOfNames word.names.now why
+    ⊎ (AreNames (names_in word.names.now) × IsOfRunFile word.path.now (names_in word.names.now) why)

@@ -1,16 +1,17 @@
 //! A bus as the words of a command line describe it: its faults and its configuration.
 ghost use Rattle.std.specs.Prelude.{◌≡◌, ◌≤◌, length, IfErr, IfOk};
-ghost use Rattle.canbusd_io.specs.Buses.{IsPlan, config_of};
-ghost use Rattle.canbusd_io.specs.Files.{IsOfPlan};
+ghost use Rattle.canbusd_io.specs.Buses.{HadFaults, IsPlan, config_of};
+ghost use Rattle.canbusd_io.specs.Files.{IsOfFaults, IsOfPlan};
 ghost use Rattle.canbusd_io.specs.Buses.{first_ifaces as first_ifaces_of};
 
+use crate::names::read_names;
 use crate::report::Report;
-use crate::scripts::read_script;
+use crate::scripts::{read_run_faults, read_script};
 use can_bus::BusConfig;
 use can_event::{MAX_AUTO_RESTART, MAX_RX_CAPACITY, MAX_TX_CAPACITY};
 use can_frame::{IfaceSet, Names};
-use can_rules::Plan;
-use canbusd_options::{BusSettings, BusWord};
+use can_rules::{Plan, RunFaults};
+use canbusd_options::{BusSettings, BusWord, FaultsWord};
 use std::alloc::{AllocError, Global};
 use std::rt::Files;
 
@@ -28,6 +29,19 @@ pub fn read_plan<'a, H: Files>(
         Some(path) => read_script(rt, alloc, path, bus.names, names),
         None => Ok(Plan::new(alloc)),
     }
+}
+
+/// The faults that a bus had in a run, as a word names them. Its names are looked at first, and then its file.
+pub fn read_faults<'a, H: Files>(
+    rt: &H,
+    alloc: Global,
+    word: FaultsWord<'a>,
+) -> Result<RunFaults, Report<'a>>
+    ensures faults { IfOk result (λ faults. HadFaults word.entry faults) }
+    ensures fault { IfErr result (λ failure. IsOfFaults word.entry failure.error) }
+{
+    let names = read_names(alloc, word.names)?;
+    read_run_faults(rt, alloc, word.path, word.names, &names)
 }
 
 /// The bus that settings describe, for these names.

@@ -1,12 +1,13 @@
 //! What the program reads and writes besides its streams, as names and scripts of a bus, records and logs; and the texts
 //! of its errors.
 //!
-//! `read_names`, `read_plan` and `bus_config` make a bus of the words that describe it; `save_record` and `save_log` write
-//! what a run leaves. A command line that was not carried out gives a `Report`: a `ProgramError`, and notes after its text.
+//! `read_names`, `read_plan` and `bus_config` make a bus of the words that describe it, and `read_faults` the faults that it had
+//! in a run; `save_record` and `save_log` write what a run leaves. A command line that was not carried out gives a `Report`: a
+//! `ProgramError`, and notes after its text.
 //!
-//! What is proved here: the configuration is that of the settings, a script is what some text spells, and what is written
-//! is the record's text and the lines of its log; a report has the error that it was made of. What a file holds is not known
-//! to any contract. Tests show that of a file or a client only printable ASCII is shown.
+//! What is proved here: the configuration is that of the settings, a script is what some text spells for the names of its bus,
+//! and what is written is the record's text and the lines of its log; a report has the error that it was made of. What a file
+//! holds is not known to any contract. Tests show that of a file or a client only printable ASCII is shown.
 #![tactic(auto)]
 
 mod buses;
@@ -25,7 +26,7 @@ mod scripts;
 mod shown;
 mod whole_lines;
 
-pub use buses::{bus_config, limits_note, read_plan};
+pub use buses::{bus_config, limits_note, read_faults, read_plan};
 pub use draft::Draft;
 pub use files::{
     INPUT, OUTPUT, open_file, read_failure, read_file, read_text, utf8_note, write_failure,

@@ -2,7 +2,7 @@
 use crate::names::{has_name, read_names};
 use crate::notes::{WITH_CR, fixed_note};
 use crate::shown::Shown;
-use can_rules::{WrongWord, read_rule};
+use can_rules::{WrongWord, read_later, read_rule};
 use std::alloc::{AllocError, Global};
 
 /// Why a rule was not taken, for a bus whose names are given as a word of the command line has them.
@@ -16,6 +16,25 @@ pub fn rule_note(alloc: Global, rule: &str, bus: &str) -> Result<String, AllocEr
     match read_rule(rule, &names) {
         Ok(_) => fixed_note(alloc, "a bus has at most 64 rules"),
         Err(WrongWord::UnknownInterface) => unknown_note(alloc, rule, bus),
+        Err(which) => format!(in alloc; "  {which}\n"),
+    }
+}
+
+/// Why a line of what came while a run went on was not taken.
+pub(crate) fn later_note(alloc: Global, line: &str, bus: &str) -> Result<String, AllocError> {
+    if line.ends_with('\r') {
+        return fixed_note(alloc, WITH_CR);
+    }
+    let Ok(names) = read_names(alloc, bus) else {
+        return Ok(String::new(alloc));
+    };
+    match read_later(line, &names) {
+        Ok(_) => fixed_note(alloc, "the numbers after at do not decrease"),
+        Err(WrongWord::UnknownInterface) => unknown_note(alloc, line, bus),
+        Err(WrongWord::Attempt | WrongWord::Beginning) => fixed_note(
+            alloc,
+            "a line is at N RULE or at N nofaults, as at 17 next 3 from can0 global bit: N has 1 to 10 digits, and one space follows it",
+        ),
         Err(which) => format!(in alloc; "  {which}\n"),
     }
 }

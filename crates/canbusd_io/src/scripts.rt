@@ -1,17 +1,18 @@
 //! Scripts of faults: a file, and what is reported of a wrong line of it.
-ghost use Rattle.std.specs.Prelude.{List, ℕ, IfErr, IfOk, Ok};
+ghost use Rattle.std.specs.Prelude.{◌≡◌, List, ℕ, IfErr, IfOk, Ok};
 ghost use Rattle.can_rules.specs.Plans.{ReadsPlan};
-ghost use Rattle.canbusd_io.specs.Files.{IsOfScript, IsOfScriptFile};
+ghost use Rattle.can_rules.specs.RunFaults.{ReadsRunFaults};
+ghost use Rattle.canbusd_io.specs.Files.{IsOfFile, IsOfRunFile, IsOfRunText, IsOfScript, IsOfScriptFile, fault_of};
 
 use crate::files::read_file;
 use crate::notes::{WITH_CR, fixed_note, line_of};
 use crate::program_error::ProgramError;
 use crate::report::Report;
-use crate::rule_notes::{rule_note, unknown_name_note};
+use crate::rule_notes::{later_note, rule_note, unknown_name_note};
 use crate::shown::SourceLine;
 use can_fault::ScriptError;
 use can_frame::Names;
-use can_rules::{Plan, PlanError, begins_as_rule};
+use can_rules::{Plan, PlanError, RunFaults, begins_as_later, begins_as_rule};
 use std::alloc::{AllocError, Global};
 use std::rt::Files;
 
@@ -26,8 +27,35 @@ pub fn read_script<'a, H: Files>(
     ensures plan { IfOk result (λ plan. (text : List ℕ) × ReadsPlan names.now text (Ok plan)) }
     ensures fault { IfErr result (λ failure. IsOfScriptFile path.now names.now failure.error) }
 {
-    let text = read_file(rt, alloc, path).map_err(|failure| failure.and(path_note(path)))?;
+    let text = read_script_file(rt, alloc, path)?;
     script_in(alloc, path, &text, bus, names)
+}
+
+/// The same of the faults that a bus with these names had in a run, with those that it got while the run went on.
+pub fn read_run_faults<'a, H: Files>(
+    rt: &H,
+    alloc: Global,
+    path: &'a str,
+    bus: &str,
+    names: &Names,
+) -> Result<RunFaults, Report<'a>>
+    ensures faults { IfOk result (λ faults.
+        (text : List ℕ) × ReadsRunFaults names.now text (Ok faults)) }
+    ensures fault { IfErr result (λ failure. IsOfRunFile path.now names.now failure.error) }
+{
+    let text = read_script_file(rt, alloc, path)?;
+    run_faults_in(alloc, path, &text, bus, names)
+}
+
+// The text of the script with this path.
+fn read_script_file<'a, H: Files>(
+    rt: &H,
+    alloc: Global,
+    path: &'a str,
+) -> Result<String, Report<'a>>
+    ensures { IfErr result (λ failure. IsOfFile path.now failure.error) }
+{
+    read_file(rt, alloc, path).map_err(|failure| failure.and(path_note(path)))
 }
 
 // What may be wrong with the path of a script.
@@ -54,14 +82,44 @@ fn script_in<'a>(
 {
     match Plan::read(alloc, text, names) {
         Ok(plan) => Ok(plan),
-        Err(PlanError::Script(ScriptError::NoMemory)) => Err(Report::new(
-            alloc,
-            ProgramError::NoMemory,
-        )),
         Err(fault) => {
             let notes = script_note(alloc, path, text, bus, fault);
-            Err(Report::with(alloc, ProgramError::Script(fault), notes))
+            Err(script_failure(alloc, fault, notes))
         }
+    }
+}
+
+// The same of the faults of a run.
+fn run_faults_in<'a>(
+    alloc: Global,
+    path: &str,
+    text: &str,
+    bus: &str,
+    names: &Names,
+) -> Result<RunFaults, Report<'a>>
+    ensures faults { IfOk result (λ faults. ReadsRunFaults names.now text.now (Ok faults)) }
+    ensures fault { IfErr result (λ failure. IsOfRunText names.now text.now failure.error) }
+{
+    match RunFaults::read(alloc, text, names) {
+        Ok(faults) => Ok(faults),
+        Err(fault) => {
+            let notes = run_note(alloc, path, text, bus, fault);
+            Err(script_failure(alloc, fault, notes))
+        }
+    }
+}
+
+// How a fault of a script is reported.
+fn script_failure<'a>(
+    alloc: Global,
+    fault: PlanError,
+    notes: Result<String, AllocError>,
+) -> Report<'a>
+    ensures { result.error ≡ fault_of fault }
+{
+    match fault {
+        PlanError::Script(ScriptError::NoMemory) => Report::new(alloc, ProgramError::NoMemory),
+        _ => Report::with(alloc, ProgramError::Script(fault), notes),
     }
 }
 
@@ -73,13 +131,7 @@ fn script_note(
     names: &str,
     fault: PlanError,
 ) -> Result<String, AllocError> {
-    let (PlanError::Script(
-        ScriptError::BadLine(number)
-        | ScriptError::UnknownInterface(number)
-        | ScriptError::RepeatedAttempt(number),
-    )
-    | PlanError::TooManyRules(number)) = fault
-    else {
+    let Some(number) = wrong_line(fault) else {
         return Ok(String::new(alloc));
     };
     let line = line_of(text, number);
@@ -88,6 +140,48 @@ fn script_note(
     } else {
         numbered_note(alloc, text, names, fault)?
     };
+    with_line(alloc, path, number, line, &note)
+}
+
+// The same of the faults of a run.
+fn run_note(
+    alloc: Global,
+    path: &str,
+    text: &str,
+    names: &str,
+    fault: PlanError,
+) -> Result<String, AllocError> {
+    match wrong_line(fault) {
+        Some(number) if begins_as_later(line_of(text, number)) => {
+            let line = line_of(text, number);
+            let note = later_note(alloc, line, names)?;
+            with_line(alloc, path, number, line, &note)
+        }
+        _ => script_note(alloc, path, text, names, fault),
+    }
+}
+
+// The number of the line that is wrong.
+fn wrong_line(fault: PlanError) -> Option<usize> {
+    match fault {
+        PlanError::Script(
+            ScriptError::BadLine(number)
+            | ScriptError::UnknownInterface(number)
+            | ScriptError::RepeatedAttempt(number),
+        )
+        | PlanError::TooManyRules(number) => Some(number),
+        PlanError::Script(ScriptError::NoMemory) => None,
+    }
+}
+
+// A line of a script before a note on it.
+fn with_line(
+    alloc: Global,
+    path: &str,
+    number: usize,
+    line: &str,
+    note: &str,
+) -> Result<String, AllocError> {
     let line = SourceLine::new(path, number as u64, line.as_bytes());
     format!(in alloc; "  {line}\n{note}")
 }

@@ -13,6 +13,7 @@ use Rattle.clap.specs.declared.parser.matches.ArgMatches.{ArgMatches}
 use Rattle.clap.specs.Words.{Row, all_of, first_of, found_of, one_of, rows_of}
 use Rattle.canbusd_options.specs.declared.bus_options.BusSettings.{BusSettings}
 use Rattle.canbusd_options.specs.declared.bus_word.BusWord.{BusWord}
+use Rattle.canbusd_options.specs.declared.bus_word.FaultsWord.{FaultsWord}
 use Rattle.canbusd_options.specs.declared.audit_options.AuditOptions.{AuditOptions}
 use Rattle.canbusd_options.specs.declared.audit_options.AuditOutput.{AuditOutput}
 use Rattle.canbusd_options.specs.declared.audit_options.AuditOutput.TheVariants as output
@@ -150,6 +151,8 @@ pub record AreBenchOptions (rows : List Row) (o : BenchOptions) : Type 0 where
   pub apart : ¬ (AreOneFile (first_of (codes "record") rows) (first_of (codes "log") rows))
   pub strict : one_of (codes "strict") rows ≡ Some (codes "true") → o.is_strict ≡ true
   pub lenient : one_of (codes "strict") rows ≡ Some (codes "false") → o.is_strict ≡ false
+  pub showing : one_of (codes "show-faults") rows ≡ Some (codes "true") → o.shows_faults ≡ true
+  pub hiding : one_of (codes "show-faults") rows ≡ Some (codes "false") → o.shows_faults ≡ false
 
 -- rows give the options of a bench
 abbrev pub GiveBenchOptions : List Row → Type 0
@@ -231,11 +234,31 @@ GiveServeOptions rows = (o : ServeOptions) × AreServeOptions rows o
 abbrev pub files_given : List Row → List (List ℕ)
 files_given rows = unwrap_or (all_of (codes "FILE") rows) []
 
--- an audit writes what the words ask for: with --events what entries brought about, by the bit rates that they give if
--- they give any, and without it a count, for which they give no bit rates
+-- the names and the file of a run's faults are those of a word, which has both
+abbrev pub IsFaultsWord : FaultsWord → List ℕ → Type 0
+IsFaultsWord faults word = (faults.names.now ≡ names_part word) × (Some faults.path.now ≡ script_part word)
+
+-- the faults of a run are those of a word, where there is one
+abbrev pub HasFaultsOf : Option (List ℕ) → Option FaultsWord → Type 0
+HasFaultsOf None None = Unit {0}
+HasFaultsOf (Some word) (Some faults) = IsFaultsWord faults word
+HasFaultsOf _ _ = ⊥
+
+-- they are those that the words give, if they give any
+abbrev pub AreFaults : List Row → Option FaultsWord → Type 0
+AreFaults rows faults = HasFaultsOf (first_of (codes "faults") rows) faults
+
+-- rows give the faults of a run, or none
+abbrev pub GiveFaults : List Row → Type 0
+GiveFaults rows = (faults : Option FaultsWord) × AreFaults rows faults
+
+-- an audit writes what the words ask for: with --events what entries brought about, by the bit rates and the faults
+-- that they give, if they give any, and without it a count, for which they give neither
 abbrev pub IsOutput : List Row → AuditOutput → Type 0
-IsOutput rows output.Count = ¬ (given rows (codes "events") ≡ codes "true") × IsTimed rows None
-IsOutput rows (output.Events timing) = (given rows (codes "events") ≡ codes "true") × IsTimed rows timing
+IsOutput rows output.Count =
+    ¬ (given rows (codes "events") ≡ codes "true") × IsTimed rows None × AreFaults rows None
+IsOutput rows (output.Events asked) =
+    (given rows (codes "events") ≡ codes "true") × IsTimed rows asked.timing × AreFaults rows asked.faults
 
 -- rows say what an audit writes
 abbrev pub GiveOutput : List Row → Type 0

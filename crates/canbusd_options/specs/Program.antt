@@ -48,10 +48,11 @@ with_bus_rules a =
 -- `bench BUS`, with its options
 abbrev pub bench_app : App
 bench_app =
-    with_rule (with_rule (with_rule (with_rule (with_bus_rules (new_app (codes "bench")))
+    with_rule (with_rule (with_rule (with_rule (with_rule (with_bus_rules (new_app (codes "bench")))
     (option_rule (codes "record")))
     (option_rule (codes "log")))
     (flag_rule (codes "strict")))
+    (flag_rule (codes "show-faults")))
     (word_rule (codes "BUS"))
 
 -- `serve BUS..`, with its options
@@ -75,9 +76,10 @@ serve_app =
 -- `audit FILE..`, with its options
 abbrev pub audit_app : App
 audit_app =
-    with_rule (with_rate_rules (with_rule (with_rule (new_app (codes "audit"))
+    with_rule (with_rule (with_rate_rules (with_rule (with_rule (new_app (codes "audit"))
     (flag_rule (codes "cut")))
     (flag_rule (codes "events"))))
+    (option_rule (codes "faults")))
     (words_rule (codes "FILE"))
 
 -- a command that has a version, and needs a command below it

@@ -1,12 +1,14 @@
 //! The words of audit.
 ghost use Rattle.std.specs.Prelude.{◌≡◌, codes, false, map, IfErr, IfOk};
-ghost use Rattle.clap.specs.Words.{app_of, rule_of};
+ghost use Rattle.clap.specs.Words.{app_of, kind_of, rule_of};
+ghost use Rattle.clap.specs.declared.error.kind.ErrorKind.TheVariants.{ValueValidation};
 ghost use Rattle.canbusd_options.specs.Help.{IsNoMemory, RefusesValue};
-ghost use Rattle.canbusd_options.specs.Options.{AreAuditOptions, GiveAuditOptions, GiveOutput, IsOutput, files_given as files_of, rows_in};
+ghost use Rattle.canbusd_options.specs.Options.{AreAuditOptions, AreFaults, GiveAuditOptions, GiveFaults, GiveOutput, IsOutput, files_given as files_of, rows_in};
 ghost use Rattle.canbusd_options.specs.Program.{audit_app, flag_rule, words_rule};
 
 use crate::bit_rates::{timing_given, with_bit_rates};
-use crate::bus_options::{Subcommand, is_on};
+use crate::bus_options::{Subcommand, free_option, is_on};
+use crate::bus_word::FaultsWord;
 use crate::help::AUDIT_HELP;
 use can_wire::Timing;
 use clap::{Arg, ArgAction, ArgMatches, Command, Error};
@@ -15,6 +17,8 @@ use std::alloc::{AllocError, Global};
 const CUT: &str = "cut";
 
 const EVENTS: &str = "events";
+
+const FAULTS: &str = "faults";
 
 const FILE: &str = "FILE";
 
@@ -26,16 +30,25 @@ pub struct AuditOptions<'a> {
     /// Whether the text may be cut off.
     pub is_cut: bool,
     /// What is written of the record.
-    pub output: AuditOutput,
+    pub output: AuditOutput<'a>,
 }
 
 /// What an audit writes of a legal record.
 #[derive(Debug, Clone, Copy)]
-pub enum AuditOutput {
+pub enum AuditOutput<'a> {
     /// How many entries it has.
     Count,
-    /// What the entries brought about; with bit rates also what each attempt takes on the wire.
-    Events(Option<Timing>),
+    /// What the entries brought about.
+    Events(EventsAsked<'a>),
+}
+
+/// What is written of attempts, besides what they brought about.
+#[derive(Debug, Clone, Copy)]
+pub struct EventsAsked<'a> {
+    /// The bit rates of the bus, if they are given: by them what each attempt takes on the wire.
+    pub timing: Option<Timing>,
+    /// The faults that the bus had, if they are given: which of their rules gave each attempt its verdict.
+    pub faults: Option<FaultsWord<'a>>,
 }
 
 #[tactic(auto, using(crate::proofs::Rules::flag_in_rows))]
@@ -52,19 +65,49 @@ pub fn audit_options<'a>(alloc: Global, audit: &ArgMatches<'a>) -> Result<AuditO
 }
 
 // What is to be written.
-fn output_given(alloc: Global, audit: &ArgMatches<'_>) -> Result<AuditOutput, Error>
+fn output_given<'a>(alloc: Global, audit: &ArgMatches<'a>) -> Result<AuditOutput<'a>, Error>
     ensures given { IfOk result (λ output. IsOutput (rows_in audit.now) output) }
     ensures taken { IfErr result (λ e. GiveOutput (rows_in audit.now) → IsNoMemory e) }
     ensures refused { IfErr result RefusesValue }
 {
     let timing = timing_given(alloc, Subcommand::Audit, audit)?;
+    let faults = faults_given(alloc, audit)?;
     if is_on(audit, EVENTS) {
-        return Ok(AuditOutput::Events(timing));
+        return Ok(AuditOutput::Events(EventsAsked { timing, faults }));
     }
-    match timing {
-        None => Ok(AuditOutput::Count),
-        Some(_) => Err(Subcommand::Audit.error(alloc, "'--bitrate' needs '--events'")?),
+    if timing.is_some() {
+        return Err(Subcommand::Audit.error(alloc, "'--bitrate' needs '--events'")?);
     }
+    if faults.is_some() {
+        return Err(Subcommand::Audit.error(alloc, "'--faults' needs '--events'")?);
+    }
+    Ok(AuditOutput::Count)
+}
+
+// The faults that the bus had, if they are given.
+#[tactic(auto, using(crate::proofs::Rules::text_in_rows))]
+fn faults_given<'a>(alloc: Global, audit: &ArgMatches<'a>) -> Result<Option<FaultsWord<'a>>, Error>
+    ensures given { IfOk result (λ faults. AreFaults (rows_in audit.now) faults) }
+    ensures taken { IfErr result (λ e. GiveFaults (rows_in audit.now) → IsNoMemory e) }
+    ensures refused { IfErr result RefusesValue }
+{
+    let Some(word) = audit.get_str(FAULTS) else {
+        return Ok(None);
+    };
+    match FaultsWord::read(word) {
+        Some(faults) => Ok(Some(faults)),
+        None => Err(no_file_error(alloc, word)?),
+    }
+}
+
+// The fault of names without a file.
+fn no_file_error(alloc: Global, word: &str) -> Result<Error, AllocError>
+    ensures { IfOk result (λ e. kind_of e ≡ ValueValidation) }
+{
+    let message = format!(in alloc;
+        "invalid value '{word}' for '--faults': NAMES@FILE, where FILE is the script of faults"
+    )?;
+    Subcommand::Audit.error(alloc, &message)
 }
 
 fn files_given<'a>(alloc: Global, audit: &ArgMatches<'a>) -> Result<Vec<&'a str>, AllocError>
@@ -82,12 +125,16 @@ pub fn audit_command<'a>(alloc: Global) -> Result<Command<'a>, AllocError>
 {
     let bitrate_help =
         "Bits a second, 5000 to 1000000: write how long each attempt is on the wire; needs --events";
+    let faults_help =
+        "Names and script of faults of the run: write which rule gave each attempt its verdict; needs --events";
     let command = Command::new(alloc, "audit")
         .about("Check that a record is a legal history of a bus")
         .after_help(AUDIT_HELP)
         .arg(cut_option(alloc))?
         .arg(events_option(alloc))?;
-    with_bit_rates(alloc, command, bitrate_help)?.arg(files_argument(alloc))
+    with_bit_rates(alloc, command, bitrate_help)?
+        .arg(free_option(alloc, FAULTS, "NAMES@FILE", faults_help))?
+        .arg(files_argument(alloc))
 }
 
 fn cut_option<'a>(alloc: Global) -> Arg<'a>

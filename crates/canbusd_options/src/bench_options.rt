@@ -23,6 +23,8 @@ const LOG: &str = "log";
 
 const STRICT: &str = "strict";
 
+const SHOW_FAULTS: &str = "show-faults";
+
 /// The words of `canbusd bench`.
 #[derive(Debug, Clone, Copy)]
 pub struct BenchOptions<'a> {
@@ -36,6 +38,8 @@ pub struct BenchOptions<'a> {
     pub log: Option<&'a str>,
     /// Whether a message that is refused is a fault of the run.
     pub is_strict: bool,
+    /// Whether the lines of attempts have their faults, and the rules that gave them.
+    pub shows_faults: bool,
 }
 
 #[tactic(auto, using(crate::proofs::Rules::text_in_rows, crate::proofs::Rules::flag_in_rows))]
@@ -62,6 +66,7 @@ pub fn bench_options<'a>(alloc: Global, bench: &ArgMatches<'a>) -> Result<BenchO
         record,
         log,
         is_strict: bench.get_flag(STRICT),
+        shows_faults: bench.get_flag(SHOW_FAULTS),
     })
 }
 
@@ -101,6 +106,7 @@ pub fn bench_command<'a>(alloc: Global) -> Result<Command<'a>, AllocError>
         .arg(record_option(alloc))?
         .arg(log_option(alloc))?
         .arg(strict_option(alloc))?
+        .arg(show_faults_option(alloc))?
         .arg(bus_argument(alloc))
 }
 
@@ -130,4 +136,14 @@ fn strict_option<'a>(alloc: Global) -> Arg<'a>
         .long(STRICT)
         .action(ArgAction::SetTrue)
         .help("End with status 1 if a message of a session was refused")
+}
+
+fn show_faults_option<'a>(alloc: Global) -> Arg<'a>
+    ensures rule { rule_of result ≡ flag_rule (codes "show-faults") }
+    ensures local { result.global ≡ false }
+{
+    Arg::new(alloc, SHOW_FAULTS)
+        .long(SHOW_FAULTS)
+        .action(ArgAction::SetTrue)
+        .help("End the lines of attempts with their faults, and the rules that gave them")
 }

@@ -1,5 +1,6 @@
-ghost use Rattle.std.specs.Prelude.{◌≡◌};
+ghost use Rattle.std.specs.Prelude.{◌≡◌, IfNone, IfSome, None};
 ghost use Rattle.canbusd_options.specs.BusWords.{first_name_of, names_part, path_of, script_part};
+ghost use Rattle.canbusd_options.specs.Options.{IsFaultsWord};
 
 /// A word BUS: `names`, or `names@FILE`.
 #[derive(Debug, Clone, Copy)]
@@ -35,6 +36,32 @@ impl<'a> BusWord<'a> {
         match self.names.split_once(',') {
             Some((first, _)) => first,
             None => self.names,
+        }
+    }
+}
+
+/// A word `NAMES@FILE`: a bus, and the faults that it had in a run.
+#[derive(Debug, Clone, Copy)]
+pub struct FaultsWord<'a> {
+    /// The names of the interfaces, joined by commas.
+    pub names: &'a str,
+    /// The path of the file.
+    pub path: &'a str,
+}
+
+impl<'a> FaultsWord<'a> {
+    /// The names, and what follows the first `@`. `None` where there is no `@`.
+    pub fn read(word: &'a str) -> Option<FaultsWord<'a>>
+        ensures some { IfSome result (λ faults. IsFaultsWord faults word.now) }
+        ensures none { IfNone result (script_part word.now ≡ None) }
+    {
+        let bus = BusWord::read(word);
+        match bus.script {
+            Some(path) => Some(FaultsWord {
+                names: bus.names,
+                path,
+            }),
+            None => None,
         }
     }
 }

@@ -59,7 +59,9 @@ What an attempt writes: tried NAME NUMBER CLASS ACCEPTED OFF, or idle, or record
 NAME from 0; CLASS is done, or lastbit, destroyed or noack, and then the frame is sent again; ACCEPTED and OFF are
 the interfaces that accepted it and that went bus off, or -. Where --auto-restart brought interfaces back, restarted and
 their names follow. With --bitrate an attempt begins at the moment set, or later, once the wire is free; its line ends in
-at MOMENT, its end of frame, and the moment set is then the one from which on the next attempt may begin.
+at MOMENT, its end of frame, and the moment set is then the one from which on the next attempt may begin. With --show-faults
+the line of an attempt that tried a frame ends in `; fault VERDICT`, as a script has it, unless that is good, and then in
+`; rule N` where a rule gave the verdict: the bus took it as its rule number N, from 1.
 
 Lines of a script: NUMBER VERDICT, for the attempt of that number, from 0. VERDICT is good, lastbit,
 global bit, global form, local stuff NAMES, local crc NAMES or local form NAMES. Or a RULE, in this order:
@@ -124,6 +126,11 @@ off. Before a fault it prints the entries before it. docs/RECORD.md has the gram
 With --bitrate the line of each attempt that tried a frame ends in `; wire FRAME BUSY NOMINAL FAST`: the nanoseconds from
 its start to the frame's end and until the next attempt may begin, and how many bits of the frame go at --bitrate and
 at --dbitrate.
+
+With --faults NAMES@FILE, the word that the run had for its bus, the line of each attempt whose verdict is that of a rule
+ends in `; rule N`: which rule of FILE it was, from 1. For what came while the run went on FILE may also have lines
+`at N RULE`, a rule that was given before attempt N, and `at N nofaults`, all rules were ended before it: attempts that tried
+a frame, from 0, and N does not decrease. Rules without `at` come first.
 
 Example, with what it writes:
   $ printf '%s\\n' 'session 1' 'feed 1 < open can0 >< rawmode >< send 123 2 AB CD >' attempt | canbusd bench --record run.rec can0

@@ -15,10 +15,10 @@ mod help;
 mod recording;
 mod serve_options;
 
-pub use audit_options::{AuditOptions, AuditOutput};
+pub use audit_options::{AuditOptions, AuditOutput, EventsAsked};
 pub use bench_options::BenchOptions;
 pub use bus_options::BusSettings;
-pub use bus_word::BusWord;
+pub use bus_word::{BusWord, FaultsWord};
 pub use command_line::{Job, read_options};
 pub use recording::Recording;
 pub use serve_options::ServeOptions;

@@ -1,15 +1,16 @@
-use Rattle.std.proofs.Common.{◌++◌, Bool, IfOk, List, ℕ, subst, sym, inr, ◌∙◌}
+use Rattle.std.proofs.Common.{◌++◌, Bool, IfOk, List, Option, ℕ, subst, sym, inr, ◌∙◌}
+use Rattle.can_events.specs.declared.wanted.Wanted.{Wanted}
 use Rattle.can_replay.specs.EventTexts.{EndsCutEvents, HasWritten}
 use Rattle.can_replay.specs.TextAudits.{AreTaken, EndsNoLine, ReportsCut}
 use Rattle.canbusd_io.specs.declared.report.Report.{Report}
-use Rattle.canbusd_options.specs.declared.audit_options.AuditOutput.{AuditOutput}
-use Rattle.canbusd_audit.specs.Audited.{FaultsCut, FaultsLine, Leaves}
+use Rattle.canbusd_audit.specs.Audited.{FaultsCut, FaultsLine, Leaves, asks_events, wanted_of}
+use Rattle.canbusd_audit.proofs.Underway.{asked_so}
 use Rattle.canbusd_audit.proofs.Telling.{Either, all_told_cut, cut_written, left, line_or_cut, memory_told_cut, noted_cut, nothing_left, or_text, passed_on, ready}
 use Rattle.canbusd_audit.proofs.audit_job.audit_cut_lines.Goals as goal
 
 pub tell_cut-requires : goal.tell_cut-requires
 tell_cut-requires g c =
-    let taken = c.in_ok-take_lines.ensures.taken in
+    let taken = c.in_ok-take_lines.ensures.taken (wanted_of c.args.asked) c.in_ok-audit.ensures.written in
     let told = subst (λ (l : List ℕ). (text : List ℕ) → AreTaken text c.take_lines.new.audit → EndsNoLine l → ReportsCut (text ++ l) c.finish_cut-found.result) c.deref.ensures.value c.finish_cut-found.ensures.told in
     noted_cut _ c.finish_cut-found.result (told taken.lines taken.written.taken taken.unended)
 
@@ -17,39 +18,40 @@ pub returns-in_err-audit-clause-fault : goal.returns-in_err-audit-clause-fault
 returns-in_err-audit-clause-fault g c =
     let first = g.R.Read.remaining c.args.input.now in
     let failure = c.in_err-audit.field-0.0 in
-    passed_on (Either c.args.asked.now (FaultsCut first)) failure c.from_residual.result c.from_residual.ensures.1 (inr (memory_told_cut first failure.error c.in_err-audit.ensures.fault))
+    passed_on (Either (asks_events c.args.asked) (FaultsCut first)) failure c.from_residual.result c.from_residual.ensures.1 (inr (memory_told_cut first failure.error c.in_err-audit.ensures.fault))
 
 pub returns-in_err-audit-clause-written : goal.returns-in_err-audit-clause-written
 returns-in_err-audit-clause-written g c =
     let first = g.R.Read.remaining c.args.input.now in
     let failure = c.in_err-audit.field-0.0 in
-    passed_on (λ (x : Report). Leaves c.args.asked.now first x.error g.W.Write.contents c.args.output.now c.args.output.now) failure c.from_residual.result c.from_residual.ensures.1
-    (nothing_left c.args.asked.now first failure.error g.W.Write.contents c.args.output.now)
+    passed_on (λ (x : Report). Leaves c.args.asked first x.error g.W.Write.contents c.args.output.now c.args.output.now) failure c.from_residual.result c.from_residual.ensures.1
+    (nothing_left c.args.asked first failure.error g.W.Write.contents c.args.output.now)
 
 pub returns-in_err-take_lines-clause-fault : goal.returns-in_err-take_lines-clause-fault
 returns-in_err-take_lines-clause-fault g c =
     let first = g.R.Read.remaining c.args.input.now in
     let failure = c.in_err-take_lines.field-0.0 in
-    passed_on (Either c.args.asked.now (FaultsCut first)) failure c.from_residual-in_err-take_lines.result c.from_residual-in_err-take_lines.ensures.1
-    (line_or_cut c.args.asked.now first failure (subst (λ (o : AuditOutput). Either o (FaultsLine first) failure) c.in_ok-audit.ensures.asked c.in_err-take_lines.ensures.fault))
+    passed_on (Either (asks_events c.args.asked) (FaultsCut first)) failure c.from_residual-in_err-take_lines.result c.from_residual-in_err-take_lines.ensures.1
+    (line_or_cut (asks_events c.args.asked) first failure (subst (λ (b : Bool). Either b (FaultsLine first) failure) c.in_ok-audit.ensures.asked c.in_err-take_lines.ensures.fault))
 
 pub returns-in_err-take_lines-clause-written : goal.returns-in_err-take_lines-clause-written
 returns-in_err-take_lines-clause-written g c =
     let first = g.R.Read.remaining c.args.input.now in
     let failure = c.in_err-take_lines.field-0.0 in
-    passed_on (λ (x : Report). Leaves c.args.asked.now first x.error g.W.Write.contents c.args.output.now c.take_lines.new.output) failure c.from_residual-in_err-take_lines.result c.from_residual-in_err-take_lines.ensures.1
-    (subst (λ (o : AuditOutput). Leaves o first failure.error g.W.Write.contents c.args.output.now c.take_lines.new.output) c.in_ok-audit.ensures.asked c.in_err-take_lines.ensures.written)
+    passed_on (λ (x : Report). Leaves c.args.asked first x.error g.W.Write.contents c.args.output.now c.take_lines.new.output) failure c.from_residual-in_err-take_lines.result c.from_residual-in_err-take_lines.ensures.1
+    (subst (λ (o : Option Wanted). Leaves o first failure.error g.W.Write.contents c.args.output.now c.take_lines.new.output) (sym (asked_so c.args.asked _ c.in_ok-audit.ensures.asked))
+    (c.in_err-take_lines.ensures.written (wanted_of c.args.asked) c.in_ok-audit.ensures.written))
 
 pub returns-clause-legal : goal.returns-clause-legal
 returns-clause-legal g c =
     let first = g.R.Read.remaining c.args.input.now in
     let torn = c.take_lines.new.torn.items in
     let audit = c.take_lines.new.audit in
-    let taken = c.in_ok-take_lines.ensures.taken in
-    cut_written c.args.asked.now first audit torn g.W.Write.contents c.args.output.now c.take_lines.new.output c.tell_cut.new.output c.finish_cut-found.result c.tell_cut.result (sym (c.take_lines.ensures.asked ∙ c.in_ok-audit.ensures.asked))
-    (ready first audit torn g.W.Write.contents c.args.output.now c.take_lines.new.output taken) taken.unended
+    let taken = c.in_ok-take_lines.ensures.taken (wanted_of c.args.asked) c.in_ok-audit.ensures.written in
+    cut_written c.args.asked c.is_with_events-has_events.result first audit torn g.W.Write.contents c.args.output.now c.take_lines.new.output c.tell_cut.new.output c.finish_cut-found.result c.tell_cut.result c.is_with_events-has_events.ensures
+    (c.take_lines.ensures.asked ∙ c.in_ok-audit.ensures.asked) (ready (wanted_of c.args.asked) first audit torn g.W.Write.contents c.args.output.now c.take_lines.new.output taken) taken.unended
     (subst (λ (l : List ℕ). (text : List ℕ) → AreTaken text audit → EndsNoLine l → ReportsCut (text ++ l) c.finish_cut-found.result) c.deref.ensures.value c.finish_cut-found.ensures.told)
-    (subst (λ (l : List ℕ). (text events : List ℕ) → HasWritten text events audit → EndsNoLine l → IfOk c.finish_cut-found.result (EndsCutEvents audit.events (text ++ l) events)) c.deref.ensures.value c.finish_cut-found.ensures.events)
+    (subst (λ (l : List ℕ). (w : Wanted) (text events : List ℕ) → HasWritten w text events audit → EndsNoLine l → IfOk c.finish_cut-found.result (EndsCutEvents w audit.events (text ++ l) events)) c.deref.ensures.value c.finish_cut-found.ensures.events)
     c.tell_cut.ensures.legal
 
 pub returns-clause-fault : goal.returns-clause-fault
@@ -57,9 +59,9 @@ returns-clause-fault g c =
     let first = g.R.Read.remaining c.args.input.now in
     let torn = c.take_lines.new.torn.items in
     let audit = c.take_lines.new.audit in
-    let taken = c.in_ok-take_lines.ensures.taken in
-    or_text c.args.asked.now (FaultsCut first) c.tell_cut.result
-    (all_told_cut first audit torn g.W.Write.contents c.args.output.now c.take_lines.new.output c.finish_cut-found.result c.tell_cut.result (ready first audit torn g.W.Write.contents c.args.output.now c.take_lines.new.output taken) taken.unended
+    let taken = c.in_ok-take_lines.ensures.taken (wanted_of c.args.asked) c.in_ok-audit.ensures.written in
+    or_text (asks_events c.args.asked) (FaultsCut first) c.tell_cut.result
+    (all_told_cut (wanted_of c.args.asked) first audit torn g.W.Write.contents c.args.output.now c.take_lines.new.output c.finish_cut-found.result c.tell_cut.result (ready (wanted_of c.args.asked) first audit torn g.W.Write.contents c.args.output.now c.take_lines.new.output taken) taken.unended
     (subst (λ (l : List ℕ). (text : List ℕ) → AreTaken text audit → EndsNoLine l → ReportsCut (text ++ l) c.finish_cut-found.result) c.deref.ensures.value c.finish_cut-found.ensures.told) c.tell_cut.ensures.fault)
 
 pub returns-clause-written : goal.returns-clause-written
@@ -67,5 +69,5 @@ returns-clause-written g c =
     let first = g.R.Read.remaining c.args.input.now in
     let torn = c.take_lines.new.torn.items in
     let audit = c.take_lines.new.audit in
-    left c.args.asked.now first audit torn g.W.Write.contents c.args.output.now c.take_lines.new.output c.tell_cut.new.output c.finish_cut-found.result c.tell_cut.result (sym (c.take_lines.ensures.asked ∙ c.in_ok-audit.ensures.asked))
-    (ready first audit torn g.W.Write.contents c.args.output.now c.take_lines.new.output c.in_ok-take_lines.ensures.taken) c.finish_cut-found.ensures.wrong c.tell_cut.ensures.fault c.tell_cut.ensures.quiet
+    left c.args.asked first audit torn g.W.Write.contents c.args.output.now c.take_lines.new.output c.tell_cut.new.output c.finish_cut-found.result c.tell_cut.result (c.take_lines.ensures.asked ∙ c.in_ok-audit.ensures.asked)
+    (ready (wanted_of c.args.asked) first audit torn g.W.Write.contents c.args.output.now c.take_lines.new.output (c.in_ok-take_lines.ensures.taken (wanted_of c.args.asked) c.in_ok-audit.ensures.written)) c.finish_cut-found.ensures.wrong c.tell_cut.ensures.fault c.tell_cut.ensures.quiet

@@ -1,11 +1,11 @@
-use Rattle.std.proofs.Common.{◌≡◌, ◌+◌, ◌-◌, ◌++◌, ◌∙◌, [], ℕ, List, Some, Err, arith, append-nil, drop, length, length-drop, refl, subst, sym, take, take_all}
+use Rattle.std.proofs.Common.{◌≡◌, ◌+◌, ◌-◌, ◌++◌, ◌∙◌, ℕ, List, Some, Err, arith, append-nil, drop, length, length-drop, refl, subst, sym, take, take_all}
 use Rattle.memchr.specs.Find.{IsFirstByte, is_byte}
+use Rattle.can_events.specs.declared.wanted.Wanted.{Wanted}
 use Rattle.can_record_text.specs.RecordFaults.{Reads}
 use Rattle.can_replay.specs.EventTexts.{HasWritten}
 use Rattle.can_replay.specs.TextAudits.{AreTaken, IsLine, MayFollow}
 use Rattle.canbusd_audit.specs.Audited.{TakesMore}
 use Rattle.canbusd_audit.proofs.HeldLines.{fails_in, takes_more}
-use Rattle.canbusd_audit.proofs.Underway.{same_output}
 use Rattle.canbusd_audit.proofs.buffered.carry_held.Goals as goal
 
 whole_rest : (xs : List ℕ) (n : ℕ) → take (length xs - n) (drop n xs) ≡ drop n xs
@@ -14,7 +14,7 @@ whole_rest xs n = take_all _ _ (omega (arith, length-drop n xs))
 pub loop-place-init : goal.loop-place-init
 loop-place-init c = record {
   within = omega arith;
-  taken = λ text events start. subst (λ (x : List ℕ). HasWritten x events c.args.audit.now) (sym (append-nil text)) start;
+  taken = λ w text events start. subst (λ (x : List ℕ). HasWritten w x events c.args.audit.now) (sym (append-nil text)) start;
   asked = refl;
 }
 
@@ -43,6 +43,6 @@ loop-place-preserved c =
       within = omega (arith, found.0.high, length-drop len held);
       taken = subst (λ (n : ℕ). TakesMore c.args.audit.now (take n held) c.carry.new.self) end
           (takes_more held len place c.args.audit.now c.loop-place.audit c.carry.new.self found c.loop-place.invariant.taken
-          (subst (λ (n : ℕ). (events text : List ℕ) → HasWritten text events c.loop-place.audit → IsLine (take n (drop len held)) → HasWritten (text ++ take n (drop len held)) events c.carry.new.self) size c.in-Ok.ensures.written));
-      asked = same_output _ _ c.carry.ensures.events c.carry.ensures.timing ∙ c.loop-place.invariant.asked;
+          (subst (λ (n : ℕ). (w : Wanted) (events text : List ℕ) → HasWritten w text events c.loop-place.audit → IsLine (take n (drop len held)) → HasWritten w (text ++ take n (drop len held)) events c.carry.new.self) size c.in-Ok.ensures.written));
+      asked = c.carry.ensures.events ∙ c.loop-place.invariant.asked;
     }

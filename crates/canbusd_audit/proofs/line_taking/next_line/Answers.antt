@@ -1,4 +1,4 @@
-use Rattle.std.proofs.Common.{◌≡◌, ◌≢◌, ◌-◌, [], IsTrue, List, Some, false, length, slice_get, subst, ℕ}
+use Rattle.std.proofs.Common.{◌≡◌, ◌≢◌, ◌-◌, IsTrue, List, Some, false, length, slice_get, subst, ℕ}
 use Rattle.canbusd_audit.proofs.Underway.{next_is}
 use Rattle.canbusd_audit.proofs.line_taking.next_line.Goals as goal
 

@@ -8,13 +8,13 @@ use Rattle.canbusd_audit.proofs.line_taking.take_last.Goals as goal
 pub returns-in-Ok-clause-taken : goal.returns-in-Ok-clause-taken
 returns-in-Ok-clause-taken c =
     let torn = c.args.torn.now in
-    λ lines events written. c.in-Ok.ensures.written events lines written (last_line torn (some_of torn c.if-is_empty.ensures) c.requires)
+    λ w lines events written. c.in-Ok.ensures.written w events lines written (last_line torn (some_of torn c.if-is_empty.ensures) c.requires)
 
 pub returns-then-is_empty-clause-taken : goal.returns-then-is_empty-clause-taken
 returns-then-is_empty-clause-taken c =
     let torn = c.args.torn.now in
     let none : torn ≡ [] = nil_from_length torn (eqb-true (length torn) 0 (sym c.if-is_empty.ensures)) in
-    λ lines events written. subst (λ (x : List ℕ). HasWritten x events c.args.audit.now) (sym (ap (λ (x : List ℕ). lines ++ x) none ∙ append-nil lines)) written
+    λ w lines events written. subst (λ (x : List ℕ). HasWritten w x events c.args.audit.now) (sym (ap (λ (x : List ℕ). lines ++ x) none ∙ append-nil lines)) written
 
 pub returns-then-has_end_line-clause-line : goal.returns-then-has_end_line-clause-line
 returns-then-has_end_line-clause-line c = (c.in-Err.fault, c.torn_failure-failure.ensures)

@@ -1,68 +1,69 @@
-use Rattle.std.proofs.Common.{◌≡◌, ◌++◌, Bool, true, false, Err, List, Option, [], ℕ, inl, inr, refl, subst, sym, ◌∙◌}
+use Rattle.std.proofs.Common.{◌++◌, Bool, true, false, Err, List, Option, [], ℕ, inr, refl, subst, sym, ◌∙◌}
 use Rattle.std.proofs.KnownBytes.{Appends-nil, Consumes-nil}
+use Rattle.can_events.specs.declared.wanted.Wanted.{Wanted}
 use Rattle.can_record_text.specs.RecordFaults.{Reads}
 use Rattle.can_replay.specs.declared.text_audit.Phase.{Phase}
 use Rattle.can_replay.specs.declared.text_audit.TextAudit.{TextAudit}
-use Rattle.can_replay.specs.EventTexts.{HasWritten, held_events}
+use Rattle.can_replay.specs.EventTexts.{HasWritten, has_events}
 use Rattle.can_replay.specs.TextAudits.{AreTaken, IsLine, MayFollow}
 use Rattle.canbusd_io.specs.Files.{IsOfReading}
-use Rattle.canbusd_options.specs.declared.audit_options.AuditOutput.{AuditOutput}
-use Rattle.canbusd_options.specs.declared.audit_options.AuditOutput.TheVariants as writes
-use Rattle.canbusd_audit.specs.Audited.{BecomesOf, IsInputTaken, IsNextLine, IsPut, Puts, StopsEvents, output_of}
+use Rattle.canbusd_audit.specs.Audited.{BecomesOf, IsInputTaken, IsNextLine, Puts}
 use Rattle.canbusd_audit.specs.declared.buffered.Buffered.{Buffered}
 use Rattle.canbusd_audit.proofs.Fronts.{leaves_put, leaves_stopped, names_line, names_reading}
-use Rattle.canbusd_audit.proofs.Underway.{ends, ends_torn, fails_held, fails_so, goes_on, put_more, put_on, same_output, stops}
+use Rattle.canbusd_audit.proofs.Underway.{ends, ends_torn, fails_held, fails_so, goes_on, put_more, put_on, stops}
 use Rattle.canbusd_audit.proofs.line_taking.take_lines.Goals as goal
 
-puts_none : {W : Type 0} (has : AuditOutput) (contents : W → Option (List ℕ)) (a : W) → Puts has contents a a []
-puts_none writes.Count contents a = refl
-puts_none (writes.Events t) contents a = Appends-nil (contents a)
+puts_none : {W : Type 0} (has : Bool) (contents : W → Option (List ℕ)) (a : W) → Puts has contents a a []
+puts_none false contents a = refl
+puts_none true contents a = Appends-nil (contents a)
 
 pub loop-init : goal.loop-init
 loop-init g c = record {
-  put = record {
+  put = λ w start. record {
     events = [];
-    underway = record { text = []; consumed = Consumes-nil (g.R.Read.remaining c.args.input.now); written = c.requires.written };
-    put = puts_none (output_of c.args.audit.now.events) g.W.Write.contents c.args.output.now;
+    underway = record { text = []; consumed = Consumes-nil (g.R.Read.remaining c.args.input.now); written = start };
+    put = puts_none (has_events c.args.audit.now.events) g.W.Write.contents c.args.output.now;
   };
   none = c.requires.none;
   asked = refl;
 }
 
 pub returns-in-Ok-End-clause-taken : goal.returns-in-Ok-End-clause-taken
-returns-in-Ok-End-clause-taken g c =
+returns-in-Ok-End-clause-taken g c = λ w start.
     let now = g.R.Read.remaining c.loop.input in
     let ended = subst (λ (h : Buffered). BecomesOf h now (g.R.Read.remaining c.take_held.new.input) c.loop.audit c.take_held.new.audit) c.in-Ok-End.field-0-is c.in-Ok-End.ensures.became in
     let first = g.R.Read.remaining c.args.input.now in
-    let all = ends first now c.loop.audit g.W.Write.contents c.args.output.now c.loop.output c.loop.invariant.none c.loop.invariant.put ended.0 in
-    subst (λ (l : List ℕ). IsInputTaken first c.take_held.new.audit l g.W.Write.contents c.args.output.now c.loop.output) (sym {A = List ℕ} c.clear.ensures.items)
-    (subst (λ (a : TextAudit). IsInputTaken first a [] g.W.Write.contents c.args.output.now c.loop.output) (sym ended.1) all)
+    let all = ends w first now c.loop.audit g.W.Write.contents c.args.output.now c.loop.output c.loop.invariant.none (c.loop.invariant.put w start) ended.0 in
+    subst (λ (l : List ℕ). IsInputTaken w first c.take_held.new.audit l g.W.Write.contents c.args.output.now c.loop.output) (sym {A = List ℕ} c.clear.ensures.items)
+    (subst (λ (a : TextAudit). IsInputTaken w first a [] g.W.Write.contents c.args.output.now c.loop.output) (sym ended.1) all)
 
 pub returns-in-Ok-Wrong-clause-fault : goal.returns-in-Ok-Wrong-clause-fault
 returns-in-Ok-Wrong-clause-fault g c =
     let now = g.R.Read.remaining c.loop.input in
     let became = subst (λ (h : Buffered). BecomesOf h now (g.R.Read.remaining c.take_held.new.input) c.loop.audit c.take_held.new.audit) c.in-Ok-Wrong.field-0-is c.in-Ok-Wrong.ensures.became in
-    inr (fails_held (g.R.Read.remaining c.args.input.now) now c.loop.audit c.loop.invariant.put.events c.in-Ok-Wrong.fault c.held_failure.result.error c.held_failure.ensures c.loop.invariant.put.underway became.0)
+    let v = c.requires.written.0 in
+    let put = c.loop.invariant.put v c.requires.written.1 in
+    inr (fails_held v (g.R.Read.remaining c.args.input.now) now c.loop.audit put.events c.in-Ok-Wrong.fault c.held_failure.result.error c.held_failure.ensures put.underway became.0)
 
 pub returns-in-Ok-Wrong-clause-written : goal.returns-in-Ok-Wrong-clause-written
-returns-in-Ok-Wrong-clause-written g c =
+returns-in-Ok-Wrong-clause-written g c = λ w start.
     let now = g.R.Read.remaining c.loop.input in
     let after = g.R.Read.remaining c.take_held.new.input in
     let became = subst (λ (h : Buffered). BecomesOf h now after c.loop.audit c.take_held.new.audit) c.in-Ok-Wrong.field-0-is c.in-Ok-Wrong.ensures.became in
-    inr (leaves_stopped (output_of c.args.audit.now.events) (g.R.Read.remaining c.args.input.now) now after c.loop.audit c.take_held.new.audit c.held_failure.result.error g.W.Write.contents c.args.output.now c.loop.output c.put_events-in-Ok-Wrong.new.output
-    c.loop.invariant.asked c.take_held.ensures.asked c.loop.invariant.put became.1 c.in_ok-put_events-in-Ok-Wrong.ensures.put (λ (p : Phase). names_line c.in-Ok-Wrong.fault c.held_failure.result.error p c.held_failure.ensures))
+    inr (leaves_stopped w (g.R.Read.remaining c.args.input.now) now after c.args.audit.now.events c.loop.audit c.take_held.new.audit c.held_failure.result.error g.W.Write.contents c.args.output.now c.loop.output c.put_events-in-Ok-Wrong.new.output
+    c.loop.invariant.asked c.take_held.ensures.asked (c.loop.invariant.put w start) became.1 c.in_ok-put_events-in-Ok-Wrong.ensures.put (λ (p : Phase). names_line c.in-Ok-Wrong.fault c.held_failure.result.error p c.held_failure.ensures))
 
 pub returns-in-Err-clause-fault : goal.returns-in-Err-clause-fault
 returns-in-Err-clause-fault g c = inr (stops (g.R.Read.remaining c.args.input.now) c.read_failure.result.error c.read_failure.ensures)
 
 pub returns-in-Err-clause-written : goal.returns-in-Err-clause-written
-returns-in-Err-clause-written g c =
-    inr (leaves_put (output_of c.args.audit.now.events) (g.R.Read.remaining c.args.input.now) (g.R.Read.remaining c.loop.input) c.loop.audit c.read_failure.result.error g.W.Write.contents c.args.output.now c.loop.output (sym c.loop.invariant.asked)
-    c.loop.invariant.none c.loop.invariant.put (names_reading c.read_failure.result.error c.loop.audit.phase c.read_failure.ensures))
+returns-in-Err-clause-written g c = λ w start.
+    inr (leaves_put w (g.R.Read.remaining c.args.input.now) (g.R.Read.remaining c.loop.input) c.args.audit.now.events c.loop.audit c.read_failure.result.error g.W.Write.contents c.args.output.now c.loop.output (sym c.loop.invariant.asked)
+    c.loop.invariant.none (c.loop.invariant.put w start) (names_reading c.read_failure.result.error c.loop.audit.phase c.read_failure.ensures))
 
 -- what the reader held was taken, and its events put out
 pub returns-in-Ok-false-clause-taken : goal.returns-in-Ok-false-clause-taken
-returns-in-Ok-false-clause-taken g c =
+returns-in-Ok-false-clause-taken g c = λ w start.
     let first = g.R.Read.remaining c.args.input.now in
     let now = g.R.Read.remaining c.loop.input in
     let held = g.R.Read.remaining c.take_held.new.input in
@@ -70,29 +71,31 @@ returns-in-Ok-false-clause-taken g c =
     let line = c.next_line.new.line.items in
     let contents = g.W.Write.contents in
     let became = subst (λ (h : Buffered). BecomesOf h now held c.loop.audit c.take_held.new.audit) c.in-Ok-Lines.field-0-is c.in-Ok-Lines.ensures.became in
-    let on = put_on first now held c.loop.audit c.take_held.new.audit contents c.args.output.now c.loop.output c.take_held.ensures.asked (became first) c.loop.invariant.put in
-    let put = put_more first held c.take_held.new.audit c.put_events.new.audit contents c.args.output.now c.loop.output c.put_events.new.output c.put_events.ensures.asked c.in_ok-put_events-in-Ok-Lines.ensures.written c.in_ok-put_events-in-Ok-Lines.ensures.put on in
+    let on = put_on w first now held c.loop.audit c.take_held.new.audit contents c.args.output.now c.loop.output c.take_held.ensures.asked (became w first) (c.loop.invariant.put w start) in
+    let put = put_more w first held c.take_held.new.audit c.put_events.new.audit contents c.args.output.now c.loop.output c.put_events.new.output c.put_events.ensures.asked c.in_ok-put_events-in-Ok-Lines.ensures.written c.in_ok-put_events-in-Ok-Lines.ensures.put on in
     let rest = subst (λ (b : Bool). IsNextLine b held after line) c.in-Ok-false.field-0-test c.in-Ok-false.ensures.read in
-    ends_torn first held c.put_events.new.audit contents c.args.output.now c.put_events.new.output line c.in_ok-put_events-in-Ok-Lines.ensures.none put rest.0 rest.1
+    ends_torn w first held c.put_events.new.audit contents c.args.output.now c.put_events.new.output line c.in_ok-put_events-in-Ok-Lines.ensures.none put rest.0 rest.1
 
 pub returns-in-Err-next_line-clause-fault : goal.returns-in-Err-next_line-clause-fault
 returns-in-Err-next_line-clause-fault g c = inr (stops (g.R.Read.remaining c.args.input.now) c.in-Err-next_line.failure.error c.in-Err-next_line.ensures.fault)
 
 pub returns-in-Err-next_line-clause-written : goal.returns-in-Err-next_line-clause-written
-returns-in-Err-next_line-clause-written g c =
+returns-in-Err-next_line-clause-written g c = λ w start.
     let first = g.R.Read.remaining c.args.input.now in
     let now = g.R.Read.remaining c.loop.input in
     let held = g.R.Read.remaining c.take_held.new.input in
     let contents = g.W.Write.contents in
     let became = subst (λ (h : Buffered). BecomesOf h now held c.loop.audit c.take_held.new.audit) c.in-Ok-Lines.field-0-is c.in-Ok-Lines.ensures.became in
-    let on = put_on first now held c.loop.audit c.take_held.new.audit contents c.args.output.now c.loop.output c.take_held.ensures.asked (became first) c.loop.invariant.put in
-    let put = put_more first held c.take_held.new.audit c.put_events.new.audit contents c.args.output.now c.loop.output c.put_events.new.output c.put_events.ensures.asked c.in_ok-put_events-in-Ok-Lines.ensures.written c.in_ok-put_events-in-Ok-Lines.ensures.put on in
+    let on = put_on w first now held c.loop.audit c.take_held.new.audit contents c.args.output.now c.loop.output c.take_held.ensures.asked (became w first) (c.loop.invariant.put w start) in
+    let put = put_more w first held c.take_held.new.audit c.put_events.new.audit contents c.args.output.now c.loop.output c.put_events.new.output c.put_events.ensures.asked c.in_ok-put_events-in-Ok-Lines.ensures.written c.in_ok-put_events-in-Ok-Lines.ensures.put on in
     let kind = sym (c.put_events.ensures.asked ∙ (c.take_held.ensures.asked ∙ c.loop.invariant.asked)) in
-    inr (leaves_put (output_of c.args.audit.now.events) first held c.put_events.new.audit c.in-Err-next_line.failure.error contents c.args.output.now c.put_events.new.output kind c.in_ok-put_events-in-Ok-Lines.ensures.none put
+    inr (leaves_put w first held c.args.audit.now.events c.put_events.new.audit c.in-Err-next_line.failure.error contents c.args.output.now c.put_events.new.output kind c.in_ok-put_events-in-Ok-Lines.ensures.none put
     (names_reading c.in-Err-next_line.failure.error c.put_events.new.audit.phase c.in-Err-next_line.ensures.fault))
 
 pub returns-in-Err-carry-clause-fault : goal.returns-in-Err-carry-clause-fault
 returns-in-Err-carry-clause-fault g c =
+    let w = c.requires.written.0 in
+    let start = c.requires.written.1 in
     let first = g.R.Read.remaining c.args.input.now in
     let now = g.R.Read.remaining c.loop.input in
     let held = g.R.Read.remaining c.take_held.new.input in
@@ -100,49 +103,49 @@ returns-in-Err-carry-clause-fault g c =
     let line = c.next_line.new.line.items in
     let contents = g.W.Write.contents in
     let became = subst (λ (h : Buffered). BecomesOf h now held c.loop.audit c.take_held.new.audit) c.in-Ok-Lines.field-0-is c.in-Ok-Lines.ensures.became in
-    let on = put_on first now held c.loop.audit c.take_held.new.audit contents c.args.output.now c.loop.output c.take_held.ensures.asked (became first) c.loop.invariant.put in
-    let put = put_more first held c.take_held.new.audit c.put_events.new.audit contents c.args.output.now c.loop.output c.put_events.new.output c.put_events.ensures.asked c.in_ok-put_events-in-Ok-Lines.ensures.written c.in_ok-put_events-in-Ok-Lines.ensures.put on in
-    inr (fails_so first held after line put.events c.put_events.new.audit c.in-Err-carry.fault c.line_failure.result.error c.line_failure.ensures put.underway
+    let on = put_on w first now held c.loop.audit c.take_held.new.audit contents c.args.output.now c.loop.output c.take_held.ensures.asked (became w first) (c.loop.invariant.put w start) in
+    let put = put_more w first held c.take_held.new.audit c.put_events.new.audit contents c.args.output.now c.loop.output c.put_events.new.output c.put_events.ensures.asked c.in_ok-put_events-in-Ok-Lines.ensures.written c.in_ok-put_events-in-Ok-Lines.ensures.put on in
+    inr (fails_so w first held after line put.events c.put_events.new.audit c.in-Err-carry.fault c.line_failure.result.error c.line_failure.ensures put.underway
     (subst (λ (b : Bool). IsNextLine b held after line) c.in-Ok-true.field-0-test c.in-Ok-true.ensures.read)
     (subst (λ (l : List ℕ). (text rest : List ℕ) → AreTaken text c.put_events.new.audit → IsLine l → MayFollow l rest → Reads (text ++ (l ++ rest)) (Err c.in-Err-carry.fault)) c.deref.ensures.value c.in-Err-carry.ensures.fault))
 
 pub returns-in-Err-carry-clause-written : goal.returns-in-Err-carry-clause-written
-returns-in-Err-carry-clause-written g c =
+returns-in-Err-carry-clause-written g c = λ w start.
     let first = g.R.Read.remaining c.args.input.now in
     let now = g.R.Read.remaining c.loop.input in
     let held = g.R.Read.remaining c.take_held.new.input in
     let contents = g.W.Write.contents in
     let became = subst (λ (h : Buffered). BecomesOf h now held c.loop.audit c.take_held.new.audit) c.in-Ok-Lines.field-0-is c.in-Ok-Lines.ensures.became in
-    let on = put_on first now held c.loop.audit c.take_held.new.audit contents c.args.output.now c.loop.output c.take_held.ensures.asked (became first) c.loop.invariant.put in
-    let put = put_more first held c.take_held.new.audit c.put_events.new.audit contents c.args.output.now c.loop.output c.put_events.new.output c.put_events.ensures.asked c.in_ok-put_events-in-Ok-Lines.ensures.written c.in_ok-put_events-in-Ok-Lines.ensures.put on in
+    let on = put_on w first now held c.loop.audit c.take_held.new.audit contents c.args.output.now c.loop.output c.take_held.ensures.asked (became w first) (c.loop.invariant.put w start) in
+    let put = put_more w first held c.take_held.new.audit c.put_events.new.audit contents c.args.output.now c.loop.output c.put_events.new.output c.put_events.ensures.asked c.in_ok-put_events-in-Ok-Lines.ensures.written c.in_ok-put_events-in-Ok-Lines.ensures.put on in
     let kind = sym (c.put_events.ensures.asked ∙ (c.take_held.ensures.asked ∙ c.loop.invariant.asked)) in
-    inr (leaves_put (output_of c.args.audit.now.events) first held c.put_events.new.audit c.line_failure.result.error contents c.args.output.now c.put_events.new.output kind c.in_ok-put_events-in-Ok-Lines.ensures.none put
+    inr (leaves_put w first held c.args.audit.now.events c.put_events.new.audit c.line_failure.result.error contents c.args.output.now c.put_events.new.output kind c.in_ok-put_events-in-Ok-Lines.ensures.none put
     (names_line c.in-Err-carry.fault c.line_failure.result.error c.put_events.new.audit.phase c.line_failure.ensures))
 
 pub loop-preserved : goal.loop-preserved
-loop-preserved g c =
-    let first = g.R.Read.remaining c.args.input.now in
-    let now = g.R.Read.remaining c.loop.input in
-    let held = g.R.Read.remaining c.take_held.new.input in
-    let after = g.R.Read.remaining c.next_line.new.input in
-    let line = c.next_line.new.line.items in
-    let contents = g.W.Write.contents in
-    let became = subst (λ (h : Buffered). BecomesOf h now held c.loop.audit c.take_held.new.audit) c.in-Ok-Lines.field-0-is c.in-Ok-Lines.ensures.became in
-    let on = put_on first now held c.loop.audit c.take_held.new.audit contents c.args.output.now c.loop.output c.take_held.ensures.asked (became first) c.loop.invariant.put in
-    let put = put_more first held c.take_held.new.audit c.put_events.new.audit contents c.args.output.now c.loop.output c.put_events.new.output c.put_events.ensures.asked c.in_ok-put_events-in-Ok-Lines.ensures.written c.in_ok-put_events-in-Ok-Lines.ensures.put on in
-    let read = subst (λ (b : Bool). IsNextLine b held after line) c.in-Ok-true.field-0-test c.in-Ok-true.ensures.read in
-    let step = subst (λ (l : List ℕ). (events text : List ℕ) → HasWritten text events c.put_events.new.audit → IsLine l → HasWritten (text ++ l) events c.carry.new.self) c.deref.ensures.value c.in-Ok.ensures.written in
-    let taken = put_on first held after c.put_events.new.audit c.carry.new.self contents c.args.output.now c.put_events.new.output (same_output _ _ c.carry.ensures.events c.carry.ensures.timing) (λ events u. goes_on first held after line events c.put_events.new.audit c.carry.new.self u read step) put in
-    record {
-      put = put_more first after c.carry.new.self c.put_events-in-Ok.new.audit contents c.args.output.now c.put_events.new.output c.put_events-in-Ok.new.output c.put_events-in-Ok.ensures.asked c.in_ok-put_events-in-Ok.ensures.written c.in_ok-put_events-in-Ok.ensures.put taken;
-      none = c.in_ok-put_events-in-Ok.ensures.none;
-      asked = c.put_events-in-Ok.ensures.asked ∙ (same_output _ _ c.carry.ensures.events c.carry.ensures.timing ∙ (c.put_events.ensures.asked ∙ (c.take_held.ensures.asked ∙ c.loop.invariant.asked)));
-    }
+loop-preserved g c = record {
+  put = λ w start.
+      let first = g.R.Read.remaining c.args.input.now in
+      let now = g.R.Read.remaining c.loop.input in
+      let held = g.R.Read.remaining c.take_held.new.input in
+      let after = g.R.Read.remaining c.next_line.new.input in
+      let line = c.next_line.new.line.items in
+      let contents = g.W.Write.contents in
+      let became = subst (λ (h : Buffered). BecomesOf h now held c.loop.audit c.take_held.new.audit) c.in-Ok-Lines.field-0-is c.in-Ok-Lines.ensures.became in
+      let on = put_on w first now held c.loop.audit c.take_held.new.audit contents c.args.output.now c.loop.output c.take_held.ensures.asked (became w first) (c.loop.invariant.put w start) in
+      let put = put_more w first held c.take_held.new.audit c.put_events.new.audit contents c.args.output.now c.loop.output c.put_events.new.output c.put_events.ensures.asked c.in_ok-put_events-in-Ok-Lines.ensures.written c.in_ok-put_events-in-Ok-Lines.ensures.put on in
+      let read = subst (λ (b : Bool). IsNextLine b held after line) c.in-Ok-true.field-0-test c.in-Ok-true.ensures.read in
+      let step = subst (λ (l : List ℕ). (w : Wanted) (events text : List ℕ) → HasWritten w text events c.put_events.new.audit → IsLine l → HasWritten w (text ++ l) events c.carry.new.self) c.deref.ensures.value c.in-Ok.ensures.written in
+      let taken = put_on w first held after c.put_events.new.audit c.carry.new.self contents c.args.output.now c.put_events.new.output c.carry.ensures.events (λ events u. goes_on w first held after line events c.put_events.new.audit c.carry.new.self u read (step w)) put in
+      put_more w first after c.carry.new.self c.put_events-in-Ok.new.audit contents c.args.output.now c.put_events.new.output c.put_events-in-Ok.new.output c.put_events-in-Ok.ensures.asked c.in_ok-put_events-in-Ok.ensures.written c.in_ok-put_events-in-Ok.ensures.put taken;
+  none = c.in_ok-put_events-in-Ok.ensures.none;
+  asked = c.put_events-in-Ok.ensures.asked ∙ (c.carry.ensures.events ∙ (c.put_events.ensures.asked ∙ (c.take_held.ensures.asked ∙ c.loop.invariant.asked)));
+}
 
 pub returns-clause-fault : goal.returns-clause-fault
 returns-clause-fault g c = inr (stops (g.R.Read.remaining c.args.input.now) c.new.result.error (subst IsOfReading (sym c.new.ensures) tt))
 
 pub returns-clause-written : goal.returns-clause-written
-returns-clause-written g c =
-    inr (leaves_put (output_of c.args.audit.now.events) (g.R.Read.remaining c.args.input.now) (g.R.Read.remaining c.loop.input) c.loop.audit c.new.result.error g.W.Write.contents c.args.output.now c.loop.output (sym c.loop.invariant.asked)
-    c.loop.invariant.none c.loop.invariant.put (names_reading c.new.result.error c.loop.audit.phase (subst IsOfReading (sym c.new.ensures) tt)))
+returns-clause-written g c = λ w start.
+    inr (leaves_put w (g.R.Read.remaining c.args.input.now) (g.R.Read.remaining c.loop.input) c.args.audit.now.events c.loop.audit c.new.result.error g.W.Write.contents c.args.output.now c.loop.output (sym c.loop.invariant.asked)
+    c.loop.invariant.none (c.loop.invariant.put w start) (names_reading c.new.result.error c.loop.audit.phase (subst IsOfReading (sym c.new.ensures) tt)))

@@ -1,11 +1,12 @@
 use Rattle.std.proofs.Common.{◌≡◌, []}
-use Rattle.can_replay.specs.EventTexts.{held_events}
-use Rattle.canbusd_audit.specs.Audited.{IsPut, output_of}
+use Rattle.can_events.specs.declared.wanted.Wanted.{Wanted}
+use Rattle.can_replay.specs.EventTexts.{HasWritten, has_events, held_events}
+use Rattle.canbusd_audit.specs.Audited.{IsPut}
 use Rattle.canbusd_audit.proofs.line_taking.take_lines.Given as goal
 
 abbrev pub invariant-loop : goal.invariant-loop
 invariant-loop g l = record {
-  put : IsPut (g.R.Read.remaining l.fn.input) (g.R.Read.remaining l.input) l.audit g.W.Write.contents l.fn.output l.output;
+  put : (w : Wanted) → HasWritten w [] [] l.fn.audit → IsPut w (g.R.Read.remaining l.fn.input) (g.R.Read.remaining l.input) l.audit g.W.Write.contents l.fn.output l.output;
   none : held_events l.audit.events ≡ [];
-  asked : output_of l.audit.events ≡ output_of l.fn.audit.events;
+  asked : has_events l.audit.events ≡ has_events l.fn.audit.events;
 }

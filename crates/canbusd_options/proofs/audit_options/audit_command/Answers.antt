@@ -10,5 +10,6 @@ returns c =
     let base : app_of c.after_help.result ≡ new_app (codes "audit") = rw (c.after_help.ensures, c.about.ensures) c.new.ensures.app in
     let flags = added _ _ _ _ _ c.in_ok-command.ensures c.events_option.ensures.local c.events_option.ensures.rule
     (added _ _ _ _ _ c.in_ok-arg.ensures c.cut_option.ensures.local c.cut_option.ensures.rule base) in
-    IfOk-weaker c.arg-3.result _ _ (λ last adds. added _ _ _ _ _ adds c.files_argument.ensures.local c.files_argument.ensures.rule
-    (c.in_ok-with_bit_rates.ensures ∙ ap with_rate_rules flags)) c.arg-3.ensures
+    let rates = c.in_ok-with_bit_rates.ensures ∙ ap with_rate_rules flags in
+    IfOk-weaker c.arg-4.result _ _ (λ last adds. added _ _ _ _ _ adds c.files_argument.ensures.local c.files_argument.ensures.rule
+    (added _ _ _ _ _ c.in_ok-arg-2.ensures c.free_option.ensures.local c.free_option.ensures.rule rates)) c.arg-4.ensures
