@@ -29,6 +29,11 @@ class Socket:
         self.queue: deque[list[str]] = deque()
         self.queued = self.dropped = self.taken = 0
 
+    @property
+    def waiting(self) -> int:
+        """How many items wait."""
+        return len(self.queue)
+
     def passes(self, frame: WireFrame) -> bool:
         """Whether a frame passes the filters, and an FD frame the option for such."""
         if frame.is_fd and not self.options["fd"]:

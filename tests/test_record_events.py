@@ -128,7 +128,7 @@ def bus_of(run, text=lambda frame: frame):
         for one in run.ifaces
     ]
     sockets = [
-        (one.iface, one.capacity, one.closed_after, one.queued, one.taken, one.dropped, len(one.queue))
+        (one.iface, one.capacity, one.closed_after, one.queued, one.taken, one.dropped, one.waiting)
         for one in run.sockets
     ]
     return ifaces, sockets, run.refused, (run.attempts, run.idle, run.idle_since, run.entries)

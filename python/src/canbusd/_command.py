@@ -9,7 +9,7 @@ from collections.abc import Callable
 from typing import NoReturn, Optional
 
 from canbusd._rates import Rates
-from canbusd.record import BadRecord, Record, read_record
+from canbusd.record import BadRecord, Record, read_run
 
 
 class BadWords(ValueError):
@@ -71,8 +71,8 @@ def add_record(parser: argparse.ArgumentParser) -> None:
 
 
 def replayed(path: str, names: Optional[str], cut: bool = False, rates: Optional[Rates] = None) -> Record:
-    """The record in this file, with what happened in its run."""
+    """The record in this file, without its text, with what happened in its run."""
     try:
-        return read_record(path, names, cut, rates)
+        return read_run(path, names, cut, rates)
     except BadRecord as fault:
         raise BadRecord(f"{path}: {fault}") from None

@@ -1,9 +1,12 @@
 """What a bus is made of, as the events of its run leave it: its line, its interfaces and its sockets."""
 
+from array import array
 from collections import deque
 from dataclasses import dataclass
 from typing import Optional
 
+#: How many frames wait at each interface is one number, in which interface 0 has the lowest of so many bits each.
+WAITING_BITS = 11
 #: The least counts of an interface that is bus off, error passive, and warned.
 OFF, PASSIVE, WARNING = 256, 128, 96
 
@@ -38,7 +41,7 @@ def bus_of(line: str) -> Bus:
 
 
 class Socket:
-    """A raw socket, and what waits in it."""
+    """A raw socket."""
 
     def __init__(self, number: int, iface: int, capacity: int) -> None:
         self.number, self.iface, self.capacity = number, iface, capacity
@@ -46,15 +49,34 @@ class Socket:
         self.closed_after: Optional[int] = None
         #: Whether error message frames come to it.
         self.takes_errors = False
-        #: The places of the items that wait.
-        self.queue: deque[int] = deque()
-        self.queued = self.dropped = self.taken = 0
+        #: How many items came to it, and how many of them found no room.
+        self.handed = self.dropped = 0
+        #: How many steps there were before each of its items was taken.
+        self.taken_after = array("I")
+
+    @property
+    def queued(self) -> int:
+        """How many items found room."""
+        return self.handed - self.dropped
+
+    @property
+    def taken(self) -> int:
+        """How many items were taken."""
+        return len(self.taken_after)
+
+    @property
+    def waiting(self) -> int:
+        """How many items wait in its queue."""
+        return self.queued - self.taken if self.closed_after is None else 0
 
 
 class Interface:
     """An interface: its error counters, its transmit queue and its counts."""
 
-    def __init__(self) -> None:
+    def __init__(self, number: int) -> None:
+        self.number = number
+        #: What a frame that waits here adds to the number that says how many wait at each interface.
+        self.unit = 1 << WAITING_BITS * number
         self.tec = self.rec = 0
         #: The frames that wait.
         self.waiting: deque[str] = deque()

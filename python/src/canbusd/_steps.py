@@ -4,10 +4,12 @@ import bisect
 import functools
 import itertools
 from array import array
-from collections.abc import Sequence
+from collections import Counter
+from collections.abc import Iterable, Iterator, Sequence
 from dataclasses import dataclass
 from typing import Optional, TypeVar, Union, overload
 
+from canbusd._replayed import WAITING_BITS, Socket
 from canbusd.frames import EXTENDED, REMOTE, is_fd
 
 #: What a step is, by its number in the column and on a page; the last is only on pages.
@@ -22,12 +24,10 @@ KIND_NUMBERS = {kind: number for number, kind in enumerate(KINDS)}
 T = TypeVar("T")
 #: The transmit and receive error count of an interface.
 Counts = tuple[int, int]
-#: Who took part in arbitration with which frame, by its place, where they were several.
-Met = tuple[tuple[int, int], ...]
-#: A step: the words of its line, the place of its frame, its entry and attempt, how many frames waited, who was hit, who took
-#: part, the place of the counts after it, how many attempts were idle before it, and the words of its time on the wire, if its
-#: line has them.
-Row = tuple[Sequence[str], int, int, int, tuple[int, ...], int, Met, int, int, str]
+#: How many words the line of a step has before its result.
+WORDS = 8
+#: What a step is, who accepted its frame, and who went bus off.
+Result = tuple[int, int, int]
 
 
 class Places(dict[T, int]):
@@ -43,16 +43,25 @@ class Places(dict[T, int]):
         self.all.append(value)
         return place
 
+    def add(self, values: Iterable[T]) -> None:
+        """Gives these values their places, in this order, at once."""
+        fresh = list(itertools.filterfalse(self.__contains__, dict.fromkeys(values)))
+        self.update(zip(fresh, itertools.count(len(self.all))))
+        self.all += fresh
 
-class Sets(dict[str, int]):
-    """The sets that a record spells, each once."""
 
-    def __missing__(self, text: str) -> int:
-        found = self[text] = int(text, 16)
+class Results(dict[str, Result]):
+    """What lines say of steps, `done 0002 0000`, each once."""
+
+    def __missing__(self, text: str) -> Result:
+        kind, accepted, off = text.split(" ")
+        found = self[text] = KIND_NUMBERS[kind], int(accepted, 16), int(off, 16)
         return found
 
 
-SETS = Sets()
+RESULTS = Results()
+#: The interfaces, as lines have them.
+IFACES = {str(number): number for number in range(16)}
 
 
 class WireFrame:
@@ -130,6 +139,35 @@ class Step:
     idle: int
 
 
+class Rows:
+    """Steps that are not in their columns yet. What few of them have is kept by the number of the step."""
+
+    __slots__ = "all", "met", "errors", "hit", "counts", "wires"
+
+    def __init__(self) -> None:
+        #: The words of its line, its result, its entry, and how many frames waited.
+        self.all: list[tuple[Sequence[str], Result, int, int]] = []
+        #: Who took part in arbitration with which frame, where they were several.
+        self.met: dict[int, dict[int, str]] = {}
+        #: The error message frames that it brought about.
+        self.errors: dict[int, list[str]] = {}
+        #: Who was hit.
+        self.hit: dict[int, int] = {}
+        #: The place of the error counts after it, where that is another one than before.
+        self.counts: dict[int, int] = {}
+        #: The words of its time on the wire.
+        self.wires: dict[int, list[str]] = {}
+
+    def texts(self, first: int, frames: Sequence[str]) -> Iterable[str]:
+        """The frames and error message frames, in the order in which they get their places; these are those of the steps."""
+        if not self.met and not self.errors:
+            return frames
+        return itertools.chain.from_iterable(
+            (frame, *self.met.get(step, {}).values(), *self.errors.get(step, ()))
+            for step, frame in enumerate(frames, first)
+        )
+
+
 class Steps(Sequence[Step]):
     """The steps of a run. A column has a number for each; a step is made of them when it is asked for."""
 
@@ -138,7 +176,7 @@ class Steps(Sequence[Step]):
         self.texts = texts
         self.verdict_texts: Places[str] = Places()
         self.count_lists: Places[tuple[Counts, ...]] = Places()
-        self.waiting_lists: Places[tuple[int, ...]] = Places()
+        self.waiting_numbers: Places[int] = Places()
         self.kinds, self.ifaces, self.entries = array("B"), array("B"), array("I")
         #: In microseconds.
         self.moments = array("Q")
@@ -153,50 +191,65 @@ class Steps(Sequence[Step]):
         #: frame go at the nominal bit rate, and at the one for data. All are 0 where the line does not say it.
         self.frame_nanos, self.busy_nanos = array("I"), array("I")
         self.nominal_bits, self.fast_bits = array("H"), array("H")
+        # How many attempts there were.
+        self._tried = 0
 
     def __len__(self) -> int:
         return len(self.kinds)
 
-    def extend(self, rows: Sequence[Row]) -> None:
-        """Adds these steps."""
-        if not rows:
+    def extend(self, rows: Rows, idle: dict[int, int]) -> None:
+        """Adds these steps, with how many attempts were idle before some of them, or after the last one."""
+        if not rows.all:
             return
-        words, frames, entries, attempts, waiting, hit, met, counts, idle, wires = zip(*rows)
-        _, moments, verdicts, _, _, ifaces, numbers, _, kinds, accepted, off = zip(*words)
-        self.kinds.extend(map(KIND_NUMBERS.__getitem__, kinds))
+        first = len(self)
+        lines, results, entries, waiting = zip(*rows.all)
+        _, moments, verdicts, _, _, ifaces, numbers, frames, *_ = zip(*lines)
+        for column, values in zip((self.kinds, self.accepted, self.off), zip(*results)):
+            column.extend(values)
+        self.texts.add(rows.texts(first, frames))
         self.entries.extend(entries)
         self.moments.extend(map(int, " ".join(moments).replace(".", "").split(" ")))
-        self.ifaces.extend(map(int, ifaces))
-        self.attempts.extend(attempts)
+        self.ifaces.extend(map(IFACES.__getitem__, ifaces))
+        self.attempts.extend(self._numbered(self.kinds[first:]))
         self.numbers.extend(map(int, numbers))
-        self.frames.extend(frames)
+        self.frames.extend(map(self.texts.__getitem__, frames))
         self.verdicts.extend(map(self.verdict_texts.__getitem__, verdicts))
-        self.accepted.extend(map(SETS.__getitem__, accepted))
-        self.off.extend(map(SETS.__getitem__, off))
-        self.hit.extend(hit)
-        self.counts.extend(counts)
-        self.waiting.extend(map(self.waiting_lists.__getitem__, waiting))
-        self.idle.extend(idle)
-        self._meet(met)
-        self._time(wires)
+        self.waiting.extend(map(self.waiting_numbers.__getitem__, waiting))
+        self._meet(rows.met)
+        self._count(rows.counts)
+        self._note(self.hit, rows.hit)
+        self._note(self.idle, {step: count for step, count in idle.items() if step < len(self)})
+        for place, column in enumerate((self.frame_nanos, self.busy_nanos, self.nominal_bits, self.fast_bits)):
+            self._note(column, {step: int(wire[place]) for step, wire in rows.wires.items()})
 
-    def _time(self, wires: Sequence[str]) -> None:
-        columns = self.frame_nanos, self.busy_nanos, self.nominal_bits, self.fast_bits
-        if not any(wires):
-            # As in each run that was read without bit rates.
-            for column in columns:
-                column.frombytes(bytes(column.itemsize * len(wires)))
-            return
-        numbers = list(map(int, " ".join([wire or "0 0 0 0" for wire in wires]).split(" ")))
-        for place, column in enumerate(columns):
-            column.extend(numbers[place::4])
+    def _meet(self, met: dict[int, dict[int, str]]) -> None:
+        before, first = len(self.met_ifaces), len(self.met)
+        self._note(self.met, {step: len(heads) for step, heads in met.items()})
+        for heads in met.values():
+            self.met_ifaces.extend(heads)
+            self.met_frames.extend(map(self.texts.__getitem__, heads.values()))
+        self.met_from.extend(itertools.accumulate(self.met[first:-1], initial=before))
 
-    def _meet(self, met: Sequence[Met]) -> None:
-        self.met_from.extend(itertools.accumulate(map(len, met[:-1]), initial=len(self.met_ifaces)))
-        self.met.extend(map(len, met))
-        for iface, frame in itertools.chain.from_iterable(met):
-            self.met_ifaces.append(iface)
-            self.met_frames.append(frame)
+    def _numbered(self, kinds: "array[int]") -> Iterable[int]:
+        """The numbers of these attempts; a restart has that of the next one."""
+        first = self._tried
+        self._tried += len(kinds) - kinds.count(RESTART)
+        if self._tried - first == len(kinds):
+            return range(first, self._tried)
+        return itertools.accumulate(map(RESTART.__ne__, kinds[:-1]), initial=first)
+
+    def _note(self, column: "array[int]", numbers: dict[int, int]) -> None:
+        """Makes a column as long as the others: with these numbers, by the steps, else with 0."""
+        column.frombytes(bytes(column.itemsize * (len(self) - len(column))))
+        for step, number in numbers.items():
+            column[step] = number
+
+    def _count(self, places: dict[int, int]) -> None:
+        """Makes the column of the counts as long as the others: from these steps on they have these places."""
+        place = self.counts[-1] if self.counts else 0
+        for step, after in [*places.items(), (len(self), 0)]:
+            self.counts.extend(array("I", [place]) * (step - len(self.counts)))
+            place = after
 
     @overload
     def __getitem__(self, place: int) -> Step:
@@ -225,7 +278,7 @@ class Steps(Sequence[Step]):
             numbers_in(self.hit[place]),
             self.contenders(place),
             self.count_lists.all[self.counts[place]],
-            self.waiting_lists.all[self.waiting[place]],
+            waiting_by_iface(self.waiting_numbers.all[self.waiting[place]], len(self.count_lists.all[0])),
             self.idle[place],
         )
 
@@ -239,9 +292,13 @@ class Steps(Sequence[Step]):
 
     def places_of(self, kind: int, first: int = 0) -> list[int]:
         """Returns which of the steps from the first one on are of this kind."""
-        if kind not in self.kinds:
+        if not self.count_of(kind):
             return []
         return [place for place in range(first, len(self)) if self.kinds[place] == kind]
+
+    def count_of(self, kind: int) -> int:
+        """Returns how many steps are of this kind."""
+        return self.kinds.tobytes().count(kind)
 
     def text(self, place: int) -> str:
         """Returns the frame of a step; the empty text of a restart."""
@@ -263,31 +320,105 @@ class Steps(Sequence[Step]):
 class Items:
     """What interfaces handed to sockets, in this order, in columns."""
 
-    def __init__(self) -> None:
+    def __init__(self, sockets: Sequence[Socket]) -> None:
         #: The number of the socket, and the step in which it got the item.
         self.sockets, self.steps = array("I"), array("I")
         #: The place of an error message frame among the texts; 0 where the item is the frame of its step.
         self.errors = array("I")
-        self.fates = array("B")
-        #: The number of steps before it was taken or its socket closed; 0 where it was neither.
-        self.ends = array("I")
+        self._all_sockets = sockets
+        # From where on items were dropped, and to where, one after the other: there may be a million.
+        self._dropped = array("I")
+        # The last two columns, once they were asked for.
+        self._left: "Optional[tuple[array[int], array[int]]]" = None
+        # What is not in the columns yet, of which the frames of error messages by their places.
+        self._new_sockets: list[int] = []
+        self._new_steps: list[int] = []
+        self._new_errors: dict[int, str] = {}
 
     def __len__(self) -> int:
-        return len(self.sockets)
+        return len(self.sockets) + len(self._new_sockets)
 
-    def add(self, socket: int, step: int, error: int, fate: int) -> int:
-        """Adds an item, and returns its place."""
-        self.sockets.append(socket)
-        self.steps.append(step)
-        self.errors.append(error)
-        self.fates.append(fate)
-        self.ends.append(0)
-        return len(self.ends) - 1
+    def add(self, sockets: Sequence[int], step: int) -> None:
+        """Adds the frame of a step for each of these sockets."""
+        self._new_sockets += sockets
+        self._new_steps += [step] * len(sockets)
 
-    def end(self, place: int, fate: int, steps: int) -> None:
-        """An item leaves its queue after so many steps."""
-        self.fates[place] = fate
-        self.ends[place] = steps
+    def add_error(self, socket: int, step: int, error: str) -> None:
+        """Adds an error message frame."""
+        self._new_errors[len(self)] = error
+        self.add((socket,), step)
+
+    def drop(self, socket: int, step: int, error: str, count: int) -> None:
+        """Adds items that found no room: frames of a step, or error message frames."""
+        begin = len(self)
+        self.add((socket,) * count, step)
+        self._dropped.extend((begin, len(self)))
+        if error:
+            self._new_errors.update(dict.fromkeys(range(begin, len(self)), error))
+
+    def settle(self, texts: Places[str]) -> None:
+        """Puts what was added into the columns; the texts have their places."""
+        for number, count in Counter(self._new_sockets).items():
+            self._all_sockets[number].handed += count
+        self.sockets.extend(self._new_sockets)
+        self.steps.extend(self._new_steps)
+        self.errors.frombytes(bytes(self.errors.itemsize * len(self._new_sockets)))
+        for place, text in self._new_errors.items():
+            self.errors[place] = texts[text]
+        self._new_sockets.clear()
+        self._new_steps.clear()
+        self._new_errors.clear()
+        self._left = None
+
+    @property
+    def fates(self) -> "array[int]":
+        """What became of each item."""
+        return self._ended()[0]
+
+    @property
+    def ends(self) -> "array[int]":
+        """The number of steps before each was taken or its socket closed; 0 where it was neither."""
+        return self._ended()[1]
+
+    def _ended(self) -> "tuple[array[int], array[int]]":
+        """What a socket got first it gives first."""
+        if self._left is None:
+            dropped, queues = len(self._all_sockets), array("I", self.sockets)
+            for begin, end in zip(self._dropped[::2], self._dropped[1::2]):
+                queues[begin:end] = array("I", [dropped]) * (end - begin)
+            fates = [*map(fates_at, self._all_sockets), itertools.repeat(DROPPED)]
+            ends = [*map(ends_at, self._all_sockets), itertools.repeat(0)]
+            self._left = array("B", in_turn(fates, queues)), array("I", in_turn(ends, queues))
+        return self._left
+
+
+def in_turn(columns: Sequence[Iterator[int]], places: Iterable[int]) -> Iterable[int]:
+    """The next number of each of these columns, of which none ends."""
+    return map(next, map(columns.__getitem__, places), itertools.repeat(0))
+
+
+def fates_at(socket: Socket) -> Iterator[int]:
+    """What becomes of each item that comes to a socket, without an end."""
+    last = WAITING if socket.closed_after is None else UNREAD
+    return itertools.chain(itertools.repeat(TAKEN, socket.taken), itertools.repeat(last))
+
+
+def ends_at(socket: Socket) -> Iterator[int]:
+    """After how many steps each item that comes to a socket leaves it, without an end."""
+    last = 0 if socket.closed_after is None else socket.closed_after + 1
+    return itertools.chain(socket.taken_after, itertools.repeat(last))
+
+
+def waiting_at(numbers: Iterable[int], iface: int) -> list[int]:
+    """How many frames wait at an interface, by these numbers for all."""
+    place, mask = WAITING_BITS * iface, (1 << WAITING_BITS) - 1
+    return [number >> place & mask for number in numbers]
+
+
+@functools.lru_cache(maxsize=1024)
+def waiting_by_iface(number: int, ifaces: int) -> tuple[int, ...]:
+    """How many frames wait at each of the interfaces, by the number for all."""
+    return tuple(waiting_at([number], iface)[0] for iface in range(ifaces))
 
 
 def micros_of(moment: str) -> int:

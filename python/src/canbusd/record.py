@@ -8,7 +8,7 @@ The program says what each entry of a record brought about, and refuses one that
 
 import functools
 import os
-from collections.abc import Sequence
+from collections.abc import Iterable, Sequence
 from dataclasses import dataclass, field
 from typing import Optional, Union
 
@@ -166,12 +166,29 @@ def parse_record(
     rates: Optional[Rates] = None,
 ) -> Record:
     """Returns the record that these bytes spell, as read_record does; `path` says beside which file a log may be."""
-    run = Replay(rates)
     with Events(cut, rates) as events:
-        for lines in events.lines(data):
-            run.take(lines)
+        return record_of(events.lines(data), data[: data.rfind(b"\n") + 1], path, names, rates)
+
+
+def read_run(path: Path, names: Optional[Sequence[str]], cut: bool, rates: Optional[Rates]) -> Record:
+    """Returns the record in this file, as read_record does, but without its text, which may be large."""
+    with open(path, "rb") as file, Events(cut, rates, file) as events:
+        return record_of(events.lines_of_file(), b"", path, names, rates)
+
+
+def record_of(
+    events: Iterable[list[str]],
+    text: bytes,
+    path: Optional[Path],
+    names: Optional[Sequence[str]],
+    rates: Optional[Rates],
+) -> Record:
+    """Returns the record that has these events, and this text."""
+    run = Replay(rates)
+    run.text = text
+    for lines in events:
+        run.take(lines)
     assert run.bus is not None
-    run.text = text = data[: data.rfind(b"\n") + 1]
     return Record(**vars(run.bus), text=text, is_cut=not run.is_whole, names=names_of(run, path, names), replay=run)
 
 

@@ -4,19 +4,21 @@ The program has the rules, and says in these lines what each entry of a record b
 and what follows of it: which frames wait, who takes part in arbitration, and what became of each item.
 """
 
-from collections.abc import Callable, Iterable
+import functools
+from array import array
+from collections.abc import Callable, Iterable, Sequence
 from typing import Optional
 
 from canbusd._program import ProgramNotFound
 from canbusd._rates import Rates
 from canbusd._replayed import OFF, Bus, Interface, Socket, bus_of
-from canbusd._steps import DROPPED, TAKEN, UNREAD, WAITING, Counts, Items, Met, Places, Row, Steps, numbers_in
+from canbusd._steps import DONE, RESTART, RESULTS, WORDS, Counts, Items, Places, Result, Rows, Steps, numbers_in
 
 FIRST_LINE = "canbus events 1"
 #: In place of the text of an item that found no room, where no line says what it was.
 UNKNOWN = "?"
-#: How many words an attempt has that tried a frame and restarted nobody.
-TRIED = 11
+#: How many results of attempts are kept with the sockets that got the frame: with many filters each may be another one.
+MOST_PLAIN = 4096
 
 
 class Replay:
@@ -33,56 +35,73 @@ class Replay:
         self.sockets: list[Socket] = []
         #: Frames of steps and error message frames, by their places; the first is no frame.
         self.texts = Places("")
-        self.steps, self.items = Steps(self.texts), Items()
+        self.steps, self.items = Steps(self.texts), Items(self.sockets)
         #: The number and the frame of all that bus off took out of a transmit queue, by the step.
         self.lost: dict[int, list[tuple[int, str]]] = {}
         #: The last steps before sends were refused, by the interface and the reply, `no-buffers` or `bus-off`.
         self.refused: dict[tuple[int, str], list[int]] = {}
         #: The verdicts of idle attempts that restarted interfaces, by their entries.
         self.idle_verdicts: dict[int, str] = {}
-        self.attempts = self.idle = 0
-        #: How many attempts were idle since the last step.
-        self.idle_since = 0
+        self.idle = 0
         #: How many entries were taken.
         self.entries = 0
         #: Whether its last line was taken.
         self.is_whole = False
-        # Open sockets, by their numbers in lines.
+        # Interfaces by their numbers in lines, open sockets, and the interfaces of these by the numbers of the sockets.
+        self._ifaces: dict[str, Interface] = {}
         self._open: dict[str, Socket] = {}
-        # Of each interface the error counts, with the place of all these, and how many frames wait; of those that have some
-        # the first.
+        self._senders: dict[str, Interface] = {}
+        # Where it is kept in what step an item was taken, by the words of the call.
+        self._taken: "dict[str, array[int]]" = {}
+        # The result of an attempt that only puts its frame to sockets, and these sockets, by what its line has of them.
+        self._plain: dict[str, tuple[Result, tuple[int, ...]]] = {}
+        # Of each interface the error counts, and of those where frames wait the first one.
         self._counts: list[Counts] = []
-        self._counts_place = 0
-        self._waiting: list[int] = []
         self._heads: dict[int, str] = {}
+        # How many frames wait, as one number.
+        self._waiting = 0
         # The interfaces that are not bus off, bit i for interface i.
         self._on = 0
-        # How many steps there were; those of them that are not in the columns yet.
-        self._count = 0
-        self._fresh: list[Row] = []
+        # How many steps there were, and how many were restarts; those of them that are not in the columns yet.
+        self._count = self._restarts = 0
+        self._rows = Rows()
+        # How many attempts were idle before a step.
+        self._idle: dict[int, int] = {}
+
+    @property
+    def attempts(self) -> int:
+        """How many attempts tried a frame."""
+        return self._count - self._restarts
+
+    @property
+    def idle_since(self) -> int:
+        """How many attempts were idle since the last step."""
+        return self._idle.get(self._count, 0)
 
     def take(self, lines: Iterable[str]) -> None:
         """Takes these lines, which follow those before."""
-        # By the first letters of a line: there are millions.
+        # There are millions of lines: the first letter says who takes it.
+        frequent = {"s": self._send, "r": self._receive, "a": self._attempt}
+        for line in lines:
+            frequent.get(line[0], self._take_other)(line)
+            self.entries += 1
+        self.steps.extend(self._rows, self._idle)
+        self.items.settle(self.texts)
+        self._rows, self._idle = Rows(), {self._count: self.idle_since}
+
+    def _take_other(self, line: str) -> None:
+        """Takes a line of a kind of which there are few."""
         calls: dict[str, Callable[[str], object]] = {
-            "can": self._begin,
+            "canbus": self._begin,
             "bus": self._make_bus,
-            "ope": self._open_socket,
-            "clo": self._close_socket,
-            "opt": self._set_option,
-            "sen": self._send,
-            "rec": self._receive,
-            "att": self._attempt,
-            "res": self._restart,
-            "fil": str,
+            "open": self._open_socket,
+            "close": self._close_socket,
+            "option": self._set_option,
+            "filters": str,
             "end": self._end,
             "cut": self._end,
         }
-        for line in lines:
-            calls[line[:3]](line)
-            self.entries += 1
-        self.steps.extend(self._fresh)
-        self._fresh.clear()
+        calls[line.partition(" ")[0]](line)
 
     def _begin(self, line: str) -> None:
         if line != FIRST_LINE:
@@ -94,9 +113,10 @@ class Replay:
         self.entries -= 1
         self.bus = bus_of(line)
         count = self.bus.ifaces
-        self.ifaces = [Interface() for _ in range(count)]
-        self._counts, self._waiting, self._on = [(0, 0)] * count, [0] * count, (1 << count) - 1
-        self._counts_place = self.steps.count_lists[tuple(self._counts)]
+        self.ifaces = list(map(Interface, range(count)))
+        self._ifaces = {str(iface.number): iface for iface in self.ifaces}
+        self._counts, self._on = [(0, 0)] * count, (1 << count) - 1
+        self.steps.count_lists.add([tuple(self._counts)])
 
     def _end(self, line: str) -> None:
         self.entries -= 1
@@ -108,16 +128,14 @@ class Replay:
         _, iface, capacity, _, reply, *number = line.split(" ")
         if reply == "socket":
             socket = self._open[number[0]] = Socket(len(self.sockets), int(iface), int(capacity))
+            self._senders[number[0]] = self.ifaces[socket.iface]
+            self._taken[f"receive {number[0]}"] = socket.taken_after
             self.sockets.append(socket)
 
     def _close_socket(self, line: str) -> None:
         _, number, _, reply, *_ = line.split(" ")
         if reply == "closed":
-            socket = self._open.pop(number)
-            for item in socket.queue:
-                self.items.end(item, UNREAD, self._count)
-            socket.queue.clear()
-            socket.closed_after = self._count - 1
+            self._open.pop(number).closed_after = self._count - 1
 
     def _set_option(self, line: str) -> None:
         _, number, option, value, _, reply = line.split(" ")
@@ -126,59 +144,69 @@ class Replay:
 
     def _send(self, line: str) -> None:
         words = line.split(" ")
-        text, reply = words[2], words[4]
+        reply = words[4]
         if reply == "number":
-            iface = self._open[words[1]].iface
-            waiting = self.ifaces[iface].waiting
-            if not waiting:
-                self._heads[iface] = text
-            waiting.append(text)
-            self._waiting[iface] += 1
+            iface, text = self._senders[words[1]], words[2]
+            if not iface.waiting:
+                self._lead(iface.number, text)
+            iface.waiting.append(text)
+            self._waiting += iface.unit
         elif reply in ("bus-off", "no-buffers"):
-            iface = self._open[words[1]].iface
-            self.ifaces[iface].refused += reply == "no-buffers"
-            self.refused.setdefault((iface, reply), []).append(self._count - 1)
+            iface = self._senders[words[1]]
+            iface.refused += reply == "no-buffers"
+            self.refused.setdefault((iface.number, reply), []).append(self._count - 1)
 
     def _receive(self, line: str) -> None:
-        words = line.split(" ", 4)
-        if len(words) > 4:
-            socket = self._open[words[1]]
-            self.items.end(socket.queue.popleft(), TAKEN, self._count)
-            socket.taken += 1
+        call, _, reply = line.partition(" = ")
+        if line[2] == "s":
+            self._restart(line)
+        elif reply[0] != "n":
+            self._taken[call].append(self._count)
 
     # Attempts and restarts.
 
     def _attempt(self, line: str) -> None:
-        line, _, wire = line.partition("; wire ")
-        event, _, parts = line.partition("; ")
-        words = event.split(" ")
-        if len(words) != TRIED:
-            self._restart_after(words, parts, wire)
-            return
-        iface, kind, verdict = int(words[5]), words[8], words[2]
-        waiting, texts = tuple(self._waiting), self.texts
-        # Texts get their places line by line, so that these are the same however many lines are taken at once.
-        frame = texts[words[7]]
-        met = tuple((i, texts[head]) for i, head in sorted(self._heads.items())) if len(self._heads) > 1 else ()
-        hit = int(verdict[-4:], 16) & self._on & ~(1 << iface) if ":" in verdict else 0
-        if kind == "done":
-            self.ifaces[iface].done += 1
+        words = line.split(" ", WORDS)
+        plain = self._plain.get(words[-1])
+        if plain:
+            self._try(words, plain[0], "")
+            self.items.add(plain[1], self._count - 1)
+        elif words[4] == "tried" and " restarted " not in words[WORDS]:
+            result, _, parts = words[WORDS].partition("; ")
+            self._try(words, RESULTS[result], parts)
+            if parts.startswith("put ") and not {*":;"} & {*parts} and len(self._plain) < MOST_PLAIN:
+                # As a rule there are few such ends of lines, and many times each.
+                self._plain[words[WORDS]] = RESULTS[result], numbers_of(parts[len("put ") :])
+        else:
+            self._restart_after(line)
+
+    def _try(self, words: Sequence[str], result: Result, parts: str) -> None:
+        """An attempt that tried a frame."""
+        rows, verdict = self._rows, words[2]
+        rows.all.append((words, result, self.entries, self._waiting))
+        if len(self._heads) > 1:
+            rows.met[self._count] = self._heads.copy()
+        if verdict != "good" and ":" in verdict:
+            rows.hit[self._count] = int(verdict[-4:], 16) & self._on & ~(1 << int(words[5]))
+        if result[0] == DONE:
+            iface = self._ifaces[words[5]]
+            iface.done += 1
             self._leave(iface)
         if parts:
-            self._take_parts(parts, kind == "done" and verdict == "good")
-        self._add(words, frame, waiting, hit, met, wire)
-        self.attempts += 1
+            self._take_parts(parts, result[0] == DONE and verdict == "good")
+        self._count += 1
 
-    def _restart_after(self, words: list[str], parts: str, wire: str) -> None:
+    def _restart_after(self, line: str) -> None:
         """An attempt that was idle, or that restarted interfaces in its end."""
+        event, _, parts = line.partition("; ")
+        words = event.split(" ")
         restarted = int(words[-1], 16) if words[-2] == "restarted" else 0
         if words[4] == "tried":
-            own = self._parts_of(parts, ~restarted)
-            took = f"wire {wire}" if wire else ""
-            self._attempt("; ".join(filter(None, [" ".join(words[:TRIED]), own, took])))
+            result = RESULTS[" ".join(words[WORDS : WORDS + 3])]
+            self._try(words, result, self._parts_of(parts, ~restarted))
         else:
             self.idle += 1
-            self.idle_since += 1
+            self._idle[self._count] = self.idle_since + 1
             if restarted:
                 self.idle_verdicts[self.entries] = words[2]
         for number in numbers_in(restarted):
@@ -192,27 +220,30 @@ class Replay:
 
     def _bring_back(self, number: str, moment: str, parts: str) -> None:
         """An interface is restarted."""
-        words = ["", moment, "", "", "", number, "0", "", "restart", "0000", "0000"]
-        waiting = tuple(self._waiting)
+        words = ["", moment, "", "", "", number, "0", ""]
+        self._rows.all.append((words, (RESTART, 0, 0), self.entries, self._waiting))
         self._take_parts(parts, is_good=False)
-        self._add(words, self.texts[""], waiting, 0, ())
-
-    def _add(self, words: list[str], frame: int, waiting: tuple[int, ...], hit: int, met: Met, wire: str = "") -> None:
-        """Adds a step that has happened."""
-        row = words, frame, self.entries, self.attempts, waiting, hit, met, self._counts_place, self.idle_since, wire
-        self._fresh.append(row)
         self._count += 1
-        self.idle_since = 0
+        self._restarts += 1
 
-    def _leave(self, iface: int) -> None:
+    def _lead(self, iface: int, text: str) -> None:
+        """An interface takes part with this frame, which it did not before; they are kept by their numbers."""
+        heads = self._heads
+        heads[iface] = text
+        if len(heads) > 1:
+            by_number = sorted(heads.items())
+            heads.clear()
+            heads.update(by_number)
+
+    def _leave(self, iface: Interface) -> None:
         """The first frame that waits at an interface leaves its queue."""
-        waiting = self.ifaces[iface].waiting
+        waiting = iface.waiting
         waiting.popleft()
-        self._waiting[iface] -= 1
+        self._waiting -= iface.unit
         if waiting:
-            self._heads[iface] = waiting[0]
+            self._heads[iface.number] = waiting[0]
         else:
-            del self._heads[iface]
+            del self._heads[iface.number]
 
     def _parts_of(self, parts: str, members: int) -> str:
         """What the parts of an entry say of a set of interfaces, bit i for interface i."""
@@ -221,6 +252,9 @@ class Replay:
             name, *words = part.split(" ")
             if name in ("put", "dropped"):
                 words = [word for word in words if members >> self._open[word.partition(":")[0]].iface & 1]
+            elif name == "wire":
+                # That is of the attempt, and of none that it restarts.
+                words = words if members < 0 else []
             elif not members >> int(words[0]) & 1:
                 words = []
             found += [" ".join([name, *words])] if words else []
@@ -228,25 +262,27 @@ class Replay:
 
     def _take_parts(self, parts: str, is_good: bool) -> None:
         """Takes what a step brought about; `is_good` says whether it was done without a fault."""
-        # Nor is there an error message frame then, where no count changed.
-        is_good = is_good and not parts.startswith("counts")
+        has_counts = parts.startswith("counts")
         for part in parts.split("; "):
-            name, *words = part.split(" ")
-            if name == "put":
-                for word in words:
-                    self._put(word)
+            name, _, words = part.partition(" ")
+            if name == "counts":
+                self._count_errors(*numbers_of(words))
+            elif name == "put":
+                self._put(words)
             elif name == "dropped":
-                for word in words:
-                    self._drop(word, is_good)
-            elif name == "counts":
-                self._count_errors(*map(int, words))
+                for word in words.split(" "):
+                    # Nor is there an error message frame where no count changed.
+                    self._drop(word, is_good and not has_counts)
+            elif name == "wire":
+                self._rows.wires[self._count] = words.split(" ")
             else:
-                self._lose(*map(int, words))
+                self._lose(*numbers_of(words))
+        if has_counts:
+            self._rows.counts[self._count] = self.steps.count_lists[tuple(self._counts)]
 
     def _count_errors(self, iface: int, tec: int, rec: int) -> None:
         one, self._counts[iface] = self.ifaces[iface], (tec, rec)
         one.tec, one.rec = tec, rec
-        self._counts_place = self.steps.count_lists[tuple(self._counts)]
         self._on = self._on & ~(1 << iface) | (tec < OFF) << iface
 
     def _lose(self, place: int, count: int) -> None:
@@ -255,21 +291,33 @@ class Replay:
         self.lost[self._count] = list(enumerate(iface.waiting, iface.done + iface.lost))
         iface.lost += count
         for _ in range(count):
-            self._leave(place)
+            self._leave(iface)
 
-    def _put(self, word: str) -> None:
-        """An item is queued to a socket: the frame of the step, or the error message frame of this word."""
-        number, _, error = word.partition(":")
-        socket = self._open[number]
-        socket.queue.append(len(self.items))
-        socket.queued += 1
-        self.items.add(socket.number, self._count, self.texts[error], WAITING)
+    def _put(self, words: str) -> None:
+        """Sockets get items: the frame of the step, or the error message frame that a word has."""
+        if ":" not in words:
+            self.items.add(numbers_of(words), self._count)
+            return
+        for word in words.split(" "):
+            number, _, error = word.partition(":")
+            if error:
+                self._rows.errors.setdefault(self._count, []).append(error)
+                self.items.add_error(int(number), self._count, error)
+            else:
+                self.items.add((int(number),), self._count)
 
     def _drop(self, word: str, is_frame: bool) -> None:
         """Items find no room at a socket; `is_frame` says whether only the frame of the step can be one."""
         number, count = word.split(":")
         socket = self._open[number]
-        error = self.texts[UNKNOWN if socket.takes_errors and not is_frame else ""]
-        for _ in range(int(count)):
-            self.items.add(socket.number, self._count, error, DROPPED)
-            socket.dropped += 1
+        error = UNKNOWN if socket.takes_errors and not is_frame else ""
+        if error:
+            self._rows.errors.setdefault(self._count, []).append(error)
+        self.items.drop(socket.number, self._count, error, int(count))
+        socket.dropped += int(count)
+
+
+@functools.lru_cache(maxsize=65536)
+def numbers_of(words: str) -> tuple[int, ...]:
+    """Returns the numbers that these words are: many parts say the same."""
+    return tuple(map(int, words.split(" ")))

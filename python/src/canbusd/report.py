@@ -21,16 +21,16 @@ import sys
 import zlib
 from array import array
 from collections.abc import Iterable, Sequence
-from typing import Any, NamedTuple, Optional
+from typing import Any, NamedTuple, Optional, Union
 
 from canbusd import comparison
-from canbusd.frames import Frame, is_error, meaning
+from canbusd.frames import Frame, meaning
 from canbusd.record import Record
 from canbusd._protocol import STATES
 from canbusd._rates import Rates
 from canbusd._replayed import Socket
 from canbusd._report_wire import wire_of
-from canbusd._steps import IDLE, KINDS, RESTART, Items, Places, WireFrame
+from canbusd._steps import IDLE, KINDS, RESTART, Items, Places, WireFrame, waiting_at
 from canbusd.replay import UNKNOWN, Replay
 from canbusd.signals import Database
 from canbusd.story import Event, events_of, facts_of, heading_of, verdict_words
@@ -54,17 +54,20 @@ class Block:
     """The columns of the page, each at a multiple of 8 bytes, lowest byte first."""
 
     def __init__(self) -> None:
-        self.parts: list[bytes] = []
+        self.parts: "list[Union[array[Any], bytes]]" = []
         self.size = 0
 
     def column(self, code: str, numbers: Iterable[float]) -> Column:
         """Adds a column, and returns its type, its place and its length."""
-        column: array[Any] = array(code, numbers)
+        if isinstance(numbers, array) and numbers.typecode == code and sys.byteorder == "little":
+            column: array[Any] = numbers
+        else:
+            column = array(code, numbers)
         if sys.byteorder == "big":
             column.byteswap()
-        place = self.size
-        self.parts.append(column.tobytes() + bytes(-len(column) * column.itemsize % 8))
-        self.size += len(self.parts[-1])
+        place, size = self.size, len(column) * column.itemsize
+        self.parts += [column, bytes(-size % 8)]
+        self.size += size + -size % 8
         return [code, place, len(column)]
 
     def rising(self, numbers: Sequence[int]) -> Column:
@@ -73,11 +76,19 @@ class Block:
 
     def packed(self, header: Json) -> str:
         """Returns the header and the columns: compressed, in base64."""
-        text = json.dumps(header, separators=(",", ":")).encode()
-        text += b" " * (-(len(text) + 8) % 8)
+        return base64.b64encode(self._compressed(text_of(header))).decode()
+
+    def _compressed(self, text: bytes) -> bytes:
+        size = len(text) + -(len(text) + 8) % 8
         packer = zlib.compressobj(6)
-        whole = [packer.compress(part) for part in (struct.pack("<II", len(text), 0), text, *self.parts)]
-        return base64.b64encode(b"".join([*whole, packer.flush()])).decode()
+        parts = struct.pack("<II", size, 0), text, b" " * (size - len(text)), *self.parts
+        return b"".join([*map(packer.compress, parts), packer.flush()])
+
+
+def text_of(header: Json) -> bytes:
+    """The header as JSON. There may be a million texts of frames, in which nothing is to be escaped."""
+    front, back = json.dumps({**header, "texts": []}, separators=(",", ":")).split('"texts":[]', 1)
+    return "".join((front, '"texts":["', '","'.join(header["texts"]), '"]', back)).encode()
 
 
 class Timeline:
@@ -175,9 +186,9 @@ class Timeline:
     def lines(self, block: Block) -> Json:
         """The counts and the waiting frames of each interface, by rows."""
         steps, ifaces, counts = self.steps, range(self.ifaces), self.counts()
-        waiting = self.rows(steps.waiting, steps.waiting_lists[(0,) * self.ifaces])
+        waiting = self.rows(steps.waiting, steps.waiting_numbers[0])
         tec, rec = ([[one[i][side] for one in steps.count_lists.all] for i in ifaces] for side in (0, 1))
-        queues = [[one[i] for one in steps.waiting_lists.all] for i in ifaces]
+        queues = [waiting_at(steps.waiting_numbers.all, i) for i in ifaces]
         return {
             name: [block.column("H", looked_up(each, places)) for each in lists]
             for name, lists, places in (("tec", tec, counts), ("rec", rec, counts), ("waiting", queues, waiting))
@@ -194,7 +205,9 @@ def looked_up(values: Sequence[int], places: "array[int]") -> "array[int]":
 def items_of(items: Items, most: int, places: Sequence[int], block: Block) -> Json:
     """The first items: their sender and number are those of their step, unless they are error message frames."""
     steps = array("I", map(places.__getitem__, items.steps[:most]))
-    later = (places[end - 1] + 1 - step if end else 0 for step, end in zip(steps, items.ends))
+    # The row after so many steps; 0 is none.
+    after = array("I", itertools.chain([0], map((1).__add__, places)))
+    later: Iterable[int] = map(max, map(operator.sub, map(after.__getitem__, items.ends), steps), itertools.repeat(0))
     return {
         "socket": block.column("I", items.sockets[:most]),
         "step": block.rising(steps),
@@ -208,8 +221,8 @@ def items_of(items: Items, most: int, places: Sequence[int], block: Block) -> Js
 
 def bits_of(run: Replay) -> dict[str, str]:
     """The arbitration bits of frames that met others, by the part of their text that says which."""
-    met = (WireFrame(run.texts.all[place]) for place in {*run.steps.met_frames})
-    return {arbitrating(frame.text): frame.bits for frame in met}
+    met = map(run.texts.all.__getitem__, {*run.steps.met_frames})
+    return {part: WireFrame(text).bits for part, text in {arbitrating(text): text for text in met}.items()}
 
 
 def arbitrating(text: str) -> str:
@@ -238,15 +251,14 @@ def ifaces_of(run: Replay) -> list[Json]:
 
 def socket_of(socket: Socket) -> Json:
     """A socket at the end of the run."""
-    waiting = len(socket.queue)
     return {
         "number": socket.number,
         "iface": socket.iface,
         "capacity": socket.capacity,
         "queued": socket.queued,
         "taken": socket.taken,
-        "waiting": waiting,
-        "unread": socket.queued - socket.taken - waiting,
+        "waiting": socket.waiting,
+        "unread": socket.queued - socket.taken - socket.waiting,
         "dropped": socket.dropped,
         "open": "to the end" if socket.closed_after is None else "closed",
     }
@@ -265,14 +277,10 @@ def decoded_of(texts: Iterable[str], database: Optional[Database]) -> Json:
     return {"messages": messages, "signals": signals}
 
 
-def meanings_of(texts: Iterable[str]) -> dict[int, str]:
+def meanings_of(run: Replay) -> dict[int, str]:
     """What error message frames say, and items that no line names, by their places."""
-    unknown = {UNKNOWN: "a frame or an error message frame"}
-    return {
-        place: unknown.get(text) or meaning(text)
-        for place, text in enumerate(texts)
-        if text in unknown or (text and is_error(text))
-    }
+    unknown, texts = {UNKNOWN: "a frame or an error message frame"}, run.texts.all
+    return {place: unknown.get(texts[place]) or meaning(texts[place]) for place in sorted({0, *run.items.errors})[1:]}
 
 
 def event_of(event: Event, places: Sequence[int]) -> Column:
@@ -330,7 +338,7 @@ def data_of(
         "socket": fullest_socket(run),
         "bits": bits_of(run),
         "texts": texts,
-        "meanings": meanings_of(texts),
+        "meanings": meanings_of(run),
         **decoded_of(texts, database),
         "verdicts": [fault_of(fault, names) for fault in verdicts],
     }

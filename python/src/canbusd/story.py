@@ -1,12 +1,15 @@
 """A run in words: its heading, its facts, and the events that a reader looks for."""
 
+import functools
+import itertools
+import operator
 from collections import Counter
 from collections.abc import Iterable, Iterator, Sequence
 from typing import NamedTuple
 
 from canbusd._protocol import STATES
 from canbusd._text import times
-from canbusd._steps import DONE, DROPPED, KINDS, LASTBIT, NOACK, RESTART, Step, Steps, micros_of, numbers_in
+from canbusd._steps import DONE, DROPPED, KINDS, LASTBIT, NOACK, RESTART, Counts, Step, Steps, micros_of, numbers_in
 from canbusd.record import members_of
 from canbusd._replayed import severity
 from canbusd.replay import Replay
@@ -42,14 +45,17 @@ def changes_of(run: Replay, names: Sequence[str]) -> Iterator[Event]:
     steps, climbs = run.steps, [Climb() for _ in names]
     before = steps.count_lists[((0, 0),) * len(run.ifaces)]
     lists = steps.count_lists.all
-    states = [[severity(max(counts)) for counts in one] for one in lists]
+    states = [[*map(state_of, one)] for one in lists]
     # The step in which each interface last went bus off.
     went: dict[int, Step] = {}
-    for number, (kind, iface, now) in enumerate(zip(steps.kinds, steps.ifaces, steps.counts)):
-        if kind == RESTART:
+    # A restart changes counts too.
+    changes = map(operator.ne, steps.counts, itertools.chain([before], steps.counts))
+    for number in itertools.compress(itertools.count(), changes):
+        iface, now = steps.ifaces[number], steps.counts[number]
+        if steps.kinds[number] == RESTART:
             back = f"{names[iface]} is back on the bus, with both counts 0"
             yield Event(number, "restart", iface, back + outage_of(went[iface], steps[number]))
-        elif now != before:
+        else:
             climbs[iface].add(steps, number, lists[before][iface][0])
             if states[now] != states[before]:
                 for i, (old, new) in enumerate(zip(states[before], states[now])):
@@ -57,6 +63,12 @@ def changes_of(run: Replay, names: Sequence[str]) -> Iterator[Event]:
                         went[i] = steps[number]
                         yield from change_of(number, went[i], i, names, climbs[i])
         before = now
+
+
+@functools.lru_cache(maxsize=4096)
+def state_of(counts: Counts) -> int:
+    """How bad the counts of an interface are."""
+    return severity(max(counts))
 
 
 def outage_of(went: Step, back: Step) -> str:
@@ -127,7 +139,7 @@ def change_of(number: int, step: Step, i: int, names: Sequence[str], climb: Clim
 def second_copies(run: Replay, names: Sequence[str]) -> Iterator[Event]:
     """Attempts by which a receiver accepted a frame that it had already: after a fault in the last bit."""
     steps = run.steps
-    if LASTBIT not in steps.kinds:
+    if not steps.count_of(LASTBIT):
         return
     # Of each interface the last frame that has to be sent again, and how many copies receivers have.
     had: dict[int, tuple[int, Counter[int]]] = {}
@@ -159,7 +171,7 @@ def refusals_of(run: Replay, names: Sequence[str]) -> Iterator[Event]:
 def drops_of(run: Replay, names: Sequence[str]) -> Iterator[Event]:
     """Items that found no room in the receive queue of a socket."""
     places: dict[int, list[int]] = {}
-    if DROPPED in run.items.fates:
+    if any(socket.dropped for socket in run.sockets):
         for socket, step, fate in zip(run.items.sockets, run.items.steps, run.items.fates):
             if fate == DROPPED:
                 places.setdefault(socket, []).append(step)
@@ -193,7 +205,7 @@ def verdict_words(verdict: str, names: Sequence[str]) -> str:
 
 def counts_by_kind(run: Replay) -> dict[str, int]:
     """How many steps of each kind there are."""
-    return {kind: run.steps.kinds.count(number) for number, kind in enumerate(KINDS)}
+    return {kind: run.steps.count_of(number) for number, kind in enumerate(KINDS)}
 
 
 def facts_of(run: Replay) -> str:
@@ -232,7 +244,7 @@ def worst_of(run: Replay, names: Sequence[str], events: Sequence[Event]) -> tupl
         dropped = sum(socket.dropped for socket in run.sockets)
         return f"{times(dropped, 'item')} dropped, since receive queues were full", firsts["dropped"].step
     kinds = run.steps.kinds
-    failed = len(kinds) - kinds.count(DONE) - kinds.count(RESTART)
+    failed = len(kinds) - run.steps.count_of(DONE) - run.steps.count_of(RESTART)
     if failed:
         return f"{failed:,} failed", next(k for k, kind in enumerate(kinds) if kind not in (DONE, RESTART))
     refused = sum(iface.refused for iface in run.ifaces)

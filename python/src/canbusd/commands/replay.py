@@ -97,14 +97,14 @@ def objects_of(record: Record) -> Iterator[dict[str, object]]:
 
 def lines_of(record: Record) -> Iterator[str]:
     """Yields a line for each step, with the state of who sent or came back where that changed."""
-    run, names = record.replay, record.names
-    for place, step in enumerate(run.steps):
-        counts = step.counts[step.iface]
-        after = f"counts {counts[0]}/{counts[1]}"
-        if step.kind == "restart":
-            yield f"({step.moment}) {names[step.iface]} restarted, {after}"
+    run, names, steps = record.replay, record.names, record.replay.steps
+    for place, (kind, moment, iface, counts) in enumerate(zip(steps.kinds, steps.moments, steps.ifaces, steps.counts)):
+        tec, rec = steps.count_lists.all[counts][iface]
+        front, after = f"({moment_of(moment)}) {names[iface]}", f"counts {tec}/{rec}"
+        if kind == RESTART:
+            yield f"{front} restarted, {after}"
         else:
-            yield f"({step.moment}) {names[step.iface]} {step.text} {words_of(attempt_at(run, names, place))}, {after}"
+            yield f"{front} {steps.text(place)} {words_of(attempt_at(run, names, place))}, {after}"
 
 
 def words_of(attempt: Attempt) -> str:

@@ -1,0 +1,183 @@
+#!/usr/bin/env python3
+"""How long `python3 -m canbusd report`, its text and `replay` take, and their memory, of four kinds of run.
+
+    benches/pages.py --canbusd PROGRAM [--attempts N,..] [--runs N] [--folder DIR] [--source DIR,..]
+
+The kinds are `random`, in which each attempt sends a frame of 8 random bytes that another interface receives; `hundred`, the
+same with 100 frames; `contend`, in which four interfaces have frames in their queues and three receive each; and `faults`,
+which is that with a script of faults on a bus that reports them, with interfaces that go bus off and come back. Records are
+made in the folder, the same at each run, and kept there. With several sources of the package they take turns, and what
+they write has to be the same. A line has the least of the runs: processor time of the command and the program that it
+calls, the time of the clock, and the memory of the larger of both.
+"""
+
+import argparse
+import hashlib
+import os
+import random
+import subprocess
+import sys
+import time
+
+ROOT = os.path.dirname(os.path.dirname(os.path.abspath(__file__)))
+COMMANDS = {"page": ["report"], "story": ["report", "--text", "--last", "0"], "replay": ["replay"]}
+# How many frames an interface has in its queue.
+QUEUE = 100
+# The error message frames that each socket of `faults` asks for.
+ERRORS = ("1FFFFFFF", "140", "88", "0")
+FAULTS = ("global bit", "global form", "lastbit", "local crc can1", "local stuff can2,can3")
+
+
+def some_frame(rng, low=0, high=0x800, size=8):
+    return f"{rng.randrange(low, high):03X}#{rng.randbytes(size).hex().upper()}"
+
+
+def moment(micros):
+    return f"{micros // 1000000}.{micros % 1000000:06}"
+
+
+class Run:
+    """The record of a run whose frames are all done, by interfaces with a socket each."""
+
+    def __init__(self, ifaces):
+        self.entries = [f"open {number} 65535 = socket {number}" for number in range(ifaces)]
+        self.front = f"canbus record 1\nbus {ifaces} always 0000 1024 16777216"
+        self.sent = [0] * ifaces
+        self.micros = 0
+
+    def send(self, iface, frame):
+        self.entries.append(f"send {iface} {frame} = number {self.sent[iface]}")
+        self.sent[iface] += 1
+        return iface, self.sent[iface] - 1, frame
+
+    def attempt(self, iface, number, frame):
+        self.micros += 137
+        others = [one for one in range(len(self.sent)) if one != iface]
+        accepted = sum(1 << one for one in others)
+        now = moment(self.micros)
+        self.entries.append(f"attempt {now} good = tried {iface} {number} {frame} done {accepted:04X} 0000")
+        self.entries += [f"receive {one} = data {iface} {number} {frame} {now}" for one in others]
+
+    def text(self):
+        return "\n".join([self.front, *self.entries, f"end {len(self.entries)}", ""]).encode()
+
+
+def calm(attempts, frames, rng):
+    run = Run(2)
+    known = [some_frame(rng) for _ in range(frames)]
+    for _ in range(attempts):
+        run.attempt(*run.send(0, rng.choice(known) if known else some_frame(rng)))
+    return run.text()
+
+
+def contend(attempts, rng):
+    """Rounds of four full queues. Identifiers say who sends, so none is there twice."""
+    run = Run(4)
+    for _ in range(attempts // (4 * QUEUE)):
+        queues = [
+            [run.send(iface, some_frame(rng, iface * 0x200, iface * 0x200 + 0x200)) for _ in range(QUEUE)]
+            for iface in range(4)
+        ]
+        for queue in queues:
+            queue.reverse()
+        while any(queues):
+            run.attempt(*min((queue for queue in queues if queue), key=lambda queue: queue[-1][2][:3]).pop())
+    return run.text()
+
+
+def faults(attempts, rng, program, folder):
+    """By a bench, in whose queues are 100 frames of each interface; a tenth of the attempts have faults, some in a row."""
+    lines, bus = [], ",".join(f"can{number}" for number in range(4))
+    for number in range(4):
+        lines += [
+            f"session {number + 1}",
+            f"feed {number + 1} < open can{number} >< rawmode >< errmask {ERRORS[number]} >",
+        ]
+    script, number = [], 0
+    while number < 2 * attempts:
+        row = 40 if rng.random() < 0.001 else 1
+        script += [f"{number + k} {'global bit' if row > 1 else rng.choice(FAULTS)}\n" for k in range(row)]
+        number += row - 1 + rng.randrange(1, 20)
+    micros, made = 0, 0
+    while made < attempts:
+        for number in range(4):
+            frames = (f"<send {rng.randrange(number, 0x800, 4):X} 1 {rng.randrange(256):X}>" for _ in range(QUEUE))
+            lines.append(f"feed {number + 1} {''.join(frames)}")
+        micros += 500_000
+        lines += [f"run {moment(micros)}", *(f"drain {number + 1}" for number in range(4))]
+        made += 4 * QUEUE
+    path, rules = os.path.join(folder, "bench.rec"), os.path.join(folder, "faults.script")
+    with open(rules, "w", encoding="ascii") as file:
+        file.writelines(script)
+    words = ["--report", "--auto-restart", "40", "--txqueue", "1024", "--rxqueue", "1024", "--limit", "16777216"]
+    words += ["--bitrate", "1000000", "--record", path, f"{bus}@{rules}"]
+    subprocess.run(
+        [program, "bench", *words], input="\n".join([*lines, ""]).encode(), stdout=subprocess.DEVNULL, check=True
+    )
+    with open(path, "rb") as file:
+        return file.read()
+
+
+KINDS = {
+    "random": lambda attempts, rng, *_: calm(attempts, 0, rng),
+    "hundred": lambda attempts, rng, *_: calm(attempts, 100, rng),
+    "contend": lambda attempts, rng, *_: contend(attempts, rng),
+    "faults": faults,
+}
+
+
+def record_of(kind, attempts, program, folder):
+    """The path of the record of such a run, which is made where there is none."""
+    path = os.path.join(folder, f"{kind}-{attempts}.rec")
+    if not os.path.exists(path):
+        text = KINDS[kind](attempts, random.Random(kind), program, folder)
+        with open(path, "wb") as file:
+            file.write(text)
+    return path
+
+
+def measured(words, variables):
+    """Seconds of a processor and of the clock, MB, and a hash of what was written."""
+    begin = time.monotonic()
+    child = subprocess.Popen(words, stdout=subprocess.PIPE, env={**os.environ, **variables})
+    found = hashlib.sha256()
+    while block := child.stdout.read(1 << 20):
+        found.update(block)
+    _, status, usage = os.wait4(child.pid, 0)
+    if status:
+        raise SystemExit(f"{' '.join(words)}: status {status}")
+    wall = time.monotonic() - begin
+    return (usage.ru_utime + usage.ru_stime, wall, usage.ru_maxrss / 1000), found.hexdigest()
+
+
+def main():
+    parser = argparse.ArgumentParser(description=__doc__, formatter_class=argparse.RawDescriptionHelpFormatter)
+    parser.add_argument("--canbusd", default=os.path.join(ROOT, "dist", "canbusd"), metavar="PROGRAM")
+    parser.add_argument("--attempts", default="100000,1000000", metavar="N,..")
+    parser.add_argument("--kinds", default=",".join(KINDS), metavar="KIND,..")
+    parser.add_argument("--commands", default=",".join(COMMANDS), metavar="COMMAND,..")
+    parser.add_argument("--runs", type=int, default=3, metavar="N")
+    parser.add_argument("--folder", default="/tmp/canbusd-pages", metavar="DIR")
+    parser.add_argument("--source", default=os.path.join(ROOT, "python", "src"), metavar="DIR,..")
+    options = parser.parse_args()
+    os.makedirs(options.folder, exist_ok=True)
+    program, sources = os.path.abspath(options.canbusd), options.source.split(",")
+    print(f"{'run':8} {'attempts':>9} {'command':8} " + "   ".join(["     CPU    clock    MB"] * len(sources)))
+    for attempts in map(int, options.attempts.split(",")):
+        for kind in options.kinds.split(","):
+            path = record_of(kind, attempts, program, options.folder)
+            for command in options.commands.split(","):
+                words = [sys.executable, "-m", "canbusd", *COMMANDS[command], path]
+                runs = [
+                    [measured(words, {"CANBUSD": program, "PYTHONPATH": source}) for source in sources]
+                    for _ in range(options.runs)
+                ]
+                if len({written for run in runs for _, written in run}) > 1:
+                    raise SystemExit(f"{' '.join(words)}: not always the same")
+                least = [[min(one) for one in zip(*(figures for figures, _ in runs))] for runs in zip(*runs)]
+                figures = "   ".join(f"{cpu:8.2f} {wall:8.2f} {size:5.0f}" for cpu, wall, size in least)
+                print(f"{kind:8} {attempts:9,} {command:8} {figures}", flush=True)
+
+
+if __name__ == "__main__":
+    main()
