@@ -1,4 +1,4 @@
-"""Rules of faults: the program gives what canbusd.rules does, on random runs and texts; and each way to say a rule.
+"""Rules of faults: the program gives what the model in fault_plan.py does, on random runs and texts; and each way to say a rule.
 
 The model is of the design, and knows nothing of the program. It is asked for the verdict of each attempt of a record, and
 for the answer to each message.
@@ -11,10 +11,11 @@ import subprocess
 
 import pytest
 
-from canbusd.faults import lines_of, plan_of
+from canbusd.faults import lines_of
 from canbusd.frames import Frame, identifier_word
 from canbusd.record import read_record
-from canbusd.rules import MOST_RULES, NAMES, Plan, check_rules, is_rule, parse_rule
+from canbusd.rules import MOST_RULES, NAMES, check_rules, is_rule, parse_rule
+from fault_plan import Plan, plan_of
 from random_rules import RECORD, RuleMaker
 from serving import Plain, plain, serving
 
@@ -61,6 +62,12 @@ def in_order(verdict, names):
     return " ".join([*words, ",".join(name for name in names if name in hit.split(","))])
 
 
+def shown(verdict, rule, names):
+    """What the line of an attempt ends in with `--show-faults`: its fault, and the number of its rule."""
+    fault = "" if verdict == "good" else f"; fault {in_order(verdict, names)}"
+    return f"{fault}; rule {rule}" if rule else fault
+
+
 def run(program, words, text, folder):
     """A run of the program on this input."""
     return subprocess.run(
@@ -79,7 +86,7 @@ def difference(program, case, folder):
     tried = [line for line in lines if line.startswith(("tried ", "idle"))]
     record = read_record(folder / RECORD, case.names)
     attempts = [attempt for attempt in record.attempts if attempt.outcome != "idle"]
-    plan = plan_of(case.script)
+    plan, ends = plan_of(case.script), []
     for kind, text in case.operations:
         if kind == "line":
             rule, fault = said(text, case.names, plan)
@@ -94,8 +101,19 @@ def difference(program, case, folder):
             attempt = attempts.pop(0)
             verdict, rule = plan.verdict(attempt.winner, identifier_word(Frame.parse(attempt.frame)))
             if attempt.fault != in_order(verdict, case.names):
-                return f"{attempt}: and not {verdict} of {rule}"
-    return f"{answers} {tried} {attempts}" if answers or tried or attempts else None
+                return f"{attempt}: and not {verdict} of rule {rule}"
+            ends.append(shown(verdict, rule, case.names))
+    if answers or tried or attempts:
+        return f"{answers} {tried} {attempts}"
+    return shown_difference(program, case, folder, lines, iter(ends))
+
+
+def shown_difference(program, case, folder, lines, ends):
+    """What differs first in the same run with `--show-faults`, whose lines of attempts that tried a frame end in these."""
+    done = run(program, ["bench", "--show-faults", *case.words[1:]], case.text, folder)
+    wanted = [line + next(ends) if line.startswith("tried ") else line for line in lines]
+    pairs = itertools.zip_longest(done.stdout.decode().splitlines(), wanted)
+    return next((f"{got}, and not {line}" for got, line in pairs if got != line), None)
 
 
 @pytest.mark.parametrize("count", [200, pytest.param(2000, marks=pytest.mark.slow)])
@@ -281,3 +299,65 @@ def test_one_node_of_two_goes_bus_off(program, tmp_path):
         *["tried ecu 0 destroyed - -"] * 31, "tried ecu 0 destroyed - ecu",
     ]  # fmt: skip
     assert sum(line.startswith("tried tester ") and " done " in line for line in tried) == 40
+
+
+EXTENDED, REMOTE = 0x80000000, 0x40000000
+
+
+def verdicts(plan, *attempts):
+    """The verdicts of these attempts, each a winner and an identifier word."""
+    return [plan.verdict(winner, word)[0] for winner, word in attempts]
+
+
+def planned(*rules, lines=()):
+    return Plan(dict(lines), map(parse_rule, rules))
+
+
+# The model itself, by what the design says.
+
+
+def test_who_sends_and_what():
+    ecu, other = ("ecu", 0x123), ("other", 0x123)
+    assert verdicts(planned("next 2 from ecu lastbit"), other, ecu, other, ecu, ecu) == [
+        "good", "lastbit", "good", "lastbit", "good",
+    ]  # fmt: skip
+    words = [0x123, REMOTE | 0x123, EXTENDED | 0x123, 0x124, EXTENDED | REMOTE | 0x123]
+    taken = {
+        "123": "11000", "00000123": "00101", "123:7FF": "11101", "123:800007FF": "11000", "123:C00007FF": "10000",
+        "20000123:7FF": "00010", "0:0": "11111", "20000000:0": "00000", "40000000:40000000": "01001",
+    }  # fmt: skip
+    for identifier, wanted in taken.items():
+        plan = planned(f"always id {identifier} lastbit")
+        found = ["01"[verdict == "lastbit"] for verdict in verdicts(plan, *(("ecu", word) for word in words))]
+        assert "".join(found) == wanted, identifier
+
+
+def test_the_first_rule_that_matches_decides():
+    a, b = ("a", 1), ("b", 1)
+    plan = planned("next 1 from b good", "next 2 skip 1 lastbit", "always global bit")
+    # Only what a rule decides, or skips, counts for it.
+    assert verdicts(plan, a, b, b, a, a) == ["global bit", "good", "lastbit", "lastbit", "global bit"]
+    assert [str(rule) for rule in plan.rules] == ["always global bit"]
+
+
+def test_a_line_goes_before_rules_and_counts_for_none():
+    plan = planned("next 2 lastbit", lines={0: "good", 2: "global form"})
+    assert verdicts(plan, *[("a", 1)] * 5) == ["good", "lastbit", "global form", "lastbit", "good"]
+
+
+def test_rules_come_and_go():
+    plan = planned("next 3 skip 1 lastbit", lines={4: "global form"})
+    a = ("a", 1)
+    assert verdicts(plan, a, a) == ["good", "lastbit"]
+    plan.add(parse_rule("always global bit"))
+    assert verdicts(plan, a) == ["lastbit"]
+    plan.end_rules()
+    assert verdicts(plan, a, a, a) == ["good", "global form", "good"]
+    assert plan.rules == []
+
+
+def test_which_rule_it_was():
+    plan = planned("next 1 lastbit", lines={0: "lastbit"})
+    assert plan.verdict("a", 1) == ("lastbit", None)
+    assert plan.verdict("a", 1) == ("lastbit", 1)
+    assert plan.verdict("a", 1) == ("good", None)

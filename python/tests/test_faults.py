@@ -3,7 +3,7 @@
 import pytest
 
 from canbusd.bench import Bench
-from canbusd.faults import Faults, plan_of, rules_of, script_text
+from canbusd.faults import Faults, rules_in, rules_of, script_text
 
 SCRIPT = """\
 0 global bit
@@ -28,9 +28,18 @@ def test_the_script_of_faults():
 
 def test_a_fault_by_its_attempt():
     assert [script().of(number) for number in (1, 2, 7)] == ["global bit", "good", "local stuff can0,can1"]
-    plan = plan_of("# a comment\n\n" + SCRIPT)
-    given = [plan.verdict("can0", 0x123)[0] for _ in range(42)]
-    assert given == [script().of(number) for number in range(42)]
+    given = dict(line.split(" ", 1) for line in SCRIPT.splitlines())
+    assert [given.get(str(number), "good") for number in range(42)] == [script().of(number) for number in range(42)]
+
+
+def test_rules_in_a_script():
+    """lines by numbers, comments and empty lines are none"""
+    assert list(map(str, rules_in(f"# a comment\n\n{SCRIPT}next 1 good\nalways lastbit\n"))) == [
+        "next 1 good",
+        "always lastbit",
+    ]
+    with pytest.raises(ValueError, match="its verdict is"):
+        rules_in("next 1 bad")
 
 
 RULES = """\

@@ -1,21 +1,12 @@
-"""Rules of faults: their grammar, and what they give, as the design says it. What a program makes of them is compared with
-this in tests/test_rules.py of the clone."""
+"""Rules of faults: their grammar, how many are left, and which one gave an attempt its verdict. What they give is tried in
+tests/test_rules.py of the clone."""
 
 import pytest
 
-from canbusd.record import Attempt
-from canbusd.rules import Plan, Rule, check_rules, deciders, parse_rule
-
-EXTENDED, REMOTE = 0x80000000, 0x40000000
-
-
-def verdicts(plan, *attempts):
-    """The verdicts of these attempts, each a winner and an identifier word."""
-    return [plan.verdict(winner, word)[0] for winner, word in attempts]
-
-
-def plan_of(*rules, lines=()):
-    return Plan(dict(lines), map(parse_rule, rules))
+from canbusd._deciders import deciders
+from canbusd.bench import Bench
+from canbusd.record import read_record
+from canbusd.rules import GivenRules, Rule, check_rules, parse_rule
 
 
 @pytest.mark.parametrize(
@@ -101,76 +92,59 @@ def test_names_that_the_bus_does_not_have():
             check_rules([parse_rule(text)], ["a", "b"])
 
 
-def test_who_sends_and_what():
-    ecu, other = ("ecu", 0x123), ("other", 0x123)
-    assert verdicts(plan_of("next 2 from ecu lastbit"), other, ecu, other, ecu, ecu) == [
-        "good", "lastbit", "good", "lastbit", "good",
+def test_how_many_rules_are_left():
+    given = GivenRules(map(parse_rule, ["next 2 lastbit", "always good"]))
+    given.add(parse_rule("next 1 global bit"))
+    assert len(given) == 3
+    assert [str(given.gave(number)) for number in (1, 2, 1, 3)] == [
+        "next 2 lastbit", "always good", "next 2 lastbit", "next 1 global bit",
     ]  # fmt: skip
-    words = [0x123, REMOTE | 0x123, EXTENDED | 0x123, 0x124, EXTENDED | REMOTE | 0x123]
-    taken = {
-        "123": "11000", "00000123": "00101", "123:7FF": "11101", "123:800007FF": "11000", "123:C00007FF": "10000",
-        "20000123:7FF": "00010", "0:0": "11111", "20000000:0": "00000", "40000000:40000000": "01001",
-    }  # fmt: skip
-    for identifier, wanted in taken.items():
-        plan = plan_of(f"always id {identifier} lastbit")
-        found = ["01"[verdict == "lastbit"] for verdict in verdicts(plan, *(("ecu", word) for word in words))]
-        assert "".join(found) == wanted, identifier
+    assert len(given) == 1
+    given.end()
+    given.add(parse_rule("next 1 good"))
+    assert (len(given), str(given.gave(4)), len(given)) == (1, "next 1 good", 0)
 
 
-def test_the_first_rule_that_matches_decides():
-    a, b = ("a", 1), ("b", 1)
-    plan = plan_of("next 1 from b good", "next 2 skip 1 lastbit", "always global bit")
-    # Only what a rule decides, or skips, counts for it.
-    assert verdicts(plan, a, b, b, a, a) == ["global bit", "good", "lastbit", "lastbit", "global bit"]
-    assert [str(rule) for rule in plan.rules] == ["always global bit"]
+SCRIPT = "0 global bit\nnext 1 from a local crc b\nnext 1 id 124 good\n"
 
 
-def test_a_line_goes_before_rules_and_counts_for_none():
-    plan = plan_of("next 2 lastbit", lines={0: "good", 2: "global form"})
-    assert verdicts(plan, *[("a", 1)] * 5) == ["good", "lastbit", "global form", "lastbit", "good"]
+def run_of(folder, script, *injected):
+    """The bus and the record of a run in which a sends 123 until it is done, then 124 and 125, and b as often the same."""
+    with Bench("a,b", faults=script or None, out=folder) as bench:
+        one, other = bench.open("a"), bench.open("b")
+        for identifier in (0x123, 0x124, 0x125):
+            one.send(identifier)
+        attempts = bench.run()
+        for rule in injected:
+            bench.inject(rule)
+        for identifier in (0x123, 0x124, 0x125):
+            other.send(identifier)
+        attempts += bench.run()
+        record = bench.record()
+    (folder / "faults").write_text(script, encoding="utf-8")
+    return f"a,b@{folder / 'faults'}", record, attempts
 
 
-def test_rules_come_and_go():
-    plan = plan_of("next 3 skip 1 lastbit", lines={4: "global form"})
-    a = ("a", 1)
-    assert verdicts(plan, a, a) == ["good", "lastbit"]
-    plan.add(parse_rule("always global bit"))
-    assert verdicts(plan, a) == ["lastbit"]
-    plan.end_rules()
-    assert verdicts(plan, a, a, a) == ["good", "global form", "good"]
-    assert plan.rules == []
+def test_which_rule_decided(tmp_path):
+    """a line by number is no rule, a good verdict of a rule counts, and the record says it as the bench does"""
+    bus, record, attempts = run_of(tmp_path, SCRIPT)
+    wanted = ["", "next 1 from a local crc b", "", "next 1 id 124 good", *[""] * 4]
+    assert [attempt.fault for attempt in attempts] == ["global bit", "local crc b", *["good"] * 6]
+    assert record.attempts == attempts
+    assert deciders(record, bus, SCRIPT) == wanted
+    again = read_record(tmp_path / "a.rec", ["a", "b"])
+    assert deciders(again, bus, SCRIPT, path=tmp_path / "a.rec") == wanted
+    assert deciders(record, "a,b", "") == []
 
 
-def test_which_rule_it_was():
-    plan = plan_of("next 1 lastbit", lines={0: "lastbit"})
-    assert plan.verdict("a", 1) == ("lastbit", None)
-    assert plan.verdict("a", 1) == ("lastbit", parse_rule("next 1 lastbit"))
-    assert plan.verdict("a", 1) == ("good", None)
-
-
-def attempt(winner, frame, fault, outcome="destroyed"):
-    return Attempt(0.0, winner, 0, frame, outcome, fault, (), (), ())
-
-
-def test_which_rule_decided_an_attempt_of_a_record():
-    attempts = [
-        attempt("a", "123#", "global bit"),
-        attempt("", "", "good", "idle"),
-        attempt("a", "123#", "local crc a,b"),
-        attempt("b", "00000123#R4", "lastbit"),
-        attempt("a", "123#", "global form"),
-        attempt("a", "124##0", "good"),
-        attempt("a", "124#", "good"),
-    ]
-    plan = plan_of("next 1 from a local crc b,a,b", "next 1 id 124 good", lines={0: "global bit"})
-    injected = [parse_rule(rule) for rule in ("always id 00000123 lastbit", "next 2 global form", "always global form")]
-    assert deciders(attempts, plan, injected) == [
-        "",
-        "next 1 from a local crc b,a,b",
-        "always id 00000123 lastbit",
-        # Two of those that were injected may have given it.
-        "",
-        "next 1 id 124 good",
-        "",
-    ]
-    assert deciders(attempts, plan_of(lines={0: "global bit"})) == []
+def test_which_of_the_injected_rules_it_was(tmp_path):
+    """no record says it: the only one that fits a fault that the script does not explain"""
+    rules = ["next 1 id 124 lastbit", "next 1 from b id 125 global form", "next 1 id 125:7FF global form"]
+    bus, record, attempts = run_of(tmp_path, SCRIPT, *rules)
+    faults = [attempt.fault for attempt in attempts if attempt.winner == "b"]
+    assert faults == ["good", "lastbit", "good", "global form", "global form", "good"]
+    found = deciders(record, bus, SCRIPT, list(map(parse_rule, rules)))
+    # Two of them may have given the last faults.
+    assert [rule for rule in found if rule] == [
+        "next 1 from a local crc b", "next 1 id 124 good", "next 1 id 124 lastbit",
+    ]  # fmt: skip

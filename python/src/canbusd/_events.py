@@ -7,7 +7,7 @@ import subprocess
 import weakref
 from collections.abc import Callable, Iterator
 from types import TracebackType
-from typing import Optional
+from typing import BinaryIO, Optional
 
 from canbusd._program import ProgramNotFound, find_program
 from canbusd._rates import Rates
@@ -30,21 +30,30 @@ class BadRecord(ValueError):
 
 
 class Events:
-    """An audit of a record that is handed in at once, or piece by piece as it is written.
+    """An audit of a record that is handed in at once, or piece by piece as it is written, or that the program reads itself.
 
-    With `cut` the record may end before its line `end`. With bit rates the lines say how long attempts took the wire.
+    With `cut` the record may end before its line `end`. With bit rates the lines say how long attempts took the wire, with
+    `faults`, as in `can0,can1@FILE`, which rule of that script gave an attempt its verdict.
     """
 
-    def __init__(self, cut: bool = False, rates: Optional[Rates] = None) -> None:
+    def __init__(
+        self,
+        cut: bool = False,
+        rates: Optional[Rates] = None,
+        file: Optional[BinaryIO] = None,
+        faults: Optional[str] = None,
+    ) -> None:
         self._program = find_program()
         options = [*(["--cut"] if cut else []), *(rates.words if rates else [])]
+        options += ["--faults", faults] if faults is not None else []
         words = [self._program, "audit", "--events", *options, "/dev/stdin"]
         pipe = subprocess.PIPE
-        self._process = subprocess.Popen(words, bufsize=0, stdin=pipe, stdout=pipe, stderr=pipe)
-        assert self._process.stdin is not None and self._process.stdout is not None
+        self._process = subprocess.Popen(words, bufsize=0, stdin=file or pipe, stdout=pipe, stderr=pipe)
+        assert self._process.stdout is not None
         self._input, self._output = self._process.stdin, self._process.stdout
-        # A write takes what has room: the program may wait until its own output is read.
-        os.set_blocking(self._input.fileno(), False)
+        if self._input is not None:
+            # A write takes what has room: the program may wait until its own output is read.
+            os.set_blocking(self._input.fileno(), False)
         # How many lines were handed in, how many came, and what was written of one that has not ended.
         self._handed = self._came = 0
         self._rest = ""
@@ -69,6 +78,7 @@ class Events:
         They have a line each: the first one with the second, and `end` once this `is_last`. BadRecord at the first that is
         wrong, of which the program says so once it has read all: before that, `doubt` is called after a second without a line.
         """
+        assert self._input is not None
         unwritten = memoryview(text)
         self._handed += text.count(b"\n")
         waiting = select.poll()
@@ -80,26 +90,30 @@ class Events:
                 doubt()
             for descriptor, _ in ready:
                 if descriptor != self._output.fileno():
-                    unwritten = unwritten[self._write(unwritten) :]
+                    unwritten = unwritten[write_some(descriptor, unwritten) :]
                     if not unwritten:
                         waiting.unregister(descriptor)
                     if is_last and not unwritten:
                         self._input.close()
                     continue
-                block = os.read(descriptor, BLOCK)
-                *lines, self._rest = f"{self._rest}{block.decode()}".split("\n")
-                self._came += len(lines)
-                yield lines
-                if not block:
-                    self._check_status()
+                lines = self._read()
+                if lines is None:
                     return
+                yield lines
 
-    def _write(self, text: memoryview) -> int:
-        """Hands text to the program; returns how much it took, all of it where it has ended at a fault."""
-        try:
-            return os.write(self._input.fileno(), text)
-        except BrokenPipeError:
-            return len(text)
+    def lines_of_file(self) -> Iterator[list[str]]:
+        """Yields the lines of the events of the file."""
+        return iter(self._read, None)
+
+    def _read(self) -> Optional[list[str]]:
+        """Returns the next lines; None at the end, and BadRecord where the record is wrong."""
+        block = os.read(self._output.fileno(), BLOCK)
+        if not block:
+            self._check_status()
+            return None
+        *lines, self._rest = f"{self._rest}{block.decode()}".split("\n")
+        self._came += len(lines)
+        return lines
 
     def _check_status(self) -> None:
         """Waits for the end of the program; BadRecord where it refused the record."""
@@ -111,6 +125,14 @@ class Events:
         if status:
             words = said.strip() or f"status {status}"
             raise ProgramNotFound(f"{self._program} does not fit this package: {words}")
+
+
+def write_some(descriptor: int, text: memoryview) -> int:
+    """Hands text to the program; returns how much it took, all of it where it has ended at a fault."""
+    try:
+        return os.write(descriptor, text)
+    except BrokenPipeError:
+        return len(text)
 
 
 def end(process: "subprocess.Popen[bytes]") -> None:

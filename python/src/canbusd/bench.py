@@ -25,11 +25,11 @@ from canbusd._process import bus_of, option_words, rate_words, rates_of
 from canbusd._program import audited
 from canbusd._protocol import Filters, options
 from canbusd._summary import write_page
-from canbusd.faults import Script, plan_of, rules_of, script_text
-from canbusd.frames import Frame, identifier_word
+from canbusd.faults import Script, rules_in, rules_of, script_text
+from canbusd.frames import Frame
 from canbusd.log import read_log
 from canbusd.record import Attempt, Record, read_record
-from canbusd.rules import MOST_RULES, check_rules, parse_rule
+from canbusd.rules import MOST_RULES, GivenRules, check_rules, parse_rule
 from canbusd.signals import Database
 
 if TYPE_CHECKING:
@@ -41,6 +41,7 @@ MOST_SESSIONS = 64
 TRIED = re.compile(
     r"(?:idle|tried (?P<winner>\S+) (?P<number>\d+) (?P<outcome>\w+) (?P<accepted>\S+) (?P<off>\S+))"
     r"(?: restarted (?P<restarted>\S+))?(?: at (?P<at>[0-9.]+))?"
+    r"(?:; fault (?P<fault>[^;]+))?(?:; rule (?P<rule>\d+))?"
 )
 
 
@@ -86,10 +87,10 @@ class Bench(Dialogue, HasRestBus["BenchRestBus"]):
         if script:
             (self._folder / "faults").write_text(script, encoding="utf-8")
             bus += f"@{self._folder / 'faults'}"
-        self._start("bench", *words, bus)
+        self._start("bench", "--show-faults", *words, bus)
         # What is wrong with the words shows before the first session is used.
         self._greet()
-        self._plan = plan_of(script)
+        self._given = GivenRules(rules_in(script))
         # The rule of each attempt, where one gave its fault.
         self._rules: list[str] = []
 
@@ -151,13 +152,13 @@ class Bench(Dialogue, HasRestBus["BenchRestBus"]):
         rules = rules_of(faults)
         check_rules(rules, self.names)
         with self._turn:
-            if len(self._plan.rules) + len(rules) > MOST_RULES:
+            if len(self._given) + len(rules) > MOST_RULES:
                 raise Refused("too many rules")
             for rule in rules:
                 # Such a line has no answer.
                 self._write(f"fault {rule}")
                 self._in_step = True
-                self._plan.add(rule)
+                self._given.add(rule)
 
     def attempt(self, at: Union[str, float, None] = None) -> Optional[Attempt]:
         """Puts the frame that wins arbitration on the bus, at this moment if one is given; None if no frame waits.
@@ -241,16 +242,14 @@ class Bench(Dialogue, HasRestBus["BenchRestBus"]):
         if words["winner"] is None:
             return Attempt(moment, "", 0, "", "idle", "good", (), (), restarted) if restarted else None
         number, winner = int(words["number"]), words["winner"]
-        frame = self._sent[winner][number]
-        verdict, rule = self._plan.verdict(winner, identifier_word(frame))
-        self._rules.append(str(rule or ""))
+        self._rules.append(str(self._given.gave(int(words["rule"]))) if words["rule"] else "")
         return Attempt(
             moment,
             winner,
             number,
-            str(frame),
+            str(self._sent[winner][number]),
             words["outcome"],
-            verdict,
+            words["fault"] or "good",
             set_of(words["accepted"]),
             set_of(words["off"]),
             restarted,
@@ -260,9 +259,9 @@ class Bench(Dialogue, HasRestBus["BenchRestBus"]):
         """Keeps up with the rules that a message of a session, which was not refused, has given or ended."""
         command, _, rule = " ".join(message.split()).partition(" ")
         if command == "fault":
-            self._plan.add(parse_rule(rule))
+            self._given.add(parse_rule(rule))
         elif command == "nofaults":
-            self._plan.end_rules()
+            self._given.end()
 
     def _greet(self) -> None:
         """Starts the session of the next `open`, while there is room for one."""

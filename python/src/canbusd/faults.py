@@ -15,7 +15,7 @@ from typing import Optional, Union
 
 from canbusd._text import NAME, shown
 from canbusd.frames import EXTENDED
-from canbusd.rules import MOST, MOST_RULES, NUMBER, VERDICT, Plan, Rule, is_rule, parse_rule
+from canbusd.rules import MOST, MOST_RULES, NUMBER, VERDICT, Rule, is_rule, parse_rule
 
 # What no path is.
 IS_TEXT = re.compile(r"\A\Z|\n|\A(?:[0-9]+|next|always) ")
@@ -293,19 +293,9 @@ def lines_of(text: str) -> list[str]:
     return [line for line in text.split("\n") if line and not line.startswith("#")]
 
 
-def plan_of(text: str) -> Plan:
-    """Returns the plan of a script; ValueError where it is none. That no attempt has two lines is not looked at."""
-    lines = lines_of(text)
-    pairs = (numbered(line) for line in lines if not is_rule(line))
-    return Plan(dict(pairs), map(parse_rule, filter(is_rule, lines)))
-
-
-def numbered(line: str) -> tuple[int, str]:
-    """The number and the verdict of a line; ValueError where it is none."""
-    number, _, verdict = line.partition(" ")
-    if not NUMBER.fullmatch(number) or not VERDICT.fullmatch(verdict):
-        raise ValueError(f"'{shown(line)}' is no line of a script")
-    return int(number), verdict
+def rules_in(script: str) -> list[Rule]:
+    """Returns the rules of a script, in their order; ValueError where one is none."""
+    return [parse_rule(line) for line in lines_of(script) if is_rule(line)]
 
 
 def rules_of(faults: Script) -> list[Rule]:

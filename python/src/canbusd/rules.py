@@ -4,19 +4,16 @@
     next 1 id 123 skip 2 lastbit
     always id 7DF local crc tester
 
-A bench asks here what its rules give, and so does the page of a run, since no record says which rule decided.
+The program has them decide; here is what they are.
 """
 
 import re
-from collections.abc import Iterable, Mapping, Sequence
+from collections.abc import Iterable, Sequence
 from dataclasses import dataclass
-from typing import TYPE_CHECKING, Optional
+from typing import Optional
 
 from canbusd._text import NAME, shown
-from canbusd.frames import EXTENDED, INVERTED, Frame, identifier_word, passes_filters
-
-if TYPE_CHECKING:
-    from canbusd.record import Attempt
+from canbusd.frames import EXTENDED, INVERTED, passes_filters
 
 #: How many rules a bus has at most.
 MOST_RULES = 64
@@ -170,80 +167,37 @@ def check_rules(rules: Iterable[Rule], names: Sequence[str]) -> None:
             raise ValueError(f"rule '{rule}': {unknown} is no interface of its bus, {','.join(names)}")
 
 
-class Active:
-    """A rule that is not used up: what it still skips, and how many attempts it still takes."""
+class GivenRules:
+    """The rules that a bus was given, by the numbers that the program calls them, and how many of them are left."""
 
-    def __init__(self, rule: Rule) -> None:
-        self.rule, self.skip, self.left = rule, rule.skip, rule.count
+    def __init__(self, rules: Iterable[Rule] = ()) -> None:
+        self._rules: list[Rule] = []
+        # How many verdicts each rule still gives that is not used up, by its number; None is without end.
+        self._left: dict[int, Optional[int]] = {}
+        for rule in rules:
+            self.add(rule)
 
-
-class Plan:
-    """The faults of a bus as they are at a moment of its run: lines by the numbers of attempts, and rules in their order.
-
-    It is asked about each attempt in which a frame is tried, in their order, and about no other.
-    """
-
-    def __init__(self, lines: Mapping[int, str], rules: Iterable[Rule] = ()) -> None:
-        self._lines = dict(lines)
-        self._active = [Active(rule) for rule in rules]
-        self._attempts = 0
-
-    @property
-    def rules(self) -> list[Rule]:
-        """The rules that are not used up."""
-        return [active.rule for active in self._active]
+    def __len__(self) -> int:
+        """How many rules are left."""
+        return len(self._left)
 
     def add(self, rule: Rule) -> None:
-        """Adds a rule after the others, from the next attempt on."""
-        self._active.append(Active(rule))
+        """Adds a rule after the others."""
+        self._rules.append(rule)
+        self._left[len(self._rules)] = rule.count
 
-    def end_rules(self) -> None:
-        """Ends all rules; lines by numbers stay."""
-        self._active.clear()
+    def end(self) -> None:
+        """Ends all rules."""
+        self._left.clear()
 
-    def verdict(self, winner: str, word: int) -> tuple[str, Optional[Rule]]:
-        """Returns the verdict of the next attempt, which this interface wins with a frame of this identifier word, and the
-        rule that gave it; None where a line did, or nothing.
-        """
-        line = self._lines.get(self._attempts)
-        self._attempts += 1
-        if line is not None:
-            return line, None
-        for active in self._active:
-            if not active.rule.matches(winner, word):
-                continue
-            if active.skip:
-                active.skip -= 1
-                continue
-            if active.left is not None:
-                active.left -= 1
-            if active.left == 0:
-                self._active.remove(active)
-            return active.rule.verdict, active.rule
-        return "good", None
-
-
-def deciders(attempts: Iterable["Attempt"], plan: Plan, injected: Sequence[Rule] = ()) -> list[str]:
-    """Returns the rule that gave each attempt of a run its fault, as far as it is known; the empty text where it is not.
-
-    `plan` is that of the start, and is used up here. When the rules were injected no record says, so a fault that the plan
-    does not give is of the only one of them that fits it, if there is one. Without any rule the list is empty.
-    """
-    found: list[str] = []
-    if not (plan.rules or injected):
-        return found
-    for attempt in attempts:
-        if attempt.outcome == "idle":
-            continue
-        word = identifier_word(Frame.parse(attempt.frame))
-        verdict, rule = plan.verdict(attempt.winner, word)
-        fits = {rule} if rule else set()
-        if not is_same(verdict, attempt.fault):
-            fits = {
-                one for one in injected if is_same(one.verdict, attempt.fault) and one.matches(attempt.winner, word)
-            }
-        found.append(str(fits.pop()) if len(fits) == 1 else "")
-    return found
+    def gave(self, number: int) -> Rule:
+        """Returns the rule of this number, which gave an attempt its verdict, and counts that."""
+        left = self._left.get(number)
+        if left == 1:
+            del self._left[number]
+        elif left is not None:
+            self._left[number] = left - 1
+        return self._rules[number - 1]
 
 
 def is_same(verdict: str, other: str) -> bool:

@@ -26,11 +26,11 @@ from canbusd._program import ServerError as ServerError, audited
 from canbusd._process import RUNNING, ProgramRun, option_words, rate_words, rates_of
 from canbusd._serve_words import bus_words, record_options, script_of
 from canbusd.expectations import Expectations
-from canbusd.faults import Script, plan_of, rules_of
+from canbusd.faults import Script, rules_of
 from canbusd.log import read_log
 from canbusd.programs import Program, RunsPrograms
 from canbusd.record import Attempt, Record, read_record
-from canbusd.rules import Rule, check_rules, deciders
+from canbusd.rules import Rule, check_rules
 from canbusd.signals import Database, load_database
 from canbusd.virtual import note_rate
 
@@ -269,11 +269,12 @@ class Server(Expectations, SimulatesNodes, RunsPrograms, ProgramRun):
 
     def _page(self, record: Record, path: Path) -> Path:
         """Writes the page of the bus with this record there."""
+        from canbusd._deciders import deciders
         from canbusd._summary import write_page
 
         first = record.names[0]
-        plan = plan_of(script_of(self._by_bus[first][-1]))
-        rules = deciders(record.attempts, plan, self._injected.get(first, []))
+        bus = self._by_bus[first][-1]
+        rules = deciders(record, bus, script_of(bus), self._injected.get(first, []))
         return write_page(record, path, rules, self._rates)
 
     def _rule_session(self, interface: Optional[str]) -> RuleSession:

@@ -9,11 +9,11 @@ from pathlib import Path
 
 from canbusd import _summary, drawings
 from canbusd._command import add_record, replayed
+from canbusd._deciders import deciders
 from canbusd._slots import load_of, load_words, slots_of
 from canbusd.commands import add_database, add_rates, database_of, rates_of
 from canbusd.comparison import beside
-from canbusd.faults import plan_of, script_text
-from canbusd.rules import deciders
+from canbusd.faults import script_text
 
 EPILOG = """\
 The page is one file, which needs no network. It has a time line with a lane for each interface: its attempts, state,
@@ -75,7 +75,8 @@ def run(options: argparse.Namespace) -> None:
 
     rules: list[str] = []
     if options.faults is not None:
-        rules = deciders(record.attempts, plan_of(script_text(Path(options.faults))))
+        bus = f"{','.join(record.names)}@{options.faults}"
+        rules = deciders(record, bus, script_text(Path(options.faults)), path=options.record)
     title = os.path.basename(options.record)
     if isinstance(sys.stdout, io.TextIOWrapper):
         sys.stdout.reconfigure(encoding="utf-8")
