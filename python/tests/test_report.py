@@ -4,6 +4,8 @@ import base64
 import json
 import re
 import struct
+import subprocess
+import sys
 import zlib
 from array import array
 
@@ -177,6 +179,19 @@ def test_the_rule_of_an_attempt():
     # A run that was cut off has fewer.
     header, _ = data_of(page(bus_off(), NAMES, "run.rec", rules=rules[:1]))
     assert header["verdicts"][:2] == ["global bit, by `next 31 from can0 global bit`", "global bit"]
+
+
+def test_the_rule_where_not_all_names_are_known(tmp_path):
+    """b never sends, so the log does not say how it is called"""
+    script = "next 1 from a lastbit\n"
+    with Bench("a,b", faults=script, out=tmp_path) as bench:
+        bench.open("a").send(0x123)
+        bench.run()
+    (tmp_path / "faults").write_text(script, encoding="utf-8")
+    words = [sys.executable, "-m", "canbusd", "report", "--faults", "faults", "a.rec"]
+    done = subprocess.run(words, cwd=tmp_path, capture_output=True, text=True, timeout=60)
+    assert (done.returncode, done.stderr) == (0, "")
+    assert any(verdict.endswith(", by `next 1 from a lastbit`") for verdict in data_of(done.stdout)[0]["verdicts"])
 
 
 def test_what_bus_off_took_and_refused():

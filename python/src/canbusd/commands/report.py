@@ -75,7 +75,8 @@ def run(options: argparse.Namespace) -> None:
 
     rules: list[str] = []
     if options.faults is not None:
-        bus = f"{','.join(record.names)}@{options.faults}"
+        # One that has no name here, `interface 1`, has one as the program takes it.
+        bus = f"{','.join(record.names).replace(' ', '-')}@{options.faults}"
         rules = deciders(record, bus, script_text(Path(options.faults)), path=options.record)
     title = os.path.basename(options.record)
     if isinstance(sys.stdout, io.TextIOWrapper):
