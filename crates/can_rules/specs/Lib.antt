@@ -2,3 +2,4 @@ pub mod Rules
 pub mod RuleWords
 pub mod Plans
 pub mod RunFaults
+pub mod RuleLines

@@ -7,12 +7,14 @@
 pub mod laws;
 pub mod plan;
 pub mod rule;
+pub mod rule_lines;
 mod rule_words;
 mod rules;
 pub mod run_faults;
 
-pub use plan::{Plan, PlanError};
+pub use plan::{Plan, PlanError, spelled_rule};
 pub use rule::{Decision, Rule};
+pub use rule_lines::RuleLines;
 pub use rule_words::{WrongWord, begins_as_rule, read_rule};
 pub use rules::{MAX_RULES, RuleRefusal};
 pub use run_faults::{Change, Later, RunFaults, begins_as_later, read_later};

@@ -109,7 +109,7 @@ impl Plan {
 
     /// One rule more, after the others, with its number. `TooManyRules` exactly where there are 64. A refusal changes
     /// nothing.
-    pub(crate) fn give(&mut self, mut rule: Rule) -> Result<(), RuleRefusal>
+    pub fn give(&mut self, mut rule: Rule) -> Result<(), RuleRefusal>
         ensures { GivesRule rule self.old result self.new }
     {
         let number = self.taken.saturating_add(1);
@@ -181,7 +181,7 @@ impl Plan {
     pub fn inject(&mut self, text: &[u8], names: &Names) -> Result<(), RuleRefusal>
         ensures { Injected names.now text.now self.old result self.new }
     {
-        let rule = rule_in(text, names)?;
+        let rule = spelled_rule(text, names)?;
         self.give(rule)
     }
 
@@ -201,8 +201,9 @@ impl Plan {
     }
 }
 
-// The rule that bytes spell.
-fn rule_in(text: &[u8], names: &Names) -> Result<Rule, RuleRefusal>
+/// The rule that the bytes of a text spell, for a bus with these names. `BadRule` or `UnknownInterface`, by the first word
+/// that is wrong.
+pub fn spelled_rule(text: &[u8], names: &Names) -> Result<Rule, RuleRefusal>
     ensures { SpellsRule names.now text.now result }
 {
     let Ok(text) = str::from_utf8(text) else {

@@ -3,7 +3,7 @@ ghost use Rattle.std.specs.Sync.Mutex.{mutex_guard_value};
 ghost use Rattle.can_event.specs.Events.{IsConfig, IsLongConfig};
 ghost use Rattle.can_roll.specs.Seen.{scroll_seen};
 ghost use Rattle.can_station.specs.Held.{station_seen};
-ghost use Rattle.can_station.specs.Passes.{HadNoPassLeft, InSome, InjectsIn, IsNewLightPass, IsNewPass, IsStateOf, SettlesIn, Suits, Answered, Called, Stepped, same};
+ghost use Rattle.can_station.specs.Passes.{GivesIn, HadNoPassLeft, InSome, InjectsIn, IsNewLightPass, IsNewPass, IsStateOf, SettlesIn, Suits, Answered, Called, Stepped, rules_end, same};
 ghost use Rattle.can_station.specs.Published.{AreTrue, TakesBack, TakesBackScroll};
 
 use crate::bus_name::BusName;
@@ -20,7 +20,7 @@ use can_frame::{Moment, Names};
 use can_meter::{Gauge, MeterBlank, meter, meter_blank};
 use can_record::PackedList;
 use can_roll::{RollBlank, Scroll, Slip, roll_blank};
-use can_rules::{Plan, RuleRefusal};
+use can_rules::{Plan, Rule, RuleRefusal};
 use std::alloc::{AllocError, Global};
 use std::marker::Model;
 use std::sync::atomic::AtomicU8;
@@ -314,9 +314,19 @@ impl<N: BusName, F: FaultSource + Drop, G: Gate + Drop, B: Journaled> Station<N,
         self.hold(rt).rules()
     }
 
-    /// Ends all rules. The lines of the plan stay.
-    pub fn end_rules<R: Wait>(&self, rt: &R) {
-        self.hold(rt).end_rules();
+    /// Takes a rule, as `inject` does its text, and returns before which attempt it came: the number of that one among those
+    /// that try a frame. `TooManyRules` where 64 rules are left, then `NoMemory`; after one all is as before.
+    pub fn give<R: Wait>(&self, rt: &R, rule: Rule) -> Result<u64, RuleRefusal>
+        ensures { GivesIn F self.now rule result }
+    {
+        self.hold(rt).give(rule)
+    }
+
+    /// Ends all rules, and returns before which attempt, where there were any. The lines of the plan stay.
+    pub fn end_rules<R: Wait>(&self, rt: &R) -> Option<u64>
+        ensures { InSome F self.now (λ held. result ≡ rules_end held) }
+    {
+        self.hold(rt).end_rules()
     }
 
     /// Takes passes and gauges back, and hands out the record, or what else the bus leaves: a legal history of the

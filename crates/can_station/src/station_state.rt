@@ -8,7 +8,7 @@ ghost use Rattle.can_meter.specs.Readings.{readings};
 ghost use Rattle.can_station.specs.Held.{HasEntered, HasNoPlace, NoPassLeft, new_held, roll_after, slip_after, station_seen, with_plan};
 ghost use Rattle.can_rules.specs.Plans.{Injected, given, plan_after, without_rules};
 ghost use Rattle.can_station.specs.Marks.{IsBooked, IsMarked};
-ghost use Rattle.can_station.specs.Passes.{IsCarriedOut, IsReceived, IsStateOf, IsStepped, SettlesIn, Suits, head_on, next_verdict};
+ghost use Rattle.can_station.specs.Passes.{Gives, IsCarriedOut, IsReceived, IsStateOf, IsStepped, SettlesIn, Suits, head_on, next_verdict, rules_end};
 ghost use Rattle.can_bus.specs.Run.{IsAnswered};
 ghost use Rattle.can_roll.specs.Seen.{scroll_seen};
 ghost use Rattle.can_station.specs.Published.{AreTrue, IsPublished, TakesBack, TakesBackScroll};
@@ -31,7 +31,7 @@ use can_frame::{Frame, Iface, Moment, Names};
 use can_meter::{Gauge, Keeper};
 use can_record::receive_reply;
 use can_roll::{HandedOut, Roll, RollBlank, RollName, Scroll, Slip, roll_with_scroll};
-use can_rules::{Plan, RuleRefusal};
+use can_rules::{Plan, Rule, RuleRefusal};
 use std::alloc::{AllocError, Global};
 use std::marker::Model;
 
@@ -280,6 +280,15 @@ impl<N: BusName, F: FaultSource + Drop, B: Journaled> StationState<N, F, B> {
         self.plan.inject(text, names)
     }
 
+    /// Takes a rule after those that are left, and returns before which attempt: its number among those that try a frame.
+    /// `TooManyRules` where 64 are left, then `NoMemory`; after one all is as before.
+    pub fn give(&mut self, rule: Rule) -> Result<u64, RuleRefusal>
+        ensures { Gives self.old rule result self.new }
+    {
+        self.plan.give(rule)?;
+        Ok(self.bus.next_attempt())
+    }
+
     /// How many rules are left.
     pub fn rules(&self) -> usize
         ensures rules { result ≡ length self.now.plan.rules }
@@ -288,11 +297,16 @@ impl<N: BusName, F: FaultSource + Drop, B: Journaled> StationState<N, F, B> {
         self.plan.rules()
     }
 
-    /// Ends all rules. The lines of the plan stay.
-    pub fn end_rules(&mut self)
-        ensures { self.new ≡ with_plan (without_rules self.old.plan) self.old }
+    /// Ends all rules, and returns before which attempt, where there were any. The lines of the plan stay.
+    pub fn end_rules(&mut self) -> Option<u64>
+        ensures attempt { result ≡ rules_end self.old }
+        ensures after { self.new ≡ with_plan (without_rules self.old.plan) self.old }
     {
+        if self.plan.rules() == 0 {
+            return None;
+        }
         self.plan.end_rules();
+        Some(self.bus.next_attempt())
     }
 
     /// The counts of a socket and of an interface.

@@ -1,0 +1,38 @@
+use Rattle.std.specs.Prelude.{ℕ, List, [], ◌∷◌, ◌++◌, Option, Some, None, codes, decimal}
+
+-- What becomes of the rules of a bus while its run goes on, as lines of the faults of a run (own choice).
+
+-- lines that wait to be taken, and before which attempt all rules ended after them, if they did
+pub record LinesSeen : Type 0 where
+  pub text : List ℕ
+  pub ended : Option ℕ
+
+-- no line
+abbrev pub no_lines : LinesSeen
+no_lines = record { text = []; ended = None }
+
+-- the line of a rule in these words, given before the attempt with this number
+abbrev pub given_line : ℕ → List ℕ → List ℕ
+given_line attempt words = codes "at " ++ decimal attempt ++ codes " " ++ words ++ 10 ∷ []
+
+-- the line of an end of all rules before an attempt, if they end
+abbrev pub end_line : Option ℕ → List ℕ
+end_line None = []
+end_line (Some attempt) = codes "at " ++ decimal attempt ++ codes " nofaults" ++ 10 ∷ []
+
+-- the text of all lines
+abbrev pub lines_of : LinesSeen → List ℕ
+lines_of known = known.text ++ end_line known.ended
+
+-- the lines with that of a rule after them
+abbrev pub with_given : ℕ → List ℕ → LinesSeen → LinesSeen
+with_given attempt words known = record { text = lines_of known ++ given_line attempt words; ended = None }
+
+-- before which attempt all rules ended, where they end before this one: earlier, if they had and none was given since
+abbrev pub first_end : Option ℕ → ℕ → ℕ
+first_end None attempt = attempt
+first_end (Some earlier) attempt = earlier
+
+-- the lines with an end of all rules after them
+abbrev pub with_end : ℕ → LinesSeen → LinesSeen
+with_end attempt known = record { text = known.text; ended = Some (first_end known.ended attempt) }

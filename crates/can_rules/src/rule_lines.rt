@@ -1,0 +1,133 @@
+//! What becomes of the rules of a bus while its run goes on, as the lines that [`RunFaults`](crate::RunFaults) reads.
+ghost use Rattle.std.specs.Prelude.{◌≡◌, ◌++◌, Some, IfOk, OnErr, OnOk};
+ghost use Rattle.can_rules.specs.Plans.{GivesRule};
+ghost use Rattle.can_rules.specs.RuleLines.{no_lines, end_line, given_line, lines_of, with_end, with_given};
+
+use crate::plan::Plan;
+use crate::rule::Rule;
+use crate::rules::{MAX_RULES, RuleRefusal};
+use std::alloc::{AllocError, Global};
+use std::io::Write;
+use std::marker::Model;
+use std::mem;
+
+/// How many bytes of lines wait at most to be taken.
+const MOST_BYTES: usize = 1 << 26;
+
+/// The lines of rules that were given while a run went on, and of where all rules were ended, which wait to be taken.
+#[derive(Drop)]
+pub struct RuleLines {
+    text: Vec<u8>,
+    // Before which attempt all rules ended, where none was given since. So an end takes no memory.
+    ended: Option<u64>,
+}
+
+impl Model for RuleLines {
+    ghost use Rattle.can_rules.specs.RuleLines.{LinesSeen};
+
+    ghost Value = { LinesSeen };
+
+    ghost view = { λ l. record { text = l.text.items; ended = l.ended } };
+}
+
+impl RuleLines {
+    /// No line.
+    pub fn new(alloc: Global) -> RuleLines
+        ensures { result ≡ no_lines }
+    {
+        RuleLines {
+            text: Vec::new(alloc),
+            ended: None,
+        }
+    }
+
+    /// Gives a plan a rule, after the others, and adds its line: it came in these words, before the attempt with this number
+    /// among those that try a frame. Refusals, in this order, which change nothing: `TooManyRules` where there are 64,
+    /// `NoMemory`, also where 64 MiB of lines wait.
+    pub fn give(
+        &mut self,
+        plan: &mut Plan,
+        rule: Rule,
+        attempt: u64,
+        words: &[u8],
+    ) -> Result<(), RuleRefusal>
+        ensures given { GivesRule rule plan.old result plan.new }
+        ensures line { OnOk result (self.new ≡ with_given attempt words.now self.old) }
+        ensures stays { OnErr result (self.new ≡ self.old) }
+    {
+        if plan.rules() == MAX_RULES {
+            return Err(RuleRefusal::TooManyRules);
+        }
+        let Ok(lines) = self.with_line(attempt, words) else {
+            return Err(RuleRefusal::NoMemory);
+        };
+        if self.text.len() >= MOST_BYTES || self.text.reserve(lines.len()).is_err() {
+            return Err(RuleRefusal::NoMemory);
+        }
+        plan.give(rule)?;
+        let Ok(()) = self.text.extend_from_slice(&lines) else {
+            unreachable!()
+        };
+        self.ended = None;
+        Ok(())
+    }
+
+    // The line of an end that has none yet, and that of a rule after it.
+    fn with_line(&self, attempt: u64, words: &[u8]) -> Result<Vec<u8>, AllocError>
+        ensures { IfOk result (λ lines.
+            lines.items ≡ end_line self.now.ended ++ given_line attempt words.now) }
+    {
+        let alloc = *self.text.allocator();
+        let mut lines = end_of(alloc, self.ended)?;
+        if write!(lines, "at {attempt} ").is_err() {
+            return Err(AllocError);
+        }
+        lines.extend_from_slice(words)?;
+        lines.push(b'\n')?;
+        Ok(lines)
+    }
+
+    /// All rules end before the attempt with this number. It changes nothing where they have ended before, and none was
+    /// given since.
+    pub fn end(&mut self, attempt: u64)
+        ensures { self.new ≡ with_end attempt self.old }
+    {
+        if self.ended.is_none() {
+            self.ended = Some(attempt);
+        }
+    }
+
+    /// Takes the lines out. `AllocError` where memory is refused: then they stay.
+    pub fn take(&mut self) -> Result<Vec<u8>, AllocError>
+        ensures taken { IfOk result (λ lines. lines.items ≡ lines_of self.old) }
+        ensures after { OnOk result (self.new ≡ no_lines) }
+        ensures stays { OnErr result (self.new ≡ self.old) }
+    {
+        let alloc = *self.text.allocator();
+        let end = end_of(alloc, self.ended)?;
+        self.text.extend_from_slice(&end)?;
+        self.ended = None;
+        Ok(mem::replace(&mut self.text, Vec::new(alloc)))
+    }
+}
+
+// The line of an end of all rules, if there is one.
+fn end_of(alloc: Global, ended: Option<u64>) -> Result<Vec<u8>, AllocError>
+    ensures { IfOk result (λ line. line.items ≡ end_line ended) }
+{
+    match ended {
+        Some(attempt) => end_before(alloc, attempt),
+        None => Ok(Vec::new(alloc)),
+    }
+}
+
+// The line of an end before this attempt.
+fn end_before(alloc: Global, attempt: u64) -> Result<Vec<u8>, AllocError>
+    ensures { IfOk result (λ line. line.items ≡ end_line (Some attempt)) }
+{
+    let mut line = Vec::new(alloc);
+    match write!(line, "at {attempt} nofaults\n") {
+        Ok(()) => Ok(line),
+        Err(_) => Err(AllocError),
+    }
+}
