@@ -1,8 +1,12 @@
 pub mod Counted
 pub mod Deciding
 pub mod Numbers
+pub mod OneLine
 pub mod Order
 pub mod Planning
+pub mod Reading
+pub mod RuleOneLine
 pub mod Running
+pub mod TextLines
 pub mod Turns
 pub mod UsedUp

@@ -1,4 +1,6 @@
-use Rattle.std.specs.Prelude.{ℕ, List, [], ◌∷◌, ◌++◌, Option, Some, None, codes, decimal}
+use Rattle.std.specs.Prelude.{◌≡◌, ◌⊎◌, ℕ, List, [], ◌∷◌, ◌++◌, Option, Some, None, codes, decimal}
+use Rattle.can_rules.specs.declared.run_faults.Later.{Later}
+use Rattle.can_rules.specs.RunFaults.{RunSeen}
 
 -- What becomes of the rules of a bus while its run goes on, as lines of the faults of a run (own choice).
 
@@ -11,14 +13,22 @@ pub record LinesSeen : Type 0 where
 abbrev pub no_lines : LinesSeen
 no_lines = record { text = []; ended = None }
 
--- the line of a rule in these words, given before the attempt with this number
+-- the line of a rule in these words, given before the attempt with this number, without its line feed
+abbrev pub given_words : ℕ → List ℕ → List ℕ
+given_words attempt words = codes "at " ++ decimal attempt ++ codes " " ++ words
+
+-- the same with its line feed
 abbrev pub given_line : ℕ → List ℕ → List ℕ
-given_line attempt words = codes "at " ++ decimal attempt ++ codes " " ++ words ++ 10 ∷ []
+given_line attempt words = given_words attempt words ++ 10 ∷ []
+
+-- the line of an end of all rules before the attempt with this number, without its line feed
+abbrev pub end_words : ℕ → List ℕ
+end_words attempt = codes "at " ++ decimal attempt ++ codes " nofaults"
 
 -- the line of an end of all rules before an attempt, if they end
 abbrev pub end_line : Option ℕ → List ℕ
 end_line None = []
-end_line (Some attempt) = codes "at " ++ decimal attempt ++ codes " nofaults" ++ 10 ∷ []
+end_line (Some attempt) = end_words attempt ++ 10 ∷ []
 
 -- the text of all lines
 abbrev pub lines_of : LinesSeen → List ℕ
@@ -36,3 +46,13 @@ first_end (Some earlier) attempt = earlier
 -- the lines with an end of all rules after them
 abbrev pub with_end : ℕ → LinesSeen → LinesSeen
 with_end attempt known = record { text = known.text; ended = Some (first_end known.ended attempt) }
+
+-- How such lines are read: texts of whole lines.
+
+-- a text is empty or ends in a line feed
+abbrev pub IsOfLines : List ℕ → Type 0
+IsOfLines text = (text ≡ []) ⊎ ((front : List ℕ) × (text ≡ front ++ 10 ∷ []))
+
+-- a run with one change more to come, after the others
+abbrev pub with_change : Later → RunSeen → RunSeen
+with_change next run = record run { later = run.later ++ next ∷ [] }

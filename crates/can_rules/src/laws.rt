@@ -1,13 +1,16 @@
-ghost use Rattle.std.specs.Prelude.{◌≡◌, ◌≤◌, ◌<◌, ◌-◌, ◌^◌, ℕ, true, false, List, [], Option, None, Some, slice_get};
+ghost use Rattle.std.specs.Prelude.{◌≡◌, ◌≤◌, ◌<◌, ◌-◌, ◌^◌, ℕ, true, false, List, [], ◌∷◌, ◌++◌, Option, None, Some, Ok, slice_get};
 ghost use Rattle.can_rules.specs.Rules.{Head, head_of, chosen, deciding, after_chosen, unused, verdicts, gives_at, GivesAs, times_given, AreSwapped};
 ghost use Rattle.can_rules.specs.Plans.{PlanSeen, no_plan, with_rule, without_rules, given, plan_after, decided_at, plan_spelling, IsNumbered};
-ghost use Rattle.can_rules.specs.RunFaults.{RunSeen, no_run, made_ready, rule_given, asked_run, is_later, with_plan, run_spelling};
+ghost use Rattle.can_rules.specs.RunFaults.{RunSeen, no_run, made_ready, rule_given, asked_run, is_later, with_plan, run_spelling, later_spelling, may_come};
+ghost use Rattle.can_rules.specs.RuleLines.{given_words, given_line, end_words, end_line, IsOfLines, with_change};
+ghost use Rattle.can_rules.specs.RuleWords.{rule_spelling};
 ghost use Rattle.can_frame.specs.Frames.{CanFrame, word_of};
 ghost use Rattle.can_fault.specs.Scripts.{lines_in};
 ghost use Rattle.std.specs.List.{list_any};
 ghost use Rattle.std.specs.Option.{option_map};
 ghost use Rattle.can_fault.specs.Sources.{verdict_in};
 ghost use Rattle.can_rules.specs.declared.rule.Rule.{Rule};
+ghost use Rattle.can_rules.specs.declared.run_faults.Change.TheVariants as change;
 ghost use Rattle.can_fault.specs.declared.verdict.Verdict.{Verdict};
 ghost use Rattle.can_fault.specs.declared.verdict.Verdict.TheVariants.{Good};
 
@@ -100,4 +103,37 @@ pub fn a_text_without_changes_spells_its_plan()
     ensures { (names : List (List ℕ)) (text : List ℕ) →
         list_any is_later (lines_in text) ≡ false →
         run_spelling names text ≡ with_plan no_run (plan_spelling names text) }
+{}
+
+/// The line of a rule is read as that rule, given before its attempt, and the line of an end as an end of all rules.
+pub fn lines_are_read_as_what_they_are_of()
+    ensures given { (names : List (List ℕ)) (words : List ℕ) (rule : Rule) (attempt : ℕ) →
+        attempt < 10 ^ 10 → rule_spelling names words ≡ Ok rule →
+        later_spelling names (given_words attempt words)
+        ≡ Ok (record { attempt = attempt; change = change.Give rule }) }
+    ensures ended { (names : List (List ℕ)) (attempt : ℕ) → attempt < 10 ^ 10 →
+        later_spelling names (end_words attempt)
+        ≡ Ok (record { attempt = attempt; change = change.End }) }
+{}
+
+/// What spells a rule is one line: it has no line feed.
+pub fn what_spells_a_rule_is_one_line()
+    ensures { (names : List (List ℕ)) (words : List ℕ) (rule : Rule) →
+        rule_spelling names words ≡ Ok rule → lines_in words ≡ words ∷ [] }
+{}
+
+/// After a text of whole lines, the line of a rule is that rule, given after the changes of the text, and the line of an
+/// end is an end of all rules after them.
+pub fn lines_after_a_text_are_read_after_it()
+    ensures given { (names : List (List ℕ)) (text words : List ℕ) (run : RunSeen) (rule : Rule)
+        (attempt : ℕ) →
+        IsOfLines text → run_spelling names text ≡ Ok run → may_come run.later attempt ≡ true →
+        attempt < 10 ^ 10 → rule_spelling names words ≡ Ok rule →
+        run_spelling names (text ++ given_line attempt words)
+        ≡ Ok (with_change (record { attempt = attempt; change = change.Give rule }) run) }
+    ensures ended { (names : List (List ℕ)) (text : List ℕ) (run : RunSeen) (attempt : ℕ) →
+        IsOfLines text → run_spelling names text ≡ Ok run → may_come run.later attempt ≡ true →
+        attempt < 10 ^ 10 →
+        run_spelling names (text ++ end_line (Some attempt))
+        ≡ Ok (with_change (record { attempt = attempt; change = change.End }) run) }
 {}
