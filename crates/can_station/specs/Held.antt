@@ -1,4 +1,5 @@
-use Rattle.std.specs.Prelude.{◌≡◌, ◌<◌, ◌≤◌, ℕ, Bool, false, List, [], ◌∷◌, ◌++◌, length, if◌then◌else◌}
+use Rattle.std.specs.Prelude.{◌≡◌, ◌<◌, ◌≤◌, ◌==◌, ◌⊎◌, ℕ, Bool, false, List, [], ◌∷◌, ◌++◌, length, if◌then◌else◌}
+use Rattle.std.specs.Prelude.{Result, Ok, Err}
 use Rattle.can_event.specs.declared.bus_config.BusConfig.{BusConfig}
 use Rattle.can_event.specs.declared.entry.Entry.{Entry}
 use Rattle.can_event.specs.declared.event.Event.{Event}
@@ -6,7 +7,10 @@ use Rattle.can_event.specs.declared.reply.Reply.{Reply}
 use Rattle.can_event.specs.Replies.{enters, entry_of}
 use Rattle.can_record.specs.Journal.{Journal}
 use Rattle.can_bus.specs.Run.{history_after}
-use Rattle.can_rules.specs.Plans.{PlanSeen}
+use Rattle.can_record.specs.Tapes.{tape}
+use Rattle.can_rules.specs.Plans.{PlanSeen, without_rules}
+use Rattle.can_rules.specs.RuleLines.{LinesSeen, lines_of, no_lines, with_end, with_given}
+use Rattle.can_rules.specs.declared.rules.RuleRefusal.{RuleRefusal}
 use Rattle.can_roll.specs.Lists.{added}
 use Rattle.can_roll.specs.Seen.{RollSeen, SlipSeen, roll_seen, slip_seen}
 
@@ -21,14 +25,15 @@ pub record StationSeen : Type 0 where
 abbrev pub station_seen : ℕ → BusConfig → StationSeen
 station_seen number config = record { number = number; config = config }
 
--- the station's number, its bus, the calls of each pass, the source of verdicts, the plan of faults, and whether
--- waits end
+-- the station's number, its bus, the calls of each pass, the source of verdicts, the plan of faults, the lines of what
+-- became of its rules, and whether waits end
 pub record Held (F : Type 0) : Type 0 where
   pub number : ℕ
   pub journal : Journal
   pub lists : List (List Entry)
   pub source : F
   pub plan : PlanSeen
+  pub changes : LinesSeen
   pub stopped : Bool
 
 -- a bus with this journal has no place for an entry until some are taken
@@ -43,12 +48,33 @@ new_held number journal source plan = record {
   lists = [];
   source = source;
   plan = plan;
+  changes = no_lines;
   stopped = false;
 }
 
--- the same with this plan of faults
-abbrev pub with_plan : {F : Type 0} → PlanSeen → Held F → Held F
-with_plan plan h = record h { plan = plan }
+-- the same with this plan of faults, and these lines of what became of its rules
+abbrev pub with_rules : {F : Type 0} → PlanSeen → LinesSeen → Held F → Held F
+with_rules plan changes h = record h { plan = plan; changes = changes }
+
+-- how many attempts tried a frame, which is the number of the next one that does
+abbrev pub next_number : {F : Type 0} → Held F → ℕ
+next_number h = length (tape h.journal.history)
+
+-- a rule comes, in these words: it is taken, and its line comes after the others, or nothing changes
+abbrev pub Takes : {F : Type 0} → List ℕ → Held F → Result (Unit {0}) RuleRefusal → Held F → Type 0
+Takes words old (Ok done) new = new ≡ with_rules new.plan (with_given (next_number old) words old.changes) old
+Takes words old (Err why) new = new ≡ old
+
+-- all rules end, and where there were any their end comes after the lines
+abbrev pub after_end : {F : Type 0} → Held F → Held F
+after_end h =
+    if length h.plan.rules == 0 then h
+    else with_rules (without_rules h.plan) (with_end (next_number h) h.changes) h
+
+-- the lines of what became of the rules are taken out, or none where memory is refused
+abbrev pub LinesTaken : {F : Type 0} → Held F → List ℕ → Held F → Type 0
+LinesTaken old lines new =
+    ((lines ≡ lines_of old.changes) × (new ≡ with_rules old.plan no_lines old)) ⊎ ((lines ≡ []) × (new ≡ old))
 
 -- the calls of each pass, after a call of pass p
 abbrev pub lists_after : ℕ → Event → Reply → List (List Entry) → List (List Entry)
@@ -66,6 +92,7 @@ held_after p e r h = record {
   lists = lists_after p e r h.lists;
   source = h.source;
   plan = h.plan;
+  changes = h.changes;
   stopped = h.stopped;
 }
 

@@ -3,3 +3,4 @@ pub mod Waits
 pub mod Marks
 pub mod Published
 pub mod Passes
+pub mod Taking

@@ -1,4 +1,4 @@
-use Rattle.std.specs.Prelude.{◌≡◌, ℕ, ◌+◌, ◌<◌, ◌≤◌, ◌==◌, ◌⊎◌, Bool, true, false, List, [], length, reverse}
+use Rattle.std.specs.Prelude.{◌≡◌, ℕ, ◌+◌, ◌<◌, ◌≤◌, ◌⊎◌, Bool, true, false, List, [], length, reverse}
 use Rattle.std.specs.Prelude.{map, All, Option, Some, None, is_some, Result, Ok, Err, if◌then◌else◌}
 use Rattle.can_event.specs.declared.entry.Entry.{Entry}
 use Rattle.can_event.specs.declared.event.Event.{Event}
@@ -19,15 +19,14 @@ use Rattle.can_bus.specs.Run.{IsAnswer, history_after}
 use Rattle.can_record.specs.Tapes.{tape}
 use Rattle.can_fault.specs.Sources.{VerdictMap, verdict_in}
 use Rattle.can_record.specs.Records.{ListedEntries}
-use Rattle.can_rules.specs.Plans.{PlanSeen, GivesRule, Injected, given, plan_after}
-use Rattle.can_rules.specs.declared.rule.Rule.{Rule}
+use Rattle.can_rules.specs.Plans.{PlanSeen, Injected, given, plan_after}
 use Rattle.can_rules.specs.declared.rules.RuleRefusal.{RuleRefusal}
 use Rattle.can_event.specs.Events.{IsLongConfig}
 use Rattle.can_event.specs.Replies.{receive_reply}
 pub use Rattle.can_event.specs.Replies.{Suits}
 use Rattle.can_roll.specs.Lists.{row, Distinct, AllBelow}
 use Rattle.can_roll.specs.Seen.{SlipSeen}
-use Rattle.can_station.specs.Held.{Held, StationSeen, NoPassLeft, held_after, slip_after, with_plan}
+use Rattle.can_station.specs.Held.{Held, StationSeen, NoPassLeft, held_after, slip_after}
 use Rattle.can_station.specs.Marks.{IsMarked, marked}
 use Rattle.can_station.specs.declared.refusals.StationRefusal.{StationRefusal}
 use Rattle.can_station.specs.declared.refusals.StationRefusal.TheVariants as station
@@ -277,22 +276,6 @@ Stepped verdicts seen old moment (Err station.WrongStation) new = ¬ (old.number
 abbrev pub InjectsIn : (F : Type 0) → StationSeen → List (List ℕ) → List ℕ → Result (Unit {0}) RuleRefusal → Type 0
 InjectsIn F seen names text outcome =
     InSome F seen (λ held. (after : PlanSeen) × Injected names text held.plan outcome after)
-
--- a rule is given to a station, and taken before its next attempt that tries a frame, or refused
-abbrev pub Gives : {F : Type 0} → Held F → Rule → Result ℕ RuleRefusal → Held F → Type 0
-Gives old rule (Ok attempt) new =
-    (attempt ≡ length (tape old.journal.history))
-    × GivesRule rule old.plan (Ok tt) new.plan
-    × (new ≡ with_plan new.plan old)
-Gives old rule (Err why) new = GivesRule rule old.plan (Err why) new.plan × (new ≡ with_plan new.plan old)
-
--- so it came to this in some state of the station
-abbrev pub GivesIn : (F : Type 0) → StationSeen → Rule → Result ℕ RuleRefusal → Type 0
-GivesIn F station rule outcome = InSome F station (λ held. (after : Held F) × Gives held rule outcome after)
-
--- where there are rules, the number of the next attempt that tries a frame: before that one all of them end
-abbrev pub rules_end : {F : Type 0} → Held F → Option ℕ
-rules_end held = if length held.plan.rules == 0 then None else Some (length (tape held.journal.history))
 
 -- the reply itself, for a call that returns the bus's reply
 abbrev pub same : Reply → Reply

@@ -2,9 +2,9 @@ ghost use Rattle.std.specs.Prelude.{◌≡◌, ◌≢◌, ◌≤◌, Ok, Some, t
 ghost use Rattle.can_bus.specs.Heads.{next_head};
 ghost use Rattle.can_event.specs.Replies.{receive_reply, taken_reply};
 ghost use Rattle.can_event.specs.declared.event.Event.TheVariants as event;
-ghost use Rattle.can_rules.specs.Plans.{Injected, without_rules};
-ghost use Rattle.can_station.specs.Held.{with_plan};
-ghost use Rattle.can_station.specs.Passes.{ChangesNothing, IsCarriedOut, IsReady, IsReadyFor, IsReceived, IsStepped, Keeps, Suits, Called, Made, MadeJudged, MadeStep, next_attempt, next_verdict, rules_end, same};
+ghost use Rattle.can_rules.specs.Plans.{Injected};
+ghost use Rattle.can_station.specs.Held.{Takes, after_end};
+ghost use Rattle.can_station.specs.Passes.{ChangesNothing, IsCarriedOut, IsReady, IsReadyFor, IsReceived, IsStepped, Keeps, Suits, Called, Made, MadeJudged, MadeStep, next_attempt, next_verdict, same};
 ghost use Rattle.can_station.specs.Waits.{IsNearlyFull, has_work};
 
 use crate::attempts::with_verdict;
@@ -279,7 +279,7 @@ impl<'s, N: BusName, F: FaultSource + Drop, G: Gate + Drop, B: Journaled> Hold<'
     /// Takes the rule that a text spells, as the station's `inject` does.
     pub fn inject(&mut self, text: &[u8], names: &Names) -> Result<(), RuleRefusal>
         ensures injected { Injected names.now text.now self.old.plan result self.new.plan }
-        ensures same { self.new ≡ with_plan self.new.plan self.old }
+        ensures takes { Takes text.now self.old result self.new }
     {
         self.state.inject(text, names)
     }
@@ -292,12 +292,11 @@ impl<'s, N: BusName, F: FaultSource + Drop, G: Gate + Drop, B: Journaled> Hold<'
         self.state.rules()
     }
 
-    /// Ends all rules, as the station's `end_rules` does.
-    pub fn end_rules(&mut self) -> Option<u64>
-        ensures attempt { result ≡ rules_end self.old }
-        ensures after { self.new ≡ with_plan (without_rules self.old.plan) self.old }
+    /// Ends all rules. The lines of the plan stay.
+    pub fn end_rules(&mut self)
+        ensures { self.new ≡ after_end self.old }
     {
-        self.state.end_rules()
+        self.state.end_rules();
     }
 }
 

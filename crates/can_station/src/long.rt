@@ -1,11 +1,11 @@
 //! Stations of long runs: the calls of `Station` that make one and take its record in blocks.
 
 ghost use Rattle.std.specs.Prelude.{◌≡◌, ◌≢◌, [], Err, IfOk, OnErr, OnOk, ◌↔◌};
-ghost use Rattle.can_bus.specs.Long.{HasTail};
 ghost use Rattle.can_event.specs.Events.{IsLongConfig};
 ghost use Rattle.can_roll.specs.Seen.{scroll_seen, scroll_with};
 ghost use Rattle.can_station.specs.Held.{station_seen};
 ghost use Rattle.can_station.specs.Passes.{InSome};
+ghost use Rattle.can_station.specs.Taking.{IsTaken};
 
 use crate::bus_name::BusName;
 use crate::gate::Gate;
@@ -20,12 +20,15 @@ use std::alloc::{AllocError, Global};
 use std::sync::Wait;
 use std::time::{Clock, Duration};
 
-/// Entries that a station handed out, in order.
+/// Entries that a station handed out, in order, and what became of its rules of faults.
 #[derive(Drop)]
 pub struct Block {
     /// How many entries of the station came before these.
     pub start: u64,
     pub entries: PackedRecord,
+    /// The lines of the rules that were given since the block before, as `take_changes` returns them: all that count for these
+    /// entries. Where memory is refused they come with a later block.
+    pub changes: Vec<u8>,
 }
 
 impl Block {
@@ -37,6 +40,7 @@ impl Block {
         Ok(Block {
             start: 0,
             entries: PackedRecord::with_capacity(alloc, size)?,
+            changes: Vec::new(alloc),
         })
     }
 }
@@ -74,11 +78,12 @@ impl<N: BusName, F: FaultSource + Drop, G: Gate + Drop> Station<N, F, G, LongRin
 
 impl<N: BusName, F: FaultSource + Drop, G: Gate + Drop, B: Journaled> Station<N, F, G, B> {
     /// Takes the entries that were not taken yet, in order, into a block, whose own are let go, and puts them at the end of
-    /// the scroll's. Calls that wait for a place go on. A bus with its whole record gives none.
+    /// the scroll's; with the lines of what became of the rules. Calls that wait for a place go on. A bus with its whole record
+    /// gives no entries.
     ///
     /// `WrongStation` exactly where the scroll is another station's; then nothing changes.
     ///
-    /// The lock is held while two pointers are swapped, and no memory is taken: from then on the station's entries go
+    /// The lock is held while two pointers are swapped, and no memory is taken but for a line of `nofaults`: from then on the station's entries go
     /// where the block had memory for its own. Where that is none, each call is refused with `NoMemory`.
     pub fn take_entries<R: Wait>(
         &self,
@@ -86,8 +91,7 @@ impl<N: BusName, F: FaultSource + Drop, G: Gate + Drop, B: Journaled> Station<N,
         scroll: &mut Scroll<N>,
         block: &mut Block,
     ) -> Result<(), WrongStation>
-        ensures taken { OnOk result (InSome F self.now (λ held.
-            HasTail held.journal.history block.new.entries.entries block.new.start)) }
+        ensures taken { OnOk result (InSome F self.now (λ held. IsTaken held block.new)) }
         ensures scroll { OnOk result (scroll.new
             ≡ scroll_with block.new.entries.entries scroll.old) }
         ensures own { OnOk result (scroll.old.number ≡ self.now.number) }

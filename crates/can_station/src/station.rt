@@ -2,8 +2,9 @@ ghost use Rattle.std.specs.Prelude.{◌≡◌, ◌≢◌, ◌<◌, ◌≤◌, []
 ghost use Rattle.std.specs.Sync.Mutex.{mutex_guard_value};
 ghost use Rattle.can_event.specs.Events.{IsConfig, IsLongConfig};
 ghost use Rattle.can_roll.specs.Seen.{scroll_seen};
+ghost use Rattle.can_rules.specs.RuleLines.{lines_of};
 ghost use Rattle.can_station.specs.Held.{station_seen};
-ghost use Rattle.can_station.specs.Passes.{GivesIn, HadNoPassLeft, InSome, InjectsIn, IsNewLightPass, IsNewPass, IsStateOf, SettlesIn, Suits, Answered, Called, Stepped, rules_end, same};
+ghost use Rattle.can_station.specs.Passes.{HadNoPassLeft, InSome, InjectsIn, IsNewLightPass, IsNewPass, IsStateOf, SettlesIn, Suits, Answered, Called, Stepped, same};
 ghost use Rattle.can_station.specs.Published.{AreTrue, TakesBack, TakesBackScroll};
 
 use crate::bus_name::BusName;
@@ -20,7 +21,7 @@ use can_frame::{Moment, Names};
 use can_meter::{Gauge, MeterBlank, meter, meter_blank};
 use can_record::PackedList;
 use can_roll::{RollBlank, Scroll, Slip, roll_blank};
-use can_rules::{Plan, Rule, RuleRefusal};
+use can_rules::{Plan, RuleRefusal};
 use std::alloc::{AllocError, Global};
 use std::marker::Model;
 use std::sync::atomic::AtomicU8;
@@ -137,7 +138,7 @@ impl<N: BusName, F: FaultSource + Drop, G: Gate + Drop, B: Journaled> Station<N,
             return Err(BusFault::NoMemory);
         };
         let (state, scroll) = StationState::new(
-            roll, number, bus, config, source, plan, keeper, spare,
+            alloc, roll, number, bus, config, source, plan, keeper, spare,
         );
         let station = Station {
             state: Mutex::new(state),
@@ -299,7 +300,8 @@ impl<N: BusName, F: FaultSource + Drop, G: Gate + Drop, B: Journaled> Station<N,
     /// rules that are left. It is no event, and wakes nobody.
     ///
     /// Errors, in this order: `BadRule` where a word is wrong, `UnknownInterface` where only a name is of none of these
-    /// interfaces, `TooManyRules` where 64 rules are left, `NoMemory`; after one all is as before.
+    /// interfaces, `TooManyRules` where 64 rules are left, `NoMemory`, also where 64 MiB of lines wait for `take_changes`; after
+    /// one all is as before.
     pub fn inject<R: Wait>(&self, rt: &R, text: &[u8], names: &Names) -> Result<(), RuleRefusal>
         ensures { InjectsIn F self.now names.now text.now result }
     {
@@ -314,19 +316,19 @@ impl<N: BusName, F: FaultSource + Drop, G: Gate + Drop, B: Journaled> Station<N,
         self.hold(rt).rules()
     }
 
-    /// Takes a rule, as `inject` does its text, and returns before which attempt it came: the number of that one among those
-    /// that try a frame. `TooManyRules` where 64 rules are left, then `NoMemory`; after one all is as before.
-    pub fn give<R: Wait>(&self, rt: &R, rule: Rule) -> Result<u64, RuleRefusal>
-        ensures { GivesIn F self.now rule result }
-    {
-        self.hold(rt).give(rule)
+    /// Ends all rules. The lines of the plan stay.
+    pub fn end_rules<R: Wait>(&self, rt: &R) {
+        self.hold(rt).end_rules();
     }
 
-    /// Ends all rules, and returns before which attempt, where there were any. The lines of the plan stay.
-    pub fn end_rules<R: Wait>(&self, rt: &R) -> Option<u64>
-        ensures { InSome F self.now (λ held. result ≡ rules_end held) }
+    /// Takes out the lines of what became of the rules of the bus since the start or the last such call, as
+    /// [`RunFaults`](can_rules::RunFaults) reads them: each rule that was taken, and each end of all rules, with the number of the
+    /// next attempt that tries a frame. `AllocError` where memory is refused: then they stay.
+    pub fn take_changes<R: Wait>(&self, rt: &R) -> Result<Vec<u8>, AllocError>
+        ensures { IfOk result (λ lines.
+            InSome F self.now (λ held. lines.items ≡ lines_of held.changes)) }
     {
-        self.hold(rt).end_rules()
+        self.hold(rt).take_changes()
     }
 
     /// Takes passes and gauges back, and hands out the record, or what else the bus leaves: a legal history of the

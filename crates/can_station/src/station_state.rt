@@ -1,14 +1,15 @@
-ghost use Rattle.std.specs.Prelude.{◌≡◌, ◌≢◌, ◌<◌, ◌≤◌, ℕ, [], true, List, length, Some, Ok, IfSome, IfNone, IfOk, IsTrue, OnErr, ◌↔◌};
+ghost use Rattle.std.specs.Prelude.{◌≡◌, ◌≢◌, ◌<◌, ◌≤◌, ℕ, [], true, List, length, Some, Ok, IfSome, IfNone, IfOk, IsTrue, OnErr, OnOk, ◌↔◌};
 ghost use Rattle.can_event.specs.Events.{IsLongConfig};
 ghost use Rattle.can_event.specs.Replies.{enters};
 ghost use Rattle.can_bus.specs.Heads.{next_head};
 ghost use Rattle.can_bus.specs.Legal.{IsLegal};
 ghost use Rattle.can_event.specs.declared.event.Event.TheVariants as event;
 ghost use Rattle.can_meter.specs.Readings.{readings};
-ghost use Rattle.can_station.specs.Held.{HasEntered, HasNoPlace, NoPassLeft, new_held, roll_after, slip_after, station_seen, with_plan};
-ghost use Rattle.can_rules.specs.Plans.{Injected, given, plan_after, without_rules};
+ghost use Rattle.can_rules.specs.RuleLines.{lines_of, no_lines};
+ghost use Rattle.can_station.specs.Held.{HasEntered, HasNoPlace, NoPassLeft, Takes, after_end, new_held, roll_after, slip_after, station_seen, with_rules};
+ghost use Rattle.can_rules.specs.Plans.{Injected, given, plan_after};
 ghost use Rattle.can_station.specs.Marks.{IsBooked, IsMarked};
-ghost use Rattle.can_station.specs.Passes.{Gives, IsCarriedOut, IsReceived, IsStateOf, IsStepped, SettlesIn, Suits, head_on, next_verdict, rules_end};
+ghost use Rattle.can_station.specs.Passes.{IsCarriedOut, IsReceived, IsStateOf, IsStepped, SettlesIn, Suits, head_on, next_verdict};
 ghost use Rattle.can_bus.specs.Run.{IsAnswered};
 ghost use Rattle.can_roll.specs.Seen.{scroll_seen};
 ghost use Rattle.can_station.specs.Published.{AreTrue, IsPublished, TakesBack, TakesBackScroll};
@@ -31,15 +32,15 @@ use can_frame::{Frame, Iface, Moment, Names};
 use can_meter::{Gauge, Keeper};
 use can_record::receive_reply;
 use can_roll::{HandedOut, Roll, RollBlank, RollName, Scroll, Slip, roll_with_scroll};
-use can_rules::{Plan, Rule, RuleRefusal};
+use can_rules::{Plan, RuleLines, RuleRefusal, spelled_rule};
 use std::alloc::{AllocError, Global};
 use std::marker::Model;
 
 /// The most passes of a station.
 const MAX_PASSES: u32 = 4096;
 
-/// What a station keeps under its lock: the bus with the source of its verdicts and the plan of its faults, the roll, and the
-/// keeper of its meter.
+/// What a station keeps under its lock: the bus with the source of its verdicts, the plan of its faults and what became of its
+/// rules, the roll, and the keeper of its meter.
 ///
 /// Whenever the lock is free the record is a legal history, its entries can be marked with passes so that the roll's
 /// list of each pass is the entries marked with it, the keeper has published each change of an interface's error
@@ -50,6 +51,7 @@ pub struct StationState<N: BusName, F: FaultSource + Drop, B: Journaled = RingBu
     config: BusConfig,
     source: F,
     plan: Plan,
+    pub(crate) changes: RuleLines,
     roll: Roll<N>,
     pub(crate) handed: HandedOut<N>,
     keeper: Keeper<N>,
@@ -78,6 +80,7 @@ impl<N: BusName, F: FaultSource + Drop, B: Journaled> Model for StationState<N, 
       lists = s.roll.lists;
       source = s.source;
       plan = s.plan;
+      changes = s.changes;
       stopped = s.stopped;
     } };
 
@@ -102,6 +105,7 @@ impl<N: BusName, F: FaultSource + Drop> StationState<N, F> {
 impl<N: BusName, F: FaultSource + Drop, B: Journaled> StationState<N, F, B> {
     /// The state of a station whose bus has no entry, and its scroll.
     pub(crate) fn new(
+        alloc: Global,
         blank: RollBlank,
         number: u8,
         bus: B,
@@ -126,6 +130,7 @@ impl<N: BusName, F: FaultSource + Drop, B: Journaled> StationState<N, F, B> {
             config,
             source,
             plan,
+            changes: RuleLines::new(alloc),
             roll,
             handed,
             keeper,
@@ -271,22 +276,15 @@ impl<N: BusName, F: FaultSource + Drop, B: Journaled> StationState<N, F, B> {
     }
 
     /// Takes the rule that a text spells, whose interfaces have these names: it counts from the next attempt on, after the
-    /// rules that are left. Errors, in this order: `BadRule`, `UnknownInterface`, `TooManyRules` where 64 are left, `NoMemory`;
-    /// after one all is as before.
+    /// rules that are left. Errors, in this order: `BadRule`, `UnknownInterface`, `TooManyRules` where 64 are left, `NoMemory`,
+    /// also where 64 MiB of lines wait to be taken; after one all is as before.
     pub fn inject(&mut self, text: &[u8], names: &Names) -> Result<(), RuleRefusal>
         ensures injected { Injected names.now text.now self.old.plan result self.new.plan }
-        ensures same { self.new ≡ with_plan self.new.plan self.old }
+        ensures takes { Takes text.now self.old result self.new }
     {
-        self.plan.inject(text, names)
-    }
-
-    /// Takes a rule after those that are left, and returns before which attempt: its number among those that try a frame.
-    /// `TooManyRules` where 64 are left, then `NoMemory`; after one all is as before.
-    pub fn give(&mut self, rule: Rule) -> Result<u64, RuleRefusal>
-        ensures { Gives self.old rule result self.new }
-    {
-        self.plan.give(rule)?;
-        Ok(self.bus.next_attempt())
+        let rule = spelled_rule(text, names)?;
+        let attempt = self.bus.next_attempt();
+        self.changes.give(&mut self.plan, rule, attempt, text)
     }
 
     /// How many rules are left.
@@ -297,16 +295,25 @@ impl<N: BusName, F: FaultSource + Drop, B: Journaled> StationState<N, F, B> {
         self.plan.rules()
     }
 
-    /// Ends all rules, and returns before which attempt, where there were any. The lines of the plan stay.
-    pub fn end_rules(&mut self) -> Option<u64>
-        ensures attempt { result ≡ rules_end self.old }
-        ensures after { self.new ≡ with_plan (without_rules self.old.plan) self.old }
+    /// Ends all rules. The lines of the plan stay.
+    pub fn end_rules(&mut self)
+        ensures { self.new ≡ after_end self.old }
     {
         if self.plan.rules() == 0 {
-            return None;
+            return;
         }
         self.plan.end_rules();
-        Some(self.bus.next_attempt())
+        self.changes.end(self.bus.next_attempt());
+    }
+
+    /// Takes out the lines of what became of the rules since the start or the last such call. `AllocError` where memory is
+    /// refused: then they stay.
+    pub fn take_changes(&mut self) -> Result<Vec<u8>, AllocError>
+        ensures taken { IfOk result (λ lines. lines.items ≡ lines_of self.old.changes) }
+        ensures after { OnOk result (self.new ≡ with_rules self.old.plan no_lines self.old) }
+        ensures stays { OnErr result (self.new ≡ self.old) }
+    {
+        self.changes.take()
     }
 
     /// The counts of a socket and of an interface.

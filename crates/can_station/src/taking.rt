@@ -3,6 +3,7 @@
 ghost use Rattle.std.specs.Prelude.{◌≡◌, [], false, is_none};
 ghost use Rattle.can_bus.specs.Long.{HasTail};
 ghost use Rattle.can_roll.specs.Seen.{scroll_with};
+ghost use Rattle.can_station.specs.Held.{LinesTaken};
 ghost use Rattle.can_station.specs.Waits.{work_wake};
 
 use crate::bus_name::BusName;
@@ -107,16 +108,21 @@ impl<N: BusName, F: FaultSource + Drop, B: Journaled> StationState<N, F, B> {
         self.taking.is_over = true;
     }
 
-    /// Hands out the entries that were not handed out yet, in order, for a block without entries, to who has the scroll.
+    /// Hands out the entries that were not handed out yet, in order, for a block without entries, to who has the scroll, and
+    /// the lines of what became of the rules, unless memory is refused.
     pub(crate) fn take_entries(&mut self, scroll: &mut Scroll<N>, block: &mut Block)
         requires own { scroll.old.number ≡ self.old.number }
         requires empty { block.old.entries.entries ≡ [] }
         ensures taken { HasTail self.old.journal.history block.new.entries.entries block.new.start }
         ensures scroll { scroll.new ≡ scroll_with block.new.entries.entries scroll.old }
-        ensures same { self.new ≡ self.old }
+        ensures changes { LinesTaken self.old block.new.changes.items self.new }
     {
         block.start = self.bus.hand_out(&mut block.entries);
         self.handed.hand_out(scroll, &block.entries);
         self.taking.taken = self.bus.len();
+        block.changes.clear();
+        if let Ok(lines) = self.changes.take() {
+            block.changes = lines;
+        }
     }
 }

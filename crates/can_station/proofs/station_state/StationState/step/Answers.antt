@@ -40,6 +40,7 @@ returns-clause-carried g c =
       lists = inside.roll.lists;
       source = c.verdict-sourced.new.self;
       plan = c.next_verdict-verdict.new.plan;
+      changes = inside.changes;
       stopped = inside.stopped;
     } in
     let new : Held g.row.F.Denot = record {
@@ -48,6 +49,7 @@ returns-clause-carried g c =
       lists = c.answer_and_book-reply.new.roll.lists;
       source = c.verdict-sourced.new.self;
       plan = c.next_verdict-verdict.new.plan;
+      changes = inside.changes;
       stopped = inside.stopped;
     } in
     let carried : IsCarriedOut now c.args.slip.now (event.Attempt c.args.moment c.next_verdict-verdict.result) c.answer_and_book-reply.result new c.answer_and_book-reply.new.slip =
@@ -59,6 +61,7 @@ returns-clause-carried g c =
         lists = (done.roll k).lists;
         source = c.verdict-sourced.new.self;
         plan = c.next_verdict-verdict.new.plan;
+        changes = inside.changes;
         stopped = inside.stopped;
       };
       noted = done.slip;
