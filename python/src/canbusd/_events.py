@@ -1,19 +1,24 @@
 """What the program says of a record: the lines of `canbusd audit --events`, docs/RECORD.md, or why it refuses it."""
 
 import contextlib
+import fcntl
 import os
 import select
 import subprocess
 import weakref
 from collections.abc import Callable, Iterator
 from types import TracebackType
-from typing import BinaryIO, Optional
+from typing import IO, BinaryIO, Optional
 
 from canbusd._program import ProgramNotFound, find_program
 from canbusd._rates import Rates
 
-# How many bytes are read at once.
-BLOCK = 1 << 20
+# How many bytes are read at once: with what is made of them they fit in a processor's cache.
+BLOCK = 1 << 17
+# How many the program may be ahead.
+AHEAD = 1 << 20
+# What fcntl.h calls F_SETPIPE_SZ; Python has a name for it from 3.10 on.
+SET_PIPE_SIZE = 1031
 # After how many milliseconds without a line somebody looks whether one will come.
 SILENCE = 1000
 
@@ -51,6 +56,7 @@ class Events:
         self._process = subprocess.Popen(words, bufsize=0, stdin=file or pipe, stdout=pipe, stderr=pipe)
         assert self._process.stdout is not None
         self._input, self._output = self._process.stdin, self._process.stdout
+        widen(self._process.stdout)
         if self._input is not None:
             # A write takes what has room: the program may wait until its own output is read.
             os.set_blocking(self._input.fileno(), False)
@@ -73,7 +79,15 @@ class Events:
     def lines(
         self, text: bytes, is_last: bool = True, doubt: Callable[[], object] = lambda: None
     ) -> Iterator[list[str]]:
-        """Yields the lines of the events, without their LF, of these lines of the record.
+        """Yields the lines of the events, without their LF, of these lines of the record, as `texts` does."""
+        return (found.split("\n") for found in self.texts(text, is_last, doubt))
+
+    def lines_of_file(self) -> Iterator[list[str]]:
+        """Yields the lines of the events of the file."""
+        return (found.split("\n") for found in self.texts_of_file())
+
+    def texts(self, text: bytes, is_last: bool = True, doubt: Callable[[], object] = lambda: None) -> Iterator[str]:
+        """Yields the lines of the events of these lines of the record: some together, without the LF of the last.
 
         They have a line each: the first one with the second, and `end` once this `is_last`. BadRecord at the first that is
         wrong, of which the program says so once it has read all: before that, `doubt` is called after a second without a line.
@@ -96,24 +110,24 @@ class Events:
                     if is_last and not unwritten:
                         self._input.close()
                     continue
-                lines = self._read()
-                if lines is None:
+                block = os.read(self._output.fileno(), BLOCK)
+                if not block:
+                    self._check_status()
                     return
-                yield lines
+                yield from self._whole_lines(block)
 
-    def lines_of_file(self) -> Iterator[list[str]]:
-        """Yields the lines of the events of the file."""
-        return iter(self._read, None)
+    def texts_of_file(self) -> Iterator[str]:
+        """Yields the lines of the events of the file, some together, without the LF of the last."""
+        while block := read_block(self._output):
+            yield from self._whole_lines(block)
+        self._check_status()
 
-    def _read(self) -> Optional[list[str]]:
-        """Returns the next lines; None at the end, and BadRecord where the record is wrong."""
-        block = os.read(self._output.fileno(), BLOCK)
-        if not block:
-            self._check_status()
-            return None
-        *lines, self._rest = f"{self._rest}{block.decode()}".split("\n")
-        self._came += len(lines)
-        return lines
+    def _whole_lines(self, block: bytes) -> Iterator[str]:
+        """Yields the lines that end in what was read, if some do, together."""
+        lines, has_ended, self._rest = f"{self._rest}{block.decode()}".rpartition("\n")
+        if has_ended:
+            self._came += lines.count("\n") + 1
+            yield lines
 
     def _check_status(self) -> None:
         """Waits for the end of the program; BadRecord where it refused the record."""
@@ -125,6 +139,21 @@ class Events:
         if status:
             words = said.strip() or f"status {status}"
             raise ProgramNotFound(f"{self._program} does not fit this package: {words}")
+
+
+def widen(pipe: IO[bytes]) -> None:
+    """Gives a pipe more room, where the system lets it, so that who writes need not wait while a block is taken."""
+    with contextlib.suppress(OSError):
+        fcntl.fcntl(pipe, SET_PIPE_SIZE, AHEAD)
+
+
+def read_block(pipe: IO[bytes]) -> bytes:
+    """Reads what fills a block, or is left."""
+    parts, size = [], 0
+    while size < BLOCK and (part := os.read(pipe.fileno(), BLOCK - size)):
+        parts.append(part)
+        size += len(part)
+    return b"".join(parts)
 
 
 def write_some(descriptor: int, text: memoryview) -> int:

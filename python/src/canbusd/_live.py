@@ -114,6 +114,6 @@ class LiveRecord:
         first = len(self._run.steps)
         last_line = text[text.rfind(b"\n", 0, -1) + 1 :]
         is_last = last_line.startswith(b"end ")
-        for lines in self._events.lines(text, is_last, lambda: parse_record(self._file.text(), cut=True)):
-            self._run.take(lines)
+        for lines in self._events.texts(text, is_last, lambda: parse_record(self._file.text(), cut=True)):
+            self._run.take_text(lines)
         self._attempts += attempts_of(self._run, self._names, first)

@@ -1,12 +1,12 @@
 """What a bus is made of, as the events of its run leave it: its line, its interfaces and its sockets."""
 
 from array import array
-from collections import deque
 from dataclasses import dataclass
 from typing import Optional
 
 #: How many frames wait at each interface is one number, in which interface 0 has the lowest of so many bits each.
 WAITING_BITS = 11
+MOST_WAITING = (1 << WAITING_BITS) - 1
 #: The least counts of an interface that is bus off, error passive, and warned.
 OFF, PASSIVE, WARNING = 256, 128, 96
 
@@ -47,12 +47,20 @@ class Socket:
         self.number, self.iface, self.capacity = number, iface, capacity
         #: The last step before it was closed, -1 where there was none; None of one that is open.
         self.closed_after: Optional[int] = None
-        #: Whether error message frames come to it.
-        self.takes_errors = False
+        # Whether error message frames come to it: from how many steps on, and whether from there.
+        self._takes_errors = [(0, False)]
         #: How many items came to it, and how many of them found no room.
         self.handed = self.dropped = 0
         #: How many steps there were before each of its items was taken.
         self.taken_after = array("I")
+
+    def set_errors(self, steps: int, is_taken: bool) -> None:
+        """Error message frames come to it or not, after so many steps."""
+        self._takes_errors.append((steps, is_taken))
+
+    def takes_errors(self, step: int) -> bool:
+        """Whether error message frames came to it in a step."""
+        return next(is_taken for steps, is_taken in reversed(self._takes_errors) if steps <= step)
 
     @property
     def queued(self) -> int:
@@ -78,15 +86,39 @@ class Interface:
         #: What a frame that waits here adds to the number that says how many wait at each interface.
         self.unit = 1 << WAITING_BITS * number
         self.tec = self.rec = 0
-        #: The frames that wait.
-        self.waiting: deque[str] = deque()
-        self.done = self.lost = self.refused = 0
+        #: The lines of the sends of the frames that wait.
+        self.queue: list[str] = []
+        #: How many frames left its queue, and how many of them bus off took out.
+        self.gone = self.lost = 0
+        #: How many sends were refused since its queue was full.
+        self.refused = 0
+
+    @property
+    def done(self) -> int:
+        """How many frames are done."""
+        return self.gone - self.lost
+
+    @property
+    def waiting(self) -> list[str]:
+        """The frames that wait."""
+        return [*map(frame_in, self.queue)]
 
     @property
     def sent(self) -> int:
         """How many frames came into its queue."""
-        return self.done + self.lost + len(self.waiting)
+        return self.gone + len(self.queue)
+
+    def leave(self, waiting: int) -> None:
+        """So many frames still wait, by the number for all interfaces."""
+        left = len(self.queue) - (waiting >> WAITING_BITS * self.number & MOST_WAITING)
+        del self.queue[:left]
+        self.gone += left
 
     def state(self) -> int:
         """0 active, 1 warning, 2 passive, 3 off."""
         return severity(max(self.tec, self.rec))
+
+
+def frame_in(line: str) -> str:
+    """The frame in the line of a send."""
+    return line.split(" ", 3)[2]

@@ -3,10 +3,11 @@
 import bisect
 import functools
 import itertools
+import operator
 from array import array
 from collections import Counter
 from collections.abc import Iterable, Iterator, Sequence
-from dataclasses import dataclass
+from dataclasses import dataclass, field
 from typing import Optional, TypeVar, Union, overload
 
 from canbusd._replayed import WAITING_BITS, Socket
@@ -24,10 +25,8 @@ KIND_NUMBERS = {kind: number for number, kind in enumerate(KINDS)}
 T = TypeVar("T")
 #: The transmit and receive error count of an interface.
 Counts = tuple[int, int]
-#: How many words the line of a step has before its result.
-WORDS = 8
-#: What a step is, who accepted its frame, and who went bus off.
-Result = tuple[int, int, int]
+#: Who took part in arbitration, and their frames.
+Met = tuple[Sequence[int], Sequence[str]]
 
 
 class Places(dict[T, int]):
@@ -43,25 +42,14 @@ class Places(dict[T, int]):
         self.all.append(value)
         return place
 
-    def add(self, values: Iterable[T]) -> None:
-        """Gives these values their places, in this order, at once."""
-        fresh = list(itertools.filterfalse(self.__contains__, dict.fromkeys(values)))
-        self.update(zip(fresh, itertools.count(len(self.all))))
+    def places_of(self, values: Sequence[T], all_of: Iterable[T]) -> Iterable[int]:
+        """Returns the places of values, once all of these have theirs, which get them in this order."""
+        first = len(self.all)
+        fresh = list(itertools.filterfalse(self.__contains__, dict.fromkeys(all_of)))
+        self.update(zip(fresh, itertools.count(first)))
         self.all += fresh
-
-
-class Results(dict[str, Result]):
-    """What lines say of steps, `done 0002 0000`, each once."""
-
-    def __missing__(self, text: str) -> Result:
-        kind, accepted, off = text.split(" ")
-        found = self[text] = KIND_NUMBERS[kind], int(accepted, 16), int(off, 16)
-        return found
-
-
-RESULTS = Results()
-#: The interfaces, as lines have them.
-IFACES = {str(number): number for number in range(16)}
+        are_fresh = all_of is values and len(fresh) == len(values)
+        return range(first, len(self.all)) if are_fresh else map(self.__getitem__, values)
 
 
 class WireFrame:
@@ -139,32 +127,41 @@ class Step:
     idle: int
 
 
+@dataclass
 class Rows:
-    """Steps that are not in their columns yet. What few of them have is kept by the number of the step."""
+    """Steps that are not in their columns yet. What few of them have is by their numbers among these."""
 
-    __slots__ = "all", "met", "errors", "hit", "counts", "wires"
+    kinds: Sequence[int]
+    #: As bytes of the columns.
+    accepted: Sequence[bytes]
+    off: Sequence[bytes]
+    entries: list[int]
+    #: As lines have them.
+    moments: Sequence[str]
+    verdicts: Sequence[str]
+    ifaces: Sequence[int]
+    numbers: Sequence[str]
+    frames: Sequence[str]
+    #: Times on the wire, where lines have them.
+    wires: Sequence[Optional[tuple[int, ...]]]
+    #: How many frames waited.
+    waiting: Sequence[int]
+    #: Who took part in arbitration, and with which frames, where they were several.
+    met: dict[int, Met]
+    #: The error message frames that it brought about.
+    errors: dict[int, list[str]] = field(default_factory=dict)
+    #: Who was hit.
+    hit: dict[int, int] = field(default_factory=dict)
+    #: The place of the error counts after it, where they changed.
+    counts: dict[int, int] = field(default_factory=dict)
 
-    def __init__(self) -> None:
-        #: The words of its line, its result, its entry, and how many frames waited.
-        self.all: list[tuple[Sequence[str], Result, int, int]] = []
-        #: Who took part in arbitration with which frame, where they were several.
-        self.met: dict[int, dict[int, str]] = {}
-        #: The error message frames that it brought about.
-        self.errors: dict[int, list[str]] = {}
-        #: Who was hit.
-        self.hit: dict[int, int] = {}
-        #: The place of the error counts after it, where that is another one than before.
-        self.counts: dict[int, int] = {}
-        #: The words of its time on the wire.
-        self.wires: dict[int, list[str]] = {}
-
-    def texts(self, first: int, frames: Sequence[str]) -> Iterable[str]:
-        """The frames and error message frames, in the order in which they get their places; these are those of the steps."""
+    def texts(self) -> Iterable[str]:
+        """The frames and error message frames, in the order in which they get their places."""
         if not self.met and not self.errors:
-            return frames
+            return self.frames
+        none: Met = (), ()
         return itertools.chain.from_iterable(
-            (frame, *self.met.get(step, {}).values(), *self.errors.get(step, ()))
-            for step, frame in enumerate(frames, first)
+            (frame, *self.met.get(row, none)[1], *self.errors.get(row, ())) for row, frame in enumerate(self.frames)
         )
 
 
@@ -191,65 +188,65 @@ class Steps(Sequence[Step]):
         #: frame go at the nominal bit rate, and at the one for data. All are 0 where the line does not say it.
         self.frame_nanos, self.busy_nanos = array("I"), array("I")
         self.nominal_bits, self.fast_bits = array("H"), array("H")
-        # How many attempts there were.
-        self._tried = 0
+        #: How many attempts there were.
+        self.tried = 0
 
     def __len__(self) -> int:
         return len(self.kinds)
 
     def extend(self, rows: Rows, idle: dict[int, int]) -> None:
         """Adds these steps, with how many attempts were idle before some of them, or after the last one."""
-        if not rows.all:
-            return
         first = len(self)
-        lines, results, entries, waiting = zip(*rows.all)
-        _, moments, verdicts, _, _, ifaces, numbers, frames, *_ = zip(*lines)
-        for column, values in zip((self.kinds, self.accepted, self.off), zip(*results)):
-            column.extend(values)
-        self.texts.add(rows.texts(first, frames))
-        self.entries.extend(entries)
-        self.moments.extend(map(int, " ".join(moments).replace(".", "").split(" ")))
-        self.ifaces.extend(map(IFACES.__getitem__, ifaces))
+        # Numbers of one or two bytes are quick as bytes, and others as lists.
+        self.kinds.frombytes(bytes(rows.kinds))
+        self.ifaces.frombytes(bytes(rows.ifaces))
+        self.accepted.frombytes(b"".join(rows.accepted))
+        self.off.frombytes(b"".join(rows.off))
+        self.entries.fromlist(rows.entries)
+        self.moments.fromlist([*map(int, " ".join(rows.moments).replace(".", "").split(" "))])
         self.attempts.extend(self._numbered(self.kinds[first:]))
-        self.numbers.extend(map(int, numbers))
-        self.frames.extend(map(self.texts.__getitem__, frames))
-        self.verdicts.extend(map(self.verdict_texts.__getitem__, verdicts))
-        self.waiting.extend(map(self.waiting_numbers.__getitem__, waiting))
-        self._meet(rows.met)
-        self._count(rows.counts)
-        self._note(self.hit, rows.hit)
+        self.numbers.fromlist([*map(int, rows.numbers)])
+        self.frames.extend(self.texts.places_of(rows.frames, rows.texts()))
+        self.verdicts.fromlist([*map(self.verdict_texts.__getitem__, rows.verdicts)])
+        self.waiting.fromlist([*map(self.waiting_numbers.__getitem__, rows.waiting)])
+        self._meet(rows.met, first)
+        self._count(rows.counts, first)
+        self._note(self.hit, rows.hit, first)
         self._note(self.idle, {step: count for step, count in idle.items() if step < len(self)})
+        wires = {row: wire for row, wire in enumerate(rows.wires) if wire} if any(rows.wires) else {}
         for place, column in enumerate((self.frame_nanos, self.busy_nanos, self.nominal_bits, self.fast_bits)):
-            self._note(column, {step: int(wire[place]) for step, wire in rows.wires.items()})
+            self._note(column, {row: wire[place] for row, wire in wires.items()}, first)
 
-    def _meet(self, met: dict[int, dict[int, str]]) -> None:
-        before, first = len(self.met_ifaces), len(self.met)
-        self._note(self.met, {step: len(heads) for step, heads in met.items()})
-        for heads in met.values():
-            self.met_ifaces.extend(heads)
-            self.met_frames.extend(map(self.texts.__getitem__, heads.values()))
+    def _meet(self, met: dict[int, Met], first: int) -> None:
+        before = len(self.met_ifaces)
+        self._note(self.met, {row: len(ifaces) for row, (ifaces, _) in met.items()}, first)
+        ifaces, frames = (
+            itertools.chain.from_iterable(map(operator.itemgetter(side), met.values())) for side in (0, 1)
+        )
+        self.met_ifaces.frombytes(bytes(ifaces))
+        self.met_frames.fromlist([*map(self.texts.__getitem__, frames)])
         self.met_from.extend(itertools.accumulate(self.met[first:-1], initial=before))
 
     def _numbered(self, kinds: "array[int]") -> Iterable[int]:
         """The numbers of these attempts; a restart has that of the next one."""
-        first = self._tried
-        self._tried += len(kinds) - kinds.count(RESTART)
-        if self._tried - first == len(kinds):
-            return range(first, self._tried)
+        first = self.tried
+        self.tried += len(kinds) - kinds.count(RESTART)
+        if self.tried - first == len(kinds):
+            return range(first, self.tried)
         return itertools.accumulate(map(RESTART.__ne__, kinds[:-1]), initial=first)
 
-    def _note(self, column: "array[int]", numbers: dict[int, int]) -> None:
-        """Makes a column as long as the others: with these numbers, by the steps, else with 0."""
+    def _note(self, column: "array[int]", numbers: dict[int, int], first: int = 0) -> None:
+        """Makes a column as long as the others: with these numbers, by the steps from this one on, else with 0."""
         column.frombytes(bytes(column.itemsize * (len(self) - len(column))))
-        for step, number in numbers.items():
-            column[step] = number
+        for row, number in numbers.items():
+            column[first + row] = number
 
-    def _count(self, places: dict[int, int]) -> None:
+    def _count(self, places: dict[int, int], first: int) -> None:
         """Makes the column of the counts as long as the others: from these steps on they have these places."""
-        place = self.counts[-1] if self.counts else 0
-        for step, after in [*places.items(), (len(self), 0)]:
-            self.counts.extend(array("I", [place]) * (step - len(self.counts)))
-            place = after
+        rows, end = [0, *places], len(self) - first
+        lengths = map(operator.sub, [*places, end], rows)
+        before = self.counts[-1] if self.counts else 0
+        self.counts.extend(itertools.chain.from_iterable(map(itertools.repeat, [before, *places.values()], lengths)))
 
     @overload
     def __getitem__(self, place: int) -> Step:
@@ -330,45 +327,23 @@ class Items:
         self._dropped = array("I")
         # The last two columns, once they were asked for.
         self._left: "Optional[tuple[array[int], array[int]]]" = None
-        # What is not in the columns yet, of which the frames of error messages by their places.
-        self._new_sockets: list[int] = []
-        self._new_steps: list[int] = []
-        self._new_errors: dict[int, str] = {}
 
     def __len__(self) -> int:
-        return len(self.sockets) + len(self._new_sockets)
+        return len(self.sockets)
 
-    def add(self, sockets: Sequence[int], step: int) -> None:
-        """Adds the frame of a step for each of these sockets."""
-        self._new_sockets += sockets
-        self._new_steps += [step] * len(sockets)
-
-    def add_error(self, socket: int, step: int, error: str) -> None:
-        """Adds an error message frame."""
-        self._new_errors[len(self)] = error
-        self.add((socket,), step)
-
-    def drop(self, socket: int, step: int, error: str, count: int) -> None:
-        """Adds items that found no room: frames of a step, or error message frames."""
-        begin = len(self)
-        self.add((socket,) * count, step)
-        self._dropped.extend((begin, len(self)))
-        if error:
-            self._new_errors.update(dict.fromkeys(range(begin, len(self)), error))
-
-    def settle(self, texts: Places[str]) -> None:
-        """Puts what was added into the columns; the texts have their places."""
-        for number, count in Counter(self._new_sockets).items():
-            self._all_sockets[number].handed += count
-        self.sockets.extend(self._new_sockets)
-        self.steps.extend(self._new_steps)
-        self.errors.frombytes(bytes(self.errors.itemsize * len(self._new_sockets)))
-        for place, text in self._new_errors.items():
-            self.errors[place] = texts[text]
-        self._new_sockets.clear()
-        self._new_steps.clear()
-        self._new_errors.clear()
+    def extend(self, sockets: Sequence[bytes], counts: Iterable[int], first: int) -> None:
+        """Adds what each step from the first one on handed to sockets, and how many that are."""
+        for members, count in Counter(sockets).items():
+            for number in array("I", members):
+                self._all_sockets[number].handed += count
+        self.sockets.frombytes(b"".join(sockets))
+        self.steps.fromlist([step for step, count in enumerate(counts, first) for _ in range(count)])
+        self.errors.frombytes(bytes(self.errors.itemsize * (len(self.sockets) - len(self.errors))))
         self._left = None
+
+    def drop(self, first: int, count: int) -> None:
+        """Items found no room: so many from this one on."""
+        self._dropped.extend((first, first + count))
 
     @property
     def fates(self) -> "array[int]":

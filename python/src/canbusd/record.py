@@ -167,27 +167,27 @@ def parse_record(
 ) -> Record:
     """Returns the record that these bytes spell, as read_record does; `path` says beside which file a log may be."""
     with Events(cut, rates) as events:
-        return record_of(events.lines(data), data[: data.rfind(b"\n") + 1], path, names, rates)
+        return record_of(events.texts(data), data[: data.rfind(b"\n") + 1], path, names, rates)
 
 
 def read_run(path: Path, names: Optional[Sequence[str]], cut: bool, rates: Optional[Rates]) -> Record:
     """Returns the record in this file, as read_record does, but without its text, which may be large."""
     with open(path, "rb") as file, Events(cut, rates, file) as events:
-        return record_of(events.lines_of_file(), b"", path, names, rates)
+        return record_of(events.texts_of_file(), b"", path, names, rates)
 
 
 def record_of(
-    events: Iterable[list[str]],
+    events: Iterable[str],
     text: bytes,
     path: Optional[Path],
     names: Optional[Sequence[str]],
     rates: Optional[Rates],
 ) -> Record:
-    """Returns the record that has these events, and this text."""
+    """Returns the record that has these events, of which each text is some lines, and this text."""
     run = Replay(rates)
     run.text = text
     for lines in events:
-        run.take(lines)
+        run.take_text(lines)
     assert run.bus is not None
     return Record(**vars(run.bus), text=text, is_cut=not run.is_whole, names=names_of(run, path, names), replay=run)
 

@@ -1,0 +1,125 @@
+"""What lines say that a step brought about, which many steps have in common."""
+
+import functools
+from array import array
+from collections.abc import Iterable, Iterator, Sequence
+from typing import NamedTuple, Optional
+
+from canbusd._replayed import Socket
+from canbusd._steps import DONE, KIND_NUMBERS, RESTART
+
+#: How many are kept: where attempts fail there are many.
+MOST_KEPT = 4096
+
+
+class Parts(NamedTuple):
+    """What few steps bring about."""
+
+    #: The interface, its transmit and its receive error count.
+    counts: list[Sequence[int]]
+    #: How many frames bus off took out of the transmit queue of the sender.
+    lost: int
+    #: Error message frames, by their places among the items of the step.
+    errors: list[tuple[int, str]]
+    #: The sockets at which items found no room, and how many; they are the last of its items.
+    dropped: list[tuple[int, int]]
+
+
+class Outcome(NamedTuple):
+    """What the line of a step says after its frame."""
+
+    #: What the step is.
+    kind: int
+    #: Who accepted its frame, and who went bus off, as columns have them: bit i for interface i.
+    accepted: bytes
+    off: bytes
+    #: How many frames leave the transmit queue of the sender.
+    left: int
+    #: How many items were handed out, and the sockets to which they were, in their order, as a column has them.
+    handed: int
+    sockets: bytes
+    #: The time on the wire, where the line has it.
+    wire: Optional[tuple[int, ...]]
+    parts: Optional[Parts]
+
+
+class Outcomes(dict[str, Outcome]):
+    """Outcomes by their texts, such as `done 0002 0000; put 1`."""
+
+    def __init__(self, sockets: Sequence[Socket]) -> None:
+        super().__init__()
+        self._sockets = sockets
+
+    def __missing__(self, text: str) -> Outcome:
+        if len(self) >= MOST_KEPT:
+            self.clear()
+        found = self[text] = self._read(text)
+        return found
+
+    def _read(self, text: str) -> Outcome:
+        result, *parts = text.split("; ")
+        kind, accepted, off = result.split(" ")
+        number, lost, wire = KIND_NUMBERS[kind], 0, None
+        if parts and parts[0].startswith("only "):
+            parts = [*self._parts_of(parts[1:], int(parts[0][-4:], 16), number == RESTART)]
+        counts: list[Sequence[int]] = []
+        errors: list[tuple[int, str]] = []
+        dropped: list[tuple[int, int]] = []
+        sockets: list[int] = []
+        for part in parts:
+            name, _, words = part.partition(" ")
+            if name == "counts":
+                counts.append(numbers_of(words))
+            elif name == "put":
+                sockets += handed(words, errors)
+            elif name == "dropped":
+                dropped = [(int(socket), int(count)) for socket, _, count in map(halves, words.split(" "))]
+                for socket, count in dropped:
+                    sockets += [socket] * count
+            elif name == "wire":
+                wire = numbers_of(words)
+            else:
+                lost = numbers_of(words)[1]
+        return Outcome(
+            number,
+            array("H", [int(accepted, 16)]).tobytes(),
+            array("H", [int(off, 16)]).tobytes(),
+            (number == DONE) + lost,
+            len(sockets),
+            array("I", sockets).tobytes(),
+            wire,
+            Parts(counts, lost, errors, dropped) if counts or lost or errors or dropped else None,
+        )
+
+    def _parts_of(self, parts: Iterable[str], members: int, is_restart: bool) -> Iterator[str]:
+        """Yields what parts say of a set of interfaces, bit i for interface i; the time on the wire is of no restart."""
+        for part in parts:
+            name, *words = part.split(" ")
+            if name in ("put", "dropped"):
+                words = [word for word in words if members >> self._sockets[int(word.partition(":")[0])].iface & 1]
+            elif name == "wire":
+                words = [] if is_restart else words
+            elif not members >> int(words[0]) & 1:
+                words = []
+            if words:
+                yield " ".join([name, *words])
+
+
+def handed(words: str, errors: list[tuple[int, str]]) -> Sequence[int]:
+    """The sockets that got items, by the words of a part; its error message frames are added to `errors`."""
+    if ":" not in words:
+        return numbers_of(words)
+    found = [*map(halves, words.split(" "))]
+    errors += [(place, error) for place, (_, _, error) in enumerate(found) if error]
+    return [int(socket) for socket, _, _ in found]
+
+
+def halves(word: str) -> tuple[str, str, str]:
+    """A word before its colon and after it."""
+    return word.partition(":")
+
+
+@functools.lru_cache(maxsize=65536)
+def numbers_of(words: str) -> tuple[int, ...]:
+    """The numbers that these words are: many parts say the same."""
+    return tuple(map(int, words.split(" ")))
