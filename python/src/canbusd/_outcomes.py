@@ -8,7 +8,7 @@ from typing import NamedTuple, Optional
 from canbusd._replayed import Socket
 from canbusd._steps import DONE, KIND_NUMBERS, RESTART
 
-#: How many are kept: where attempts fail there are many.
+#: How many are kept, of some hundred bytes each: where attempts fail there are many.
 MOST_KEPT = 4096
 
 
@@ -20,7 +20,7 @@ class Parts(NamedTuple):
     #: How many frames bus off took out of the transmit queue of the sender.
     lost: int
     #: Error message frames, by their places among the items of the step.
-    errors: list[tuple[int, str]]
+    errors: Sequence[tuple[int, str]]
     #: The sockets at which items found no room, and how many; they are the last of its items.
     dropped: list[tuple[int, int]]
 
@@ -58,38 +58,30 @@ class Outcomes(dict[str, Outcome]):
 
     def _read(self, text: str) -> Outcome:
         result, *parts = text.split("; ")
-        kind, accepted, off = result.split(" ")
-        number, lost, wire = KIND_NUMBERS[kind], 0, None
+        kind, accepted, off = result_of(result)
+        lost, wire = 0, None
         if parts and parts[0].startswith("only "):
-            parts = [*self._parts_of(parts[1:], int(parts[0][-4:], 16), number == RESTART)]
+            parts = [*self._parts_of(parts[1:], int(parts[0][-4:], 16), kind == RESTART)]
         counts: list[Sequence[int]] = []
-        errors: list[tuple[int, str]] = []
+        errors: Sequence[tuple[int, str]] = ()
         dropped: list[tuple[int, int]] = []
-        sockets: list[int] = []
+        sockets = b""
         for part in parts:
             name, _, words = part.partition(" ")
             if name == "counts":
                 counts.append(numbers_of(words))
             elif name == "put":
-                sockets += handed(words, errors)
+                sockets, errors = put_of(words)
             elif name == "dropped":
                 dropped = [(int(socket), int(count)) for socket, _, count in map(halves, words.split(" "))]
-                for socket, count in dropped:
-                    sockets += [socket] * count
+                sockets += b"".join(column_of((socket,)) * count for socket, count in dropped)
             elif name == "wire":
                 wire = numbers_of(words)
             else:
                 lost = numbers_of(words)[1]
-        return Outcome(
-            number,
-            array("H", [int(accepted, 16)]).tobytes(),
-            array("H", [int(off, 16)]).tobytes(),
-            (number == DONE) + lost,
-            len(sockets),
-            array("I", sockets).tobytes(),
-            wire,
-            Parts(counts, lost, errors, dropped) if counts or lost or errors or dropped else None,
-        )
+        rare = Parts(counts, lost, errors, dropped) if counts or lost or errors or dropped else None
+        handed = len(sockets) // array("I").itemsize
+        return Outcome(kind, accepted, off, (kind == DONE) + lost, handed, sockets, wire, rare)
 
     def _parts_of(self, parts: Iterable[str], members: int, is_restart: bool) -> Iterator[str]:
         """Yields what parts say of a set of interfaces, bit i for interface i; the time on the wire is of no restart."""
@@ -105,13 +97,25 @@ class Outcomes(dict[str, Outcome]):
                 yield " ".join([name, *words])
 
 
-def handed(words: str, errors: list[tuple[int, str]]) -> Sequence[int]:
-    """The sockets that got items, by the words of a part; its error message frames are added to `errors`."""
-    if ":" not in words:
-        return numbers_of(words)
+@functools.lru_cache(maxsize=4096)
+def result_of(text: str) -> tuple[int, bytes, bytes]:
+    """What a step is, who accepted its frame and who went bus off, as an outcome has them."""
+    kind, accepted, off = text.split(" ")
+    accepting, going = (array("H", [int(members, 16)]).tobytes() for members in (accepted, off))
+    return KIND_NUMBERS[kind], accepting, going
+
+
+@functools.lru_cache(maxsize=4096)
+def put_of(words: str) -> tuple[bytes, Sequence[tuple[int, str]]]:
+    """The sockets that got items, as an outcome has them, and the error message frames by their places among these."""
     found = [*map(halves, words.split(" "))]
-    errors += [(place, error) for place, (_, _, error) in enumerate(found) if error]
-    return [int(socket) for socket, _, _ in found]
+    errors = [(place, error) for place, (_, _, error) in enumerate(found) if error]
+    return column_of(int(socket) for socket, _, _ in found), errors
+
+
+def column_of(sockets: Iterable[int]) -> bytes:
+    """Sockets as bytes of their column."""
+    return array("I", sockets).tobytes()
 
 
 def halves(word: str) -> tuple[str, str, str]:

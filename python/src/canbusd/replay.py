@@ -107,7 +107,8 @@ class Replay:
         count = self.bus.ifaces
         self.ifaces = list(map(Interface, range(count)))
         self._counts = [(0, 0)] * count
-        self.steps.count_lists.places_of([], [tuple(self._counts)])
+        # The first counts have the place 0.
+        self.steps.count_lists[tuple(self._counts)]
 
     # Lines of which there are few, each with the number of steps before it and that of its entry.
 
