@@ -13,7 +13,7 @@ from typing import IO, BinaryIO, Optional
 from canbusd._program import ProgramNotFound, find_program
 from canbusd._rates import Rates
 
-# How many bytes are read at once: with what is made of them they fit in a processor's cache.
+# How many bytes are read at once; more are no quicker.
 BLOCK = 1 << 17
 # How many the program may be ahead.
 AHEAD = 1 << 20
