@@ -44,8 +44,10 @@ class RunFaults:
 
     def __init__(self, text: str, names: Sequence[str]) -> None:
         self.names, self.taken = names, 0
+        #: The rules that are left.
         self.rules: list[Rule] = []
-        self.lines: set[int] = set()
+        #: The verdicts of the lines by the numbers of attempts.
+        self.lines: dict[int, str] = {}
         #: What was given or ended before the attempt of a number, in its order.
         self.later: list[tuple[int, str]] = []
         #: How many attempts tried a frame.
@@ -55,7 +57,7 @@ class RunFaults:
             if later:
                 self.later.append((int(later[1]), later[2]))
             elif numbered:
-                self.lines.add(int(numbered[1]))
+                self.lines[int(numbered[1])] = recorded(numbered[2], names)
             elif not line.startswith("#"):
                 self.take(line)
 
@@ -65,24 +67,33 @@ class RunFaults:
             self.taken += 1
             self.rules.append(Rule(self.taken, rule, self.names))
 
+    def end(self) -> None:
+        """Ends all rules that are left; lines by numbers stay."""
+        self.rules.clear()
+
     def part(self, line: str) -> str:
         """The last part of the line of the next entry, which this is in the record; empty where it has none."""
         words = line.split(" ")
         if words[0] != "attempt" or words[4] != "tried":
             return ""
+        verdict, rule = self.decide(int(words[5]), word_of(words[7]))
+        return f"rule {rule}" if rule and verdict == words[2] else ""
+
+    def decide(self, winner: int, word: int) -> "tuple[str, int | None]":
+        """The verdict of the next attempt that tries a frame, and the number of the rule that gives it, if one does.
+
+        Rules before that one that match skip one attempt more.
+        """
         while self.later and self.later[0][0] <= self.tried:
             _, change = self.later.pop(0)
             if change == "nofaults":
-                self.rules.clear()
+                self.end()
             else:
                 self.take(change)
-        is_numbered = self.tried in self.lines
+        line = self.lines.get(self.tried)
         self.tried += 1
-        rule = None if is_numbered else self.decide(int(words[5]), word_of(words[7]))
-        return f"rule {rule.number}" if rule and rule.verdict == words[2] else ""
-
-    def decide(self, winner: int, word: int) -> "Rule | None":
-        """The rule that gives an attempt its verdict, if one does; those before it that match skip one more."""
+        if line is not None:
+            return line, None
         for rule in self.rules:
             if not rule.matches(winner, word):
                 continue
@@ -93,8 +104,8 @@ class RunFaults:
                 rule.left -= 1
                 if not rule.left:
                     self.rules.remove(rule)
-            return rule
-        return None
+            return rule.verdict, rule.number
+        return "good", None
 
 
 def words_of(identifier: "str | None", mask: "str | None") -> tuple[int, int]:

@@ -1,7 +1,7 @@
-"""Rules of faults: the program gives what the model in fault_plan.py does, on random runs and texts; and each way to say a rule.
+"""Rules of faults: the program gives what rule_model.py does, on random runs and texts; and each way to say a rule.
 
-The model is of the design, and knows nothing of the program. It is asked for the verdict of each attempt of a record, and
-for the answer to each message.
+The model is asked for the verdict of each attempt of a record, and how many rules are left for the answer to each message.
+Whether a text is a rule is what the package says of it.
 """
 
 import itertools
@@ -12,11 +12,10 @@ import subprocess
 import pytest
 
 from canbusd.faults import lines_of
-from canbusd.frames import Frame, identifier_word
 from canbusd.record import read_record
 from canbusd.rules import MOST_RULES, NAMES, check_rules, is_rule, parse_rule
-from fault_plan import Plan, plan_of
 from random_rules import RECORD, RuleMaker
+from rule_model import EXTENDED, REMOTE, RunFaults, word_of
 from serving import Plain, plain, serving
 
 LASTBIT = "next 1 lastbit"
@@ -24,47 +23,41 @@ LASTBIT = "next 1 lastbit"
 SENDERS = re.compile(f"(?:next (?!0+ )[0-9]{{1,8}}|always) from ({NAMES})(?: |$)")
 
 
-def said(text, names, plan):
-    """The rule that a text is, and the fault of giving it to a bus: one of both is None."""
+def fault_of(text, names, faults):
+    """The fault of giving this text as a rule to a bus with these faults; None where it takes it."""
     try:
         rule = parse_rule(text)
     except ValueError:
         # The first word that is wrong decides, and so does an unknown sender before another fault.
         senders = SENDERS.match(text)
         known = not senders or {*senders[1].split(",")} <= {*names}
-        return None, "bad rule" if known else "no such interface"
+        return "bad rule" if known else "no such interface"
     try:
         check_rules([rule], names)
     except ValueError:
-        return None, "no such interface"
-    return (None, "too many rules") if len(plan.rules) == MOST_RULES else (rule, None)
+        return "no such interface"
+    return "too many rules" if len(faults.rules) == MOST_RULES else None
 
 
-def answer(text, names, plan):
-    """What a message about rules gets, after which the plan is as it is then."""
+def answer(text, names, faults):
+    """What a message about rules gets, after which the faults are as they are then."""
     command, _, words = " ".join(text.split()).partition(" ")
     if command == "faults":
-        return f"< faults {len(plan.rules)} >"
+        return f"< faults {len(faults.rules)} >"
     if command == "nofaults":
-        plan.end_rules()
+        faults.end()
         return "< ok >"
-    rule, fault = said(words, names, plan)
-    if rule:
-        plan.add(rule)
+    fault = fault_of(words, names, faults)
+    if not fault:
+        faults.take(words)
     return f"< error {fault} >" if fault else "< ok >"
-
-
-def in_order(verdict, names):
-    """A verdict as a record has it: each interface once, in the order of the bus."""
-    *words, hit = verdict.split(" ")
-    if words[:1] != ["local"]:
-        return verdict
-    return " ".join([*words, ",".join(name for name in names if name in hit.split(","))])
 
 
 def shown(verdict, rule, names):
     """What the line of an attempt ends in with `--show-faults`: its fault, and the number of its rule."""
-    fault = "" if verdict == "good" else f"; fault {in_order(verdict, names)}"
+    kind, _, hit = verdict.partition(":")
+    members = ",".join(name for place, name in enumerate(names) if hit and int(hit, 16) >> place & 1)
+    fault = "" if verdict == "good" else f"; fault {' '.join([*kind.split('-'), *filter(None, [members])])}"
     return f"{fault}; rule {rule}" if rule else fault
 
 
@@ -84,24 +77,24 @@ def difference(program, case, folder):
     lines = done.stdout.decode().splitlines()
     answers = [line[2:] for line in lines if line.startswith("1 <")][2:]
     tried = [line for line in lines if line.startswith(("tried ", "idle"))]
-    record = read_record(folder / RECORD, case.names)
-    attempts = [attempt for attempt in record.attempts if attempt.outcome != "idle"]
-    plan, ends = plan_of(case.script), []
+    entries = (line.split(" ") for line in (folder / RECORD).read_text().splitlines())
+    attempts = [words for words in entries if words[4:5] == ["tried"]]
+    faults, ends = RunFaults(case.script, case.names), []
     for kind, text in case.operations:
         if kind == "line":
-            rule, fault = said(text, case.names, plan)
+            fault = fault_of(text, case.names, faults)
             if fault:
                 return f"the bench took `fault {text}`, which is {fault}"
-            plan.add(rule)
+            faults.take(text)
         elif kind == "message":
-            wanted, got = answer(text, case.names, plan), answers.pop(0)
+            wanted, got = answer(text, case.names, faults), answers.pop(0)
             if got != wanted:
                 return f"{text!r}: {got}, and not {wanted}"
         elif kind == "attempt" and tried.pop(0).startswith("tried "):
-            attempt = attempts.pop(0)
-            verdict, rule = plan.verdict(attempt.winner, identifier_word(Frame.parse(attempt.frame)))
-            if attempt.fault != in_order(verdict, case.names):
-                return f"{attempt}: and not {verdict} of rule {rule}"
+            words = attempts.pop(0)
+            verdict, rule = faults.decide(int(words[5]), word_of(words[7]))
+            if words[2] != verdict:
+                return f"{' '.join(words)}: and not {verdict} of rule {rule}"
             ends.append(shown(verdict, rule, case.names))
     if answers or tried or attempts:
         return f"{answers} {tried} {attempts}"
@@ -156,7 +149,7 @@ def test_random_texts_in_messages(program, rng, cases, tmp_path):
     answers = done.stdout.decode().splitlines()[2:]
     assert len(answers) == len(texts)
     for text, line in zip(texts, answers):
-        assert line == f"1 < ok >{answer(f'fault {text}', names, Plan({}))}", text
+        assert line == f"1 < ok >{answer(f'fault {text}', names, RunFaults('', names))}", text
 
 
 @pytest.mark.parametrize("count", [50, pytest.param(1000, marks=pytest.mark.slow)])
@@ -165,7 +158,7 @@ def test_random_texts_in_scripts_and_lines(program, rng, tmp_path, count):
     maker, names = RuleMaker(rng.random()), ["can0", "can1"]
     for _ in range(count):
         text = maker.changed(maker.rule(names))
-        _, fault = said(text, names, Plan({}))
+        fault = fault_of(text, names, RunFaults("", names))
         reported = {"bad rule": "bad line", "no such interface": "unknown interface"}.get(fault)
         if is_rule(text):
             (tmp_path / "my.script").write_text(f"# one line before\n{text}\n")
@@ -301,23 +294,24 @@ def test_one_node_of_two_goes_bus_off(program, tmp_path):
     assert sum(line.startswith("tried tester ") and " done " in line for line in tried) == 40
 
 
-EXTENDED, REMOTE = 0x80000000, 0x40000000
+ECU, OTHER = 0, 1
 
 
-def verdicts(plan, *attempts):
+def planned(*lines):
+    """The faults of a bus with a script of these lines."""
+    return RunFaults("\n".join(lines), ["ecu", "other"])
+
+
+def verdicts(faults, *attempts):
     """The verdicts of these attempts, each a winner and an identifier word."""
-    return [plan.verdict(winner, word)[0] for winner, word in attempts]
-
-
-def planned(*rules, lines=()):
-    return Plan(dict(lines), map(parse_rule, rules))
+    return [faults.decide(winner, word)[0] for winner, word in attempts]
 
 
 # The model itself, by what the design says.
 
 
 def test_who_sends_and_what():
-    ecu, other = ("ecu", 0x123), ("other", 0x123)
+    ecu, other = (ECU, 0x123), (OTHER, 0x123)
     assert verdicts(planned("next 2 from ecu lastbit"), other, ecu, other, ecu, ecu) == [
         "good", "lastbit", "good", "lastbit", "good",
     ]  # fmt: skip
@@ -327,37 +321,37 @@ def test_who_sends_and_what():
         "20000123:7FF": "00010", "0:0": "11111", "20000000:0": "00000", "40000000:40000000": "01001",
     }  # fmt: skip
     for identifier, wanted in taken.items():
-        plan = planned(f"always id {identifier} lastbit")
-        found = ["01"[verdict == "lastbit"] for verdict in verdicts(plan, *(("ecu", word) for word in words))]
+        faults = planned(f"always id {identifier} lastbit")
+        found = ["01"[verdict == "lastbit"] for verdict in verdicts(faults, *((ECU, word) for word in words))]
         assert "".join(found) == wanted, identifier
 
 
 def test_the_first_rule_that_matches_decides():
-    a, b = ("a", 1), ("b", 1)
-    plan = planned("next 1 from b good", "next 2 skip 1 lastbit", "always global bit")
+    a, b = (ECU, 1), (OTHER, 1)
+    faults = planned("next 1 from other good", "next 2 skip 1 lastbit", "always global bit")
     # Only what a rule decides, or skips, counts for it.
-    assert verdicts(plan, a, b, b, a, a) == ["global bit", "good", "lastbit", "lastbit", "global bit"]
-    assert [str(rule) for rule in plan.rules] == ["always global bit"]
+    assert verdicts(faults, a, b, b, a, a) == ["global-bit", "good", "lastbit", "lastbit", "global-bit"]
+    assert [rule.number for rule in faults.rules] == [3]
 
 
 def test_a_line_goes_before_rules_and_counts_for_none():
-    plan = planned("next 2 lastbit", lines={0: "good", 2: "global form"})
-    assert verdicts(plan, *[("a", 1)] * 5) == ["good", "lastbit", "global form", "lastbit", "good"]
+    faults = planned("next 2 lastbit", "0 good", "2 local crc other,ecu")
+    assert verdicts(faults, *[(ECU, 1)] * 5) == ["good", "lastbit", "local-crc:0003", "lastbit", "good"]
 
 
 def test_rules_come_and_go():
-    plan = planned("next 3 skip 1 lastbit", lines={4: "global form"})
-    a = ("a", 1)
-    assert verdicts(plan, a, a) == ["good", "lastbit"]
-    plan.add(parse_rule("always global bit"))
-    assert verdicts(plan, a) == ["lastbit"]
-    plan.end_rules()
-    assert verdicts(plan, a, a, a) == ["good", "global form", "good"]
-    assert plan.rules == []
+    faults = planned("next 3 skip 1 lastbit", "4 global form")
+    a = (ECU, 1)
+    assert verdicts(faults, a, a) == ["good", "lastbit"]
+    faults.take("always global bit")
+    assert verdicts(faults, a) == ["lastbit"]
+    faults.end()
+    assert verdicts(faults, a, a, a) == ["good", "global-form", "good"]
+    assert faults.rules == []
 
 
 def test_which_rule_it_was():
-    plan = planned("next 1 lastbit", lines={0: "lastbit"})
-    assert plan.verdict("a", 1) == ("lastbit", None)
-    assert plan.verdict("a", 1) == ("lastbit", 1)
-    assert plan.verdict("a", 1) == ("good", None)
+    faults = planned("next 1 lastbit", "0 lastbit")
+    assert faults.decide(ECU, 1) == ("lastbit", None)
+    assert faults.decide(ECU, 1) == ("lastbit", 1)
+    assert faults.decide(ECU, 1) == ("good", None)
