@@ -50,7 +50,7 @@ class Events:
     ) -> None:
         self._program = find_program()
         options = [*(["--cut"] if cut else []), *(rates.words if rates else [])]
-        options += ["--faults", faults] if faults is not None else []
+        options += [f"--faults={faults}"] if faults is not None else []
         words = [self._program, "audit", "--events", *options, "/dev/stdin"]
         pipe = subprocess.PIPE
         self._process = subprocess.Popen(words, bufsize=0, stdin=file or pipe, stdout=pipe, stderr=pipe)
