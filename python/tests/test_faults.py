@@ -42,6 +42,15 @@ def test_rules_in_a_script():
         rules_in("next 1 bad")
 
 
+def test_rules_in_the_faults_of_a_run():
+    """first those of the start, then those that came later; of lines that are none the program says so"""
+    run = "at 0 next 1 good\n3 lastbit\nat 17 nofaults\nnext 2 good\n# at 17 next 9 good\nat 4294967294 next 3 good\n"
+    assert list(map(str, rules_in(run))) == ["next 2 good", "next 1 good", "next 3 good"]
+    assert rules_in("at 5 lastbit\nat next 1 good\nat 12345678901 next 1 good\nat 1 at 2 next 1 good") == []
+    with pytest.raises(ValueError, match="^rule 'next 1 bad': its verdict is"):
+        rules_in("at 0 next 1 bad")
+
+
 RULES = """\
 next 32 from ecu global bit
 next 1 id 123 skip 2 lastbit

@@ -9,7 +9,8 @@ import pytest
 from canbusd.bench import Bench, Refused
 from canbusd.faults import Faults
 from canbusd.server import Server, ServerError
-from conftest import WAIT, message
+from conftest import WAIT, message, needs_live
+from test_report import rules_on
 
 TESTER, ECU = 0x100, 0x200
 # Whatever gives a rule that is wrong.
@@ -114,6 +115,38 @@ def test_a_rule_that_names_an_interface_of_another_bus():
         with pytest.raises(can.CanOperationError, match="crc car1: car1 is none of can0, can1, car0$"):
             can0.inject("next 1 from can0 local crc car1")
         assert can0.rules_left() == 0
+
+
+@needs_live
+@pytest.mark.parametrize("when", ["end", "live", "killed"])
+def test_the_rules_on_the_page_of_a_server(tmp_path, when):
+    """those of its script, and those that came while it ran, whoever gave them"""
+    options = {"record": "end"} if when == "end" else {"record": "live", "flush": 0}
+    server = Server("can0,can1", faults="next 1 lastbit\n", out=tmp_path, observe=(), **options)
+    with server, server.bus("can0") as can0, server.bus("can1") as can1:
+
+        def sent(identifier, count):
+            can0.send(message(identifier))
+            assert [can1.recv(WAIT).arbitration_id for _ in range(count)] == [identifier] * count
+
+        sent(0x123, 2)
+        server.inject("next 1 id 124 lastbit")
+        can1.inject("next 2 id 124:7FE lastbit\nalways good")
+        # All three of these may have been the rule of the first, and two that of the second.
+        sent(0x124, 4)
+        server.end_rules()
+        sent(0x125, 1)
+        server.inject("next 1 from can1 good\nnext 1 from can0 good")
+        sent(0x126, 1)
+        if when == "killed":
+            server.wait_for(lambda: len(server.attempts()) == 8, WAIT)
+            server.kill()
+    assert rules_on(server.report().read_text(encoding="utf-8")) == [
+        "next 1 lastbit", "", "next 1 id 124 lastbit", *["next 2 id 124:7FE lastbit"] * 2, "always good",
+        "", "next 1 from can0 good",
+    ]  # fmt: skip
+    left = {"can0.rec.new", "can0.rec.faults.new"} if when == "killed" else {"can0.rec", "can0.rec.faults"}
+    assert {path.name for path in tmp_path.iterdir()} == {"can0.log", "can0.html", *left}
 
 
 def test_rules_in_a_bench():

@@ -168,13 +168,15 @@ def test_a_server_is_looked_at_while_it_runs(tmp_path):
         # The sessions are closed, and there are no entries more.
         record = server.wait_for(lambda: closed(server.record("ecu"), 2), timeout=WAIT)
         assert record.is_cut and record.names == ("ecu", "tester") and server.attempts("ecu") == record.attempts
-        assert {path.name for path in tmp_path.iterdir()} == {"car0.log", "car0.rec.new", "ecu.log", "ecu.rec.new"}
+        growing = {"car0.log", "car0.rec.new", "ecu.log", "ecu.rec.new", "ecu.rec.faults.new"}
+        assert {path.name for path in tmp_path.iterdir()} == growing
         assert server.bus("ecu").shutdown() is None
     whole = server.record("ecu")
     assert not whole.is_cut and whole.lines[: len(record.lines)] == record.lines
     assert server.audit() == {"ecu": f"ok {len(whole.lines)} entries", "car0": "ok 0 entries"}
     assert server.stop().entries == {"ecu": len(whole.lines), "car0": 0}
-    assert {path.name for path in tmp_path.iterdir()} == {"car0.log", "car0.rec", "ecu.log", "ecu.rec"}
+    left = {"car0.log", "car0.rec", "ecu.log", "ecu.rec", "ecu.rec.faults"}
+    assert {path.name for path in tmp_path.iterdir()} == left
     assert read_record(tmp_path / "ecu.rec").lines == whole.lines
     assert [shape(one) for one in read_log(tmp_path / "ecu.log")] == [shape(one) for one in server.log("ecu")]
 

@@ -79,7 +79,7 @@ def test_a_test_that_fails_says_what_was_on_the_bus(run, pytester):
             "page: *body.html",
         ]
     )
-    assert kept(pytester) == ["body.html", "body.log", "body.rec"]
+    assert kept(pytester) == ["body.html", "body.log", "body.rec", "body.rec.faults"]
     page = re.search(r"^page: (.*)$", result.stdout.str(), re.M)[1]
     assert Path(page).read_text(encoding="utf-8").endswith("</html>\n")
 

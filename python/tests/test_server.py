@@ -42,7 +42,8 @@ def test_what_a_server_leaves(tmp_path):
     result = server.stop()
     assert result == server.stop()
     assert (result.status, list(result.entries)) == (0, ["can0", "car0"])
-    assert {path.name for path in tmp_path.iterdir()} == {"can0.log", "can0.rec", "car0.log", "car0.rec"}
+    left = {"can0.log", "can0.rec", "can0.rec.faults", "car0.log", "car0.rec"}
+    assert {path.name for path in tmp_path.iterdir()} == left
     # A fault in the last bit: the receiver has the frame already when it is sent again.
     assert [(one.channel, one.arbitration_id) for one in server.log("can1")] == [("can0", 0x123)] * 2
     assert [attempt.outcome for attempt in server.record("can0").attempts] == ["lastbit", "done"]

@@ -1,6 +1,5 @@
 """The words of the command line by which a server is started."""
 
-import os
 from collections.abc import Mapping
 from pathlib import Path
 from typing import Optional, Union
@@ -57,9 +56,3 @@ def record_options(
         raise ValueError(f"limit= needs record='end', not {record!r}")
     words = ["--record", record, *(["--sync"] if sync else [])]
     return words, {} if flush is None else {"flush": flush}
-
-
-def script_of(bus: str) -> str:
-    """The text of the script of a bus, as the program was given it; the empty text where it is gone since."""
-    _, _, file = bus.partition("@")
-    return Path(file).read_text(encoding="utf-8") if os.path.isfile(file) else ""

@@ -17,6 +17,8 @@ from canbusd._text import NAME, shown
 from canbusd.frames import EXTENDED
 from canbusd.rules import MOST, MOST_RULES, NUMBER, VERDICT, Rule, is_rule, parse_rule
 
+# How a line begins of what came while a run went on.
+LATER = re.compile("at [0-9]{1,10} ")
 # What no path is.
 IS_TEXT = re.compile(r"\A\Z|\n|\A(?:[0-9]+|next|always) ")
 
@@ -294,8 +296,13 @@ def lines_of(text: str) -> list[str]:
 
 
 def rules_in(script: str) -> list[Rule]:
-    """Returns the rules of a script, in their order; ValueError where one is none."""
-    return [parse_rule(line) for line in lines_of(script) if is_rule(line)]
+    """Returns the rules of a script, in their order; ValueError where one is none.
+
+    Of the faults of a run, which have lines `at N RULE`, those of the start come first. So a rule is where its number says.
+    """
+    lines = lines_of(script)
+    later = [line[found.end() :] for line in lines if (found := LATER.match(line))]
+    return [parse_rule(line) for line in [*lines, *later] if is_rule(line)]
 
 
 def rules_of(faults: Script) -> list[Rule]:

@@ -13,7 +13,7 @@ from dataclasses import dataclass
 from typing import Optional
 
 from canbusd._text import NAME, shown
-from canbusd.frames import EXTENDED, INVERTED, passes_filters
+from canbusd.frames import EXTENDED, INVERTED
 
 #: How many rules a bus has at most.
 MOST_RULES = 64
@@ -57,12 +57,6 @@ class Rule:
     def names(self) -> tuple[str, ...]:
         """The interfaces that it names: those that send, and those that see its fault."""
         return (*self.senders, *seen_by(self.verdict))
-
-    def matches(self, winner: str, word: int) -> bool:
-        """Whether an attempt with this winner and the identifier word of its frame is one of those that it is about."""
-        if self.senders and winner not in self.senders:
-            return False
-        return self.identifier is None or passes_filters(word, [self.identifier], False)
 
 
 def identifier_text(word: int, mask: int) -> str:
@@ -198,8 +192,3 @@ class GivenRules:
         elif left is not None:
             self._left[number] = left - 1
         return self._rules[number - 1]
-
-
-def is_same(verdict: str, other: str) -> bool:
-    """Whether two verdicts are the same, in whatever order they name interfaces."""
-    return verdict.split(" ")[:2] == other.split(" ")[:2] and {*seen_by(verdict)} == {*seen_by(other)}

@@ -24,13 +24,13 @@ from canbusd._nodes import SimulatesNodes
 from canbusd._observer import Observer, observed_by_default
 from canbusd._program import ServerError as ServerError, audited
 from canbusd._process import RUNNING, ProgramRun, option_words, rate_words, rates_of
-from canbusd._serve_words import bus_words, record_options, script_of
+from canbusd._serve_words import bus_words, record_options
 from canbusd.expectations import Expectations
 from canbusd.faults import Script, rules_of
 from canbusd.log import read_log
 from canbusd.programs import Program, RunsPrograms
 from canbusd.record import Attempt, Record, read_record
-from canbusd.rules import Rule, check_rules
+from canbusd.rules import check_rules
 from canbusd.signals import Database, load_database
 from canbusd.virtual import note_rate
 
@@ -125,8 +125,6 @@ class Server(Expectations, SimulatesNodes, RunsPrograms, ProgramRun):
         self._record_when = record
         self._logs = {name: LiveLog(self._out / f"{name}.log") for name in self._by_bus}
         self._records = {name: LiveRecord(self._out / f"{name}.rec", bus[:-1]) for name, bus in self._by_bus.items()}
-        # The rules that were injected here, by the first interface of their bus.
-        self._injected: dict[str, list[Rule]] = {}
         self._programs: list[Program] = []
         self._observer: Optional[Observer] = None
         self._ending = threading.Lock()
@@ -166,11 +164,10 @@ class Server(Expectations, SimulatesNodes, RunsPrograms, ProgramRun):
         `interface` is one of the bus; it may be left out where there is one bus. Refused where the bus would have more
         than 64 rules: those before the one that is named are in force.
         """
-        rules, first = rules_of(faults), self._first(interface, "interface")
-        check_rules(rules, self._by_bus[first][:-1])
+        rules = rules_of(faults)
+        check_rules(rules, self._by_bus[self._first(interface, "interface")][:-1])
         with self._rule_session(interface) as session:
             session._give(rules)
-        self._injected.setdefault(first, []).extend(rules)
 
     def rules_left(self, interface: Optional[str] = None) -> int:
         """Returns how many rules of faults a bus has that are not used up, those without end too."""
@@ -269,13 +266,11 @@ class Server(Expectations, SimulatesNodes, RunsPrograms, ProgramRun):
 
     def _page(self, record: Record, path: Path) -> Path:
         """Writes the page of the bus with this record there."""
-        from canbusd._deciders import deciders
+        from canbusd._deciders import deciders, faults_beside
         from canbusd._summary import write_page
 
-        first = record.names[0]
-        bus = self._by_bus[first][-1]
-        rules = deciders(record, bus, script_of(bus), self._injected.get(first, []))
-        return write_page(record, path, rules, self._rates)
+        faults = faults_beside(left_by(path.with_suffix(".rec"), self._record_when))
+        return write_page(record, path, deciders(record, faults) if faults else [], self._rates)
 
     def _rule_session(self, interface: Optional[str]) -> RuleSession:
         """A session for the rules of the bus of this interface."""

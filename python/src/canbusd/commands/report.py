@@ -9,17 +9,17 @@ from pathlib import Path
 
 from canbusd import _summary, drawings
 from canbusd._command import add_record, replayed
-from canbusd._deciders import deciders
+from canbusd._deciders import deciders, faults_beside
 from canbusd._slots import load_of, load_words, slots_of
 from canbusd.commands import add_database, add_rates, database_of, rates_of
 from canbusd.comparison import beside
-from canbusd.faults import script_text
+from canbusd.record import BadRecord, Record
 
 EPILOG = """\
 The page is one file, which needs no network. It has a time line with a lane for each interface: its attempts, state,
 error counters and queue; the chosen attempt in detail, with its arbitration bit by bit; and lists of events, attempts
-and items, which follow it. A record that breaks the rules of the bus is refused. With the
-script of faults of the run the page says which of its rules gave an attempt its fault.
+and items, which follow it. A record that breaks the rules of the bus is refused. With the faults of the run, which
+`canbusd serve --out` writes beside the record, the page says which rule gave an attempt its fault.
 
 With --bitrate each attempt takes the time of its bits, and its moment is the end of the frame that it tries, as in a
 record of `canbusd bench --bitrate`: the page shows the bus load over time and the identifiers that take most of it, how
@@ -45,7 +45,9 @@ def add_arguments(parser: argparse.ArgumentParser) -> None:
         "--items", type=int, default=1000000, metavar="N", help="items on the page at most (default 1000000)"
     )
     add_rates(parser, "the page shows the bus load, and how long frames took and waited")
-    parser.add_argument("--faults", metavar="FILE", help="the script of faults that the run had")
+    parser.add_argument(
+        "--faults", metavar="FILE", help="the script or the faults of the run (default: the faults beside RECORD)"
+    )
     parser.add_argument("--text", action="store_true", help="write events as text, and both of the following")
     parser.add_argument(
         "--counters", action="store_true", help="draw the error counters after each attempt and restart"
@@ -73,17 +75,25 @@ def run(options: argparse.Namespace) -> None:
         return
     from canbusd.report import Pair, page
 
-    rules: list[str] = []
-    if options.faults is not None:
-        # One that has no name here, `interface 1`, has one as the program takes it.
-        bus = f"{','.join(record.names).replace(' ', '-')}@{options.faults}"
-        rules = deciders(record, bus, script_text(Path(options.faults)), path=options.record)
-    title = os.path.basename(options.record)
+    title, rules = os.path.basename(options.record), rules_of(record, options)
     if isinstance(sys.stdout, io.TextIOWrapper):
         sys.stdout.reconfigure(encoding="utf-8")
     database, most_items = database_of(options), max(options.items, 0)
     pair = None if other is None else Pair(record, other, title_beside(options.record, options.other))
     sys.stdout.write(page(record.replay, record.names, title, most_items, database, rules, rates, pair))
+
+
+def rules_of(record: Record, options: argparse.Namespace) -> list[str]:
+    """The rule of each attempt, by the faults that are named, else by those that a server left beside the record."""
+    if options.faults is not None:
+        return deciders(record, Path(options.faults), options.record)
+    faults = faults_beside(options.record)
+    try:
+        return deciders(record, faults, options.record) if faults else []
+    except BadRecord as fault:
+        # It names an interface that has no name here, for want of a log.
+        print(f"canbusd report: without rules of faults: {faults}: {fault}", file=sys.stderr)
+        return []
 
 
 def title_beside(path: str, other: str) -> str:
