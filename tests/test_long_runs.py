@@ -438,20 +438,22 @@ def test_the_service_keeps_what_the_run_before_it_left(tmp_path):
 
     (tmp_path / "socket").touch()
     assert moves() == []
-    killed = ["can0.log", "can0.rec.cut", "can0.rec.new", "car0.log", "car0.rec.new"]
+    killed = ["can0.log", *(f"can0.rec{one}" for one in (".cut", ".faults.cut", ".faults.new", ".new")), "car0.log"]
     assert moves(*killed) == killed and moves() == killed
     # What a start leaves that failed: the first lines of records.
-    for name, text in [("can0.log", ""), ("can0.rec.new", FRONT), ("car0.rec.cut", FRONT)]:
+    script = "# a script\n" * 100
+    failed = [("can0.rec.new", FRONT), ("can0.rec.faults.new", script), ("car0.rec.cut", FRONT)]
+    for name, text in [("can0.log", ""), *failed]:
         (tmp_path / name).write_text(text)
     subprocess.run(before, cwd=tmp_path, check=True)
     assert sorted(os.listdir(tmp_path / "previous")) == killed
-    for name in ("can0.log", "can0.rec.new", "car0.rec.cut"):
+    for name in ("can0.log", *(name for name, _ in failed)):
         (tmp_path / name).unlink()
     # A log of one line, of a server without a record.
     (tmp_path / "can0.log").write_text("(0000000000.000001) can0 123#\n")
     subprocess.run(before, cwd=tmp_path, check=True)
     assert os.listdir(tmp_path / "previous") == ["can0.log"]
-    whole = ["can0.log", "can0.rec", "car0.log", "car0.rec"]
+    whole = ["can0.log", "can0.rec", "can0.rec.faults", "car0.log", "car0.rec"]
     assert moves(*whole) == whole
     assert (tmp_path / "previous" / "can0.rec").read_text().startswith(f"can0.rec {tuple(whole)}\n")
     # The words of the program are those of a server.
