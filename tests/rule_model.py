@@ -71,6 +71,15 @@ class RunFaults:
         """Ends all rules that are left; lines by numbers stay."""
         self.rules.clear()
 
+    def catch_up(self, number: int) -> None:
+        """Gives and ends rules as it was done before the attempt of this number."""
+        while self.later and self.later[0][0] <= number:
+            _, change = self.later.pop(0)
+            if change == "nofaults":
+                self.end()
+            else:
+                self.take(change)
+
     def part(self, line: str) -> str:
         """The last part of the line of the next entry, which this is in the record; empty where it has none."""
         words = line.split(" ")
@@ -84,12 +93,7 @@ class RunFaults:
 
         Rules before that one that match skip one attempt more.
         """
-        while self.later and self.later[0][0] <= self.tried:
-            _, change = self.later.pop(0)
-            if change == "nofaults":
-                self.end()
-            else:
-                self.take(change)
+        self.catch_up(self.tried)
         line = self.lines.get(self.tried)
         self.tried += 1
         if line is not None:
