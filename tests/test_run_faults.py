@@ -11,6 +11,7 @@ import random
 import re
 import resource
 import signal
+import subprocess
 import threading
 import time
 
@@ -26,8 +27,8 @@ from test_long_runs import FRONT, cut_audit, names_in
 WHEN = ("end", "live")
 LIVE = ("--record", "live", "--flush", "0")
 SCRIPT = "always id 7DF good\n"
-#: How many lines of a bus wait at most to be written.
-MOST_LINES = 1_048_576
+#: How many bytes of lines of a bus wait at most to be written.
+MOST_BYTES = 64 << 20
 
 
 def read(path):
@@ -283,7 +284,7 @@ class Crowd:
                 self.taken[first].append(rule)
             elif not answer:
                 return
-            time.sleep(maker.random.choice([0, 0.001, 0.003, 0.01]))
+            time.sleep(maker.random.choice([0, 0, 0.001, 0.004]))
 
     def end(self):
         """Ends those that give rules once all frames were sent, or the server is gone."""
@@ -291,6 +292,12 @@ class Crowd:
         self.is_over.set()
         join(self.givers)
         assert not self.faults, self.faults[0]
+
+
+def end_busy(server):
+    """Ends a server, which may have said that it was late."""
+    status, _ = server.finish(3 * WAIT)
+    assert status == 0, server.said()
 
 
 def scripts(maker, folder):
@@ -302,26 +309,28 @@ def scripts(maker, folder):
     return texts, words
 
 
-def check_run(folder, first, script, ending=""):
-    """What a server left of a bus, or has so far: the faults are those of the start and lines after them, and with them each
-    attempt has the verdict, and in the audit the rule, that the model decides. Returns the rules, and the lines after the script
-    without their numbers."""
-    names, path = BUSES[first], f"{folder}/{first}.rec"
-    # A line of the faults is there before each entry of the record that it counts for.
-    texts = {"entries": whole_lines(path + ending)}
-    texts["faults"] = whole_lines(f"{path}.faults{ending}")
+def written(folder, first, ending=""):
+    """What a server left of a bus, or has so far: the record, and then the faults, as far as their lines are whole."""
+    path = f"{folder}/{first}.rec"
+    return whole_lines(path + ending), whole_lines(f"{path}.faults{ending}")
+
+
+def check(folder, first, script, record, faults):
+    """Checks that faults are those of the start and lines after them, by which each attempt has the verdict, and in the audit the
+    rule, that the model decides. Returns these rules, and the lines after the script without their numbers."""
+    names = BUSES[first]
     front = script + "\n" * bool(script and not script.endswith("\n"))
-    assert texts["faults"].startswith(front)
-    lines = texts["faults"][len(front) :].splitlines()
+    assert faults.startswith(front)
+    lines = faults[len(front) :].splitlines()
     later = [re.fullmatch(r"at (0|[1-9][0-9]*) (\S.*)", line) for line in lines]
     assert all(later), lines
     numbers = [int(line[1]) for line in later]
     assert numbers == sorted(numbers)
-    rules = decided(texts["entries"], texts["faults"], names)
-    for name, text in texts.items():
+    rules = decided(record, faults, names)
+    for name, text in (("record", record), ("faults", faults)):
         with open(f"{folder}/{name}", "w", encoding="utf-8") as file:
             file.write(text)
-    assert audited(f"{folder}/entries", f"{folder}/faults", names) == rules
+    assert audited(f"{folder}/record", f"{folder}/faults", names) == rules
     return rules, [line[2] for line in later]
 
 
@@ -342,11 +351,11 @@ def test_rules_that_come_while_others_send(when, count, pace, rng, tmp_path):
         texts, buses = scripts(RuleMaker(rng.random()), folder)
         words = [*(LIVE if when == "live" else ()), *pace, "--auto-restart", rng.choice(["1", "3", "20"]), *buses]
         with serving_alone(*words, out=folder) as server:
-            crowd = Crowd(server, rng, 300)
+            crowd = Crowd(server, rng, 120)
             crowd.end()
-            server.end(patience=3 * WAIT)
+            end_busy(server)
         for first, names in BUSES.items():
-            rules, later = check_run(folder, first, texts[first])
+            rules, later = check(folder, first, texts[first], *written(folder, first))
             given = [line for line in later if line != "nofaults"]
             assert alike(given, names) == alike(crowd.taken[first], names)
             assert later.count("nofaults") <= crowd.ended[first]
@@ -359,18 +368,18 @@ def test_rules_that_come_while_others_send(when, count, pace, rng, tmp_path):
 def test_faults_of_a_run_that_goes_on(pace, rng, tmp_path):
     """at each moment they suffice for the entries that are there"""
     texts, buses = scripts(RuleMaker(rng.random()), tmp_path)
+    seen = []
     with serving_alone(*LIVE, *pace, "--auto-restart", "3", *buses, out=tmp_path) as server:
-        crowd = Crowd(server, rng, 500)
-        attempts = 0
+        crowd = Crowd(server, rng, 120)
         while any(thread.is_alive() for thread in crowd.senders):
-            for first, text in texts.items():
-                # The record is read first.
-                attempts = max(attempts, len(check_run(tmp_path, first, text, ending=".new")[0]))
+            # A line of the faults is there before each entry of the record for which it counts.
+            seen += [(first, *written(tmp_path, first, ".new")) for first in BUSES]
+            time.sleep(0.01)
         crowd.end()
-        server.end(patience=3 * WAIT)
-    assert attempts, "no attempt was in the record before the end"
-    for first, text in texts.items():
-        check_run(tmp_path, first, text)
+        end_busy(server)
+    looks = rng.sample(seen, min(len(seen), 8))
+    attempts = [len(check(tmp_path, first, texts[first], *look)[0]) for first, *look in looks]
+    assert any(attempts), "no attempt was in a record before the end"
 
 
 @pytest.mark.parametrize("kills", [4, pytest.param(100, marks=pytest.mark.slow)])
@@ -393,7 +402,7 @@ def test_servers_that_are_killed(kills, rng, tmp_path):
         files = {name: read(folder / name) for name in names_in(folder) if ".rec" in name}
         assert {name for name in files if not name.endswith(".new")} == set()
         for first, text in texts.items():
-            rules, later = check_run(folder, first, text, ending=".new")
+            rules, later = check(folder, first, text, *written(folder, first, ".new"))
             assert (f"{first}.rec.faults.new" in files) >= bool(text or later)
             assert cut_audit(folder / f"{first}.rec.new", is_replayed=False)[1], "it has an end"
             attempts += len(rules)
@@ -511,24 +520,35 @@ def test_a_place_that_takes_no_file(when, kind, tmp_path):
 
 @pytest.mark.parametrize("when", WHEN)
 @pytest.mark.parametrize("kind", ["rec.faults", "rec.faults.new"])
-def test_links_and_fifos(when, kind, tmp_path):
-    """nothing is written through a link, and nobody waits for one who reads"""
+def test_links(when, kind, tmp_path):
+    """they are not followed to a plain file, or to nothing: the new file takes their place"""
     others = tmp_path / "others"
     others.write_text("of others\n")
-    path = tmp_path / f"can0.{kind}"
-    path.symlink_to(others)
-    bus = bus_of(tmp_path, SCRIPT)
-    assert start(tmp_path, "--record", when, bus)[0] == 0
-    assert others.read_text() == "of others\n" and not path.is_symlink()
+    for target in (others, tmp_path / "nothing"):
+        (tmp_path / f"can0.{kind}").symlink_to(target)
+        assert start(tmp_path, "--record", when, bus_of(tmp_path, SCRIPT))[0] == 0
+        assert not (tmp_path / f"can0.{kind}").is_symlink() and left(tmp_path) == {"rec.faults": SCRIPT}
+        (tmp_path / "can0.rec.faults").unlink()
+    assert others.read_text() == "of others\n" and not (tmp_path / "nothing").exists()
+
+
+@pytest.mark.parametrize("when", WHEN)
+def test_a_fifo_where_faults_are_written_first(when, tmp_path):
+    """it is removed, as all is that is left there"""
+    os.mkfifo(tmp_path / "can0.rec.faults.new")
+    assert start(tmp_path, "--record", when, bus_of(tmp_path, SCRIPT))[0] == 0
     assert left(tmp_path) == {"rec.faults": SCRIPT}
-    path.unlink(missing_ok=True)
-    os.mkfifo(path)
-    status, _, errors = start(tmp_path, "--record", when, bus)
-    if status:
-        assert errors.startswith(f"canbusd: cannot open {tmp_path}\n  {path}: "), errors
-    else:
-        path.unlink(missing_ok=kind == "rec.faults.new")
-        assert names_in(tmp_path) == []
+
+
+@pytest.mark.parametrize("when", WHEN)
+def test_a_fifo_for_faults(when, tmp_path):
+    """nobody waits at the end for one who reads it: as for a record it is refused"""
+    os.mkfifo(tmp_path / "can0.rec.faults")
+    options = "--until-eof", "--listen", "127.0.0.1:0", "--out", tmp_path, "--record", when
+    words = [program(), "serve", *options, bus_of(tmp_path, SCRIPT)]
+    done = subprocess.run(words, stdin=subprocess.DEVNULL, capture_output=True, text=True, timeout=WAIT, check=False)
+    said = f"canbusd: cannot open {tmp_path}\n  {tmp_path}/can0.rec.faults: "
+    assert (done.returncode, done.stdout) == (1, "") and done.stderr.startswith(said), done.stderr
 
 
 def may_grow(most):
@@ -543,36 +563,39 @@ def may_grow(most):
 
 @pytest.mark.parametrize("when", WHEN)
 def test_a_disk_that_is_full(when, tmp_path):
-    """the faults find no room, and it is reported"""
+    """the faults find no room, and it is reported; beside the new record are none of another one, and none that look whole"""
     leave(tmp_path, rec="of an earlier run\n", rec_faults="of its faults\n")
-    bus = bus_of(tmp_path, "# a comment\n" * 1000)
-    status, _, errors = start(tmp_path, "--record", when, bus, preexec_fn=may_grow(5000))
-    assert status == 1 and f"  {tmp_path}/can0.rec.faults" in errors, errors
-    assert left(tmp_path).get("rec.faults") == "of its faults\n"
+    script = "# a comment\n" * 1000
+    status, said, errors = start(tmp_path, "--record", when, bus_of(tmp_path, script), preexec_fn=may_grow(5000))
+    assert (status, said.count("bus can0 entries 0\n")) == (1, 1), errors
+    assert errors.startswith(f"canbusd: write fault\n  {tmp_path}/can0.rec.faults.new: "), errors
+    assert call(program(), "audit", f"{tmp_path}/can0.rec")[1] == "ok 0 entries\n"
+    growing = left(tmp_path).pop("rec.faults.new", "")
+    assert script.startswith(growing) and "rec.faults" not in left(tmp_path)
+    # What is left of them takes the place of nothing.
+    assert start(tmp_path, "--record", when, "can0")[::2] == (0, "") and left(tmp_path) == {}
 
 
-def fill(client, lines):
-    """Has a bus be given rules, and them ended, so that these are so many lines."""
-    while lines:
-        rules = min(lines, MOST_RULES)
-        client.write("< fault always good >" * rules + "< nofaults >" * (lines > rules))
-        answers = rules + (lines > rules)
-        assert [client.text() for _ in range(answers)] == ["< ok >"] * answers
-        lines -= answers
-
-
-@pytest.mark.slow
-@pytest.mark.parametrize("when", WHEN)
+@pytest.mark.parametrize("when", [*WHEN, "none", "nowhere"])
 def test_the_most_lines_that_wait(when):
-    """at the end no more rules are taken, and frames go on; with `live` they are written, and there is no such end"""
-    with serving_alone("--record", when, "can0,can1") as server:
-        one, other = plain(server, "can0"), plain(server, "can1")
-        fill(one, MOST_LINES)
-        answer = give(one, "next 1 from can0 lastbit")
-        assert answer == ("< error no memory >" if when == "end" else "< ok >")
+    """64 MiB of a bus: then rules are refused, and frames go on. Lines that are written do not wait, nor do those that nobody wants"""
+    name = "longest-name.15"
+    rule = f"always from {','.join([name] * 60)} good"
+    words = ["--record", "end" if when == "nowhere" else when, f"{name},can1"]
+    with serving_alone(*words, out=None if when == "nowhere" else ".") as server:
+        one, other = plain(server, name), plain(server, "can1")
+        lines, refused = "", []
+        while not refused and len(lines) < MOST_BYTES + 1_000_000:
+            one.write(f"< fault {rule} >" * MOST_RULES)
+            answers = [one.text() for _ in range(MOST_RULES)]
+            taken = answers.count("< ok >")
+            refused = answers[taken:]
+            assert one.answer("< nofaults >") == "< ok >" and answers[:taken] == ["< ok >"] * taken
+            lines += f"at 0 {rule}\n" * taken + "at 0 nofaults\n" * bool(taken)
+        assert {*refused} == ({"< error no memory >"} if when == "end" else set())
         one.write("< send 123 0 >")
         assert other.frame() == ("123", b"")
-        server.end(patience=10 * WAIT)
-        lines = read(server.path("can0.rec.faults")).splitlines()
-        assert len(lines) == MOST_LINES + (when == "live")
-        assert lines[:65] == ["at 0 always good"] * 64 + ["at 0 nofaults"] and {*lines[:MOST_LINES]} == {*lines[:65]}
+        server.end(patience=3 * WAIT)
+        assert not refused or MOST_BYTES <= len(lines) < MOST_BYTES + 2000
+        if when in WHEN:
+            assert read(server.path(f"{name}.rec.faults")) == lines
