@@ -147,7 +147,7 @@ fn run_scripted<'a, H: Files, R: Read + Drop, W: Write>(
         FailsBy W.contents options.now names (R.remaining input) output.old failure.error
         output.new) }
 {
-    let plan = read_plan(rt, alloc, options.bus, &names)?;
+    let (plan, _) = read_plan(rt, alloc, options.bus, &names)?;
     run_on(alloc, options, names, plan, input, output, ignored)
 }
 

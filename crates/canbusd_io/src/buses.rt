@@ -1,5 +1,6 @@
 //! A bus as the words of a command line describe it: its faults and its configuration.
-ghost use Rattle.std.specs.Prelude.{◌≡◌, ◌≤◌, length, IfErr, IfOk};
+ghost use Rattle.std.specs.Prelude.{◌≡◌, ◌≤◌, length, IfErr, IfOk, Ok};
+ghost use Rattle.can_rules.specs.Plans.{ReadsPlan};
 ghost use Rattle.canbusd_io.specs.Buses.{HadFaults, IsPlan, config_of};
 ghost use Rattle.canbusd_io.specs.Files.{IsOfFaults, IsOfPlan};
 ghost use Rattle.canbusd_io.specs.Buses.{first_ifaces as first_ifaces_of};
@@ -15,19 +16,21 @@ use canbusd_options::{BusSettings, BusWord, FaultsWord};
 use std::alloc::{AllocError, Global};
 use std::rt::Files;
 
-/// The faults of a bus that has these names: those of the script that its word names, if it names one.
+/// The faults of a bus that has these names, those of the script that its word names, if it names one, and the script's text,
+/// which is empty where it names none.
 pub fn read_plan<'a, H: Files>(
     rt: &H,
     alloc: Global,
     bus: BusWord<'a>,
     names: &Names,
-) -> Result<Plan, Report<'a>>
-    ensures plan { IfOk result (λ p. IsPlan bus.entry.script names.now p) }
+) -> Result<(Plan, String), Report<'a>>
+    ensures plan { IfOk result (λ r. IsPlan bus.entry.script names.now r.0) }
+    ensures text { IfOk result (λ r. ReadsPlan names.now r.1.bytes.items (Ok r.0)) }
     ensures fault { IfErr result (λ failure. IsOfPlan bus.entry.script names.now failure.error) }
 {
     match bus.script {
         Some(path) => read_script(rt, alloc, path, bus.names, names),
-        None => Ok(Plan::new(alloc)),
+        None => Ok((Plan::new(alloc), String::new(alloc))),
     }
 }
 

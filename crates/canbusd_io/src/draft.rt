@@ -103,6 +103,31 @@ impl Draft {
         Ok(Some(aside))
     }
 
+    /// Gives what was written beside a record that was set aside the file's name with `.cut` after it. Where that is nothing, no
+    /// other file has that name any more.
+    pub fn put_aside<H: Files>(&self, rt: &H, alloc: Global) -> io::Result<()> {
+        if !self.is_apart() {
+            return Ok(());
+        }
+        let path = &self.path;
+        let aside = format!(in alloc; "{path}.cut")?;
+        match fs::symlink_metadata(rt, &self.draft) {
+            Ok(found) if found.len() > 0 => fs::rename(rt, &self.draft, &aside),
+            _ => {
+                self.clear(rt);
+                let _ = fs::remove_file(rt, &aside);
+                Ok(())
+            }
+        }
+    }
+
+    /// Removes what an earlier run left under the file's name, unless the file is written in place.
+    pub fn remove_older<H: Files>(&self, rt: &H) {
+        if self.is_apart() {
+            let _ = fs::remove_file(rt, &self.path);
+        }
+    }
+
     /// Looks whether the file can be made, and leaves the folder as it is.
     pub fn look<H: Files>(&self, rt: &H) -> io::Result<()> {
         if self.is_apart() {

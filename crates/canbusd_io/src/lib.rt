@@ -15,6 +15,7 @@ mod draft;
 mod files;
 mod limited_reads;
 mod live;
+mod live_faults;
 mod live_file;
 mod names;
 mod notes;
@@ -33,6 +34,7 @@ pub use files::{
 };
 pub use limited_reads::LimitedReads;
 pub use live::{LiveLog, LiveRecord, set_aside};
+pub use live_faults::LiveFaults;
 pub use names::{has_name, read_names};
 pub use notes::{WITH_CR, fixed_note, line_of, reason_note};
 pub use program_error::ProgramError;

@@ -16,19 +16,21 @@ use can_rules::{Plan, PlanError, RunFaults, begins_as_later, begins_as_rule};
 use std::alloc::{AllocError, Global};
 use std::rt::Files;
 
-/// What the script of faults in the file with this path says, for a bus with these names, which are given as they are read too.
+/// What the script of faults in the file with this path says, for a bus with these names, which are given as they are read too;
+/// and its text.
 pub fn read_script<'a, H: Files>(
     rt: &H,
     alloc: Global,
     path: &'a str,
     bus: &str,
     names: &Names,
-) -> Result<Plan, Report<'a>>
-    ensures plan { IfOk result (λ plan. (text : List ℕ) × ReadsPlan names.now text (Ok plan)) }
+) -> Result<(Plan, String), Report<'a>>
+    ensures text { IfOk result (λ r. ReadsPlan names.now r.1.bytes.items (Ok r.0)) }
     ensures fault { IfErr result (λ failure. IsOfScriptFile path.now names.now failure.error) }
 {
     let text = read_script_file(rt, alloc, path)?;
-    script_in(alloc, path, &text, bus, names)
+    let plan = script_in(alloc, path, &text, bus, names)?;
+    Ok((plan, text))
 }
 
 /// The same of the faults that a bus with these names had in a run, with those that it got while the run went on.

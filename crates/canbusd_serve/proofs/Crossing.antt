@@ -11,6 +11,8 @@ use Rattle.can_hub.proofs.Crossing.{lent}
 use Rattle.can_server.proofs.Crossing.{given_send}
 use Rattle.canbusd_io.proofs.draft.Draft.TheSendSync as draft
 use Rattle.canbusd_io.proofs.live_file.LiveFile.TheSendSync as file
+use Rattle.canbusd_io.proofs.live_faults.LiveFaults.TheSendSync as faults
+use Rattle.canbusd_io.specs.contracts.live_faults.LiveFaults as faults_of
 use Rattle.canbusd_io.specs.contracts.live.LiveRecord as record_of
 use Rattle.canbusd_io.specs.contracts.live.LiveLog as log_of
 use Rattle.canbusd_serve.specs.contracts.live_files.LiveFiles as live
@@ -44,4 +46,6 @@ kept_send F g s =
 pub keeper_send : (o h a l : NamedLft) (F H E : RattleType) (g : write.Ghosts F.Denot) → IsSend F → IsSync H → IsSend E → IsSend (keeper.the_row o h a l F H E g)
 keeper_send o h a l F H E g s r e =
     let hosts : IsSync (host.the_row h a l H E) = host_sync.the_sync h a l H E e r in
-    declared_send (keeper.the_type o h a l F H E g) (lent o _ _ hosts, (search (sendable, as_row_send) depth 20, (kept_send F g s, (search (sendable, crosses, as_row_send) depth 20, tt))))
+    let own : IsSend faults_of.the_row = faults.the_send in
+    declared_send (keeper.the_type o h a l F H E g)
+    (lent o _ _ hosts, (search (sendable, as_row_send) depth 20, (kept_send F g s, (search (sendable, as_row_send, own) depth 20, (search (sendable, crosses, as_row_send) depth 20, tt)))))

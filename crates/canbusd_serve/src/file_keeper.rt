@@ -1,5 +1,6 @@
 //! Where the entries of a long run go: into the files of its bus, while it is served.
-ghost use Rattle.std.specs.Prelude.{◌≡◌, [], All};
+ghost use Rattle.std.specs.Prelude.{◌≡◌, ◌++◌, [], All};
+ghost use Rattle.can_server.specs.Keeping.{AreLegalLast};
 ghost use Rattle.can_record_text.specs.inner.StoredLines.{HasFittingReply};
 ghost use Rattle.can_record_text.specs.Spelling.{entry_lines};
 ghost use Rattle.canbusd_serve.specs.LongRuns.{HaveLines, LogGets, LogStays, RecordGets, RecordStays};
@@ -9,6 +10,7 @@ use crate::live_files::LiveFiles;
 use can_bus::PackedRecord;
 use can_server::{Given, Keeper};
 use can_station::Block;
+use canbusd_io::LiveFaults;
 use std::fs::OpenFile;
 use std::io::Write;
 use std::marker::Model;
@@ -69,6 +71,8 @@ pub struct FileKeeper<'o, 'h, 'a, 'l, F: Write + OpenFile + Drop, H, E: Write> {
     pub host: &'o Host<'h, 'a, 'l, H, E>,
     pub bus: usize,
     pub kept: KeptFiles<F>,
+    /// The faults of the bus, where its record is wanted.
+    pub faults: Option<LiveFaults>,
     /// When it was reported last that the bus waits for a file.
     pub reported: Option<Instant>,
 }
@@ -77,15 +81,46 @@ impl<F: Write + OpenFile + Drop, H: Wait + time::Clock, E: Write> Keeper
     for FileKeeper<'_, '_, '_, '_, F, H, E> {
     ghost given = { λ keeper. keeper.kept };
 
+    // The lines of rules go first, so that a record that is read meanwhile has no entry before the rules that count for it.
     fn keep(&mut self, block: &Block) {
-        let entries = &block.entries;
-        if entries.len() == 0 {
-            return;
-        }
-        let files = &mut self.kept.files;
-        keep_record(self.host, self.bus, files, entries, &mut self.reported);
-        keep_log(self.host, self.bus, files, entries, &mut self.reported);
-        self.kept.given.note(entries);
+        keep_faults(self.host, &mut self.faults, &block.changes);
+        keep_entries(
+            self.host,
+            self.bus,
+            &mut self.kept,
+            &block.entries,
+            &mut self.reported,
+        );
+    }
+}
+
+// Writes entries to the files of a bus.
+fn keep_entries<F: Write + OpenFile + Drop, H: Wait + time::Clock, E: Write>(
+    host: &Host<'_, '_, '_, H, E>,
+    bus: usize,
+    kept: &mut KeptFiles<F>,
+    entries: &PackedRecord,
+    reported: &mut Option<Instant>,
+)
+    requires { AreLegalLast entries.now.entries }
+    ensures { kept.new ≡ kept.old ++ entries.now.entries }
+{
+    if entries.len() == 0 {
+        return;
+    }
+    keep_record(host, bus, &mut kept.files, entries, reported);
+    keep_log(host, bus, &mut kept.files, entries, reported);
+    kept.given.note(entries);
+}
+
+// Writes the lines of what became of the rules of a bus, where they are wanted.
+fn keep_faults<H: Wait + time::Clock, E: Write>(
+    host: &Host<'_, '_, '_, H, E>,
+    faults: &mut Option<LiveFaults>,
+    lines: &[u8],
+) {
+    if let Some(faults) = faults {
+        host.report(faults.keep(host.alloc, lines));
     }
 }
 

@@ -12,7 +12,7 @@ use can_bus::{LongEnd, PackedRecord};
 use can_frame::Names;
 use can_station::Settled;
 use canbusd_io::{
-    Draft, LiveLog, LiveRecord, ProgramError, Report, Reporter, bus_config, read_names,
+    Draft, LiveFaults, LiveLog, LiveRecord, ProgramError, Report, Reporter, bus_config, read_names,
 };
 use canbusd_options::{BusWord, Recording, ServeOptions};
 use std::alloc::Global;
@@ -96,6 +96,19 @@ impl<F: Write + OpenFile + Drop> LiveFiles<F> {
             self.has_fault = true;
         }
         kept
+    }
+
+    /// Gives the faults of the bus their name, if its record has its own.
+    fn finish_faults<H: Files>(
+        &self,
+        rt: &H,
+        alloc: Global,
+        faults: &LiveFaults,
+    ) -> Result<(), Report<'static>> {
+        match &self.record {
+            Some(record) if record.file.out.is_some() => faults.finish(rt, alloc),
+            _ => Ok(()),
+        }
     }
 
     /// Whether those that the options want are there, and had no fault.
@@ -303,6 +316,23 @@ pub fn finish_all<F: Write + OpenFile + Drop, H: Files, E: Write>(
     finish(rt, alloc, bus, first, &own.history, reporter);
     let are_there = first.are_there(options);
     finish_all(rt, alloc, options, buses, files, settled, reporter) && are_there
+}
+
+/// Gives the faults of each bus whose record has its name theirs. Returns whether they have all lines, without a fault.
+pub fn finish_faults<F: Write + OpenFile + Drop, H: Files, E: Write>(
+    rt: &H,
+    alloc: Global,
+    files: &[LiveFiles<F>],
+    faults: &[LiveFaults],
+    reporter: &mut Reporter<'_, E>,
+) -> bool {
+    let mut are_whole = true;
+    for (files, faults) in files.iter().zip(faults) {
+        let named = files.finish_faults(rt, alloc, faults);
+        are_whole &= named.is_ok() && faults.is_whole();
+        reporter.report(named);
+    }
+    are_whole
 }
 
 // The record of the bus is the text of its whole history then.

@@ -5,7 +5,8 @@ ghost use Rattle.canbusd_serve.specs.Served.{IsOfServing};
 use can_bus::Record;
 use can_station::Settled;
 use canbusd_io::{
-    Draft, ProgramError, Report, Reporter, reason_note, save_log_at, save_record_at, set_aside,
+    Draft, LiveFaults, ProgramError, Report, Reporter, reason_note, save_log_at, save_record_at,
+    set_aside,
 };
 use canbusd_options::{BusWord, Recording, ServeOptions};
 use std::alloc::Global;
@@ -39,8 +40,8 @@ pub fn lock_folder<'a, H: Files<File = File>>(
     }
 }
 
-/// Looks whether the folder takes the files that are written from the start on, the record of each bus and its log, as far as
-/// they are wanted, and leaves it as it is. `CannotOpen`, with the folder, where it does not.
+/// Looks whether the folder takes the files that are written from the start on, the record of each bus with its faults and its
+/// log, as far as they are wanted, and leaves it as it is. `CannotOpen`, with the folder, where it does not.
 pub fn look_at_folder<'a, H: Files<File = File>>(
     rt: &H,
     alloc: Global,
@@ -50,10 +51,17 @@ pub fn look_at_folder<'a, H: Files<File = File>>(
     ensures { IfErr result (λ failure. IsOfServing failure.error) }
 {
     for bus in &options.buses {
-        let Drafts { record, log } = drafts_of(rt, alloc, folder, bus)?;
+        let Drafts {
+            record,
+            log,
+            faults,
+        } = drafts_of(rt, alloc, folder, bus)?;
         if !matches!(options.recording, Recording::Never) {
             if let Err(error) = record.look_for_record(rt) {
                 return Err(open_failure(alloc, folder, record.draft(), &error));
+            }
+            if let Err(error) = faults.look(rt) {
+                return Err(open_failure(alloc, folder, faults.draft(), &error));
             }
         }
         if !matches!(options.recording, Recording::AtEnd) {
@@ -65,7 +73,7 @@ pub fn look_at_folder<'a, H: Files<File = File>>(
     Ok(())
 }
 
-/// Sets aside what runs that were cut off left of the records of these buses, and reports it.
+/// Sets aside what runs that were cut off left of the records of these buses, with their faults, and reports it.
 pub fn set_all_aside<'a, H: Files<File = File>, E: Write>(
     rt: &H,
     alloc: Global,
@@ -76,23 +84,27 @@ pub fn set_all_aside<'a, H: Files<File = File>, E: Write>(
     ensures { IfErr result (λ failure. IsOfServing failure.error) }
 {
     for bus in buses {
-        let Drafts { record, .. } = drafts_of(rt, alloc, folder, bus)?;
+        let Drafts { record, faults, .. } = drafts_of(rt, alloc, folder, bus)?;
         match set_aside(rt, alloc, &record) {
             Ok(Some(note)) => {
                 let _ = errors.write_all(note.as_bytes());
+                if let Err(error) = faults.put_aside(rt, alloc) {
+                    return Err(open_failure(alloc, folder, faults.draft(), &error));
+                }
             }
-            Ok(None) => {}
+            Ok(None) => faults.clear(rt),
             Err(error) => return Err(open_failure(alloc, folder, record.draft(), &error)),
         }
     }
     Ok(())
 }
 
-/// The record and the log of a bus, which are to be written.
+/// The record, the log and the faults of a bus, which are to be written.
 #[derive(Drop)]
 pub struct Drafts {
     pub record: Draft,
     pub log: Draft,
+    pub faults: Draft,
 }
 
 /// The files of a bus in a folder. Nothing is written.
@@ -107,8 +119,13 @@ pub fn drafts_of<'a, H: Files>(
     let name = bus.first_name();
     let record = Draft::new(rt, alloc, folder, name, "rec");
     let log = Draft::new(rt, alloc, folder, name, "log");
-    match (record, log) {
-        (Ok(record), Ok(log)) => Ok(Drafts { record, log }),
+    let faults = Draft::new(rt, alloc, folder, name, "rec.faults");
+    match (record, log, faults) {
+        (Ok(record), Ok(log), Ok(faults)) => Ok(Drafts {
+            record,
+            log,
+            faults,
+        }),
         _ => Err(Report::new(alloc, ProgramError::NoMemory)),
     }
 }
@@ -124,19 +141,21 @@ pub fn open_failure<'a>(alloc: Global, folder: &'a str, path: &str, error: &Erro
     )
 }
 
-/// Writes the record and the log of each bus into a folder. A fault ends only its file.
+/// Writes the record and the log of each bus into a folder, and gives its faults, which are written, their name. A fault ends
+/// only its file.
 pub fn save_all<H: Files, E: Write>(
     rt: &H,
     alloc: Global,
     folder: &str,
     buses: &[BusWord<'_>],
     settled: &[Settled],
+    faults: &[LiveFaults],
     reporter: &mut Reporter<'_, E>,
 )
     ensures { IsTrue reporter.old.has_reported → IsTrue reporter.new.has_reported }
 {
-    for (bus, settled) in buses.iter().zip(settled) {
-        save_bus(rt, alloc, folder, bus, &settled.history, reporter);
+    for ((bus, settled), faults) in buses.iter().zip(settled).zip(faults) {
+        save_bus(rt, alloc, folder, bus, &settled.history, faults, reporter);
     }
 }
 
@@ -146,15 +165,31 @@ fn save_bus<H: Files, E: Write>(
     folder: &str,
     bus: &BusWord<'_>,
     record: &Record,
+    faults: &LiveFaults,
     reporter: &mut Reporter<'_, E>,
 )
     ensures { IsTrue reporter.old.has_reported → IsTrue reporter.new.has_reported }
 {
     match drafts_of(rt, alloc, folder, bus) {
-        Ok(Drafts { record: rec, log }) => {
+        Ok(
+            Drafts {
+                record: rec,
+                log,
+                ..
+            },
+        ) => {
             rec.clear(rt);
             let saved = save_record_at(rt, alloc, rec.path(), rec.draft(), record);
-            reporter.report(rec.keep(rt, alloc, saved));
+            let kept = rec.keep(rt, alloc, saved);
+            let named = match &kept {
+                Ok(()) => faults.finish(rt, alloc),
+                Err(_) => {
+                    faults.remove(rt);
+                    Ok(())
+                }
+            };
+            reporter.report(kept);
+            reporter.report(named);
             log.clear(rt);
             let saved = save_log_at(rt, alloc, log.path(), log.draft(), *bus, record);
             reporter.report(log.keep_part(rt, alloc, saved));

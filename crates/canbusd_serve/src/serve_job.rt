@@ -13,9 +13,9 @@ use crate::ends::put_ends;
 use crate::file_keeper::{FileKeeper, KeptFiles};
 use crate::host::{Host, Start};
 use crate::listening::{Listening, leave, listen, listen_failure};
-use crate::live_files::{LiveFiles, finish_all, open_all};
+use crate::live_files::{LiveFiles, finish_all, finish_faults, open_all};
 use crate::notices::first_name_at;
-use crate::serve_files::{lock_folder, look_at_folder, save_all, set_all_aside};
+use crate::serve_files::{lock_folder, look_at_folder, open_failure, save_all, set_all_aside};
 use can_bus::{BusFault, LongEnd, Record, TAIL_SIZE};
 use can_fault::Perfect;
 use can_meter::MeterName;
@@ -23,8 +23,8 @@ use can_roll::RollName;
 use can_server::{Acceptor, Bench, Hub, Keeper, Leaves, Scribe, ScrollKeeper, serve_with};
 use can_station::{Blanks, BusName, Open, Pass, Scroll, Settled};
 use canbusd_io::{
-    INPUT, OUTPUT, ProgramError, Report, Reporter, bus_config, fixed_note, read_names, read_plan,
-    write_failure,
+    Draft, INPUT, LiveFaults, OUTPUT, ProgramError, Report, Reporter, bus_config, fixed_note,
+    read_names, read_plan, write_failure,
 };
 use canbusd_options::{BusWord, Recording, ServeOptions};
 use std::alloc::{AllocError, Global};
@@ -37,9 +37,9 @@ use std::rt::Files;
 use std::slice::IterMut;
 use std::sync::atomic::{AtomicBool, Ordering};
 use std::sync::{Mutex, OnceLock, Wait};
-use std::thread;
 use std::thread::Threads;
 use std::time::{Clock, Duration};
+use std::{mem, thread};
 
 /// What a server takes of the system: files, the clock, threads and sockets.
 pub trait ServerRuntime: Files<File = File>
@@ -83,6 +83,7 @@ pub fn run_serve<'a, H: ServerRuntime, R: Read + Drop + Send + 'static, W: Write
         options,
         has_lost: AtomicBool::new(false),
         lock: OnceLock::new(),
+        faults: Mutex::new(Vec::new(alloc)),
     };
     let benches = run.read_benches()?;
     let has_reported = match options.recording {
@@ -113,6 +114,8 @@ struct ServerRun<'r, 'a, H: ServerRuntime> {
     has_lost: AtomicBool,
     // The folder, locked until the last file is written.
     lock: OnceLock<File>,
+    // The faults of each bus, where its record is wanted; while it is served its keeper has them.
+    faults: Mutex<Vec<LiveFaults>>,
 }
 
 impl<'r, 'a, H: ServerRuntime> ServerRun<'r, 'a, H> {
@@ -136,7 +139,10 @@ impl<'r, 'a, H: ServerRuntime> ServerRun<'r, 'a, H> {
         ensures fault { IfErr result (λ failure. IsOfBus bus.entry failure.error) }
     {
         let names = read_names(self.alloc, bus.names)?;
-        let plan = read_plan(self.rt, self.alloc, bus, &names)?;
+        let (plan, script) = read_plan(self.rt, self.alloc, bus, &names)?;
+        let Ok(()) = self.add_faults(bus.first_name(), script) else {
+            return Err(Report::new(self.alloc, ProgramError::NoMemory));
+        };
         let Ok(blanks) = Blanks::new(self.alloc, usize::from(names.count())) else {
             return Err(Report::new(self.alloc, ProgramError::NoMemory));
         };
@@ -151,6 +157,52 @@ impl<'r, 'a, H: ServerRuntime> ServerRun<'r, 'a, H> {
             pace_ms: self.options.pace_ms,
             rx_capacity: self.options.settings.rx_capacity,
         })
+    }
+
+    // Notes where the faults of the bus with this first name go, which begin with this script.
+    fn add_faults(&self, name: &str, script: String) -> Result<(), AllocError> {
+        let folder = match self.options.recording {
+            Recording::AtEnd | Recording::Live => self.options.folder,
+            Recording::Never => None,
+        };
+        let Some(folder) = folder else {
+            return Ok(());
+        };
+        let draft = Draft::new(self.rt, self.alloc, folder, name, "rec.faults")?;
+        let faults = LiveFaults::new(draft, script, self.options.is_synced)?;
+        self.faults.lock(self.rt).push(faults)?;
+        Ok(())
+    }
+
+    // Makes the files of the faults that are written while it is served, or none.
+    fn begin_faults(&self) -> Result<(), Report<'a>>
+        ensures { IfErr result (λ failure. IsOfServing failure.error) }
+    {
+        let (Some(folder), Recording::Live) = (self.options.folder, self.options.recording) else {
+            return Ok(());
+        };
+        let begun = self.begin_all(folder);
+        if begun.is_err() {
+            self.remove_faults();
+        }
+        begun
+    }
+
+    fn begin_all(&self, folder: &'a str) -> Result<(), Report<'a>>
+        ensures { IfErr result (λ failure. IsOfServing failure.error) }
+    {
+        for faults in self.faults.lock(self.rt).iter_mut() {
+            if let Err(error) = faults.begin(self.rt, self.alloc) {
+                return Err(open_failure(self.alloc, folder, faults.path(), &error));
+            }
+        }
+        Ok(())
+    }
+
+    fn remove_faults(&self) {
+        for faults in self.faults.lock(self.rt).iter() {
+            faults.remove(self.rt);
+        }
     }
 
     // Serves the buses that are made of these, and writes what they leave. Returns whether a fault was reported.
@@ -176,10 +228,20 @@ impl<'r, 'a, H: ServerRuntime> ServerRun<'r, 'a, H> {
         let buses = &self.options.buses;
         let mut reporter = Reporter::new(errors);
         reporter.report(put_ends(self.alloc, buses, &settled, output));
+        let faults = self.take_faults();
         if let Some(folder) = self.options.folder {
-            save_all(self.rt, self.alloc, folder, buses, &settled, &mut reporter);
+            save_all(
+                self.rt,
+                self.alloc,
+                folder,
+                buses,
+                &settled,
+                &faults,
+                &mut reporter,
+            );
         }
-        Ok(reporter.has_reported())
+        let is_whole = are_whole(&faults);
+        Ok(reporter.has_reported() || !is_whole)
     }
 
     // Serves the buses of long runs that are made of these, and ends their files, which it returns. Before them it returns
@@ -218,7 +280,15 @@ impl<'r, 'a, H: ServerRuntime> ServerRun<'r, 'a, H> {
             &settled,
             &mut reporter,
         );
-        Ok((reporter.has_reported() || !are_there, files))
+        let has_fault = reporter.has_reported() || !are_there;
+        let faults = self.take_faults();
+        let is_whole = finish_faults(self.rt, self.alloc, &files, &faults, &mut reporter);
+        Ok((has_fault || !is_whole, files))
+    }
+
+    // The faults of each bus.
+    fn take_faults(&self) -> Vec<LiveFaults> {
+        mem::replace(&mut *self.faults.lock(self.rt), Vec::new(self.alloc))
     }
 
     // Serves the buses that are made of these, and settles them: what they leave, and the files that were written
@@ -345,7 +415,14 @@ impl<'r, 'a, H: ServerRuntime> ServerRun<'r, 'a, H> {
             None
         };
         self.take_folder(errors)?;
-        let files = open_all(self.rt, self.alloc, self.options)?;
+        self.begin_faults()?;
+        let files = match open_all(self.rt, self.alloc, self.options) {
+            Ok(files) => files,
+            Err(failure) => {
+                self.remove_faults();
+                return Err(failure);
+            }
+        };
         put_listening(self.alloc, heard, output)?;
         self.serve_until(hub, scrolls, files, acceptors, until, errors)
     }
@@ -417,7 +494,7 @@ impl<'r, 'a, H: ServerRuntime> ServerRun<'r, 'a, H> {
             files: Vec::with_capacity(self.alloc, hub.count())?,
             scrolls: Vec::with_capacity(self.alloc, hub.count())?,
         };
-        let mut kept = keepers_of(self.alloc, host, files, scrolls)?;
+        let mut kept = keepers_of(self.alloc, host, files, self.take_faults(), scrolls)?;
         // With a name of its own the iterator lends each keeper for as long as there are scribes.
         let each = kept.iter_mut();
         let scribes = scribes_of(self.alloc, self.options, each)?;
@@ -425,10 +502,43 @@ impl<'r, 'a, H: ServerRuntime> ServerRun<'r, 'a, H> {
         run.passes = serve_with(self.rt, self.alloc, hub, acceptors, host, until, scribes)?;
         for kept in kept {
             let (keeper, scroll) = kept.into_parts();
-            run.files.push_reserved(keeper.kept.into_files());
+            let FileKeeper {
+                kept,
+                bus,
+                faults,
+                ..
+            } = keeper;
+            self.keep_rest(hub, host, bus, faults);
+            run.files.push_reserved(kept.into_files());
             run.scrolls.push_reserved(scroll);
         }
         Ok(run)
+    }
+
+    // Writes what became of the rules of a bus and was not taken yet, now that nobody makes calls any more.
+    fn keep_rest<N: BusName + Send + Sync, L: Leaves, E: Write + Send>(
+        &self,
+        hub: &Hub<N, Perfect, Open, L>,
+        host: &Host<'_, 'a, '_, H, E>,
+        bus: usize,
+        faults: Option<LiveFaults>,
+    ) {
+        let buses = hub.buses();
+        let Some(mut faults) = faults else {
+            return;
+        };
+        if bus >= buses.count() {
+            return;
+        }
+        let kept = match buses.station(bus).take_changes(self.rt) {
+            Ok(lines) => faults.keep_all(self.rt, self.alloc, &lines),
+            Err(_) => {
+                faults.give_up();
+                Err(Report::new(self.alloc, ProgramError::NoMemory))
+            }
+        };
+        host.report(kept);
+        let _ = self.faults.lock(self.rt).push(faults);
     }
 
     // A stream that ends where the input does. Its reader is a thread that nobody joins, since a read of the input
@@ -452,6 +562,7 @@ fn keepers_of<'o, 'h, 'a, 'l, N: BusName, F: Write + OpenFile + Drop, H: Wait + 
     alloc: Global,
     host: &'o Host<'h, 'a, 'l, H, E>,
     files: Vec<LiveFiles<F>>,
+    faults: Vec<LiveFaults>,
     scrolls: Vec<Scroll<N>>,
 ) -> Result<Vec<ScrollKeeper<N, FileKeeper<'o, 'h, 'a, 'l, F, H, E>>>, AllocError>
     requires begun { AreBegun F.contents files.items }
@@ -461,6 +572,7 @@ fn keepers_of<'o, 'h, 'a, 'l, N: BusName, F: Write + OpenFile + Drop, H: Wait + 
 {
     let mut kept = Vec::new(alloc);
     let mut files = files.into_iter();
+    let mut faults = faults.into_iter();
     for scroll in scrolls {
         let Some(files) = files.next() else {
             unreachable!()
@@ -469,11 +581,17 @@ fn keepers_of<'o, 'h, 'a, 'l, N: BusName, F: Write + OpenFile + Drop, H: Wait + 
             host,
             bus: kept.len(),
             kept: KeptFiles::new(files),
+            faults: faults.next(),
             reported: None,
         };
         kept.push(ScrollKeeper::new(keeper, scroll))?;
     }
     Ok(kept)
+}
+
+// Whether no line of these was lost.
+fn are_whole(faults: &[LiveFaults]) -> bool {
+    faults.iter().all(|own| own.is_whole())
 }
 
 // The scribes of long runs, one for each of these keepers.

@@ -1,4 +1,4 @@
-use Rattle.std.proofs.Common.{◌≡◌, ◌∙◌, IsTrue, sym}
+use Rattle.std.proofs.Common.{◌≡◌, ◌∙◌, IsTrue, false, rules, sym, true}
 use Rattle.std.proofs.KnownBytes.{Appends-trans}
 use Rattle.can_record.specs.Journal.{Journal, Kept}
 use Rattle.canbusd_serve.specs.Served.{journals}
@@ -12,6 +12,7 @@ journal r = record { config = r.config; history = r.history }
 
 pub returns-clause-served : goal.returns-clause-served
 returns-clause-served g c = λ quiet.
+    let both : (c.has_reported.result ≡ false) × (c.are_whole-is_whole.result ≡ true) = search (rules, quiet) in
     let o = c.args.self.now.options.now in
     let settled = c.in_ok-settled.settled.items in
     let listening = c.in_ok-settled.ensures.listening in
@@ -19,7 +20,7 @@ returns-clause-served g c = λ quiet.
       | in-Some w ↦ λ told. let saved : IsTrue w.save_all.new.reporter.has_reported = w.save_all.ensures told in cc
       | in_default w ↦ λ told. cc
     ] in
-    let lines = put-lines g.W.Write.contents journal c.settle.new.output c.put_ends.new.output c.put_ends.result _ _ _ o.buses.items _ settled c.report.ensures.reported kept (sym c.has_reported.ensures ∙ quiet) c.deref.ensures.value c.deref-2.ensures.value c.put_ends.ensures in
+    let lines = put-lines g.W.Write.contents journal c.settle.new.output c.put_ends.new.output c.put_ends.result _ _ _ o.buses.items _ settled c.report.ensures.reported kept (sym c.has_reported.ensures ∙ both.0) c.deref.ensures.value c.deref-2.ensures.value c.put_ends.ensures in
     record {
       ends = journals journal settled;
       are = c.in_ok-settled.ensures.ends;
