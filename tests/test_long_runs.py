@@ -62,7 +62,10 @@ def cut_audit(path, is_replayed=True):
 
 
 def names_in(folder):
-    return sorted(name for name in os.listdir(folder) if name != "stderr")
+    """The files in a folder, but for what the server said, and for faults of which there are none so far."""
+    names = set(os.listdir(folder)) - {"stderr"}
+    growing = {name for name in names if name.endswith(".rec.faults.new")}
+    return sorted(names - {name for name in growing if not os.lstat(os.path.join(folder, name)).st_size})
 
 
 @pytest.mark.parametrize(

@@ -561,19 +561,28 @@ def may_grow(most):
     return begin
 
 
-@pytest.mark.parametrize("when", WHEN)
-def test_a_disk_that_is_full(when, tmp_path):
+def test_a_disk_that_is_full(tmp_path):
     """the faults find no room, and it is reported; beside the new record are none of another one, and none that look whole"""
     leave(tmp_path, rec="of an earlier run\n", rec_faults="of its faults\n")
     script = "# a comment\n" * 1000
-    status, said, errors = start(tmp_path, "--record", when, bus_of(tmp_path, script), preexec_fn=may_grow(5000))
+    status, said, errors = start(tmp_path, "--record", "end", bus_of(tmp_path, script), preexec_fn=may_grow(5000))
     assert (status, said.count("bus can0 entries 0\n")) == (1, 1), errors
     assert errors.startswith(f"canbusd: write fault\n  {tmp_path}/can0.rec.faults.new: "), errors
     assert call(program(), "audit", f"{tmp_path}/can0.rec")[1] == "ok 0 entries\n"
     growing = left(tmp_path).pop("rec.faults.new", "")
     assert script.startswith(growing) and "rec.faults" not in left(tmp_path)
     # What is left of them takes the place of nothing.
-    assert start(tmp_path, "--record", when, "can0")[::2] == (0, "") and left(tmp_path) == {}
+    assert start(tmp_path, "--record", "end", "can0")[::2] == (0, "") and left(tmp_path) == {}
+
+
+def test_a_disk_that_is_full_at_the_start(tmp_path):
+    """a server does not start whose script finds no room, and leaves the folder as it is"""
+    leave(tmp_path, rec="of an earlier run\n", rec_faults="of its faults\n")
+    bus = bus_of(tmp_path, "# a comment\n" * 1000)
+    status, said, errors = start(tmp_path, "--record", "live", bus, preexec_fn=may_grow(5000))
+    assert (status, said) == (1, "") and errors.startswith(f"canbusd: cannot open {tmp_path}\n"), errors
+    assert f"  {tmp_path}/can0.rec.faults.new: " in errors
+    assert left(tmp_path) == {"rec.faults": "of its faults\n"} and read(tmp_path / "can0.rec") == "of an earlier run\n"
 
 
 @pytest.mark.parametrize("when", [*WHEN, "none", "nowhere"])

@@ -168,7 +168,7 @@ def test_a_server_is_looked_at_while_it_runs(tmp_path):
         # The sessions are closed, and there are no entries more.
         record = server.wait_for(lambda: closed(server.record("ecu"), 2), timeout=WAIT)
         assert record.is_cut and record.names == ("ecu", "tester") and server.attempts("ecu") == record.attempts
-        growing = {"car0.log", "car0.rec.new", "ecu.log", "ecu.rec.new", "ecu.rec.faults.new"}
+        growing = {f"{name}.{kind}" for name in ("car0", "ecu") for kind in ("log", "rec.new", "rec.faults.new")}
         assert {path.name for path in tmp_path.iterdir()} == growing
         assert server.bus("ecu").shutdown() is None
     whole = server.record("ecu")
@@ -205,7 +205,7 @@ def test_what_a_killed_server_leaves(tmp_path, by):
             server._signal()
             with pytest.raises(ServerError, match="status -9$"):
                 server.stop()
-    assert {path.name for path in tmp_path.iterdir()} == {"can0.log", "can0.rec.new"}
+    assert {path.name for path in tmp_path.iterdir()} == {"can0.log", "can0.rec.new", "can0.rec.faults.new"}
     record = server.record()
     assert record.is_cut and [attempt.outcome for attempt in record.attempts] == ["done"] * 20
     assert server.attempts() == record.attempts and len(server.log()) == 20

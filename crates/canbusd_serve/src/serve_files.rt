@@ -60,7 +60,7 @@ pub fn look_at_folder<'a, H: Files<File = File>>(
             if let Err(error) = record.look_for_record(rt) {
                 return Err(open_failure(alloc, folder, record.draft(), &error));
             }
-            if let Err(error) = faults.look(rt) {
+            if let Err(error) = faults.look_for_record(rt) {
                 return Err(open_failure(alloc, folder, faults.draft(), &error));
             }
         }
