@@ -585,6 +585,25 @@ def test_a_disk_that_is_full_at_the_start(tmp_path):
     assert left(tmp_path) == {"rec.faults": "of its faults\n"} and read(tmp_path / "can0.rec") == "of an earlier run\n"
 
 
+@pytest.mark.parametrize("when", WHEN)
+def test_rules_that_find_no_room(when):
+    """it is reported, the bus goes on, and the lines that are there are whole"""
+    rule = "next 99999999 from can1 id 00000123:1FFFFFFF good"
+    words = [*(LIVE if when == "live" else ()), "can0,can1"]
+    with serving_alone(*words, preexec_fn=may_grow(5000)) as server:
+        one, other = plain(server, "can0"), plain(server, "can1")
+        for _ in range(100):
+            assert [give(one, rule), one.answer("< nofaults >")] == ["< ok >"] * 2
+        one.write("< send 123 0 >")
+        assert other.frame() == ("123", b"")
+        assert server.finish()[0] == 1
+        assert re.search(r"^canbusd: write fault\n  \S*can0\.rec\.faults\.new: File too large", server.said(), re.M)
+        assert server.audited("can0.rec") >= 3
+        assert names_in(server.folder) == ["can0.log", "can0.rec", "can0.rec.faults.new"]
+        text, lines = read(server.path("can0.rec.faults.new")), f"at 0 {rule}\nat 0 nofaults\n" * 100
+        assert lines.startswith(text) and text.endswith("\n") and 5000 - len(rule) - 10 < len(text) <= 5000
+
+
 @pytest.mark.parametrize("when", [*WHEN, "none", "nowhere"])
 def test_the_most_lines_that_wait(when):
     """64 MiB of a bus: then rules are refused, and frames go on. Lines that are written do not wait, nor do those that nobody wants"""
