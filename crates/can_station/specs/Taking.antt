@@ -5,7 +5,7 @@ use Rattle.can_station.specs.declared.long.Block.{Block}
 
 -- What is taken out of a station (own choice).
 
--- a block has the last entries of a station's history, and the lines of what became of its rules, or none where memory is
+-- a block has the last entries of a history, and the lines of what became of the rules, or none of them where memory is
 -- refused
 pub record IsTaken {F : Type 0} (held : Held F) (block : Block) : Type 0 where
   pub entries : HasTail held.journal.history block.entries.entries block.start

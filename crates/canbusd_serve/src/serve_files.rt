@@ -154,8 +154,10 @@ pub fn save_all<H: Files, E: Write>(
 )
     ensures { IsTrue reporter.old.has_reported → IsTrue reporter.new.has_reported }
 {
-    for ((bus, settled), faults) in buses.iter().zip(settled).zip(faults) {
-        save_bus(rt, alloc, folder, bus, &settled.history, faults, reporter);
+    let mut faults = faults.iter();
+    for (bus, settled) in buses.iter().zip(settled) {
+        let own = faults.next();
+        save_bus(rt, alloc, folder, bus, &settled.history, own, reporter);
     }
 }
 
@@ -165,7 +167,7 @@ fn save_bus<H: Files, E: Write>(
     folder: &str,
     bus: &BusWord<'_>,
     record: &Record,
-    faults: &LiveFaults,
+    faults: Option<&LiveFaults>,
     reporter: &mut Reporter<'_, E>,
 )
     ensures { IsTrue reporter.old.has_reported → IsTrue reporter.new.has_reported }
@@ -181,12 +183,13 @@ fn save_bus<H: Files, E: Write>(
             rec.clear(rt);
             let saved = save_record_at(rt, alloc, rec.path(), rec.draft(), record);
             let kept = rec.keep(rt, alloc, saved);
-            let named = match &kept {
-                Ok(()) => faults.finish(rt, alloc),
-                Err(_) => {
+            let named = match faults {
+                Some(faults) if kept.is_ok() => faults.finish(rt, alloc),
+                Some(faults) => {
                     faults.remove(rt);
                     Ok(())
                 }
+                None => Ok(()),
             };
             reporter.report(kept);
             reporter.report(named);

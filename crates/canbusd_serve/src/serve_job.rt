@@ -494,7 +494,10 @@ impl<'r, 'a, H: ServerRuntime> ServerRun<'r, 'a, H> {
             files: Vec::with_capacity(self.alloc, hub.count())?,
             scrolls: Vec::with_capacity(self.alloc, hub.count())?,
         };
-        let mut kept = keepers_of(self.alloc, host, files, self.take_faults(), scrolls)?;
+        // With room for those that come back at the end.
+        let room = Vec::with_capacity(self.alloc, hub.count())?;
+        let faults = mem::replace(&mut *self.faults.lock(self.rt), room);
+        let mut kept = keepers_of(self.alloc, host, files, faults, scrolls)?;
         // With a name of its own the iterator lends each keeper for as long as there are scribes.
         let each = kept.iter_mut();
         let scribes = scribes_of(self.alloc, self.options, each)?;
