@@ -250,7 +250,7 @@ def test_what_a_server_that_dies_has_written_is_kept(run, pytester):
         ]
     )
     result.stdout.fnmatch_lines(["*ERROR at teardown of test_it_crashes*", "*the server ended with status -9*"])
-    assert kept(pytester) == ["can0.html", "can0.log", "can0.rec.new"]
+    assert kept(pytester) == ["can0.html", "can0.log", "can0.rec.faults.new", "can0.rec.new"]
 
 
 @needs_live
