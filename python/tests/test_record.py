@@ -397,8 +397,8 @@ def test_a_text_that_is_read_as_it_grows(text, many):
     with Events(cut=True) as events:
         for first in range(0, len(lines), many):
             steps, is_last = len(run.steps), first + many >= len(lines)
-            for found in events.lines(b"".join(lines[first : first + many]), is_last):
-                run.take(found)
+            for found in events.texts(b"".join(lines[first : first + many]), is_last):
+                run.take_text(found)
             attempts += attempts_of(run, ("a", "b"), steps)
             assert run.is_whole == is_last and run.entries == min(max(first + many - 2, 0), len(lines) - 3)
     assert attempts == parse_record(text.encode(), names="a,b").attempts
@@ -412,8 +412,8 @@ def test_a_text_that_is_larger_than_a_pipe():
     run = Replay()
     with Events(cut=True) as events:
         for text in (front + lines, lines):
-            for found in events.lines(text.encode(), is_last=False):
-                run.take(found)
+            for found in events.texts(text.encode(), is_last=False):
+                run.take_text(found)
     assert run.entries == 2 * count
 
 

@@ -45,12 +45,13 @@ def numbers_of(record: Record, faults: Path, path: Optional[AnyPath]) -> list[in
     bus = f"{','.join(record.names).replace(' ', '-')}@{faults}"
     if path is None:
         with Events(record.is_cut, faults=bus) as events:
-            return numbers_in(events.lines(record.text))
+            return numbers_in(events.texts(record.text))
     with open(path, "rb") as file, Events(record.is_cut, file=file, faults=bus) as events:
-        return numbers_in(events.lines_of_file())
+        return numbers_in(events.texts_of_file())
 
 
-def numbers_in(events: Iterable[list[str]]) -> list[int]:
+def numbers_in(events: Iterable[str]) -> list[int]:
     """Returns the numbers of rules that the lines of events have, of each attempt that tried a frame."""
-    tried = (line for lines in events for line in lines if line.startswith("attempt ") and " = tried " in line)
+    lines = (line for text in events for line in text.split("\n"))
+    tried = (line for line in lines if line.startswith("attempt ") and " = tried " in line)
     return [int(line.partition("; rule ")[2] or 0) for line in tried]

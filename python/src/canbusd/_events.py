@@ -76,16 +76,6 @@ class Events:
     ) -> None:
         self.close()
 
-    def lines(
-        self, text: bytes, is_last: bool = True, doubt: Callable[[], object] = lambda: None
-    ) -> Iterator[list[str]]:
-        """Yields the lines of the events, without their LF, of these lines of the record, as `texts` does."""
-        return (found.split("\n") for found in self.texts(text, is_last, doubt))
-
-    def lines_of_file(self) -> Iterator[list[str]]:
-        """Yields the lines of the events of the file."""
-        return (found.split("\n") for found in self.texts_of_file())
-
     def texts(self, text: bytes, is_last: bool = True, doubt: Callable[[], object] = lambda: None) -> Iterator[str]:
         """Yields the lines of the events of these lines of the record: some together, without the LF of the last.
 
