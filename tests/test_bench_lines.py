@@ -1,8 +1,13 @@
 """Lines of a bench that are carried out, and the limits of lines, input, lists and queues."""
 
+import os
+import shutil
+import subprocess
+
 import pytest
 
-from commands import TWO_SESSIONS, TWO_STARTED, run_line
+from commands import TWO_SESSIONS, TWO_STARTED, call, run_line
+from serving import ROOT, program
 
 # Words, what comes after the two sessions, and what is written then.
 CARRIED_OUT = [
@@ -161,11 +166,26 @@ def test_a_line_that_is_too_long(before, after, number):
     assert run_line("bench can0", text) == (1, "1 < hi >\n", errors)
 
 
+TOO_LONG = "canbusd: input too long\n  the input has at most 16777216 bytes, and takes at most as many reads\n"
+LONGEST_INPUT = (4095 * "#" + "\n") * 4096
+
+
 def test_limit_of_the_input():
-    text = (4095 * "#" + "\n") * 4096
-    assert run_line("bench can0", text) == (0, "", "")
-    errors = "canbusd: input too long\n  the input has at most 16777216 bytes, and takes at most as many reads\n"
-    assert run_line("bench can0", f"{text}#") == (1, "", errors)
+    assert run_line("bench can0", LONGEST_INPUT) == (0, "", "")
+    assert run_line("bench can0", f"{LONGEST_INPUT}#") == (1, "", TOO_LONG)
+
+
+@pytest.mark.skipif(not shutil.which("cc"), reason="no C compiler: cc")
+def test_limit_of_the_reads(tmp_path):
+    """where each gives one byte (short_reads.c), no read is left to find the end of the longest input"""
+    library, text = tmp_path / "short_reads.so", tmp_path / "input"
+    source = os.path.join(ROOT, "tests", "short_reads.c")
+    subprocess.run(["cc", "-O2", "-Wall", "-Werror", "-fPIC", "-shared", "-o", library, source], check=True)
+    environment = {**os.environ, "LD_PRELOAD": str(library)}
+    for input_text, wanted in ((LONGEST_INPUT[:-1], (0, "", "")), (LONGEST_INPUT, (1, "", TOO_LONG))):
+        text.write_text(input_text)
+        with text.open("rb") as lines:
+            assert call(program(), "bench", "can0", stdin=lines, env=environment) == wanted
 
 
 def test_a_message_sets_250_filters():
