@@ -21,7 +21,7 @@ import sys
 import zlib
 from array import array
 from collections.abc import Iterable, Sequence
-from typing import Any, NamedTuple, Optional, Union
+from typing import Any, NamedTuple, Optional
 
 from canbusd import comparison
 from canbusd.frames import Frame, meaning
@@ -51,38 +51,36 @@ class Pair(NamedTuple):
 
 
 class Block:
-    """The columns of the page, each at a multiple of 8 bytes, lowest byte first."""
+    """The data of a page, compressed as it comes: columns, then the header in JSON, then the bytes that it has, lowest first.
+
+    A column has the lowest bytes of all its numbers first, then the next ones: bytes that are alike are together, which is
+    small and quick to make.
+    """
 
     def __init__(self) -> None:
-        self.parts: "list[Union[array[Any], bytes]]" = []
-        self.size = 0
+        self._packer = zlib.compressobj(1)
+        self._parts: list[bytes] = []
+        self._size = 0
 
     def column(self, code: str, numbers: Iterable[float]) -> Column:
         """Adds a column, and returns its type, its place and its length."""
-        if isinstance(numbers, array) and numbers.typecode == code and sys.byteorder == "little":
-            column: array[Any] = numbers
-        else:
-            column = array(code, numbers)
-        if sys.byteorder == "big":
-            column.byteswap()
-        place, size = self.size, len(column) * column.itemsize
-        self.parts += [column, bytes(-size % 8)]
-        self.size += size + -size % 8
+        column = numbers if isinstance(numbers, array) and numbers.typecode == code else array(code, numbers)
+        place, text = self._size, column.tobytes()
+        firsts = range(column.itemsize) if sys.byteorder == "little" else reversed(range(column.itemsize))
+        for first in firsts:
+            self._add(text[first :: column.itemsize])
         return [code, place, len(column)]
 
-    def rising(self, numbers: Sequence[int]) -> Column:
-        """Adds a column of numbers that never fall, as their differences."""
-        return [*self.column("I", map(operator.sub, numbers, itertools.chain([0], numbers))), "rising"]
-
     def packed(self, header: Json) -> str:
-        """Returns the header and the columns: compressed, in base64."""
-        return base64.b64encode(self._compressed(text_of(header))).decode()
+        """Returns the columns and the header: compressed, in base64."""
+        text = text_of(header)
+        self._add(text)
+        self._add(struct.pack("<I", len(text)))
+        return base64.b64encode(b"".join([*self._parts, self._packer.flush()])).decode()
 
-    def _compressed(self, text: bytes) -> bytes:
-        size = len(text) + -(len(text) + 8) % 8
-        packer = zlib.compressobj(6)
-        parts = struct.pack("<II", size, 0), text, b" " * (size - len(text)), *self.parts
-        return b"".join([*map(packer.compress, parts), packer.flush()])
+    def _add(self, text: bytes) -> None:
+        self._parts.append(self._packer.compress(text))
+        self._size += len(text)
 
 
 def text_of(header: Json) -> bytes:
@@ -162,7 +160,7 @@ class Timeline:
         steps, moments = self.steps, self.shown(self.steps.moments)
         return {
             "kind": block.column("B", self.rows(steps.kinds, IDLE)),
-            "entry": block.rising(self.shown(steps.entries)),
+            "entry": block.column("I", self.shown(steps.entries)),
             "iface": block.column("B", self.rows(steps.ifaces)),
             "number": block.column("I", self.numbers()),
             "frame": block.column("I", self.rows(steps.frames)),
@@ -210,7 +208,7 @@ def items_of(items: Items, most: int, places: Sequence[int], block: Block) -> Js
     later: Iterable[int] = map(max, map(operator.sub, map(after.__getitem__, items.ends), steps), itertools.repeat(0))
     return {
         "socket": block.column("I", items.sockets[:most]),
-        "step": block.rising(steps),
+        "step": block.column("I", steps),
         # 0 for the frame of the step, else the place of an error message frame.
         "error": block.column("I", items.errors[:most]),
         "fate": block.column("B", items.fates[:most]),

@@ -13,7 +13,7 @@ let run, steps, items, names, tec, rec, queues, attemptOf, contenders, moments, 
 let chips, showTab, tab = "tab-events";
 const lists = {};
 
-// The data: a header in JSON, then the columns that it names.
+// The data: columns, then a header in JSON that names them, then how many bytes the header has.
 
 // Browsers limit how long a data URL may be, so it is decoded in parts.
 const PART = 1 << 22;
@@ -25,13 +25,16 @@ async function unpack(text) {
   }
   const packed = new Blob(parts).stream().pipeThrough(new DecompressionStream("deflate"));
   const whole = await new Response(packed).arrayBuffer();
-  const size = new DataView(whole).getUint32(0, true), columns = 8 + size;
-  const header = JSON.parse(new TextDecoder().decode(new Uint8Array(whole, 8, size)));
-  const numbers = ([code, place, length]) => new ARRAYS[code](whole, columns + place, length);
-  return { header, column: one => risen(numbers(one), one[3]) };
+  const end = whole.byteLength - 4, size = new DataView(whole).getUint32(end, true);
+  const header = JSON.parse(new TextDecoder().decode(new Uint8Array(whole, end - size, size)));
+  return { header, column: one => numbersIn(whole, ...one) };
 }
-function risen(numbers, rises) {
-  if (rises) for (let k = 1; k < numbers.length; k++) numbers[k] += numbers[k - 1];
+// The numbers of a column, of which all lowest bytes come first. Where it rises they are differences.
+function numbersIn(whole, code, place, length, rises) {
+  const numbers = new ARRAYS[code](length), to = new Uint8Array(numbers.buffer), size = numbers.BYTES_PER_ELEMENT;
+  const from = new Uint8Array(whole, place, to.length);
+  for (let byte = 0, k = 0; byte < size; byte++) for (let n = byte; n < to.length; n += size) to[n] = from[k++];
+  if (rises) for (let k = 1; k < length; k++) numbers[k] += numbers[k - 1];
   return numbers;
 }
 const columnsOf = (table, column) =>
