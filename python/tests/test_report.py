@@ -62,6 +62,7 @@ def data_of(text):
             numbers[k] += numbers[k - 1]
         return list(numbers)
 
+    header["texts"] = bytes(column(header["texts"])).decode().split("\n")
     return header, column
 
 
@@ -275,7 +276,7 @@ def test_items_say_what_became_of_them():
         "dropped",
     ]
     # The first was in its queue until after the second step.
-    assert column(header["items"]["later"])[0] == 2
+    assert column(header["items"]["end"])[0] == 2
     header, column = data_of(page(run, NAMES, "run.rec", most_items=1))
     assert (column(header["items"]["step"]), header["itemsInAll"]) == ([0], 2)
 

@@ -9,7 +9,7 @@ const ARRAYS = { B: Uint8Array, H: Uint16Array, I: Uint32Array, d: Float64Array 
 const STEP_WIDTH = { 4: 0.8, 5: 0.5 };
 // Which axis is shown: by attempts, or by time. Where attempts have no length on it they are instants there.
 const byTime = { isOn: false, lengthOf: null };
-let run, steps, items, names, tec, rec, queues, attemptOf, contenders, moments, axes, tallies, failures, firstMoment = 0;
+let run, steps, items, names, tec, rec, queues, attemptOf, moments, axes, tallies, failures, firstMoment = 0;
 let chips, showTab, tab = "tab-events";
 const lists = {};
 
@@ -43,26 +43,24 @@ const columnsOf = (table, column) =>
 function take({ header, column }) {
   run = header;
   names = run.names;
+  run.texts = new TextDecoder().decode(column(run.texts)).split("\n");
   steps = columnsOf(run.steps, column);
   items = columnsOf(run.items, column);
-  contenders = columnsOf(run.contenders, column);
   [tec, rec, queues] = [run.tec, run.rec, run.waiting].map(columns => columns.map(one => new Numbers(column(one))));
   placeSteps();
   sumUp();
   happened("taken", column);
 }
-// The places of steps on both axes, the numbers of attempts, and whose bits are where.
+// The places of steps on both axes, the numbers of attempts, and moments.
 function placeSteps() {
   const count = steps.kind.length, byStep = new Float64Array(count + 1), byTime = new Float64Array(count + 1);
   attemptOf = new Uint32Array(count + 1);
   moments = new Float64Array(count);
-  contenders.offsets = new Uint32Array(count + 1);
   firstMoment = count ? steps.seconds[0] : 0;
   let latest = 0;
   for (let k = 0; k < count; k++) {
     byStep[k + 1] = byStep[k] + (STEP_WIDTH[steps.kind[k]] || 1);
     attemptOf[k + 1] = attemptOf[k] + (steps.kind[k] < RESTART);
-    contenders.offsets[k + 1] = contenders.offsets[k] + steps.met[k];
     moments[k] = steps.seconds[k] - firstMoment + steps.micros[k] / 1e6;
     byTime[k] = latest = Math.max(latest, moments[k] - moments[0]);
   }
