@@ -273,7 +273,8 @@ def test_pages_of_a_run_do_not_depend_on_how_it_is_read():
     whole.take(lines)
     for line in lines:
         parts.take([line])
-    texts = ["", "123#", "124#", "20000088#0000010000000000"]
+    # The frame that only waits has none.
+    texts = ["", "123#", "20000088#0000010000000000"]
     assert whole.texts.all == parts.texts.all == texts and whole.items.errors == parts.items.errors
 
 

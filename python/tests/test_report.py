@@ -49,17 +49,20 @@ def data_of(text):
     """The data of a page: its header, and a function that reads a column."""
     coded = re.search(r'<script type="text/plain" id="run">([^<]*)</script>', text)[1]
     whole = zlib.decompress(base64.b64decode(coded))
-    size = struct.unpack_from("<I", whole)[0]
-    header = json.loads(whole[8 : 8 + size])
+    (size,) = struct.unpack("<I", whole[-4:])
+    header = json.loads(whole[-4 - size : -4])
 
     def column(one):
         code, place, length = one[:3]
         numbers = array(code)
-        numbers.frombytes(whole[8 + size + place : 8 + size + place + length * numbers.itemsize])
+        count = length * numbers.itemsize
+        # Its lowest bytes come first.
+        numbers.frombytes(b"".join(whole[place + k : place + count : length] for k in range(length)))
         for k in range(1, length if one[3:] else 0):
             numbers[k] += numbers[k - 1]
         return list(numbers)
 
+    header["texts"] = bytes(column(header["texts"])).decode().split("\n")
     return header, column
 
 
@@ -273,7 +276,7 @@ def test_items_say_what_became_of_them():
         "dropped",
     ]
     # The first was in its queue until after the second step.
-    assert column(header["items"]["later"])[0] == 2
+    assert column(header["items"]["end"])[0] == 2
     header, column = data_of(page(run, NAMES, "run.rec", most_items=1))
     assert (column(header["items"]["step"]), header["itemsInAll"]) == ([0], 2)
 

@@ -15,8 +15,8 @@ MOST_KEPT = 4096
 class Parts(NamedTuple):
     """What few steps bring about."""
 
-    #: The interface, its transmit and its receive error count.
-    counts: list[Sequence[int]]
+    #: Of the error counts, two of each interface, those that change, by their numbers.
+    counts: list[tuple[int, int]]
     #: How many frames bus off took out of the transmit queue of the sender.
     lost: int
     #: Error message frames, by their places among the items of the step.
@@ -62,14 +62,15 @@ class Outcomes(dict[str, Outcome]):
         lost, wire = 0, None
         if parts and parts[0].startswith("only "):
             parts = [*self._parts_of(parts[1:], int(parts[0][-4:], 16), kind == RESTART)]
-        counts: list[Sequence[int]] = []
+        counts: list[tuple[int, int]] = []
         errors: Sequence[tuple[int, str]] = ()
         dropped: list[tuple[int, int]] = []
         sockets = b""
         for part in parts:
             name, _, words = part.partition(" ")
             if name == "counts":
-                counts.append(numbers_of(words))
+                iface, tec, rec = numbers_of(words)
+                counts += (2 * iface, tec), (2 * iface + 1, rec)
             elif name == "put":
                 sockets, errors = put_of(words)
             elif name == "dropped":

@@ -4,8 +4,9 @@ from array import array
 from dataclasses import dataclass
 from typing import Optional
 
-#: How many frames wait at each interface is one number, in which interface 0 has the lowest of so many bits each.
-WAITING_BITS = 11
+#: How many frames wait at each interface is one number, in which interface 0 has the lowest of so many bits each, those of
+#: a number of the column.
+WAITING_BITS = 16
 MOST_WAITING = (1 << WAITING_BITS) - 1
 #: The least counts of an interface that is bus off, error passive, and warned.
 OFF, PASSIVE, WARNING = 256, 128, 96

@@ -59,13 +59,11 @@ def since_of(run: Replay, places: Sequence[int]) -> "array[int]":
     """How many rows before each attempt its frame first took part in arbitration."""
     steps, since = run.steps, array("I")
     firsts: dict[int, int] = {}
-    for place, kind, iface, met, first, off in zip(
-        places, steps.kinds, steps.ifaces, steps.met, steps.met_from, steps.off
-    ):
+    for step, (place, kind, iface, off) in enumerate(zip(places, steps.kinds, steps.ifaces, steps.off)):
         if kind == RESTART:
             since.append(0)
             continue
-        for one in steps.met_ifaces[first : first + met] if met else (iface,):
+        for one in steps.met(step):
             firsts.setdefault(one, place)
         since.append(place - firsts[iface])
         if kind == DONE or off:

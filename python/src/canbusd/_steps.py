@@ -4,13 +4,14 @@ import bisect
 import functools
 import itertools
 import operator
+import sys
 from array import array
 from collections import Counter
 from collections.abc import Iterable, Iterator, Sequence
 from dataclasses import dataclass, field
 from typing import Optional, TypeVar, Union, overload
 
-from canbusd._replayed import WAITING_BITS, Socket
+from canbusd._replayed import WAITING_BITS, Interface, Socket
 from canbusd.frames import EXTENDED, REMOTE, is_fd
 
 #: What a step is, by its number in the column and on a page; the last is only on pages.
@@ -25,8 +26,6 @@ KIND_NUMBERS = {kind: number for number, kind in enumerate(KINDS)}
 T = TypeVar("T")
 #: The transmit and receive error count of an interface.
 Counts = tuple[int, int]
-#: Who took part in arbitration, and their frames.
-Met = tuple[Sequence[int], Sequence[str]]
 
 
 class Places(dict[T, int]):
@@ -146,50 +145,50 @@ class Rows:
     wires: Sequence[Optional[tuple[int, ...]]]
     #: How many frames waited.
     waiting: Sequence[int]
-    #: Who took part in arbitration, and with which frames, where they were several.
-    met: dict[int, Met]
     #: The error message frames that it brought about.
     errors: dict[int, list[str]] = field(default_factory=dict)
     #: Who was hit.
     hit: dict[int, int] = field(default_factory=dict)
-    #: The place of the error counts after it, where they changed.
-    counts: dict[int, int] = field(default_factory=dict)
+    #: The error counts after it, where they changed, as bytes of the column.
+    counts: dict[int, bytes] = field(default_factory=dict)
 
     def texts(self) -> Iterable[str]:
         """The frames and error message frames, in the order in which they get their places."""
-        if not self.met and not self.errors:
+        if not self.errors:
             return self.frames
-        none: Met = (), ()
         return itertools.chain.from_iterable(
-            (frame, *self.met.get(row, none)[1], *self.errors.get(row, ())) for row, frame in enumerate(self.frames)
+            (frame, *self.errors.get(row, ())) for row, frame in enumerate(self.frames)
         )
 
 
 class Steps(Sequence[Step]):
     """The steps of a run. A column has a number for each; a step is made of them when it is asked for."""
 
-    def __init__(self, texts: Places[str]) -> None:
-        # Frames, verdicts, counts and waiting frames have their places in the columns.
+    def __init__(self, texts: Places[str], ifaces: Sequence[Interface]) -> None:
+        # Frames and verdicts have their places in the columns.
         self.texts = texts
         self.verdict_texts: Places[str] = Places()
-        self.count_lists: Places[tuple[Counts, ...]] = Places()
-        self.waiting_numbers: Places[int] = Places()
+        self._all_ifaces = ifaces
         self.kinds, self.ifaces, self.entries = array("B"), array("B"), array("I")
         #: In microseconds.
         self.moments = array("Q")
         self.attempts, self.numbers, self.idle = array("I"), array("I"), array("I")
-        self.frames, self.verdicts, self.counts, self.waiting = array("I"), array("I"), array("I"), array("I")
+        self.frames, self.verdicts = array("I"), array("I")
+        #: Of each step, for one interface after the other, how many frames wait before it, and its two counts after it.
+        self.waiting, self.counts = array("H"), array("H")
+        #: The steps that changed counts.
+        self.changed = array("I")
         #: Sets of interfaces, bit i for interface i.
         self.accepted, self.off, self.hit = array("H"), array("H"), array("H")
-        #: How many took part, where it was more than one, else 0; of these the interfaces and frames, from a place on.
-        self.met, self.met_from = array("B"), array("I")
-        self.met_ifaces, self.met_frames = array("B"), array("I")
         #: How many nanoseconds the frame takes the wire, and the attempt until the next one may begin; how many bits of the
         #: frame go at the nominal bit rate, and at the one for data. All are 0 where the line does not say it.
         self.frame_nanos, self.busy_nanos = array("I"), array("I")
         self.nominal_bits, self.fast_bits = array("H"), array("H")
         #: How many attempts there were.
         self.tried = 0
+        # Of each interface the steps in which it tried a frame, among so many steps.
+        self._tries: "list[array[int]]" = []
+        self._sorted = 0
 
     def __len__(self) -> int:
         return len(self.kinds)
@@ -208,24 +207,13 @@ class Steps(Sequence[Step]):
         self.numbers.fromlist([*map(int, rows.numbers)])
         self.frames.extend(self.texts.places_of(rows.frames, rows.texts()))
         self.verdicts.fromlist([*map(self.verdict_texts.__getitem__, rows.verdicts)])
-        self.waiting.fromlist([*map(self.waiting_numbers.__getitem__, rows.waiting)])
-        self._meet(rows.met, first)
+        self.waiting.extend(by_iface(rows.waiting, len(self._all_ifaces)))
         self._count(rows.counts, first)
         self._note(self.hit, rows.hit, first)
         self._note(self.idle, {step: count for step, count in idle.items() if step < len(self)})
         wires = {row: wire for row, wire in enumerate(rows.wires) if wire} if any(rows.wires) else {}
         for place, column in enumerate((self.frame_nanos, self.busy_nanos, self.nominal_bits, self.fast_bits)):
             self._note(column, {row: wire[place] for row, wire in wires.items()}, first)
-
-    def _meet(self, met: dict[int, Met], first: int) -> None:
-        before = len(self.met_ifaces)
-        self._note(self.met, {row: len(ifaces) for row, (ifaces, _) in met.items()}, first)
-        ifaces, frames = (
-            itertools.chain.from_iterable(map(operator.itemgetter(side), met.values())) for side in (0, 1)
-        )
-        self.met_ifaces.frombytes(bytes(ifaces))
-        self.met_frames.fromlist([*map(self.texts.__getitem__, frames)])
-        self.met_from.extend(itertools.accumulate(self.met[first:-1], initial=before))
 
     def _numbered(self, kinds: "array[int]") -> Iterable[int]:
         """The numbers of these attempts; a restart has that of the next one."""
@@ -241,12 +229,13 @@ class Steps(Sequence[Step]):
         for row, number in numbers.items():
             column[first + row] = number
 
-    def _count(self, places: dict[int, int], first: int) -> None:
-        """Makes the column of the counts as long as the others: from these steps on they have these places."""
-        rows, end = [0, *places], len(self) - first
-        lengths = map(operator.sub, [*places, end], rows)
-        before = self.counts[-1] if self.counts else 0
-        self.counts.extend(itertools.chain.from_iterable(map(itertools.repeat, [before, *places.values()], lengths)))
+    def _count(self, counts: dict[int, bytes], first: int) -> None:
+        """Makes the column of the counts as long as the others: from these steps on they are these."""
+        lengths = map(operator.sub, [*counts, len(self) - first], [0, *counts])
+        wide = 2 * len(self._all_ifaces)
+        before = (self.counts[-wide:] or array("H", [0]) * wide).tobytes()
+        self.counts.frombytes(b"".join(map(operator.mul, [before, *counts.values()], lengths)))
+        self.changed.extend(map(first.__add__, counts))
 
     @overload
     def __getitem__(self, place: int) -> Step:
@@ -274,8 +263,8 @@ class Steps(Sequence[Step]):
             numbers_in(self.off[place]),
             numbers_in(self.hit[place]),
             self.contenders(place),
-            self.count_lists.all[self.counts[place]],
-            waiting_by_iface(self.waiting_numbers.all[self.waiting[place]], len(self.count_lists.all[0])),
+            self.counts_after(place),
+            self.waiting_before(place),
             self.idle[place],
         )
 
@@ -305,13 +294,47 @@ class Steps(Sequence[Step]):
         """Returns the verdict of a step; the empty text of a restart."""
         return self.verdict_texts.all[self.verdicts[place]]
 
+    def counts_row(self, place: int) -> "array[int]":
+        """Returns the counts after a step, two of each interface."""
+        wide = 2 * len(self._all_ifaces)
+        return self.counts[wide * place : wide * (place + 1)]
+
+    def counts_after(self, place: int) -> tuple[Counts, ...]:
+        """Returns the counts of each interface after a step."""
+        row = self.counts_row(place)
+        return tuple(zip(row[::2], row[1::2]))
+
+    def waiting_before(self, place: int) -> tuple[int, ...]:
+        """Returns how many frames wait at each interface before a step."""
+        wide = len(self._all_ifaces)
+        return tuple(self.waiting[wide * place : wide * (place + 1)])
+
+    def met(self, place: int) -> list[int]:
+        """Returns who took part in a step: each interface at which a frame waits."""
+        if self.kinds[place] == RESTART:
+            return []
+        return [iface for iface, count in enumerate(self.waiting_before(place)) if count]
+
     def contenders(self, place: int) -> list[tuple[int, WireFrame]]:
         """Returns who took part in a step, with their frames."""
-        first, texts = self.met_from[place], self.texts.all
-        met = range(first, first + self.met[place])
-        if met:
-            return [(self.met_ifaces[k], WireFrame(texts[self.met_frames[k]])) for k in met]
-        return [] if self.kinds[place] == RESTART else [(self.ifaces[place], WireFrame(self.text(place)))]
+        return [(iface, WireFrame(self._next(iface, place))) for iface in self.met(place)]
+
+    def _next(self, iface: int, place: int) -> str:
+        """The frame that an interface tries next, from a step on; one that it never tries waits first in the end."""
+        if self.ifaces[place] == iface:
+            return self.text(place)
+        self._sort_tries()
+        tries = self._tries[iface]
+        later = bisect.bisect_left(tries, place)
+        return self.text(tries[later]) if later < len(tries) else self._all_ifaces[iface].waiting[0]
+
+    def _sort_tries(self) -> None:
+        """Makes the lists of who tried frames as long as the run is."""
+        self._tries = self._tries or [array("I") for _ in self._all_ifaces]
+        for place in range(self._sorted, len(self)):
+            if self.kinds[place] != RESTART:
+                self._tries[self.ifaces[place]].append(place)
+        self._sorted = len(self)
 
 
 class Items:
@@ -384,16 +407,13 @@ def ends_at(socket: Socket) -> Iterator[int]:
     return itertools.chain(socket.taken_after, itertools.repeat(last))
 
 
-def waiting_at(numbers: Iterable[int], iface: int) -> list[int]:
-    """How many frames wait at an interface, by these numbers for all."""
-    place, mask = WAITING_BITS * iface, (1 << WAITING_BITS) - 1
-    return [number >> place & mask for number in numbers]
-
-
-@functools.lru_cache(maxsize=1024)
-def waiting_by_iface(number: int, ifaces: int) -> tuple[int, ...]:
-    """How many frames wait at each of the interfaces, by the number for all."""
-    return tuple(waiting_at([number], iface)[0] for iface in range(ifaces))
+def by_iface(waiting: Sequence[int], ifaces: int) -> "array[int]":
+    """How many frames wait at each of the interfaces, one after the other, by these numbers for all."""
+    each = operator.methodcaller("to_bytes", ifaces * WAITING_BITS // 8, "little")
+    found = array("H", b"".join(map(each, waiting)))
+    if sys.byteorder == "big":
+        found.byteswap()
+    return found
 
 
 def micros_of(moment: str) -> int:

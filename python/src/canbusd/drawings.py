@@ -17,9 +17,8 @@ def counters(record: Record, first: int, last: int) -> Iterator[str]:
     """Yields the lines that draw both error counters of each interface, over the attempts from `first` to `last`."""
     run, steps = record.replay, record.replay.steps
     begin, end = bisect.bisect_left(steps.attempts, first), bisect.bisect_right(steps.attempts, last)
-    counts = steps.count_lists.all
-    rows = [counts[steps.counts[begin - 1]] if 0 < begin < end else ((0, 0),) * len(run.ifaces)]
-    rows += [counts[place] for place in steps.counts[begin:end]]
+    rows = [steps.counts_after(begin - 1) if 0 < begin < end else ((0, 0),) * len(run.ifaces)]
+    rows += map(steps.counts_after, range(begin, end))
     each = -(-len(rows) // MOST_COLUMNS)
     shared = f"; a column is the highest of {each}" if each > 1 else ""
     for number, name in enumerate(record.names):
@@ -46,8 +45,8 @@ def row_of(columns: list[tuple[int, int]], floor: int, scale: int) -> str:
 def arbitration(record: Record, first: int, last: int) -> Iterator[str]:
     """Yields the lines that draw the bits of each attempt in which more than one interface took part."""
     names, steps = record.names, record.replay.steps
-    for place, met in enumerate(steps.met):
-        if met and first <= steps.attempts[place] <= last:
+    for place, attempt in enumerate(steps.attempts):
+        if first <= attempt <= last and len(steps.met(place)) > 1:
             step = steps[place]
             yield f"attempt {step.attempt}: {names[step.iface]} wins with {step.text}, {step.kind}"
             yield from contenders_of(step, names)

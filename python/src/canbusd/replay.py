@@ -17,8 +17,8 @@ from canbusd._event_lines import OTHER, RECEIVE, SEND, STEP, Lines, sockets_of
 from canbusd._outcomes import Outcomes, Parts
 from canbusd._program import ProgramNotFound
 from canbusd._rates import Rates
-from canbusd._replayed import MOST_WAITING, OFF, Bus, Interface, Socket, bus_of, frame_in
-from canbusd._steps import DONE, RESTART, Counts, Items, Met, Places, Rows, Steps
+from canbusd._replayed import OFF, Bus, Interface, Socket, bus_of, frame_in
+from canbusd._steps import DONE, Items, Places, Rows, Steps
 
 FIRST_LINE = "canbus events 1"
 #: In place of the text of an item that found no room, where no line says what it was.
@@ -43,7 +43,7 @@ class Replay:
         self.sockets: list[Socket] = []
         #: Frames of steps and error message frames, by their places; the first is no frame.
         self.texts = Places("")
-        self.steps, self.items = Steps(self.texts), Items(self.sockets)
+        self.steps, self.items = Steps(self.texts, self.ifaces), Items(self.sockets)
         #: The number and the frame of all that bus off took out of a transmit queue, by the step.
         self.lost: dict[int, list[tuple[int, str]]] = {}
         #: The last steps before sends were refused, by the interface and the reply, `no-buffers` or `bus-off`.
@@ -59,8 +59,8 @@ class Replay:
         # Of each socket the interface, and the column of when its items were taken.
         self._senders: list[Interface] = []
         self._taken: "list[array[int]]" = []
-        # Of each interface the error counts.
-        self._counts: list[Counts] = []
+        # The two error counts of one interface after the other, as steps have them.
+        self._counts = array("H")
         # How many frames wait, as one number.
         self._waiting = 0
         # The interfaces that are not bus off, bit i for interface i.
@@ -105,10 +105,8 @@ class Replay:
     def _make_bus(self, line: str) -> None:
         self.bus = bus_of(line)
         count = self.bus.ifaces
-        self.ifaces = list(map(Interface, range(count)))
-        self._counts = [(0, 0)] * count
-        # The first counts have the place 0.
-        self.steps.count_lists[tuple(self._counts)]
+        self.ifaces += map(Interface, range(count))
+        self._counts = array("H", [0, 0]) * count
 
     # Lines of which there are few, each with the number of steps before it and that of its entry.
 
@@ -197,9 +195,8 @@ class Replay:
         kinds, accepted, off, left, handed, sockets, wires, parts = zip(*map(self._outcomes.__getitem__, ends))
         leaving = map(operator.mul, left, map([-iface.unit for iface in self.ifaces].__getitem__, ifaces))
         *waiting, self._waiting = lines.in_queues(units, leaving, self._waiting)
-        met = self._met(waiting, ifaces, kinds, left)
-        columns = kinds, accepted, off, [*lines.entries_of(STEP)], moments, verdicts, ifaces, numbers, frames, wires
-        rows = Rows(*columns, waiting, met)
+        entries = [*lines.entries_of(STEP)]
+        rows = Rows(kinds, accepted, off, entries, moments, verdicts, ifaces, numbers, frames, wires, waiting)
         errors = self._take_parts(rows, parts, handed)
         for iface in self.ifaces:
             iface.leave(self._waiting)
@@ -209,28 +206,6 @@ class Replay:
         for place, text in errors:
             self.items.errors[place] = self.texts[text]
         self._idle = {len(self.steps): self.idle_since}
-
-    def _met(
-        self, waiting: Sequence[int], ifaces: Sequence[int], kinds: Sequence[int], left: Sequence[int]
-    ) -> dict[int, Met]:
-        """Who took part in arbitration, and with which frames, where they were several: by the rows of steps.
-
-        These are how many frames wait, who sends or comes back, what becomes of it, and how many frames leave its queue.
-        """
-        lanes = [(iface.number, iface.unit * MOST_WAITING) for iface in self.ifaces]
-        parties = {number: party([iface for iface, lane in lanes if number & lane]) for number in {*waiting}}
-        if not any(parties.values()):
-            return {}
-        found: dict[int, Met] = {}
-        queues = [map(frame_in, iface.queue) for iface in self.ifaces]
-        heads = [next(queue, "") for queue in queues]
-        for row, (number, iface, kind, count) in enumerate(zip(waiting, ifaces, kinds, left)):
-            several = parties[number]
-            if several and kind != RESTART:
-                found[row] = several[0], several[1](heads)
-            for _ in range(count):
-                heads[iface] = next(queues[iface], "")
-        return found
 
     def _take_parts(self, rows: Rows, parts: Sequence[Optional[Parts]], handed: Sequence[int]) -> list[tuple[int, str]]:
         """Takes what few steps bring about, and returns the error message frames among the items, by their places."""
@@ -245,26 +220,24 @@ class Replay:
             if part is None:
                 continue
             if part.counts:
-                self._count_errors(part.counts)
-                rows.counts[row] = self.steps.count_lists[tuple(self._counts)]
+                for count, number in part.counts:
+                    self._counts[count] = number
+                rows.counts[row] = self._counts.tobytes()
             if part.lost:
                 self._lose(rows, row, part.lost)
-            found = [(items[row] + place, text) for place, text in part.errors]
+            found = [(items[row] + place, text) for place, text in part.errors] if part.errors else []
             if part.dropped:
                 found += self._drop(rows, row, part, items[row + 1])
             if found:
                 rows.errors[row] = [text for _, text in found]
                 errors += found
+        for iface in self.ifaces:
+            iface.tec, iface.rec = self._counts[2 * iface.number : 2 * iface.number + 2]
         return errors
 
     def _others_on(self, sender: int) -> int:
         """The set of the other interfaces that are not bus off."""
-        return sum(1 << iface for iface, (tec, _) in enumerate(self._counts) if tec < OFF and iface != sender)
-
-    def _count_errors(self, counts: Sequence[Sequence[int]]) -> None:
-        for iface, tec, rec in counts:
-            one, self._counts[iface] = self.ifaces[iface], (tec, rec)
-            one.tec, one.rec = tec, rec
+        return sum(1 << iface for iface, tec in enumerate(self._counts[::2]) if tec < OFF and iface != sender)
 
     def _lose(self, rows: Rows, row: int, count: int) -> None:
         """Bus off takes all frames out of the transmit queue of the sender, of which that of the step is the first."""
@@ -288,8 +261,3 @@ class Replay:
                 found += [(one, UNKNOWN) for one in range(place, place + count)]
             place += count
         return found
-
-
-def party(ifaces: Sequence[int]) -> Optional[tuple[Sequence[int], Callable[[Sequence[str]], Sequence[str]]]]:
-    """Interfaces, and what picks theirs of the values of all; None where they are not several."""
-    return (ifaces, operator.itemgetter(*ifaces)) if len(ifaces) > 1 else None

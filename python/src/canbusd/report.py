@@ -21,7 +21,7 @@ import sys
 import zlib
 from array import array
 from collections.abc import Iterable, Sequence
-from typing import Any, NamedTuple, Optional, Union
+from typing import Any, NamedTuple, Optional
 
 from canbusd import comparison
 from canbusd.frames import Frame, meaning
@@ -30,7 +30,7 @@ from canbusd._protocol import STATES
 from canbusd._rates import Rates
 from canbusd._replayed import Socket
 from canbusd._report_wire import wire_of
-from canbusd._steps import IDLE, KINDS, RESTART, Items, Places, WireFrame, waiting_at
+from canbusd._steps import IDLE, KINDS, RESTART, Items, Places
 from canbusd.replay import UNKNOWN, Replay
 from canbusd.signals import Database
 from canbusd.story import Event, events_of, facts_of, heading_of, verdict_words
@@ -51,44 +51,39 @@ class Pair(NamedTuple):
 
 
 class Block:
-    """The columns of the page, each at a multiple of 8 bytes, lowest byte first."""
+    """The data of a page, compressed as it comes: columns, then the header in JSON, then the bytes that it has, lowest first.
+
+    A column has the lowest bytes of all its numbers first, then the next ones: bytes that are alike are together, which is
+    small and quick to make.
+    """
 
     def __init__(self) -> None:
-        self.parts: "list[Union[array[Any], bytes]]" = []
-        self.size = 0
+        self._packer = zlib.compressobj(1)
+        self._parts: list[bytes] = []
+        self._size = 0
 
     def column(self, code: str, numbers: Iterable[float]) -> Column:
         """Adds a column, and returns its type, its place and its length."""
-        if isinstance(numbers, array) and numbers.typecode == code and sys.byteorder == "little":
+        if isinstance(numbers, array) and numbers.typecode == code:
             column: array[Any] = numbers
         else:
             column = array(code, numbers)
-        if sys.byteorder == "big":
-            column.byteswap()
-        place, size = self.size, len(column) * column.itemsize
-        self.parts += [column, bytes(-size % 8)]
-        self.size += size + -size % 8
+        place, text = self._size, column.tobytes()
+        firsts = range(column.itemsize) if sys.byteorder == "little" else reversed(range(column.itemsize))
+        for first in firsts:
+            self._add(text[first :: column.itemsize])
         return [code, place, len(column)]
 
-    def rising(self, numbers: Sequence[int]) -> Column:
-        """Adds a column of numbers that never fall, as their differences."""
-        return [*self.column("I", map(operator.sub, numbers, itertools.chain([0], numbers))), "rising"]
-
     def packed(self, header: Json) -> str:
-        """Returns the header and the columns: compressed, in base64."""
-        return base64.b64encode(self._compressed(text_of(header))).decode()
+        """Returns the columns and the header: compressed, in base64."""
+        text = json.dumps(header, separators=(",", ":")).encode()
+        self._add(text)
+        self._add(struct.pack("<I", len(text)))
+        return base64.b64encode(b"".join([*self._parts, self._packer.flush()])).decode()
 
-    def _compressed(self, text: bytes) -> bytes:
-        size = len(text) + -(len(text) + 8) % 8
-        packer = zlib.compressobj(6)
-        parts = struct.pack("<II", size, 0), text, b" " * (size - len(text)), *self.parts
-        return b"".join([*map(packer.compress, parts), packer.flush()])
-
-
-def text_of(header: Json) -> bytes:
-    """The header as JSON. There may be a million texts of frames, in which nothing is to be escaped."""
-    front, back = json.dumps({**header, "texts": []}, separators=(",", ":")).split('"texts":[]', 1)
-    return "".join((front, '"texts":["', '","'.join(header["texts"]), '"]', back)).encode()
+    def _add(self, text: bytes) -> None:
+        self._parts.append(self._packer.compress(text))
+        self._size += len(text)
 
 
 class Timeline:
@@ -137,11 +132,11 @@ class Timeline:
             found[row] = many
         return found
 
-    def counts(self) -> "array[int]":
-        """The places of the counts after each row; after idle attempts they are as before."""
-        found = self.shown(self.steps.counts)
+    def counts(self, place: int) -> "array[int]":
+        """A column of the counts after each row; after idle attempts they are as before."""
+        found = self.shown(self.steps.counts[place :: 2 * self.ifaces])
         for row, _ in self.idle:
-            found[row] = found[row - 1] if row else self.steps.count_lists[((0, 0),) * self.ifaces]
+            found[row] = found[row - 1] if row else 0
         return found
 
     def faults(self, rules: Sequence[str]) -> tuple["array[int]", list[str]]:
@@ -162,7 +157,7 @@ class Timeline:
         steps, moments = self.steps, self.shown(self.steps.moments)
         return {
             "kind": block.column("B", self.rows(steps.kinds, IDLE)),
-            "entry": block.rising(self.shown(steps.entries)),
+            "entry": block.column("I", self.shown(steps.entries)),
             "iface": block.column("B", self.rows(steps.ifaces)),
             "number": block.column("I", self.numbers()),
             "frame": block.column("I", self.rows(steps.frames)),
@@ -172,63 +167,33 @@ class Timeline:
             "off": block.column("H", self.rows(steps.off)),
             "seconds": block.column("d", map(operator.floordiv, moments, itertools.repeat(1000000))),
             "micros": block.column("I", map(operator.mod, moments, itertools.repeat(1000000))),
-            # How many took part where it was more than one.
-            "met": block.column("B", self.rows(steps.met)),
-        }
-
-    def contenders(self, block: Block) -> Json:
-        """Who took part in arbitration, where it was more than one."""
-        return {
-            "ifaces": block.column("B", self.steps.met_ifaces),
-            "frames": block.column("I", self.steps.met_frames),
         }
 
     def lines(self, block: Block) -> Json:
         """The counts and the waiting frames of each interface, by rows."""
-        steps, ifaces, counts = self.steps, range(self.ifaces), self.counts()
-        waiting = self.rows(steps.waiting, steps.waiting_numbers[0])
-        tec, rec = ([[one[i][side] for one in steps.count_lists.all] for i in ifaces] for side in (0, 1))
-        queues = [waiting_at(steps.waiting_numbers.all, i) for i in ifaces]
+        waiting, ifaces = self.steps.waiting, range(self.ifaces)
         return {
-            name: [block.column("H", looked_up(each, places)) for each in lists]
-            for name, lists, places in (("tec", tec, counts), ("rec", rec, counts), ("waiting", queues, waiting))
+            "tec": [block.column("H", self.counts(2 * i)) for i in ifaces],
+            "rec": [block.column("H", self.counts(2 * i + 1)) for i in ifaces],
+            "waiting": [block.column("H", self.rows(waiting[i :: self.ifaces])) for i in ifaces],
         }
 
 
-def looked_up(values: Sequence[int], places: "array[int]") -> "array[int]":
-    """The values of these places."""
-    if len({*values}) == 1:
-        return array("H", values[:1]) * len(places)
-    return array("H", map(values.__getitem__, places))
-
-
-def items_of(items: Items, most: int, places: Sequence[int], block: Block) -> Json:
+def items_of(items: Items, most: int, timeline: Timeline, block: Block) -> Json:
     """The first items: their sender and number are those of their step, unless they are error message frames."""
-    steps = array("I", map(places.__getitem__, items.steps[:most]))
-    # The row after so many steps; 0 is none.
-    after = array("I", itertools.chain([0], map((1).__add__, places)))
-    later: Iterable[int] = map(max, map(operator.sub, map(after.__getitem__, items.ends), steps), itertools.repeat(0))
+    steps, ends = items.steps[:most], items.ends[:most]
+    if timeline.idle:
+        steps = array("I", map(timeline.places.__getitem__, steps))
+        ends = array("I", map([0, *map((1).__add__, timeline.places)].__getitem__, ends))
     return {
         "socket": block.column("I", items.sockets[:most]),
-        "step": block.rising(steps),
+        "step": block.column("I", steps),
         # 0 for the frame of the step, else the place of an error message frame.
         "error": block.column("I", items.errors[:most]),
         "fate": block.column("B", items.fates[:most]),
-        # How many steps later it was no longer in its queue.
-        "later": block.column("I", later),
+        # The first row in which it was no longer in its queue; 0 where it stayed there, or never was.
+        "end": block.column("I", ends),
     }
-
-
-def bits_of(run: Replay) -> dict[str, str]:
-    """The arbitration bits of frames that met others, by the part of their text that says which."""
-    met = map(run.texts.all.__getitem__, {*run.steps.met_frames})
-    return {part: WireFrame(text).bits for part, text in {arbitrating(text): text for text in met}.items()}
-
-
-def arbitrating(text: str) -> str:
-    """The part of a frame's text on which arbitration depends: `123#` or `123#R`."""
-    identifier, payload = text.split("#", 1)
-    return f"{identifier}#{'R' if payload.startswith('R') else ''}"
 
 
 def ifaces_of(run: Replay) -> list[Json]:
@@ -327,17 +292,18 @@ def data_of(
         "facts": facts_of(run),
         "names": list(names),
         "steps": timeline.columns(block, faults),
-        "contenders": timeline.contenders(block),
         **timeline.lines(block),
-        "items": items_of(run.items, most_items, places, block),
+        "items": items_of(run.items, most_items, timeline, block),
         "itemsInAll": len(run.items),
         "events": [event_of(event, places) for event in events],
         "lost": lost_frames(run, places),
         "ifaces": ifaces_of(run),
         "sockets": [socket_of(socket) for socket in run.sockets],
         "socket": fullest_socket(run),
-        "bits": bits_of(run),
-        "texts": texts,
+        # The frames that are first in the queues at the end: who takes part with one has it tried in a step, or here.
+        "heads": ["".join(one.waiting[:1]) for one in run.ifaces],
+        # A frame a line: there may be a million.
+        "texts": block.column("B", array("B", "\n".join(texts).encode())),
         "meanings": meanings_of(run),
         **decoded_of(texts, database),
         "verdicts": [fault_of(fault, names) for fault in verdicts],

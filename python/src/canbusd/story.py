@@ -1,6 +1,5 @@
 """A run in words: its heading, its facts, and the events that a reader looks for."""
 
-import functools
 import itertools
 import operator
 from collections import Counter
@@ -9,9 +8,9 @@ from typing import NamedTuple
 
 from canbusd._protocol import STATES
 from canbusd._text import times
-from canbusd._steps import DONE, DROPPED, KINDS, LASTBIT, NOACK, RESTART, Counts, Step, Steps, micros_of, numbers_in
+from canbusd._steps import DONE, DROPPED, KINDS, LASTBIT, NOACK, RESTART, Step, Steps, micros_of, numbers_in
 from canbusd.record import members_of
-from canbusd._replayed import severity
+from canbusd._replayed import WARNING, severity
 from canbusd.replay import Replay
 
 OUTCOMES = {"done": "done", "lastbit": "failed in the last bit", "destroyed": "destroyed", "noack": "not acknowledged"}
@@ -43,32 +42,29 @@ def events_of(run: Replay, names: Sequence[str]) -> list[Event]:
 def changes_of(run: Replay, names: Sequence[str]) -> Iterator[Event]:
     """Changes of state, frames lost by bus off, and restarts."""
     steps, climbs = run.steps, [Climb() for _ in names]
-    before = steps.count_lists[((0, 0),) * len(run.ifaces)]
-    lists = steps.count_lists.all
-    states = [[*map(state_of, one)] for one in lists]
+    before: Sequence[int] = [0, 0] * len(run.ifaces)
+    was_bad = False
     # The step in which each interface last went bus off.
     went: dict[int, Step] = {}
     # A restart changes counts too.
-    changes = map(operator.ne, steps.counts, itertools.chain([before], steps.counts))
-    for number in itertools.compress(itertools.count(), changes):
-        iface, now = steps.ifaces[number], steps.counts[number]
+    for number in steps.changed:
+        iface, now = steps.ifaces[number], steps.counts_row(number)
+        is_bad = max(now) >= WARNING
         if steps.kinds[number] == RESTART:
             back = f"{names[iface]} is back on the bus, with both counts 0"
             yield Event(number, "restart", iface, back + outage_of(went[iface], steps[number]))
         else:
-            climbs[iface].add(steps, number, lists[before][iface][0])
-            if states[now] != states[before]:
-                for i, (old, new) in enumerate(zip(states[before], states[now])):
-                    if old != new:
-                        went[i] = steps[number]
-                        yield from change_of(number, went[i], i, names, climbs[i])
-        before = now
+            climbs[iface].add(steps, number, before[2 * iface])
+            changes = map(operator.ne, states_of(before), states_of(now)) if is_bad or was_bad else ()
+            for i in itertools.compress(itertools.count(), changes):
+                went[i] = steps[number]
+                yield from change_of(number, went[i], i, names, climbs[i])
+        before, was_bad = now, is_bad
 
 
-@functools.lru_cache(maxsize=4096)
-def state_of(counts: Counts) -> int:
-    """How bad the counts of an interface are."""
-    return severity(max(counts))
+def states_of(counts: Sequence[int]) -> list[int]:
+    """How bad the two counts of each interface are."""
+    return [severity(max(both)) for both in zip(counts[::2], counts[1::2])]
 
 
 def outage_of(went: Step, back: Step) -> str:

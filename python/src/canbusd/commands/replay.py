@@ -98,8 +98,8 @@ def objects_of(record: Record) -> Iterator[dict[str, object]]:
 def lines_of(record: Record) -> Iterator[str]:
     """Yields a line for each step, with the state of who sent or came back where that changed."""
     run, names, steps = record.replay, record.names, record.replay.steps
-    for place, (kind, moment, iface, counts) in enumerate(zip(steps.kinds, steps.moments, steps.ifaces, steps.counts)):
-        tec, rec = steps.count_lists.all[counts][iface]
+    for place, (kind, moment, iface) in enumerate(zip(steps.kinds, steps.moments, steps.ifaces)):
+        tec, rec = steps.counts_after(place)[iface]
         front, after = f"({moment_of(moment)}) {names[iface]}", f"counts {tec}/{rec}"
         if kind == RESTART:
             yield f"{front} restarted, {after}"

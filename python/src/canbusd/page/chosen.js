@@ -11,13 +11,23 @@ function signalTable(step) {
     : element("p", "The frame is shorter than its message.")];
 }
 
+// The frame with which a node takes part: the next one that it tries, or that is first in its queue at the end.
+function headOf(iface, step) {
+  while (step < axis.count && !(isAttempt(step) && steps.iface[step] === iface)) step++;
+  return step < axis.count ? textOf(step) : run.heads[iface];
+}
+// The bits that arbitration compares (Bosch CAN 2.0), with blanks between fields, at the same places in all frames.
+function bitsOf(text) {
+  const [identifier, payload] = text.split("#"), rtr = payload.startsWith("R") ? "1" : "0";
+  const bits = parseInt(identifier, 16).toString(2);
+  if (identifier.length === 3) return `${bits.padStart(11, "0")} ${rtr}0`;
+  return bits.padStart(29, "0").replace(/^.{11}/, "$& 11 ") + ` ${rtr}`;
+}
 function arbitration(step) {
-  const from = contenders.offsets[step], to = contenders.offsets[step + 1];
   if (!isAttempt(step)) return [];
-  if (from === to) return [element("p", "No other node had a frame to send.")];
-  const taking = [];
-  for (let k = from; k < to; k++) taking.push({ iface: contenders.ifaces[k], text: run.texts[contenders.frames[k]] });
-  const bitsOf = text => run.bits[text.split("#")[0] + (text.includes("#R") ? "#R" : "#")];
+  const taking = names.map((_, iface) => iface).filter(iface => queues[iface].all[step])
+    .map(iface => ({ iface, text: headOf(iface, step) }));
+  if (taking.length < 2) return [element("p", "No other node had a frame to send.")];
   const best = bitsOf(taking.find(one => one.iface === steps.iface[step]).text);
   const wide = Math.max(...names.map(name => name.length));
   const rows = taking.map(({ iface, text }) => {

@@ -9,11 +9,11 @@ const ARRAYS = { B: Uint8Array, H: Uint16Array, I: Uint32Array, d: Float64Array 
 const STEP_WIDTH = { 4: 0.8, 5: 0.5 };
 // Which axis is shown: by attempts, or by time. Where attempts have no length on it they are instants there.
 const byTime = { isOn: false, lengthOf: null };
-let run, steps, items, names, tec, rec, queues, attemptOf, contenders, moments, axes, tallies, failures, firstMoment = 0;
+let run, steps, items, names, tec, rec, queues, attemptOf, moments, axes, tallies, failures, firstMoment = 0;
 let chips, showTab, tab = "tab-events";
 const lists = {};
 
-// The data: a header in JSON, then the columns that it names.
+// The data: columns, then a header in JSON that names them, then how many bytes the header has.
 
 // Browsers limit how long a data URL may be, so it is decoded in parts.
 const PART = 1 << 22;
@@ -25,13 +25,16 @@ async function unpack(text) {
   }
   const packed = new Blob(parts).stream().pipeThrough(new DecompressionStream("deflate"));
   const whole = await new Response(packed).arrayBuffer();
-  const size = new DataView(whole).getUint32(0, true), columns = 8 + size;
-  const header = JSON.parse(new TextDecoder().decode(new Uint8Array(whole, 8, size)));
-  const numbers = ([code, place, length]) => new ARRAYS[code](whole, columns + place, length);
-  return { header, column: one => risen(numbers(one), one[3]) };
+  const end = whole.byteLength - 4, size = new DataView(whole).getUint32(end, true);
+  const header = JSON.parse(new TextDecoder().decode(new Uint8Array(whole, end - size, size)));
+  return { header, column: one => numbersIn(whole, ...one) };
 }
-function risen(numbers, rises) {
-  if (rises) for (let k = 1; k < numbers.length; k++) numbers[k] += numbers[k - 1];
+// The numbers of a column, of which all lowest bytes come first. Where it rises they are differences.
+function numbersIn(whole, code, place, length, rises) {
+  const numbers = new ARRAYS[code](length), to = new Uint8Array(numbers.buffer), size = numbers.BYTES_PER_ELEMENT;
+  const from = new Uint8Array(whole, place, to.length);
+  for (let byte = 0, k = 0; byte < size; byte++) for (let n = byte; n < to.length; n += size) to[n] = from[k++];
+  if (rises) for (let k = 1; k < length; k++) numbers[k] += numbers[k - 1];
   return numbers;
 }
 const columnsOf = (table, column) =>
@@ -40,26 +43,24 @@ const columnsOf = (table, column) =>
 function take({ header, column }) {
   run = header;
   names = run.names;
+  run.texts = new TextDecoder().decode(column(run.texts)).split("\n");
   steps = columnsOf(run.steps, column);
   items = columnsOf(run.items, column);
-  contenders = columnsOf(run.contenders, column);
   [tec, rec, queues] = [run.tec, run.rec, run.waiting].map(columns => columns.map(one => new Numbers(column(one))));
   placeSteps();
   sumUp();
   happened("taken", column);
 }
-// The places of steps on both axes, the numbers of attempts, and whose bits are where.
+// The places of steps on both axes, the numbers of attempts, and moments.
 function placeSteps() {
   const count = steps.kind.length, byStep = new Float64Array(count + 1), byTime = new Float64Array(count + 1);
   attemptOf = new Uint32Array(count + 1);
   moments = new Float64Array(count);
-  contenders.offsets = new Uint32Array(count + 1);
   firstMoment = count ? steps.seconds[0] : 0;
   let latest = 0;
   for (let k = 0; k < count; k++) {
     byStep[k + 1] = byStep[k] + (STEP_WIDTH[steps.kind[k]] || 1);
     attemptOf[k + 1] = attemptOf[k] + (steps.kind[k] < RESTART);
-    contenders.offsets[k + 1] = contenders.offsets[k] + steps.met[k];
     moments[k] = steps.seconds[k] - firstMoment + steps.micros[k] / 1e6;
     byTime[k] = latest = Math.max(latest, moments[k] - moments[0]);
   }

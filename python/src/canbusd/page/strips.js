@@ -126,7 +126,7 @@ function socketLane(socket) {
     if (items.socket[item] !== socket.number) continue;
     if (items.fate[item] === DROPPED) { marks[items.step[item]] = 1; continue; }
     fill[items.step[item]]++;
-    if (FATES[items.fate[item]] !== "waiting") fill[items.step[item] + items.later[item]]--;
+    if (FATES[items.fate[item]] !== "waiting") fill[Math.max(items.step[item], items.end[item])]--;
   }
   for (let k = 1; k <= count; k++) fill[k] += fill[k - 1];
   const numbers = new Numbers(Uint16Array.from(fill.subarray(0, count)));
