@@ -10,6 +10,7 @@ import os
 import random
 import re
 import resource
+import shutil
 import signal
 import subprocess
 import threading
@@ -476,6 +477,51 @@ def test_what_is_set_aside(when, script, tmp_path):
         assert f"note: {tmp_path}/can0.rec.new of a run that was cut off is {tmp_path}/can0.rec.cut now\n" in errors
         aside = {"rec.faults.cut": text for text in faults.values()}
         assert read(tmp_path / "can0.rec.cut") == KILLED and left(tmp_path) == {**aside, **mine(script)}
+
+
+@pytest.mark.parametrize("when", WHEN)
+@pytest.mark.parametrize("kind", ["rec.cut", "rec.faults.cut"])
+def test_a_folder_where_something_is_set_aside(when, kind, tmp_path):
+    """the start is refused, and of all its buses nothing is set aside before there is room"""
+    killed = [tmp_path / f"{bus}.{end}" for bus in ("can0", "can2") for end in ("rec.new", "rec.faults.new")]
+    for path in killed:
+        path.write_text(KILLED if path.name.endswith("rec.new") else f"# of {path.name}\n")
+    before = {path.name: read(path) for path in killed}
+    (tmp_path / f"can2.{kind}").mkdir()
+    status, said, errors = start(tmp_path, "--record", when, "can0", "can2")
+    assert (status, said) == (1, "")
+    assert errors == f"canbusd: cannot open {tmp_path}\n  {tmp_path}/can2.{kind}: is a directory\n"
+    assert names_in(tmp_path) == sorted([*before, f"can2.{kind}"])
+    assert {path.name: read(path) for path in killed} == before
+    assert start(tmp_path, "--record", "none", "can2")[0] == 0
+    (tmp_path / f"can2.{kind}").rmdir()
+    assert start(tmp_path, "--record", when, "can0", "can2")[0] == 0
+    assert {name: read(tmp_path / name.replace(".new", ".cut")) for name in before} == before
+
+
+def start_beside_a_mount(place, folder, *words):
+    """The same as `start`, where no file can get the name of this one, as something is mounted there."""
+    script = 'mount --bind "$0" "$0" && exec "$@"'
+    mount = ["unshare", "--user", "--map-root-user", "--mount", "sh", "-c", script, place]
+    if not shutil.which("unshare") or call(*mount, "true")[0] != 0:
+        pytest.skip("nothing may be mounted in a name space of one's own")
+    options = "--until-eof", "--listen", "127.0.0.1:0", "--out", str(folder)
+    return call(*mount, program(), "serve", *options, *words)
+
+
+@pytest.mark.parametrize("when", WHEN)
+@pytest.mark.parametrize("kind", ["rec.cut", "rec.faults.cut"])
+def test_a_place_that_is_taken_meanwhile(when, kind, tmp_path):
+    """the start is refused, and neither the record nor its faults are lost: the next start sets both aside"""
+    leave(tmp_path, rec_new=KILLED, rec_faults_new="# of it\n", rec_cut=FRONT, rec_faults_cut="# of another one\n")
+    place = f"{tmp_path}/can0.{kind}"
+    status, said, errors = start_beside_a_mount(place, tmp_path, "--record", when, "can0")
+    assert (status, said) == (1, "")
+    assert errors == f"canbusd: cannot open {tmp_path}\n  {place}: Device or resource busy (os error 16)\n"
+    assert read(tmp_path / "can0.rec.new") == KILLED and read(tmp_path / "can0.rec.cut") == FRONT
+    assert left(tmp_path)["rec.faults.new"] == "# of it\n"
+    assert start(tmp_path, "--record", when, "can0")[0] == 0
+    assert read(tmp_path / "can0.rec.cut") == KILLED and left(tmp_path) == {"rec.faults.cut": "# of it\n"}
 
 
 @pytest.mark.parametrize("when", WHEN)

@@ -11,15 +11,13 @@ use std::os::unix::fs::FileTypeExt;
 use std::rt::Files;
 use std::{fs, io};
 
-/// The most bytes of a record's text that has no entry and no end: its first two lines.
-const MOST_OF_FRONT: u64 = 61;
-
 /// A file, and where it is written: beside it with `.new` after the name. Where something is there that is no
-/// plain file, as a device, it is written in place.
+/// plain file, as a device, it is written in place. What a run that was cut off left is set aside with `.cut` after the name.
 #[derive(Drop)]
 pub struct Draft {
     path: String,
     draft: String,
+    aside: String,
 }
 
 impl Draft {
@@ -52,7 +50,8 @@ impl Draft {
     fn of(alloc: Global, path: String, is_plain: bool) -> Result<Draft, AllocError> {
         let end = if is_plain { ".new" } else { "" };
         let draft = format!(in alloc; "{path}{end}")?;
-        Ok(Draft { path, draft })
+        let aside = format!(in alloc; "{path}.cut")?;
+        Ok(Draft { path, draft, aside })
     }
 
     /// The same file.
@@ -60,6 +59,7 @@ impl Draft {
         Ok(Draft {
             path: String::from_str(alloc, &self.path)?,
             draft: String::from_str(alloc, &self.draft)?,
+            aside: String::from_str(alloc, &self.aside)?,
         })
     }
 
@@ -73,6 +73,11 @@ impl Draft {
         &self.draft
     }
 
+    /// Where what a run that was cut off left is set aside.
+    pub fn aside(&self) -> &str {
+        &self.aside
+    }
+
     /// Removes what an earlier run or somebody else has left where the file is to be written, unless it is written in
     /// place. A link there is removed and not followed.
     pub fn clear<H: Files>(&self, rt: &H) {
@@ -81,44 +86,27 @@ impl Draft {
         }
     }
 
-    /// Gives a record that is there where the file is to be written the file's name with `.cut` after it, if it has more
-    /// than its first lines, and removes what else is there, unless the file is written in place. Returns the path, if
-    /// there was such a record. A start that failed leaves first lines, which must not take the place of what a run that
-    /// was killed has left.
-    pub fn set_aside<H: Files>(&self, rt: &H, alloc: Global) -> io::Result<Option<String>> {
-        if !self.is_apart() {
-            return Ok(None);
-        }
-        let is_record = match fs::symlink_metadata(rt, &self.draft) {
-            Ok(found) => found.is_file() && found.len() > MOST_OF_FRONT,
+    /// Whether a plain file with more bytes than these is left where the file is to be written, unless it is written in place.
+    pub fn has_more_than<H: Files>(&self, rt: &H, bytes: u64) -> bool {
+        match fs::symlink_metadata(rt, &self.draft) {
+            Ok(found) => self.is_apart() && found.is_file() && found.len() > bytes,
             Err(_) => false,
-        };
-        if !is_record {
-            self.clear(rt);
-            return Ok(None);
         }
-        let path = &self.path;
-        let aside = format!(in alloc; "{path}.cut")?;
-        fs::rename(rt, &self.draft, &aside)?;
-        Ok(Some(aside))
     }
 
-    /// Gives what was written beside a record that was set aside the file's name with `.cut` after it. Where that is nothing, no
-    /// other file has that name any more.
-    pub fn put_aside<H: Files>(&self, rt: &H, alloc: Global) -> io::Result<()> {
-        if !self.is_apart() {
-            return Ok(());
-        }
-        let path = &self.path;
-        let aside = format!(in alloc; "{path}.cut")?;
-        match fs::symlink_metadata(rt, &self.draft) {
-            Ok(found) if found.len() > 0 => fs::rename(rt, &self.draft, &aside),
-            _ => {
-                self.clear(rt);
-                let _ = fs::remove_file(rt, &aside);
-                Ok(())
-            }
-        }
+    /// Sets aside what is there where the file is to be written.
+    pub fn set_aside<H: Files>(&self, rt: &H) -> io::Result<()> {
+        fs::rename(rt, &self.draft, &self.aside)
+    }
+
+    /// Puts what was set aside back.
+    pub fn put_back<H: Files>(&self, rt: &H) {
+        let _ = fs::rename(rt, &self.aside, &self.draft);
+    }
+
+    /// Removes what was set aside before.
+    pub fn clear_aside<H: Files>(&self, rt: &H) {
+        let _ = fs::remove_file(rt, &self.aside);
     }
 
     /// Removes what an earlier run left under the file's name, unless the file is written in place.
@@ -141,6 +129,14 @@ impl Draft {
             return Err(ErrorKind::IsADirectory.into());
         }
         Ok(())
+    }
+
+    /// Looks whether something can be set aside: a folder can't be replaced.
+    pub fn look_aside<H: Files>(&self, rt: &H) -> io::Result<()> {
+        match fs::symlink_metadata(rt, &self.aside) {
+            Ok(found) if self.is_apart() && found.is_dir() => Err(ErrorKind::IsADirectory.into()),
+            _ => Ok(()),
+        }
     }
 
     /// As `look`, for a file that has to be read again once it is written: a fifo is refused.

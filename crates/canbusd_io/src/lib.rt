@@ -33,7 +33,7 @@ pub use files::{
     INPUT, OUTPUT, open_file, read_failure, read_file, read_text, utf8_note, write_failure,
 };
 pub use limited_reads::LimitedReads;
-pub use live::{LiveLog, LiveRecord, set_aside};
+pub use live::{LiveLog, LiveRecord};
 pub use live_faults::LiveFaults;
 pub use names::{has_name, read_names};
 pub use notes::{WITH_CR, fixed_note, line_of, reason_note};

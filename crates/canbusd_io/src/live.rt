@@ -12,7 +12,6 @@ use crate::live_file::{FileOver, LiveFile};
 use crate::notes::reason_note;
 use crate::program_error::ProgramError;
 use crate::report::Report;
-use crate::shown::Shown;
 use can_bus::BusConfig;
 use can_frame::Names;
 use can_logfile::write_entries;
@@ -333,21 +332,4 @@ fn log_failure<'a>(alloc: Global, name: &'a str, path: &str, over: &FileOver) ->
     let whole_lines = over.whole_lines;
     let notes = reason_note(alloc, path, &over.why);
     Report::with(alloc, ProgramError::Log { name, whole_lines }, notes)
-}
-
-/// What a run that was cut off left as the draft of a record gets another name: a note of that, if there was something.
-pub fn set_aside<H: Files<File = File>>(
-    rt: &H,
-    alloc: Global,
-    draft: &Draft,
-) -> io::Result<Option<String>> {
-    match draft.set_aside(rt, alloc)? {
-        Some(aside) => Ok(Some(aside_note(alloc, draft.draft(), &aside)?)),
-        None => Ok(None),
-    }
-}
-
-fn aside_note(alloc: Global, draft: &str, aside: &str) -> Result<String, AllocError> {
-    let (draft, aside) = (Shown::whole(draft), Shown::whole(aside));
-    format!(in alloc; "note: {draft} of a run that was cut off is {aside} now\n")
 }

@@ -5,15 +5,18 @@ ghost use Rattle.canbusd_serve.specs.Served.{IsOfServing};
 use can_bus::Record;
 use can_station::Settled;
 use canbusd_io::{
-    Draft, LiveFaults, ProgramError, Report, Reporter, reason_note, save_log_at, save_record_at,
-    set_aside,
+    Draft, LiveFaults, ProgramError, Report, Reporter, Shown, reason_note, save_log_at,
+    save_record_at,
 };
 use canbusd_options::{BusWord, Recording, ServeOptions};
-use std::alloc::Global;
+use std::alloc::{AllocError, Global};
 use std::fs;
 use std::fs::{File, TryLockError};
 use std::io::{Error, ErrorKind, Write};
 use std::rt::Files;
+
+/// The most bytes of a record's text that has no entry and no end: its first two lines.
+const MOST_OF_FRONT: u64 = 61;
 
 /// Locks the folder for this server. `CannotOpen` where another one has it. `None` where it is no folder that can be read,
 /// or its file system has no locks.
@@ -57,12 +60,8 @@ pub fn look_at_folder<'a, H: Files<File = File>>(
             faults,
         } = drafts_of(rt, alloc, folder, bus)?;
         if !matches!(options.recording, Recording::Never) {
-            if let Err(error) = record.look_for_record(rt) {
-                return Err(open_failure(alloc, folder, record.draft(), &error));
-            }
-            if let Err(error) = faults.look_for_record(rt) {
-                return Err(open_failure(alloc, folder, faults.draft(), &error));
-            }
+            look_at_record(rt, alloc, folder, &record)?;
+            look_at_record(rt, alloc, folder, &faults)?;
         }
         if !matches!(options.recording, Recording::AtEnd) {
             if let Err(error) = log.look(rt) {
@@ -73,7 +72,26 @@ pub fn look_at_folder<'a, H: Files<File = File>>(
     Ok(())
 }
 
-/// Sets aside what runs that were cut off left of the records of these buses, with their faults, and reports it.
+// Looks whether the folder takes a file that an audit reads, and one that is set aside.
+fn look_at_record<'a, H: Files<File = File>>(
+    rt: &H,
+    alloc: Global,
+    folder: &'a str,
+    draft: &Draft,
+) -> Result<(), Report<'a>>
+    ensures { IfErr result (λ failure. IsOfServing failure.error) }
+{
+    if let Err(error) = draft.look_for_record(rt) {
+        return Err(open_failure(alloc, folder, draft.draft(), &error));
+    }
+    match draft.look_aside(rt) {
+        Ok(()) => Ok(()),
+        Err(error) => Err(open_failure(alloc, folder, draft.aside(), &error)),
+    }
+}
+
+/// Sets aside what runs that were cut off left of the records of these buses, with their faults, and reports it. What a start
+/// that failed left is removed: its first lines must not take the place of such a record.
 pub fn set_all_aside<'a, H: Files<File = File>, E: Write>(
     rt: &H,
     alloc: Global,
@@ -85,18 +103,51 @@ pub fn set_all_aside<'a, H: Files<File = File>, E: Write>(
 {
     for bus in buses {
         let Drafts { record, faults, .. } = drafts_of(rt, alloc, folder, bus)?;
-        match set_aside(rt, alloc, &record) {
-            Ok(Some(note)) => {
-                let _ = errors.write_all(note.as_bytes());
-                if let Err(error) = faults.put_aside(rt, alloc) {
-                    return Err(open_failure(alloc, folder, faults.draft(), &error));
-                }
-            }
-            Ok(None) => faults.clear(rt),
-            Err(error) => return Err(open_failure(alloc, folder, record.draft(), &error)),
+        if record.has_more_than(rt, MOST_OF_FRONT) {
+            let Ok(note) = aside_note(alloc, &record) else {
+                return Err(Report::new(alloc, ProgramError::NoMemory));
+            };
+            set_aside(rt, alloc, folder, &record, &faults)?;
+            let _ = errors.write_all(note.as_bytes());
         }
+        record.clear(rt);
+        faults.clear(rt);
     }
     Ok(())
+}
+
+// Sets aside what is left of a record, with its faults. These go first, and come back where the record can't follow: so the
+// next start finds both, also where this one is refused.
+fn set_aside<'a, H: Files<File = File>>(
+    rt: &H,
+    alloc: Global,
+    folder: &'a str,
+    record: &Draft,
+    faults: &Draft,
+) -> Result<(), Report<'a>>
+    ensures { IfErr result (λ failure. IsOfServing failure.error) }
+{
+    let has_faults = faults.has_more_than(rt, 0);
+    if has_faults {
+        if let Err(error) = faults.set_aside(rt) {
+            return Err(open_failure(alloc, folder, faults.aside(), &error));
+        }
+    }
+    if let Err(error) = record.set_aside(rt) {
+        if has_faults {
+            faults.put_back(rt);
+        }
+        return Err(open_failure(alloc, folder, record.aside(), &error));
+    }
+    if !has_faults {
+        faults.clear_aside(rt);
+    }
+    Ok(())
+}
+
+fn aside_note(alloc: Global, record: &Draft) -> Result<String, AllocError> {
+    let (draft, aside) = (Shown::whole(record.draft()), Shown::whole(record.aside()));
+    format!(in alloc; "note: {draft} of a run that was cut off is {aside} now\n")
 }
 
 /// The record, the log and the faults of a bus, which are to be written.
