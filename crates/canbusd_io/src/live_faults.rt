@@ -1,13 +1,12 @@
 //! The faults of the run of a bus, in a file beside its record.
 use crate::draft::Draft;
+use crate::files::write_failure;
 use crate::live_file::LiveFile;
-use crate::notes::reason_note;
-use crate::program_error::ProgramError;
 use crate::report::Report;
 use std::alloc::{AllocError, Global};
 use std::fs::File;
 use std::io;
-use std::io::{Error, Write};
+use std::io::{Error, ErrorKind, Write};
 use std::rt::Files;
 
 /// The faults of the run of a bus, for an audit: the script that it began with, and the lines of what became of its rules. The
@@ -19,7 +18,6 @@ pub struct LiveFaults {
     is_synced: bool,
     // Once it is made. Then it has the script.
     file: Option<LiveFile<File>>,
-    has_lines: bool,
     has_fault: bool,
 }
 
@@ -38,7 +36,6 @@ impl LiveFaults {
             script,
             is_synced,
             file: None,
-            has_lines: false,
             has_fault: false,
         })
     }
@@ -60,10 +57,9 @@ impl LiveFaults {
         if self.has_fault || lines.is_empty() {
             return Ok(());
         }
-        self.has_lines = true;
         let kept = match &mut self.file {
             Some(file) => put_lines(file, lines),
-            None => Ok(()),
+            None => Err(ErrorKind::NotFound.into()),
         };
         self.checked(alloc, kept)
     }
@@ -101,7 +97,7 @@ impl LiveFaults {
     /// Gives the file its name, which its record has by now. Where the run had no faults, or lines were lost, no file of an
     /// earlier run keeps that name.
     pub fn finish<H: Files>(&self, rt: &H, alloc: Global) -> Result<(), Report<'static>> {
-        if !self.has_fault && (self.has_lines || !self.script.is_empty()) {
+        if !self.has_fault && matches!(&self.file, Some(file) if file.has_lines()) {
             let named = self.draft.take_name(rt);
             return named.map_err(|error| self.failure(alloc, &error));
         }
@@ -123,8 +119,7 @@ impl LiveFaults {
     }
 
     fn failure(&self, alloc: Global, error: &Error) -> Report<'static> {
-        let notes = reason_note(alloc, self.draft.draft(), error);
-        Report::with(alloc, ProgramError::Write, notes)
+        write_failure(alloc, self.draft.draft(), error)
     }
 }
 

@@ -43,6 +43,11 @@ impl<F: Write + OpenFile + Drop> LiveFile<F> {
         })
     }
 
+    /// Whether it has lines, and is not over.
+    pub fn has_lines(&self) -> bool {
+        matches!(&self.out, Some(out) if out.get_ref().lines > 0)
+    }
+
     /// Hands what was put to the system. The file is over where that fails, or where it was not put.
     pub fn settle(&mut self, put: io::Result<()>) -> Result<(), FileOver>
         ensures put { OnOk result (IsOk put) }
