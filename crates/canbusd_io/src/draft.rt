@@ -1,7 +1,6 @@
 //! Files that are written under another name, and get their own once they are whole. So what an earlier run left stays
 //! as it was until then.
-use crate::notes::reason_note;
-use crate::program_error::ProgramError;
+use crate::files::open_failure;
 use crate::report::Report;
 use crate::shown::Shown;
 use std::alloc::{AllocError, Global};
@@ -211,7 +210,7 @@ impl Draft {
 
     fn rename<H: Files>(&self, rt: &H, alloc: Global) -> Result<(), Report<'_>> {
         self.take_name(rt)
-            .map_err(|error| self.failure(alloc, &error))
+            .map_err(|error| open_failure(alloc, &self.path, &error))
     }
 
     /// Gives the file its name.
@@ -220,13 +219,5 @@ impl Draft {
             return Ok(());
         }
         fs::rename(rt, &self.draft, &self.path)
-    }
-
-    fn failure(&self, alloc: Global, error: &Error) -> Report<'_> {
-        Report::with(
-            alloc,
-            ProgramError::CannotOpen(&self.path),
-            reason_note(alloc, &self.path, error),
-        )
     }
 }

@@ -35,7 +35,11 @@ pub fn open_file<'a, H: Files>(
 }
 
 /// The text of the file with this path.
-pub fn read_file<'a, H: Files>(rt: &H, alloc: Global, path: &'a str) -> Result<String, Report<'a>>
+pub(crate) fn read_file<'a, H: Files>(
+    rt: &H,
+    alloc: Global,
+    path: &'a str,
+) -> Result<String, Report<'a>>
     ensures { IfErr result (λ failure. IsOfFile path.now failure.error) }
 {
     let mut file = open_file(rt, alloc, path)?;

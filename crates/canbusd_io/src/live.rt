@@ -8,6 +8,7 @@ ghost use Rattle.canbusd_io.specs.Live.{Begins, Gets, MayGet, Stays, Takes, whol
 ghost use Rattle.canbusd_io.specs.LiveLines.{LogHas, RecordHas};
 
 use crate::draft::Draft;
+use crate::files::write_failure;
 use crate::live_file::{FileOver, LiveFile};
 use crate::notes::reason_note;
 use crate::program_error::ProgramError;
@@ -162,13 +163,9 @@ impl<F: Write + OpenFile + Drop> LiveRecord<F> {
     fn take_name<H: Files>(&self, rt: &H, alloc: Global) -> Result<(), Report<'static>>
         requires { IsSome self.now.file.out }
     {
-        self.draft.take_name(rt).map_err(|error| {
-            Report::with(
-                alloc,
-                ProgramError::Write,
-                reason_note(alloc, self.draft.path(), &error),
-            )
-        })
+        self.draft
+            .take_name(rt)
+            .map_err(|error| write_failure(alloc, self.draft.path(), &error))
     }
 
     fn settle(&mut self, alloc: Global, put: io::Result<()>) -> Result<(), Report<'static>>
@@ -206,11 +203,7 @@ fn with_front<F: Write + OpenFile + Drop>(
 }
 
 fn record_failure(alloc: Global, path: &str, over: &FileOver) -> Report<'static> {
-    let failure = Report::with(
-        alloc,
-        ProgramError::Write,
-        reason_note(alloc, path, &over.why),
-    );
+    let failure = write_failure(alloc, path, &over.why);
     match entries_note(alloc, over.whole_lines.saturating_sub(2)) {
         Ok(note) => failure.and(&note),
         Err(_) => failure,

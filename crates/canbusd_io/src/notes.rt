@@ -19,7 +19,7 @@ pub fn reason_note(alloc: Global, place: &str, error: &Error) -> Result<String, 
 }
 
 /// The line of this number, from 1; a text has an empty one after its last LF.
-pub fn line_of(text: &str, number: usize) -> &str {
+pub(crate) fn line_of(text: &str, number: usize) -> &str {
     let place = number.saturating_sub(1);
     text.split('\n').nth(place).unwrap_or("")
 }
