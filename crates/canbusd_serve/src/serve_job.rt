@@ -15,7 +15,9 @@ use crate::host::{Host, Start};
 use crate::listening::{Listening, leave, listen, listen_failure};
 use crate::live_files::{LiveFiles, finish_all, finish_faults, open_all};
 use crate::notices::first_name_at;
-use crate::serve_files::{lock_folder, look_at_folder, open_failure, save_all, set_all_aside};
+use crate::serve_files::{
+    drafts_of, lock_folder, look_at_folder, open_failure, save_all, set_all_aside,
+};
 use can_bus::{BusFault, LongEnd, Record, TAIL_SIZE};
 use can_fault::Perfect;
 use can_meter::MeterName;
@@ -23,8 +25,8 @@ use can_roll::RollName;
 use can_server::{Acceptor, Bench, Hub, Keeper, Leaves, Scribe, ScrollKeeper, serve_with};
 use can_station::{Blanks, BusName, Open, Pass, Scroll, Settled};
 use canbusd_io::{
-    Draft, INPUT, LiveFaults, OUTPUT, ProgramError, Report, Reporter, bus_config, fixed_note,
-    read_names, read_plan, write_failure,
+    INPUT, LiveFaults, OUTPUT, ProgramError, Report, Reporter, bus_config, fixed_note, read_names,
+    read_plan, write_failure,
 };
 use canbusd_options::{BusWord, Recording, ServeOptions};
 use std::alloc::{AllocError, Global};
@@ -140,7 +142,7 @@ impl<'r, 'a, H: ServerRuntime> ServerRun<'r, 'a, H> {
     {
         let names = read_names(self.alloc, bus.names)?;
         let (plan, script) = read_plan(self.rt, self.alloc, bus, &names)?;
-        let Ok(()) = self.add_faults(bus.first_name(), script) else {
+        let Ok(()) = self.add_faults(&bus, script) else {
             return Err(Report::new(self.alloc, ProgramError::NoMemory));
         };
         let Ok(blanks) = Blanks::new(self.alloc, usize::from(names.count())) else {
@@ -159,8 +161,8 @@ impl<'r, 'a, H: ServerRuntime> ServerRun<'r, 'a, H> {
         })
     }
 
-    // Notes where the faults of the bus with this first name go, which begin with this script.
-    fn add_faults(&self, name: &str, script: String) -> Result<(), AllocError> {
+    // Notes where the faults of a bus go, which begin with this script.
+    fn add_faults(&self, bus: &BusWord<'_>, script: String) -> Result<(), AllocError> {
         let folder = match self.options.recording {
             Recording::AtEnd | Recording::Live => self.options.folder,
             Recording::Never => None,
@@ -168,8 +170,10 @@ impl<'r, 'a, H: ServerRuntime> ServerRun<'r, 'a, H> {
         let Some(folder) = folder else {
             return Ok(());
         };
-        let draft = Draft::new(self.rt, self.alloc, folder, name, "rec.faults")?;
-        let faults = LiveFaults::new(draft, script, self.options.is_synced)?;
+        let Ok(drafts) = drafts_of(self.rt, self.alloc, folder, bus) else {
+            return Err(AllocError);
+        };
+        let faults = LiveFaults::new(drafts.faults, script, self.options.is_synced)?;
         self.faults.lock(self.rt).push(faults)?;
         Ok(())
     }
@@ -336,7 +340,7 @@ impl<'r, 'a, H: ServerRuntime> ServerRun<'r, 'a, H> {
         ensures { result.error ≡ fault.Buses found }
     {
         let notes = match found {
-            BusFault::BadConfig => { buses_note(self.alloc, self.options) }
+            BusFault::BadConfig => buses_note(self.alloc, self.options),
             BusFault::NoMemory => fixed_note(self.alloc, memory_note(self.options.recording)),
         };
         Report::with(self.alloc, ProgramError::Buses(found), notes)
