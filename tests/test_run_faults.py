@@ -21,7 +21,7 @@ import pytest
 from commands import call
 from random_rules import FRAMES, RuleMaker
 from rule_model import MOST_RULES, Rule, RunFaults, word_of
-from serving import WAIT, Plain, come_true, join, plain, program, serving_alone
+from serving import ROOT, WAIT, Plain, come_true, join, plain, program, serving_alone
 from test_audit_rules import rules_of
 from test_long_runs import FRONT, cut_audit, names_in
 
@@ -524,6 +524,62 @@ def test_a_place_that_is_taken_meanwhile(when, kind, tmp_path):
     assert read(tmp_path / "can0.rec.cut") == KILLED and left(tmp_path) == {"rec.faults.cut": "# of it\n"}
 
 
+@pytest.fixture
+def killed_before(tmp_path):
+    """The environments in which a program is killed before its first rename, its second and so on (killed_rename.c)."""
+    if not shutil.which("cc"):
+        pytest.skip("no C compiler: cc")
+    library, source = tmp_path / "killed_rename.so", os.path.join(ROOT, "tests", "killed_rename.c")
+    subprocess.run(["cc", "-O2", "-Wall", "-Werror", "-fPIC", "-shared", "-o", library, source], check=True)
+    return ({**os.environ, "LD_PRELOAD": str(library), "RENAME": str(number)} for number in range(1, 20))
+
+
+def all_kills(folder, environments, leave_files, *words):
+    """Yields a folder with these files after each server that was killed before a rename, up to the first that was not."""
+    for number, environment in enumerate(environments):
+        place = folder / f"of-{number}"
+        place.mkdir()
+        status, _, errors = start(place, *words, *leave_files(place), env=environment)
+        yield place
+        if status != -signal.SIGKILL:
+            assert status == 0 and number, errors
+            return
+    raise AssertionError("each server was killed")
+
+
+@pytest.mark.parametrize("when", WHEN)
+def test_kills_at_the_end(when, tmp_path, killed_before):
+    """leave no record beside the faults of another run"""
+    later = "always id 7DE good\n"
+
+    def earlier_run(place):
+        assert start(place, "--record", when, bus_of(place, SCRIPT))[0] == 0
+        return ("--txqueue", "5", bus_of(place, later))
+
+    found = []
+    for place in all_kills(tmp_path, killed_before, earlier_run, "--record", when):
+        is_later = " 5 " in read(place / "can0.rec").splitlines()[1]
+        faults = left(place).get("rec.faults")
+        assert faults in (None, later if is_later else SCRIPT)
+        found.append((is_later, faults))
+    assert not found[0][0] and found[-1] == (True, later)
+
+
+@pytest.mark.parametrize("when", WHEN)
+def test_kills_while_something_is_set_aside(when, tmp_path, killed_before):
+    """leave no record beside the faults of another run"""
+
+    def killed_run(place):
+        leave(place, rec_new=KILLED, rec_faults_new="# of it\n", rec_cut=FRONT, rec_faults_cut="# of another one\n")
+        return ("can0",)
+
+    for place in all_kills(tmp_path, killed_before, killed_run, "--record", when):
+        is_aside = read(place / "can0.rec.cut") == KILLED
+        faults = left(place).get("rec.faults.cut")
+        assert faults in (None, "# of it\n" if is_aside else "# of another one\n")
+    assert is_aside and faults == "# of it\n"
+
+
 @pytest.mark.parametrize("when", WHEN)
 @pytest.mark.parametrize("script", ["", SCRIPT], ids=["no script", "script"])
 def test_what_a_start_that_failed_left(when, script, tmp_path):
@@ -633,7 +689,7 @@ def test_a_disk_that_is_full_at_the_start(tmp_path):
 
 @pytest.mark.parametrize("when", WHEN)
 def test_rules_that_find_no_room(when):
-    """it is reported, the bus goes on, and the lines that are there are whole"""
+    """it is reported, the bus goes on, and no faults are left, since they would lack a rule"""
     rule = "next 99999999 from can1 id 00000123:1FFFFFFF good"
     words = [*(LIVE if when == "live" else ()), "can0,can1"]
     with serving_alone(*words, preexec_fn=may_grow(5000)) as server:
@@ -645,9 +701,25 @@ def test_rules_that_find_no_room(when):
         assert server.finish()[0] == 1
         assert re.search(r"^canbusd: write fault\n  \S*can0\.rec\.faults\.new: File too large", server.said(), re.M)
         assert server.audited("can0.rec") >= 3
-        assert names_in(server.folder) == ["can0.log", "can0.rec", "can0.rec.faults.new"]
-        text, lines = read(server.path("can0.rec.faults.new")), f"at 0 {rule}\nat 0 nofaults\n" * 100
-        assert lines.startswith(text) and text.endswith("\n") and 5000 - len(rule) - 10 < len(text) <= 5000
+        assert names_in(server.folder) == ["can0.log", "can0.rec"]
+
+
+def test_a_kill_after_rules_that_find_no_room(tmp_path):
+    """the record is set aside without faults: those that are there lack rules of its entries"""
+    with serving_alone(*LIVE, "can0,can1", out=tmp_path, preexec_fn=may_grow(5000)) as server:
+        one, other = plain(server, "can0"), plain(server, "can1")
+        for _ in range(100):
+            assert give(one, "next 99999999 from can1 id 00000123:1FFFFFFF good") == "< ok >"
+            assert one.answer("< nofaults >") == "< ok >"
+        assert come_true(lambda: "canbusd: write fault\n" in server.said())
+        one.write("< send 123 0 >")
+        assert other.frame() == ("123", b"")
+        assert come_true(lambda: "attempt" in read(tmp_path / "can0.rec.new"))
+        assert read(tmp_path / "can0.rec.faults.new") == ""
+        server.child.kill()
+        server.child.wait()
+    assert start(tmp_path, "--record", "live", "can0,can1")[0] == 0
+    assert left(tmp_path) == {} and "attempt" in read(tmp_path / "can0.rec.cut")
 
 
 @pytest.mark.parametrize("when", [*WHEN, "none", "nowhere"])

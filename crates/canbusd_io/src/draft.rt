@@ -103,9 +103,12 @@ impl Draft {
         let _ = fs::rename(rt, &self.aside, &self.draft);
     }
 
-    /// Removes what was set aside before.
-    pub fn clear_aside<H: Files>(&self, rt: &H) {
-        let _ = fs::remove_file(rt, &self.aside);
+    /// Removes what was set aside before, if there is something.
+    pub fn clear_aside<H: Files>(&self, rt: &H) -> io::Result<()> {
+        match fs::remove_file(rt, &self.aside) {
+            Err(error) if error.kind() != ErrorKind::NotFound => Err(error),
+            _ => Ok(()),
+        }
     }
 
     /// Removes what an earlier run left under the file's name, unless the file is written in place.

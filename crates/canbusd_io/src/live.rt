@@ -9,7 +9,8 @@ ghost use Rattle.canbusd_io.specs.LiveLines.{LogHas, RecordHas};
 
 use crate::draft::Draft;
 use crate::files::write_failure;
-use crate::live_file::{FileOver, LiveFile};
+use crate::live_faults::LiveFaults;
+use crate::live_file::{FileOver, LiveFile, Remains};
 use crate::notes::reason_note;
 use crate::program_error::ProgramError;
 use crate::report::Report;
@@ -84,7 +85,7 @@ impl<F: Write + OpenFile + Drop> LiveRecord<F> {
         ensures open { IfOk result (λ live. IsSome live.file.out) }
     {
         let path = String::from_str(alloc, draft.draft())?;
-        let file = LiveFile::new(alloc, path, file, is_synced)?;
+        let file = LiveFile::new(alloc, path, file, is_synced, Remains::WholeLines)?;
         let start = Snapshot::of(&file);
         let file = with_front(alloc, file, config)?;
         Ok(LiveRecord {
@@ -112,13 +113,14 @@ impl<F: Write + OpenFile + Drop> LiveRecord<F> {
     }
 
     /// Writes the lines of the last entries and the line of the end, after which there are this many entries, and gives
-    /// the file its name. A file that is over gets neither.
+    /// the file its name, and the faults of the run theirs. A file that is over gets neither.
     pub fn finish<H: Files>(
         &mut self,
         rt: &H,
         alloc: Global,
         entries: &PackedRecord,
         count: u64,
+        faults: Option<&LiveFaults>,
     ) -> Result<(), Report<'static>>
         requires { All HasFittingReply entries.now.entries }
         ensures lines { MayGet (whole_contents F.contents) self.old.file.out self.new.file.out
@@ -134,7 +136,7 @@ impl<F: Write + OpenFile + Drop> LiveRecord<F> {
         if self.file.out.is_none() {
             return Ok(());
         }
-        self.take_name(rt, alloc)
+        self.take_name(rt, alloc, faults)
     }
 
     // Writes the lines of the last entries and the line of the end.
@@ -159,13 +161,25 @@ impl<F: Write + OpenFile + Drop> LiveRecord<F> {
         self.settle(alloc, put)
     }
 
-    // Gives the file its name, which no file has that is over.
-    fn take_name<H: Files>(&self, rt: &H, alloc: Global) -> Result<(), Report<'static>>
+    // Gives the file its name, which no file has that is over, and the faults of the run theirs.
+    fn take_name<H: Files>(
+        &self,
+        rt: &H,
+        alloc: Global,
+        faults: Option<&LiveFaults>,
+    ) -> Result<(), Report<'static>>
         requires { IsSome self.now.file.out }
     {
+        if let Some(faults) = faults {
+            faults.make_way(rt);
+        }
         self.draft
             .take_name(rt)
-            .map_err(|error| write_failure(alloc, self.draft.path(), &error))
+            .map_err(|error| write_failure(alloc, self.draft.path(), &error))?;
+        match faults {
+            Some(faults) => faults.finish(rt, alloc),
+            None => Ok(()),
+        }
     }
 
     fn settle(&mut self, alloc: Global, put: io::Result<()>) -> Result<(), Report<'static>>
@@ -269,7 +283,7 @@ impl<F: Write + OpenFile + Drop> LiveLog<F> {
         ensures open { IfOk result (λ log. IsSome log.file.out) }
     {
         let path = String::from_str(alloc, draft.path())?;
-        let file = LiveFile::new(alloc, path, file, is_synced)?;
+        let file = LiveFile::new(alloc, path, file, is_synced, Remains::WholeLines)?;
         Ok(LiveLog {
             draft,
             names,

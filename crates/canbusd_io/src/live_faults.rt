@@ -1,7 +1,7 @@
 //! The faults of the run of a bus, in a file beside its record.
 use crate::draft::Draft;
 use crate::files::write_failure;
-use crate::live_file::LiveFile;
+use crate::live_file::{LiveFile, Remains};
 use crate::report::Report;
 use std::alloc::{AllocError, Global};
 use std::fs::File;
@@ -10,7 +10,8 @@ use std::io::{Error, ErrorKind, Write};
 use std::rt::Files;
 
 /// The faults of the run of a bus, for an audit: the script that it began with, and the lines of what became of its rules. The
-/// file is written as a draft, and gets its name after the record; a run without faults has none.
+/// file is written as a draft, and gets its name after the record; a run without faults has none. One that lacks a line would
+/// say of later attempts that another rule decided, so with the first fault it is empty.
 #[derive(Drop)]
 pub struct LiveFaults {
     draft: Draft,
@@ -94,18 +95,21 @@ impl LiveFaults {
         self.has_fault = true;
     }
 
-    /// Gives the file its name, which its record has by now. Where the run had no faults, or lines were lost, no file of an
-    /// earlier run keeps that name.
-    pub fn finish<H: Files>(&self, rt: &H, alloc: Global) -> Result<(), Report<'static>> {
-        if !self.has_fault && matches!(&self.file, Some(file) if file.has_lines()) {
-            let named = self.draft.take_name(rt);
-            return named.map_err(|error| self.failure(alloc, &error));
-        }
-        if !self.has_fault {
-            self.draft.clear(rt);
-        }
+    /// Removes what an earlier run left under the file's name. Before its record gets its own: a server that is killed then leaves
+    /// no record beside the faults of another run.
+    pub fn make_way<H: Files>(&self, rt: &H) {
         self.draft.remove_older(rt);
-        Ok(())
+    }
+
+    /// Gives the file its name, which its record has by now. Where the run had no faults, or lines were lost, it is removed.
+    pub fn finish<H: Files>(&self, rt: &H, alloc: Global) -> Result<(), Report<'static>> {
+        if self.has_fault || !matches!(&self.file, Some(file) if file.has_lines()) {
+            self.draft.clear(rt);
+            return Ok(());
+        }
+        self.draft
+            .take_name(rt)
+            .map_err(|error| self.failure(alloc, &error))
     }
 
     /// Removes the file, which has no name yet.
@@ -133,7 +137,7 @@ fn begun<H: Files<File = File>>(
 ) -> io::Result<LiveFile<File>> {
     let path = String::from_str(alloc, draft.draft())?;
     let file = draft.make(rt)?;
-    let mut live = LiveFile::new(alloc, path, file, is_synced)?;
+    let mut live = LiveFile::new(alloc, path, file, is_synced, Remains::Nothing)?;
     put_lines(&mut live, script.as_bytes())?;
     Ok(live)
 }

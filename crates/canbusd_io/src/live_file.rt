@@ -11,11 +11,21 @@ use std::io::{BufWriter, Error, Write};
 /// How many bytes go out in one write at most.
 const BLOCK: usize = 65_536;
 
-/// A file that gets lines while a server runs. With the first fault it is over: it is cut to its whole lines, and gets no
+/// What a file keeps that had a fault.
+#[derive(Debug, Clone, Copy, PartialEq, Eq)]
+pub enum Remains {
+    /// Its whole lines.
+    WholeLines,
+    /// Nothing, as what lacks a line would say something else.
+    Nothing,
+}
+
+/// A file that gets lines while a server runs. With the first fault it is over: it is cut to what it keeps then, and gets no
 /// more.
 #[derive(Drop)]
 pub struct LiveFile<F: Write + OpenFile + Drop> {
     pub path: String,
+    remains: Remains,
     /// Whether each flush waits until the disk has what was written.
     pub is_synced: bool,
     /// Where its lines go, until it is over.
@@ -31,13 +41,20 @@ pub struct FileOver {
 
 impl<F: Write + OpenFile + Drop> LiveFile<F> {
     /// A file that has nothing yet.
-    pub fn new(alloc: Global, path: String, file: F, is_synced: bool) -> io::Result<LiveFile<F>>
+    pub fn new(
+        alloc: Global,
+        path: String,
+        file: F,
+        is_synced: bool,
+        remains: Remains,
+    ) -> io::Result<LiveFile<F>>
         ensures { IfOk result (λ live.
             Begins (whole_contents F.contents) (F.contents file) live.out) }
     {
         let out = BufWriter::with_capacity(alloc, BLOCK, WholeLines::new(file))?;
         Ok(LiveFile {
             path,
+            remains,
             is_synced,
             out: Some(out),
         })
@@ -98,7 +115,11 @@ impl<F: Write + OpenFile + Drop> LiveFile<F> {
             };
         };
         let (whole, _) = out.into_parts();
-        let _ = whole.inner.set_len(whole.bytes);
+        let kept = match self.remains {
+            Remains::WholeLines => whole.bytes,
+            Remains::Nothing => 0,
+        };
+        let _ = whole.inner.set_len(kept);
         FileOver {
             whole_lines: whole.lines,
             why: whole.why.unwrap_or(error),

@@ -52,14 +52,15 @@ impl<F: Write + OpenFile + Drop> LiveFiles<F> {
         kept
     }
 
-    /// Writes the lines of the last entries and the line of the end to the record, if it is wanted, and gives it its name.
-    /// There are this many entries then.
+    /// Writes the lines of the last entries and the line of the end to the record, if it is wanted, and gives it its name, and
+    /// its faults theirs. There are this many entries then.
     fn finish_record<H: Files>(
         &mut self,
         rt: &H,
         alloc: Global,
         entries: &PackedRecord,
         count: u64,
+        faults: Option<&LiveFaults>,
     ) -> Result<(), Report<'static>>
         requires { All HasFittingReply entries.now.entries }
         ensures kept { RecordGets F.contents self.old.record
@@ -70,7 +71,7 @@ impl<F: Write + OpenFile + Drop> LiveFiles<F> {
         let Some(record) = &mut self.record else {
             return Ok(());
         };
-        let kept = record.finish(rt, alloc, entries, count);
+        let kept = record.finish(rt, alloc, entries, count, faults);
         if let Err(_) = &kept {
             self.has_fault = true;
         }
@@ -96,19 +97,6 @@ impl<F: Write + OpenFile + Drop> LiveFiles<F> {
             self.has_fault = true;
         }
         kept
-    }
-
-    /// Gives the faults of the bus their name, if its record has its own.
-    fn finish_faults<H: Files>(
-        &self,
-        rt: &H,
-        alloc: Global,
-        faults: &LiveFaults,
-    ) -> Result<(), Report<'static>> {
-        match &self.record {
-            Some(record) if record.file.out.is_some() => faults.finish(rt, alloc),
-            _ => Ok(()),
-        }
     }
 
     /// Whether those that the options want are there, and had no fault.
@@ -286,15 +274,16 @@ fn open_log<'a, H: Files<File = File>>(
     ))
 }
 
-/// Writes what is missing of the files of each bus, and gives its record its name. Returns whether they are what the
-/// options want, without a fault, which ends only its file. The caller shows that they were given what was handed out of
-/// the history that the bus left.
+/// Writes what is missing of the files of each bus, and gives its record its name, and the faults beside it theirs. Returns
+/// whether they are what the options want, without a fault, which ends only its file. The caller shows that they were given
+/// what was handed out of the history that the bus left.
 pub fn finish_all<F: Write + OpenFile + Drop, H: Files, E: Write>(
     rt: &H,
     alloc: Global,
     options: &ServeOptions<'_>,
     buses: &[BusWord<'_>],
     files: &mut [LiveFiles<F>],
+    faults: &[LiveFaults],
     settled: &[Settled<LongEnd>],
     reporter: &mut Reporter<'_, E>,
 ) -> bool
@@ -313,26 +302,18 @@ pub fn finish_all<F: Write + OpenFile + Drop, H: Files, E: Write>(
     let Some((own, settled)) = settled.split_first() else {
         unreachable!()
     };
-    finish(rt, alloc, bus, first, &own.history, reporter);
+    let (first_faults, faults) = split_first(faults);
+    finish(rt, alloc, bus, first, first_faults, &own.history, reporter);
     let are_there = first.are_there(options);
-    finish_all(rt, alloc, options, buses, files, settled, reporter) && are_there
+    finish_all(rt, alloc, options, buses, files, faults, settled, reporter) && are_there
 }
 
-/// Gives the faults of each bus whose record has its name theirs. Returns whether they have all lines, without a fault.
-pub fn finish_faults<F: Write + OpenFile + Drop, H: Files, E: Write>(
-    rt: &H,
-    alloc: Global,
-    files: &[LiveFiles<F>],
-    faults: &[LiveFaults],
-    reporter: &mut Reporter<'_, E>,
-) -> bool {
-    let mut are_whole = true;
-    for (files, faults) in files.iter().zip(faults) {
-        let named = files.finish_faults(rt, alloc, faults);
-        are_whole &= named.is_ok() && faults.is_whole();
-        reporter.report(named);
+// The faults of the first bus, if records are wanted, and those of the others.
+fn split_first(faults: &[LiveFaults]) -> (Option<&LiveFaults>, &[LiveFaults]) {
+    match faults.split_first() {
+        Some((first, others)) => (Some(first), others),
+        None => (None, faults),
     }
-    are_whole
 }
 
 // The record of the bus is the text of its whole history then.
@@ -341,6 +322,7 @@ fn finish<F: Write + OpenFile + Drop, H: Files, E: Write>(
     alloc: Global,
     bus: &BusWord<'_>,
     files: &mut LiveFiles<F>,
+    faults: Option<&LiveFaults>,
     end: &LongEnd,
     reporter: &mut Reporter<'_, E>,
 )
@@ -349,6 +331,6 @@ fn finish<F: Write + OpenFile + Drop, H: Files, E: Write>(
     ensures whole { AreWhole F.contents (reverse end.now.history) files.new }
 {
     let rest = end.entries();
-    reporter.report(files.finish_record(rt, alloc, rest, end.len()));
+    reporter.report(files.finish_record(rt, alloc, rest, end.len(), faults));
     reporter.report(files.keep_log(alloc, bus.first_name(), rest));
 }

@@ -116,8 +116,9 @@ pub fn set_all_aside<'a, H: Files<File = File>, E: Write>(
     Ok(())
 }
 
-// Sets aside what is left of a record, with its faults. These go first, and come back where the record can't follow: so the
-// next start finds both, also where this one is refused.
+// Sets aside what is left of a record, and then its faults. Those that were set aside before make way first: a server that is
+// killed meanwhile leaves no record beside the faults of another run. Where the faults can't follow the record comes back, so
+// that the next start finds both.
 fn set_aside<'a, H: Files<File = File>>(
     rt: &H,
     alloc: Global,
@@ -127,22 +128,22 @@ fn set_aside<'a, H: Files<File = File>>(
 ) -> Result<(), Report<'a>>
     ensures { IfErr result (λ failure. IsOfServing failure.error) }
 {
-    let has_faults = faults.has_more_than(rt, 0);
-    if has_faults {
-        if let Err(error) = faults.set_aside(rt) {
-            return Err(open_failure(alloc, folder, faults.aside(), &error));
-        }
+    if let Err(error) = faults.clear_aside(rt) {
+        return Err(open_failure(alloc, folder, faults.aside(), &error));
     }
     if let Err(error) = record.set_aside(rt) {
-        if has_faults {
-            faults.put_back(rt);
-        }
         return Err(open_failure(alloc, folder, record.aside(), &error));
     }
-    if !has_faults {
-        faults.clear_aside(rt);
+    if !faults.has_more_than(rt, 0) {
+        return Ok(());
     }
-    Ok(())
+    match faults.set_aside(rt) {
+        Ok(()) => Ok(()),
+        Err(error) => {
+            record.put_back(rt);
+            Err(open_failure(alloc, folder, faults.aside(), &error))
+        }
+    }
 }
 
 fn aside_note(alloc: Global, record: &Draft) -> Result<String, AllocError> {
@@ -233,6 +234,9 @@ fn save_bus<H: Files, E: Write>(
         ) => {
             rec.clear(rt);
             let saved = save_record_at(rt, alloc, rec.path(), rec.draft(), record);
+            if let (Ok(()), Some(faults)) = (&saved, faults) {
+                faults.make_way(rt);
+            }
             let kept = rec.keep(rt, alloc, saved);
             let named = match faults {
                 Some(faults) if kept.is_ok() => faults.finish(rt, alloc),

@@ -13,7 +13,7 @@ use crate::ends::put_ends;
 use crate::file_keeper::{FileKeeper, KeptFiles};
 use crate::host::{Host, Start};
 use crate::listening::{Listening, leave, listen, listen_failure};
-use crate::live_files::{LiveFiles, finish_all, finish_faults, open_all};
+use crate::live_files::{LiveFiles, finish_all, open_all};
 use crate::notices::first_name_at;
 use crate::serve_files::{
     drafts_of, lock_folder, look_at_folder, open_failure, save_all, set_all_aside,
@@ -275,19 +275,19 @@ impl<'r, 'a, H: ServerRuntime> ServerRun<'r, 'a, H> {
         let buses = &self.options.buses;
         let mut reporter = Reporter::new(errors);
         reporter.report(put_ends(self.alloc, buses, &settled, output));
+        let faults = self.take_faults();
         let are_there = finish_all(
             self.rt,
             self.alloc,
             self.options,
             buses,
             &mut files,
+            &faults,
             &settled,
             &mut reporter,
         );
         let has_fault = reporter.has_reported() || !are_there;
-        let faults = self.take_faults();
-        let is_whole = finish_faults(self.rt, self.alloc, &files, &faults, &mut reporter);
-        Ok((has_fault || !is_whole, files))
+        Ok((has_fault || !are_whole(&faults), files))
     }
 
     // The faults of each bus.
