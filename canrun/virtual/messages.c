@@ -2,9 +2,9 @@
 #define _GNU_SOURCE
 #include "messages.h"
 #include "proc.h"
+#include "tell.h"
 #include "turns.h"
 
-#include <ctype.h>
 #include <stdarg.h>
 #include <stdio.h>
 #include <string.h>
@@ -12,18 +12,10 @@
 #define TOLD 256
 #define LISTED 10
 
-/* Names are what programs choose. */
-static char *printable(char *text) {
-    for (char *at = text; *at; at++) {
-        *at = isprint((unsigned char)*at) ? *at : '?';
-    }
-    return text;
-}
-
 static void put(const char *format, va_list list) {
     char text[1000];
     vsnprintf(text, sizeof text, format, list);
-    printable(text);
+    make_printable(text);
     fprintf(stderr, "canbusd-run: virtual time: at %.6f s %s\n", (double)run->now / SECOND, text);
 }
 
@@ -85,7 +77,7 @@ const char *who(uint32_t pid, uint32_t tid) {
     size_t length = proc_read(pid, tid, "comm", name, sizeof name);
     char *to = text[turn++ % 2];
     name[length ? length - 1 : 0] = 0;
-    printable(name);
+    make_printable(name);
     if (tid && tid != pid) {
         snprintf(to, sizeof text[0], "%s (thread %u of process %u)", name, tid, pid);
     } else {

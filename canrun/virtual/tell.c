@@ -10,6 +10,12 @@
 #include <string.h>
 #include <time.h>
 
+void make_printable(char *text) {
+    for (; *text; text++) {
+        *text = *text >= ' ' && *text <= '~' ? *text : '?';
+    }
+}
+
 /* Takes the room for a notice; NULL where there is none. */
 static struct notice *take_notice(void) {
     for (int i = 0; i < NOTICES; i++) {
@@ -46,6 +52,7 @@ void tell(bool ends_run, const char *format, ...) {
     va_start(list, format);
     vsnprintf(text, sizeof text, format, list);
     va_end(list);
+    make_printable(text);
     if (!put_notice(ends_run, text)) {
         write_here(text);
         run->has_failed |= ends_run;

@@ -12,4 +12,7 @@ void tell(bool ends_run, const char *format, ...) __attribute__((format(printf, 
 #define TEST_ROOM 220
 const char *tell_test(char room[TEST_ROOM]);
 
+/* Replaces what is no printable ASCII: names are what programs choose. */
+void make_printable(char *text);
+
 #endif
