@@ -216,12 +216,18 @@ def test_some_interfaces():
     with serving("can0,can1,can2", "far0") as server:
         shown = passes(server, "/usr/bin/python3", "-c", text, options=["--interfaces", "far0,can1"])
         assert shown.split() == ["far0", "can1"]
-        for names in ("can0,can9", "can0,", "", "can0,,can1"):
+        wrong = {
+            "can0,can9": "can9",
+            "can0,": "",
+            "": "",
+            "can0,,can1": "",
+            "can0,\n\x1b[m,x": "??[m",
+            30 * "x": 30 * "x",
+        }
+        for names, name in wrong.items():
             ended = alone("--address", server.address, "--interfaces", names, "true")
-            assert (ended.returncode, ended.stderr) == (
-                125,
-                f"canbusd-run: --interfaces: the server has no such interface; names are joined by commas: {names}\n",
-            )
+            line = f"canbusd-run: --interfaces: the server has no interface '{name}'; it has can0,can1,can2,far0\n"
+            assert (ended.returncode, ended.stderr) == (125, line)
         server.end()
 
 

@@ -23,7 +23,7 @@ from running import (  # noqa: F401
     started,
     written,
 )
-from serving import ROOT, come_true, serving, turns
+from serving import ROOT, come_true, plain, serving, turns
 
 pytestmark = needs("candump", "cansend")
 
@@ -383,6 +383,35 @@ def test_wait_never_hangs(places, runs, cases):
         for _ in range(runs or cases):
             ended = run(server, *words, options=["--wait"])
             assert (ended.returncode, ended.stderr) == (0, ""), ended
+        server.end()
+
+
+def refused_sends(server):
+    """How many sends a full queue has turned away."""
+    client = plain(server, "can0")
+    for text in iter(lambda: client.answer("< stats >"), ""):
+        if text.startswith("< stats "):
+            client.close()
+            return int(text.split()[9])
+    raise AssertionError("no counts")
+
+
+@needs("cangen")
+@pytest.mark.parametrize("options", [(), ("--txqueue", "1"), ("--bitrate", "500000")], ids=["10", "1", "bit rate"])
+def test_waits_are_not_refused(options):
+    """a write that waits is sent once there is room: where nobody else writes only the first that finds none is refused,
+    and beside others, those whose room another has taken"""
+    words = ["cangen", "-g", "0", "-n", "300", "-L", "8", "can0"]
+    with serving(*options, "can0,can1") as server:
+        for _ in range(2):
+            before = refused_sends(server)
+            assert run(server, *words, options=["--wait"]).returncode == 0
+            assert refused_sends(server) - before <= 1
+        before = refused_sends(server)
+        with contextlib.ExitStack() as end:
+            for child in [end.enter_context(started(server, *words, options=["--wait"])) for _ in range(3)]:
+                assert child.wait(60) == 0
+        assert refused_sends(server) - before < 300
         server.end()
 
 

@@ -369,6 +369,71 @@ def test_server_outside():
     assert virtual(sys.executable, "-c", inside).returncode == 0
 
 
+#: Connections to what is no program of the run: by python-can without an address, by a child, and by a path.
+OUTSIDE = r"""
+import os, socket, subprocess, sys
+import can
+import pytest
+
+TEXT = "import socket, sys; socket.create_connection(('127.0.0.1', int(sys.argv[1])))"
+
+def test_port():
+    socket.create_connection(("127.0.0.1", int(os.environ["OUTSIDE"])), 5)
+
+def test_bus():
+    can.Bus(interface="canbusd", channel="can0")
+
+def test_child():
+    subprocess.run([sys.executable, "-c", TEXT, os.environ["OUTSIDE"]])
+
+def test_path():
+    socket.socket(socket.AF_UNIX).connect(os.environ["OUTSIDE_PATH"])
+
+@pytest.mark.parametrize("text", ["x" * 500])
+def test_long(text):
+    test_port()
+
+def test_odd():
+    os.environ["PYTEST_CURRENT_TEST"] = "\x1b[2J\n%s%n\u00e4" + 10000 * "y"
+    test_port()
+"""
+
+
+@needs_can
+@pytest.mark.parametrize(
+    "name, line",
+    [
+        ("port", r"AT_PORT, in test_it\.py::test_port \(call\)"),
+        ("bus", r"AT_PORT, in test_it\.py::test_bus \(call\)"),
+        ("child", r"AT_PORT, in test_it\.py::test_child \(call\)"),
+        ("path", r"AT_PATH, in test_it\.py::test_path \(call\)"),
+        ("long", r"AT_PORT, in test_it\.py::test_long\[x{150,200}\.\."),
+        ("odd", r"AT_PORT, in \?\[2J\?%s%n\?\?y{150,210}\.\."),
+    ],
+)
+def test_server_outside_of_pytest(tmp_path, name, line):
+    """the line that says so is on the standard error of the run though pytest captures that of tests, with the test"""
+    (tmp_path / "test_it.py").write_text(OUTSIDE, encoding="utf-8")
+    path = str(tmp_path / "outside")
+    with socket.create_server(("127.0.0.1", 0)) as server, socket.socket(socket.AF_UNIX) as other:
+        other.bind(path)
+        other.listen()
+        port = str(server.getsockname()[1])
+        env = {**os.environ, "PYTHONPATH": os.path.join(ROOT, "python/src"), "OUTSIDE": port, "OUTSIDE_PATH": path}
+        env.update(CANBUSD_ADDRESS=f"127.0.0.1:{port}", CANBUSD_RUN=command(), CANBUSD=program())
+        words = [sys.executable, "-m", "pytest", "-p", "canbusd.pytest_plugin", "-q", f"test_it.py::test_{name}"]
+        words.append("--canbusd-virtual")
+        ended = subprocess.run(words, cwd=tmp_path, env=env, capture_output=True, text=True, check=False)
+    places = {
+        "AT_PORT": rf"TCP port {port}, which is no program of this run, at 127\.0\.0\.1",
+        "AT_PATH": rf"{re.escape(path)} of process {os.getpid()}, which is no program of this run",
+    }
+    for word, place in places.items():
+        line = line.replace(word, place)
+    fails(ended, rf"^canbusd-run: virtual time: at [\d.]+ s python.* connects to {line}; start it inside of the run\n$")
+    assert ended.stderr.count("\n") == 1 and ended.stderr.isascii(), ended
+
+
 @needs_gcc
 def test_static(tmp_path):
     """a program without the library is named, with the reason; its wait ends the run"""

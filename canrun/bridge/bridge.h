@@ -72,8 +72,9 @@ struct options {
 };
 #define NO_FILTERS UINT32_MAX
 
-/* The reply that ends what was given last: an echo of commands, or the verdict on a frame. */
-enum due { DUE_NOTHING, DUE_ECHO, DUE_VERDICT };
+/* The reply that ends what was given last: the counts of the interface, which nothing waits for at once; an echo of
+ * commands; the verdict on a frame; or that, and then the counts. */
+enum due { DUE_NOTHING, DUE_COUNTS, DUE_ECHO, DUE_VERDICT, DUE_VERDICT_AND_COUNTS };
 
 struct session {
     int fd;                     /* -1: it has ended */
@@ -93,9 +94,13 @@ struct session {
     char reply[160];      /* the first reply to what was given last that is not ok */
     size_t have;
     char input[32768];
-    bool has_counts; /* while a frame waits for room: how many have left the queue, and when that is looked at again */
-    uint64_t gone, look_at;
-    int64_t pause;
+    uint64_t gone, waiting;         /* the last counts of the queue: how many have left it, and how many wait there */
+    uint64_t since;                 /* frames of this session that it took since then */
+    uint64_t places;                /* the most that were seen to wait: all that it has, once it was full */
+    bool was_full;                  /* a frame that waits for room has found none */
+    unsigned missed;                /* looks at which others had taken what became free */
+    uint64_t look_at;               /* while a frame waits for room: when the counts are looked at again */
+    int64_t pause;                  /* and after how long once more */
     bool is_stuck;                  /* a short wait for room was in vain, and no frame was accepted since */
     uint64_t sent_end;              /* above each number that a frame of this session has got */
     uint8_t sent[NUMBERS_KEPT / 8]; /* a bit for each of the last numbers below that: whether one has got it */
@@ -109,8 +114,8 @@ void session_end(struct session *session);
  * server said first that is not ok. */
 int session_command(struct session *session, const char *text);
 
-/* Sends a frame, and returns the server's verdict. */
-int session_send(struct session *session, const struct canfd_frame *frame, bool is_fd);
+/* Sends a frame, and returns the server's verdict; where it asks for the counts too these come after it. */
+int session_send(struct session *session, const struct canfd_frame *frame, bool is_fd, bool asks_counts);
 
 /* Whether the server sends nothing by this session but replies, and none is due. */
 bool session_brings_nothing(const struct session *session);
@@ -132,9 +137,12 @@ bool session_has_all(struct session *session);
 /* The number that the server gave the frame which was sent last. */
 uint64_t session_last_number(const struct session *session);
 
-/* How many frames have left the transmit queue of the interface, one way or the other, and how many wait there. Returns
- * 0, or an errno. */
-int session_counts(struct session *session, uint64_t *gone, uint64_t *waiting);
+/* Looks at the counts of the interface's queue. Returns 0, or an errno. */
+int session_look(struct session *session);
+
+/* Whether the queue has room, by the counts that came last: an empty one has, and before one was full it is not known
+ * how many places it has. */
+bool session_has_room(struct session *session);
 
 /* Reads what there is, handles it, and hands it on. False where it waited, and nothing came in PATIENCE. */
 bool session_read(struct session *session, bool waits);

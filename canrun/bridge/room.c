@@ -10,6 +10,11 @@
 /* How often the counts of an interface are looked at, in nanoseconds: at first, and at last. */
 #define SHORT_PAUSE 100000
 #define LONG_PAUSE 2000000
+/* A frame that waits is sent where there is room for it, as a refused send is an entry of the server's record. Where
+ * others took what became free at so many looks one after the other it is tried all the same. */
+#define MOST_MISSED 16
+/* What half of a queue is taken for that was never full. */
+#define FEW_PLACES 4
 
 static struct waiter {
     int index; /* of the interface */
@@ -40,20 +45,39 @@ static void finish(unsigned at, int error) {
 
 /* The queue was full: its counts are looked at after a while. */
 static void begin_looking(struct session *session) {
-    session->has_counts = false;
     session->pause = SHORT_PAUSE;
     session->look_at = clock_now();
 }
 
-static int send_now(struct session *to, const struct canfd_frame *frame, bool is_fd) {
-    int error = session_send(to, frame, is_fd);
+/* Whether the queue may be half full with one frame more, as far as that is known, so that the counts are asked for. */
+static bool is_half_full(const struct session *session) {
+    uint64_t half = session->was_full ? (session->places + 1) / 2 : FEW_PLACES;
+    return session->waiting + session->since + 1 >= half;
+}
+
+static int send_now(struct session *to, const struct canfd_frame *frame, bool is_fd, bool waits) {
+    int error = session_send(to, frame, is_fd, waits && is_half_full(to));
     to->is_stuck &= error != 0;
+    to->was_full |= waits && error == ENOBUFS;
     return error;
 }
 
+/* The same for a frame that waits where there is no room: then it is sent only where there is. */
+static int send_to_room(struct session *to, const struct canfd_frame *frame, bool is_fd) {
+    if (!session_has_room(to)) {
+        int error = session_look(to);
+        if (error || !session_has_room(to)) {
+            return error ? error : refused(ENOBUFS, "the transmit queue is full");
+        }
+    }
+    return send_now(to, frame, is_fd, true);
+}
+
 int room_send(struct session *to, const struct canfd_frame *frame, bool is_fd, const struct later *later) {
-    bool has_turn = first_at(to->index) == count;
-    int error = has_turn && !(later && later->is_refused) ? send_now(to, frame, is_fd) : ENOBUFS;
+    bool has_turn = first_at(to->index) == count, waits = later || raw_waits();
+    int error = !has_turn || (later && later->is_refused) ? refused(ENOBUFS, "others wait for room")
+                : waits                                   ? send_to_room(to, frame, is_fd)
+                                                          : send_now(to, frame, is_fd, false);
     if (error != ENOBUFS || !later || (later->until && to->is_stuck)) {
         return error;
     }
@@ -67,26 +91,19 @@ int room_send(struct session *to, const struct canfd_frame *frame, bool is_fd, c
     return SENT_LATER;
 }
 
-/* Whether a frame has left the queue since it was full, or an errno. A look at the counts is no entry of the server's
- * record; a refused send is one. A queue without a frame has room, whatever was counted before. */
-static int has_room(struct session *session, bool *has) {
-    uint64_t gone, waiting;
-    int error = session_counts(session, &gone, &waiting);
-    if (error) {
-        return error;
-    }
-    *has = !waiting || (session->has_counts && gone != session->gone);
-    session->has_counts = true;
-    session->gone = gone;
-    return 0;
-}
-
 void room_look(int index) {
     struct session *session = sessions_for(index);
     if (session && first_at(index) == count) {
         begin_looking(session);
-        has_room(session, &(bool){false});
     }
+}
+
+/* Whether the first that waits is to be sent: there is room, or others were faster all the time. */
+static bool is_time(struct session *session, uint64_t gone_before) {
+    session->missed += session->gone != gone_before;
+    bool is_time = session_has_room(session) || session->missed >= MOST_MISSED;
+    session->missed = is_time ? 0 : session->missed;
+    return is_time;
 }
 
 /* Whether a write that waits has ended: its process was killed. */
@@ -97,10 +114,11 @@ static bool is_abandoned(const struct later *later) {
 
 /* Sends what there is room for; where a send fails otherwise, so does each wait. */
 static void look(struct session *session) {
-    bool has = false;
-    int error = has_room(session, &has);
+    uint64_t gone_before = session->gone;
+    int error = session_look(session);
+    bool has = !error && is_time(session, gone_before);
     unsigned at;
-    session->pause = MIN(session->pause * 2, LONG_PAUSE);
+    session->pause = MIN(session->pause * 3 / 2, LONG_PAUSE);
     session->look_at = clock_now() + session->pause;
     while ((at = first_at(session->index)) < count) {
         if (is_abandoned(&waiters[at].later)) {
@@ -110,12 +128,16 @@ static void look(struct session *session) {
         if (!has && !error) {
             return;
         }
-        int sent = error ? error : send_now(session, &waiters[at].frame, waiters[at].is_fd);
+        int sent = error ? error : send_now(session, &waiters[at].frame, waiters[at].is_fd, true);
         if (sent == ENOBUFS) {
             begin_looking(session);
             return;
         }
         finish(at, sent);
+        if (!error) {
+            begin_looking(session);
+            has = session_has_room(session);
+        }
     }
 }
 

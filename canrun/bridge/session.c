@@ -99,20 +99,43 @@ static uint32_t message_flags(const struct session *session, const struct item *
 
 /* ---- what the server says ---- */
 
+/* Takes the counts; false where the text is another. */
+static bool note_counts(struct session *session, const char *text, unsigned long *queued, unsigned *dropped) {
+    unsigned long done, waiting, lost;
+    if (sscanf(text, "stats %lu %u %*u %*u %lu %lu %lu", queued, dropped, &done, &waiting, &lost) != 5) {
+        return false;
+    }
+    session->gone = done + lost;
+    session->waiting = waiting;
+    session->since = 0;
+    session->places = MAX(session->places, waiting);
+    return true;
+}
+
+static enum due after_verdict(enum due due) {
+    return due == DUE_VERDICT_AND_COUNTS ? DUE_COUNTS : DUE_NOTHING;
+}
+
 static void handle_reply(struct session *session, const char *text) {
     unsigned long queued;
     unsigned dropped;
-    bool is_accepted = session->due == DUE_VERDICT && note_sent(session, text);
-    if (is_accepted || (session->due == DUE_ECHO && !strcmp(text, "echo"))) {
+    bool is_verdict = session->due >= DUE_VERDICT;
+    bool has_counts = note_counts(session, text, &queued, &dropped);
+    if (is_verdict && note_sent(session, text)) {
+        session->since++;
+        session->due = after_verdict(session->due);
+    } else if (session->due == DUE_ECHO && !strcmp(text, "echo")) {
         session->due = DUE_NOTHING;
-    } else if (session->is_counting && sscanf(text, "stats %lu %u", &queued, &dropped) == 2) {
+    } else if (session->due == DUE_COUNTS && (has_counts || !strncmp(text, "error ", 6))) {
+        session->due = DUE_NOTHING;
+    } else if (session->is_counting && has_counts) {
         session->is_counting = false;
         session->is_answered = session->is_asked;
         session->queued = queued;
         outbox_server_dropped(session, dropped);
-    } else if (session->due && !*session->reply && strcmp(text, "ok") != 0) {
+    } else if (session->due && !has_counts && !*session->reply && strcmp(text, "ok") != 0) {
         snprintf(session->reply, sizeof session->reply, "%s", text);
-        session->due = session->due == DUE_VERDICT ? DUE_NOTHING : session->due;
+        session->due = is_verdict ? after_verdict(session->due) : session->due;
     }
 }
 
@@ -198,9 +221,9 @@ static void set_silent(struct session *session, bool is_silent) {
     setsockopt(session->fd, SOL_SOCKET, SO_RCVTIMEO, &time, sizeof time);
 }
 
-/* Waits for the end of the last command; false where it does not come in time. */
-static bool settle(struct session *session) {
-    while (session->due && session->fd >= 0) {
+/* Waits until no more than this is due; false where it does not come in time. */
+static bool settle(struct session *session, enum due most) {
+    while (session->due > most && session->fd >= 0) {
         if (!session_read(session, true)) {
             set_silent(session, true);
             return false;
@@ -214,17 +237,17 @@ static bool settle(struct session *session) {
 
 /* Waits for what is due. Returns 0, or the errno of the refusal. */
 static int verdict(struct session *session) {
-    if (!settle(session)) {
+    if (!settle(session, DUE_COUNTS)) {
         return refused(ETIMEDOUT, "the server does not reply");
     }
     /* What it said before its end counts: it may have too many sessions. */
     int error = error_of(session->reply);
-    return error ? error : session->due ? refused(ENXIO, "the server is gone") : 0;
+    return error ? error : session->due > DUE_COUNTS ? refused(ENXIO, "the server is gone") : 0;
 }
 
 /* Gives commands that end with this reply, and waits for it; after what was given up as the server did not reply. */
 static int give(struct session *session, const char *text, size_t length, enum due due) {
-    if (!settle(session)) {
+    if (!settle(session, DUE_NOTHING)) {
         return refused(ETIMEDOUT, "the server does not reply");
     }
     session->reply[0] = 0;
@@ -262,10 +285,13 @@ int session_command(struct session *session, const char *text) {
     return give(session, whole, (size_t)length, DUE_ECHO);
 }
 
-int session_send(struct session *session, const struct canfd_frame *frame, bool is_fd) {
-    char text[COMMAND];
+static const char stats[] = "< stats >";
+
+int session_send(struct session *session, const struct canfd_frame *frame, bool is_fd, bool asks_counts) {
+    char text[COMMAND + sizeof stats];
     message_of_frame(text, frame, is_fd);
-    return give(session, text, strlen(text), DUE_VERDICT);
+    strcat(text, asks_counts ? stats : "");
+    return give(session, text, strlen(text), asks_counts ? DUE_VERDICT_AND_COUNTS : DUE_VERDICT);
 }
 
 struct session *session_start(int *error) {
@@ -304,9 +330,9 @@ struct session *session_start(int *error) {
 /* ---- counts ---- */
 
 void session_ask_counts(struct session *session) {
-    static const char text[] = "< stats >";
+    const ssize_t length = sizeof stats - 1;
     if (!session->is_counting && session->fd >= 0) {
-        session->is_counting = send(session->fd, text, sizeof text - 1, MSG_DONTWAIT | MSG_NOSIGNAL) == sizeof text - 1;
+        session->is_counting = send(session->fd, stats, (size_t)length, MSG_DONTWAIT | MSG_NOSIGNAL) == length;
     }
 }
 
@@ -325,16 +351,13 @@ bool session_has_all(struct session *session) {
     return session->is_asked && session->is_answered && session->seen >= session->queued;
 }
 
-int session_counts(struct session *session, uint64_t *gone, uint64_t *waiting) {
-    unsigned long done, kept, lost;
-    int error = session_command(session, "< stats >");
-    if (error) {
-        return error;
-    }
-    if (sscanf(session->reply, "stats %*u %*u %*u %*u %lu %lu %lu", &done, &kept, &lost) != 3) {
-        return refused(ENETDOWN, session->reply);
-    }
-    *gone = done + lost;
-    *waiting = kept;
-    return 0;
+int session_look(struct session *session) {
+    session->gone = UINT64_MAX;
+    int error = session_command(session, stats);
+    return error ? error : session->gone == UINT64_MAX ? refused(ENETDOWN, "the server has no counts") : 0;
+}
+
+bool session_has_room(struct session *session) {
+    return settle(session, DUE_NOTHING) &&
+           (!session->was_full || session->waiting + session->since < MAX(session->places, 1));
 }

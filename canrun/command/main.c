@@ -8,6 +8,7 @@
 #include "../shared/interfaces.h"
 #include "../virtual/run.h"
 
+#include <ctype.h>
 #include <errno.h>
 #include <stdio.h>
 #include <stdlib.h>
@@ -141,14 +142,23 @@ static int read_words(char **at, struct words *words) {
     return check_words(words);
 }
 
-/* Has the program find these interfaces, which the server has to have; returns 0, or a status after a line. */
-static int show_interfaces(const char *list) {
+static int no_interface(const char *name, size_t length, const char *all) {
+    fprintf(stderr, "canbusd-run: --interfaces: the server has no interface '");
+    for (size_t i = 0; i < length; i++) {
+        fputc(isprint((unsigned char)name[i]) ? name[i] : '?', stderr);
+    }
+    fprintf(stderr, "'; it has %s\n", all);
+    return STATUS_FAULT;
+}
+
+/* Has the program find these interfaces, of all that the server has; returns 0, or a status after a line. */
+static int show_interfaces(const char *list, const char *all) {
     for (const char *at = list;; at++) {
         char name[IFNAMSIZ] = "";
         size_t length = strcspn(at, ",");
         memcpy(name, at, length < IFNAMSIZ ? length : 0);
         if (!interface_index(name)) {
-            return fault("--interfaces: the server has no such interface; names are joined by commas", list);
+            return no_interface(at, length, all);
         }
         at += length;
         if (!*at) {
@@ -251,7 +261,7 @@ int main(int count, char **all) {
     if (words.waits) {
         setenv("CANBUSD_RUN_WAIT", "1", 1);
     }
-    status = words.interfaces ? show_interfaces(words.interfaces) : 0;
+    status = words.interfaces ? show_interfaces(words.interfaces, server.interfaces) : 0;
     status = status ? status : preload(LIBRARY);
     return status ? status : become(words.program);
 }

@@ -404,6 +404,7 @@ static void loop(void) {
     int patience = 0;
     while (!coordinator.is_over || run->has_failed) {
         handle_events(patience);
+        say_notices();
         if (coordinator.number || run->has_failed) {
             coordinator.status = run->has_failed ? STATUS_STUCK : 128 + coordinator.number;
             return;
@@ -518,6 +519,7 @@ static int coordinate(const struct virtual_options *options, const char *file, c
     signal(SIGINT, SIG_IGN);
     signal(SIGQUIT, SIG_IGN);
     loop();
+    say_notices();
     run->has_ended = 1;
     tree_kill();
     if (getenv("CANBUSD_RUN_DEBUG")) {

@@ -2,6 +2,7 @@
 #define _GNU_SOURCE
 #include "messages.h"
 #include "proc.h"
+#include "tell.h"
 #include "turns.h"
 
 #include <stdarg.h>
@@ -14,6 +15,7 @@
 static void put(const char *format, va_list list) {
     char text[1000];
     vsnprintf(text, sizeof text, format, list);
+    make_printable(text);
     fprintf(stderr, "canbusd-run: virtual time: at %.6f s %s\n", (double)run->now / SECOND, text);
 }
 
@@ -24,8 +26,20 @@ void say(const char *format, ...) {
     va_end(list);
 }
 
+void say_notices(void) {
+    for (int i = 0; i < NOTICES; i++) {
+        struct notice *notice = &run->notices[i];
+        if (notice->state == NOTICE_READY && !run->has_failed) {
+            say("%.*s", NOTICE - 1, notice->text);
+            run->has_failed |= notice->ends_run;
+            notice->state = NOTICE_NONE;
+        }
+    }
+}
+
 void fail(const char *format, ...) {
     va_list list;
+    say_notices();
     if (run->has_failed) {
         return;
     }
@@ -63,6 +77,7 @@ const char *who(uint32_t pid, uint32_t tid) {
     size_t length = proc_read(pid, tid, "comm", name, sizeof name);
     char *to = text[turn++ % 2];
     name[length ? length - 1 : 0] = 0;
+    make_printable(name);
     if (tid && tid != pid) {
         snprintf(to, sizeof text[0], "%s (thread %u of process %u)", name, tid, pid);
     } else {

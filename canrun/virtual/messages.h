@@ -16,6 +16,9 @@ void say_once(uint32_t pid, const char *format, ...) __attribute__((format(print
 /* The same, and the run ends with status 125. */
 void fail(const char *format, ...) __attribute__((format(printf, 1, 2)));
 
+/* Says what programs have to say: see tell.h. */
+void say_notices(void);
+
 /* Who a thread is: its name, process and thread. */
 const char *who(uint32_t pid, uint32_t tid);
 

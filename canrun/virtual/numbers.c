@@ -1,6 +1,7 @@
 /* syscall(2): calls by number, as the server and the standard library of Rust make them. */
 #define _GNU_SOURCE
 #include "calls.h"
+#include "tell.h"
 
 #include <fcntl.h>
 #include <linux/futex.h>
@@ -122,14 +123,11 @@ static long call(long number, const long of[6]) {
 /* What io_uring does waits unseen, so it is refused as by a kernel that has none; said once. */
 static long refuse_io_uring(void) {
     static _Atomic bool is_said;
-    char line[200];
-    int length =
-        snprintf(line, sizeof line,
-                 "canbusd-run: virtual time: %s (process %ld) is refused io_uring, as by a kernel without it\n",
-                 program_invocation_short_name, RAW(SYS_getpid, 0));
+    char test[TEST_ROOM];
     if (!is_said) {
         is_said = true;
-        RAW(SYS_write, 2, line, length < (int)sizeof line ? length : (int)sizeof line - 1);
+        tell(false, "%.60s (process %ld) is refused io_uring, as by a kernel without it%s",
+             program_invocation_short_name, RAW(SYS_getpid, 0), tell_test(test));
     }
     return errno = ENOSYS, -1;
 }

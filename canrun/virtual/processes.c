@@ -2,6 +2,7 @@
 #define _GNU_SOURCE
 #include "calls.h"
 #include "proc.h"
+#include "tell.h"
 
 #include <arpa/inet.h>
 #include <fcntl.h>
@@ -230,21 +231,14 @@ EXPORT void closefrom(int first) {
 /* How many processes there may be between one of the run and its coordinator. */
 #define DEEPEST 1000
 
-/* The run ends: for that server time goes on as ever. */
-__attribute__((noreturn)) static void fail_outside(const char *what) {
-    struct timespec second = {1, 0};
-    char line[400];
-    int length = snprintf(
-        line, sizeof line,
-        "canbusd-run: virtual time: at %.6f s %s (thread %ld of process %ld) connects to %s, which is "
-        "no program of this run; start it inside of the run\n",
-        (double)run->now / SECOND, program_invocation_short_name, RAW(SYS_gettid, 0), RAW(SYS_getpid, 0), what);
-    RAW(SYS_write, 2, line, length);
-    run->has_failed = 1;
-    for (;;) {
-        RAW(SYS_kill, run->coordinator, SIGURG);
-        RAW(SYS_nanosleep, &second, NULL);
-    }
+/* The run ends: for that server time goes on as ever. `host` is where it is, after `, at `, or empty. */
+static void fail_outside(const char *what, const char *host) {
+    char test[TEST_ROOM];
+    tell(
+        true,
+        "%.60s (thread %ld of process %ld) connects to %s, which is no program of this run%s%s; start it inside of the "
+        "run",
+        program_invocation_short_name, RAW(SYS_gettid, 0), RAW(SYS_getpid, 0), what, host, tell_test(test));
 }
 
 /* All of a run are below its coordinator. Of one that has ended it is not known. */
@@ -259,6 +253,16 @@ static bool is_of_run(uint32_t pid) {
 
 static bool has_port(uint32_t port) {
     return run->ports[port / 8] >> port % 8 & 1;
+}
+
+/* `, at HOST`, of an address of IP. */
+static const char *host_of(const struct sockaddr *address, char room[80]) {
+    char host[INET6_ADDRSTRLEN] = "?";
+    const void *number = address->sa_family == AF_INET ? (const void *)&((const struct sockaddr_in *)address)->sin_addr
+                                                       : &((const struct sockaddr_in6 *)address)->sin6_addr;
+    inet_ntop(address->sa_family, number, host, sizeof host);
+    snprintf(room, 80, ", at %s", host);
+    return room;
 }
 
 static uint32_t port_of(const struct sockaddr *address) {
@@ -295,12 +299,14 @@ static void check_peer(int fd, const struct sockaddr *to) {
         bool is_known = !RAW(SYS_getsockopt, fd, SOL_SOCKET, SO_PEERCRED, &peer, &length);
         bool is_of_names = !strncmp(path->sun_path, NAME_SERVICES, sizeof NAME_SERVICES - 1);
         if (is_known && !is_of_names && peer.pid > 0 && !is_of_run((uint32_t)peer.pid)) {
-            snprintf(text, sizeof text, "%s of process %d", path->sun_path[0] ? path->sun_path : "a socket", peer.pid);
-            fail_outside(text);
+            snprintf(text, sizeof text, "%.*s of process %d", (int)sizeof path->sun_path,
+                     path->sun_path[0] ? path->sun_path : "a socket", peer.pid);
+            fail_outside(text, "");
         }
     } else if (port && !has_port(port)) {
+        char host[80];
         snprintf(text, sizeof text, "TCP port %u", port);
-        fail_outside(text);
+        fail_outside(text, host_of(to, host));
     }
 }
 

@@ -75,6 +75,16 @@ struct alarm {
     uint32_t overrun;
 };
 
+/* What one of the run has the coordinator say: see tell.h. */
+#define NOTICES 8
+#define NOTICE 640
+enum notice_state { NOTICE_NONE, NOTICE_BEGUN, NOTICE_READY };
+struct notice {
+    _Atomic uint32_t state;
+    uint32_t ends_run;
+    char text[NOTICE];
+};
+
 /* Why nobody has the turn. */
 enum pause { PAUSE_NONE, PAUSE_BIRTH, PAUSE_OUTSIDE, PAUSE_ALARM, PAUSE_IDLE, PAUSE_UNTIL };
 
@@ -98,6 +108,7 @@ struct run {
     _Atomic uint8_t ports[PORTS / 8]; /* a bit for each TCP port that a program of the run has listened at */
     struct slot slots[SLOTS];
     struct alarm alarms[ALARMS];
+    struct notice notices[NOTICES];
 };
 
 #define RUN_MEMORY "canbusd-virtual"

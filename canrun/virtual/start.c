@@ -2,6 +2,7 @@
 #define _GNU_SOURCE
 #include "calls.h"
 #include "rights.h"
+#include "tell.h"
 
 #include <fcntl.h>
 #include <limits.h>
@@ -113,8 +114,9 @@ __attribute__((constructor(103))) static void start(void) {
     run = at;
     recognize();
     if (!register_process()) {
-        static const char text[] = "canbusd-run: virtual time: its coordinator does not reply\n";
-        RAW(SYS_write, 2, text, sizeof text - 1);
+        char test[TEST_ROOM];
+        tell(false, "the coordinator does not reply to %.60s (process %ld)%s", program_invocation_short_name,
+             RAW(SYS_getpid, 0), tell_test(test));
         RAW(SYS_exit_group, 125);
     }
     uint32_t index = find_slot();

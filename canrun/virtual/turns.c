@@ -2,6 +2,7 @@
 #define _GNU_SOURCE
 #include "turns.h"
 #include "raw.h"
+#include "tell.h"
 
 #include <linux/futex.h>
 #include <sys/epoll.h>
@@ -48,8 +49,9 @@ uint32_t take_slot(void) {
         }
         return i;
     }
-    static const char text[] = "canbusd-run: virtual time: more than 2048 threads\n";
-    RAW(SYS_write, 2, text, sizeof text - 1);
+    char test[TEST_ROOM];
+    tell(false, "%.60s (process %ld) has no place, as there are %d threads%s", program_invocation_short_name,
+         RAW(SYS_getpid, 0), SLOTS, tell_test(test));
     RAW(SYS_exit_group, 125);
     return 0;
 }
@@ -245,7 +247,7 @@ bool has_turn(void) {
     return my.slot && turn_owner() == my.index;
 }
 
-static void check_coordinator(void) {
+void check_coordinator(void) {
     if (run->has_ended || RAW(SYS_kill, run->coordinator, 0) == -ESRCH) {
         RAW(SYS_exit_group, 125); /* Nothing is left of a run whose coordinator is gone. */
     }

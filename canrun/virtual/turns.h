@@ -49,6 +49,9 @@ void regain_turn(void);
 bool has_turn(void);
 void await_turn(void);
 
+/* Ends this process where the coordinator is gone. */
+void check_coordinator(void);
+
 /* Lets those go on that wait for this key, the longest first. */
 void wake(uint64_t key, int most);
 
