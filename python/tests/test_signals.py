@@ -189,6 +189,6 @@ def test_the_command_that_makes_a_page(library, tmp_path):
     with Bench("can0,can1", out=tmp_path) as bench:
         bench.open("can0").send(Frame.parse(DRIVES))
         bench.run()
-    status, written, said = call("report", "--dbc", CAR, tmp_path / "can0.rec")
+    status, written, said = call("report", "--names", "can0,can1", "--dbc", CAR, tmp_path / "can0.rec")
     assert (status, said) == (0, "")
     assert list(data_of(written)[0]["messages"].values()) == ["Engine"]

@@ -9,7 +9,7 @@ from collections.abc import Callable
 from typing import NoReturn, Optional
 
 from canbusd._rates import Rates
-from canbusd.record import BadRecord, Record, read_run
+from canbusd.record import BadRecord, Record, is_named, read_run
 
 
 class BadWords(ValueError):
@@ -76,3 +76,14 @@ def replayed(path: str, names: Optional[str], cut: bool = False, rates: Optional
         return read_run(path, names, cut, rates)
     except BadRecord as fault:
         raise BadRecord(f"{path}: {fault}") from None
+
+
+def note_of_names(command: str, *runs: tuple[str, Record]) -> None:
+    """Says on standard error which interfaces have no name, in the first record in which some have none, and what helps."""
+    for path, record in runs:
+        nameless = [name for name in record.names if not is_named(name)]
+        if nameless:
+            names = ",".join(name if is_named(name) else "NAME" for name in record.names)
+            said = f"no log names {', '.join(nameless)}: name all interfaces with --names {names}"
+            print(f"{command}: note: {path}: {said}", file=sys.stderr)
+            return

@@ -6,13 +6,15 @@ import os
 import sys
 from collections.abc import Iterable
 from pathlib import Path
+from typing import Optional
 
 from canbusd import _summary, drawings
-from canbusd._command import add_record, replayed
+from canbusd._command import BadWords, add_record, note_of_names, replayed
 from canbusd._deciders import deciders, faults_beside
+from canbusd._rates import Rates
 from canbusd._slots import load_of, load_words, slots_of
 from canbusd.commands import add_database, add_rates, database_of, rates_of
-from canbusd.comparison import beside
+from canbusd.comparison import beside, first_difference
 from canbusd.record import BadRecord, Record
 
 EPILOG = """\
@@ -30,6 +32,7 @@ long each frame was on the wire, and how long it waited from the first attempt i
   canbusd report --bitrate 500000 --names can0,can1 run.rec > run.html
   canbusd report --counters --names can0,can1 run.rec
   canbusd report yesterday/ecu.rec today/ecu.rec > both.html
+  canbusd report --text --exit-code yesterday/ecu.rec today/ecu.rec || echo they differ
 """
 MOST_EVENTS = 1000
 
@@ -39,6 +42,9 @@ def add_arguments(parser: argparse.ArgumentParser) -> None:
     add_record(parser)
     parser.add_argument(
         "other", nargs="?", metavar="OTHER", help="a second record: where the runs first differ, and both on one axis"
+    )
+    parser.add_argument(
+        "--exit-code", action="store_true", help="with OTHER: the exit status is 1 where the runs differ (default: 0)"
     )
     add_database(parser)
     parser.add_argument(
@@ -59,11 +65,20 @@ def add_arguments(parser: argparse.ArgumentParser) -> None:
     parser.add_argument("--last", type=int, default=1 << 24, metavar="N", help="the last attempt to draw")
 
 
-def run(options: argparse.Namespace) -> None:
-    """Writes the page, or the drawings, on standard output."""
+def run(options: argparse.Namespace) -> int:
+    """Writes the page, or the drawings, on standard output. Returns the status."""
     rates = rates_of(options)
+    if options.exit_code and options.other is None:
+        raise BadWords("--exit-code needs a second record")
     record = replayed(options.record, options.names, options.cut, rates)
     other = None if options.other is None else replayed(options.other, options.names, options.cut)
+    note_of_names("canbusd report", (options.record, record), *([] if other is None else [(options.other, other)]))
+    write_run(record, other, options, rates)
+    return int(options.exit_code and other is not None and first_difference(record, other) is not None)
+
+
+def write_run(record: Record, other: Optional[Record], options: argparse.Namespace, rates: Optional[Rates]) -> None:
+    """Writes the page, or the drawings, on standard output."""
     if options.text or options.counters or options.arbitration:
         if options.text:
             write(_summary.story(record, MOST_EVENTS) if other is None else beside(record, other))
