@@ -249,7 +249,7 @@ SHOWN = [
             "can0 wins with its frame 0, 123#. Fault: global bit. Outcome: destroyed.",
             "Accepted by nobody. can0 goes bus off.",
             "248 \u2192 256",
-            "32 of its 32 attempts since attempt 0 failed: global bit 32",
+            "all its 32 attempts from attempt 0 on failed (32 x global bit)",
             "can0 went bus off at transmit count 256",
         ],
     ),
