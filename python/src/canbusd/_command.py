@@ -25,7 +25,7 @@ def run_command(work: Callable[[], Optional[int]], name: str) -> NoReturn:
     # A long run is many objects and no cycles.
     gc.disable()
     try:
-        status = work()
+        status = status_of(work)
         sys.stdout.flush()
     except BrokenPipeError:
         forget_output()
@@ -41,8 +41,18 @@ def run_command(work: Callable[[], Optional[int]], name: str) -> NoReturn:
     except Exception as fault:
         if not is_can_error(fault):
             raise
-        sys.exit(f"{name}: {fault}")
+        sys.exit(f"{name}: {str(fault).removeprefix('canbusd: ')}")
     sys.exit(status)
+
+
+def status_of(work: Callable[[], Optional[int]]) -> Optional[int]:
+    """The status of a command's work, also where the parser of its words ends it, which may have written help."""
+    try:
+        return work()
+    except SystemExit as end:
+        if isinstance(end.code, str):
+            raise
+        return end.code
 
 
 def forget_output() -> None:

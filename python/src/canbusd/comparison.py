@@ -74,7 +74,7 @@ def first_difference(one: Record, other: Record) -> Optional[Difference]:
 
 def line(attempt: Attempt) -> str:
     """An attempt in short: `can0 123#11 destroyed (global bit)`."""
-    fault = "" if attempt.fault == "good" else f" ({attempt.fault})"
+    fault = "" if attempt.fault in ("good", attempt.outcome) else f" ({attempt.fault})"
     off = f", {' and '.join(attempt.off)} bus off" if attempt.off else ""
     return f"{attempt.winner} {attempt.frame} {attempt.outcome}{fault}{off}"
 

@@ -112,7 +112,7 @@ def lines_of(record: Record) -> Iterator[str]:
 def words_of(attempt: Attempt) -> str:
     """What became of an attempt, in words."""
     words = [attempt.outcome]
-    if attempt.fault != "good":
+    if attempt.fault not in ("good", attempt.outcome):
         words.append(f"({attempt.fault})")
     words.append(f"accepted by {','.join(attempt.accepted) or 'nobody'}")
     if attempt.off:

@@ -8,12 +8,12 @@ import time
 from collections.abc import Iterator, Mapping, Sequence
 from typing import Optional
 
+from canbusd._command import BadWords
 from canbusd._rest_live import LiveRestBus
 from canbusd._rest_nodes import NoInterface, interfaces_of, sender
 from canbusd._text import times
-from canbusd._arguments import seconds
 from canbusd.bus import CanbusdBus, interfaces
-from canbusd.commands import add_address
+from canbusd.commands import above_zero, add_address
 from canbusd.rest_bus import RestBus
 from canbusd.signals import Database, load_database
 
@@ -42,7 +42,7 @@ def add_arguments(parser: argparse.ArgumentParser) -> None:
     parser.add_argument("--node", action="append", default=[], metavar="NODE=NAME", help="the interface of a node")
     parser.add_argument("--set", action="append", default=[], metavar="NODE.SIGNAL=VALUE", help="the value of a signal")
     parser.add_argument("--log", metavar="LOG", help="a log whose frames are sent, and then the command ends")
-    parser.add_argument("--for", dest="duration", metavar="S", help="end after S seconds")
+    parser.add_argument("--for", dest="duration", type=above_zero, metavar="S", help="end after S seconds")
     parser.add_argument("--list", action="store_true", help="print what the files say, and send nothing")
     add_address(parser)
 
@@ -51,7 +51,6 @@ def run(options: argparse.Namespace) -> None:
     """Sends until the end, and says what became of the frames."""
     nodes = dict(pairs_of(options.node, "--node", "NODE=NAME"))
     values = list(pairs_of(options.set, "--set", "NODE.SIGNAL=VALUE"))
-    duration = None if options.duration is None else seconds("--for", options.duration)
     database = load_database(*options.files)
     if options.list:
         print(database)
@@ -68,6 +67,7 @@ def run(options: argparse.Namespace) -> None:
         rest[node][name] = value
     print("\n".join(table_of(database, rest)), flush=True)
     with rest:
+        duration: Optional[float] = options.duration
         if options.log:
             length = rest.replay(options.log)
             duration = length + 0.1 if duration is None else duration
@@ -92,7 +92,7 @@ def pairs_of(words: Sequence[str], option: str, form: str) -> Iterator[tuple[str
     for word in words:
         name, equals, value = word.partition("=")
         if not (name and equals and value):
-            raise ValueError(f"{option} is {form}, not {word!r}")
+            raise BadWords(f"{option} is {form}, not {word!r}")
         yield name, value
 
 
