@@ -132,7 +132,9 @@ def test_faults_of_records(tmp_path):
             assert is_clean(fault) and "\x1b" not in fault[2], f"{what}: {fault}"
         for other in (os.path.join(tmp_path, "none"), tmp_path):
             assert is_clean(call(*command, other)), other
-        status, _, errors = call("sh", "-c", '"$@" | head -c 10; "$@" --help | head -n 1', "sh", *command, record)
+        status, _, errors = call(
+            "sh", "-c", '"$@" --names can0,can1 | head -c 10; "$@" --help | head -n 1', "sh", *command, record
+        )
         assert (status, errors) == (0, ""), errors
         with open("/dev/full", "w", encoding="ascii") as full:
             done = subprocess.run([*command, record], stdout=full, stderr=subprocess.PIPE, text=True, check=False)

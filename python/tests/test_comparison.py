@@ -102,6 +102,13 @@ def test_names_that_do_not_fit(tmp_path, names):
     assert first_difference(read_record(one), read_record(one, names)) is None
 
 
+def test_receivers_in_another_order(tmp_path):
+    """the same names at other numbers are the same receivers"""
+    one = tmp_path / "a" / "can0.rec"
+    run_of(tmp_path, "a", names="can0,can1,can2")
+    assert first_difference(read_record(one, "can0,can1,can2"), read_record(one, "can0,can2,can1")) is None
+
+
 def test_the_exit_status(tmp_path):
     """0 whether or not they differ; with --exit-code 1 where they do, also with a page"""
     one, other = runs_of_two_nodes(tmp_path, "can0", "can1")

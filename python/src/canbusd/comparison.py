@@ -63,13 +63,19 @@ def first_difference(one: Record, other: Record) -> Optional[Difference]:
     """Returns where two runs first differ; None where both made the same attempts."""
     mine, its = tried_in_both(one, other)
     for number, (attempt, same) in enumerate(zip(mine, its)):
-        found = [what for name, what in COMPARED.items() if getattr(attempt, name) != getattr(same, name)]
+        found = [what for name, what in COMPARED.items() if value_of(attempt, name) != value_of(same, name)]
         if found:
             return Difference(number, f"{', '.join(found)}: {line(attempt)} against {line(same)}")
     if len(mine) == len(its):
         return None
     longer = "the first run" if len(mine) > len(its) else "the second run"
     return Difference(min(len(mine), len(its)), f"{longer} has {times(abs(len(mine) - len(its)), 'attempt')} more")
+
+
+def value_of(attempt: Attempt, name: str) -> object:
+    """What of an attempt is compared; of interfaces it is which they are, in whatever order their buses have them."""
+    value = getattr(attempt, name)
+    return set(value) if isinstance(value, tuple) else value
 
 
 def line(attempt: Attempt) -> str:
