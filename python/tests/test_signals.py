@@ -157,7 +157,7 @@ def test_words_that_do_not_go(server, library):
     status, _, said = call("send", "can0", "Engine.speed=1", server=server)
     assert (status, said) == (1, "canbusd send: Engine.speed: the names of signals need --dbc FILE\n")
     status, _, said = call("dump", "-L", "--dbc", CAR, "can0", server=server)
-    assert (status, said) == (1, "canbusd dump: --dbc does not go with -L: a log has frames only\n")
+    assert (status, said) == (2, "canbusd dump: --dbc does not go with -L: a log has frames only\n")
     status, _, said = call("dump", "--dbc", "/no/such.dbc", "can0", server=server)
     assert (status, said) == (1, "canbusd dump: /no/such.dbc: No such file or directory\n")
 
