@@ -234,6 +234,21 @@ def test_installed(copy, tmp_path):
     assert [path for path in place.rglob("*") if "canbusd" in path.name or path.name == "libexec"] == []
 
 
+def test_installed_off_the_path(copy, tmp_path):
+    """commands of the package find the program, unless CANBUSD names another one"""
+    place = tmp_path / "a place" / "y"
+    copy.make("install", f"PREFIX={place}")
+    record = tmp_path / "run.rec"
+    assert copy.status(place / "bin" / "canbusd", "bench", "--record", record, "can0", cwd="/") == 0
+    for words in (["canbusd", "report"], ["canbusd-report"], ["canbusd", "replay"]):
+        command = [place / "bin" / words[0], *words[1:], "--names", "can0", record]
+        done = copy.run(*command, cwd="/")
+        assert (done.returncode, done.stderr) == (0, ""), words
+        assert copy.status(*command, cwd="/", env={**copy.environment, "CANBUSD": ""}) == 0
+        done = copy.run(*command, cwd="/", env={**copy.environment, "CANBUSD": "/none"})
+        assert done.returncode == 1 and "CANBUSD names no program: /none" in done.stderr, words
+
+
 def test_staged(copy, tmp_path):
     """installed below DESTDIR"""
     words = "PREFIX=/usr", f"DESTDIR={tmp_path}/staged"
@@ -310,3 +325,36 @@ def test_words_of_serve(launchers, place):
     for words, status in ((["--help"], 0), ([], 2)):
         done = subprocess.run([launchers[place], "serve", *words], capture_output=True, check=False)
         assert done.returncode == status, done.stderr
+
+
+WRONG = [
+    "",
+    "--verbose",
+    "--ack=peers",
+    "--bitrat 5",
+    "can0 --bitrat 5",
+    "--pace",
+    "can0 --out",
+    "can0 --ack z -- can1",
+]
+
+
+@pytest.mark.parametrize("words", WRONG)
+def test_wrong_words_of_serve(launchers, words):
+    """what is said of them is what the program says, without the launcher's own option"""
+    said = []
+    for command in (launchers["copy"], launchers["installed"], program()):
+        done = subprocess.run([command, "serve", *words.split()], capture_output=True, text=True, check=False)
+        assert done.returncode == 2 and "--until-eof" not in done.stderr, done.stderr
+        said.append(done.stderr)
+    assert len(set(said)) == 1
+
+
+@pytest.mark.parametrize(
+    "words", ["can0 --pace 1", "--pace 1 -- can0", "--pace 1 can0 --", "--pace=1 -- -can0 --until-eof"]
+)
+def test_places_of_words_of_serve(launchers, words):
+    """wherever its options are: it ends cleanly at SIGTERM to its launcher"""
+    with serving(*words.split(), launcher=launchers["copy"], stdin=subprocess.PIPE) as server:
+        server.child.send_signal(signal.SIGTERM)
+        assert server.child.wait(WAIT) == 0, server.said()

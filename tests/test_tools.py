@@ -132,7 +132,9 @@ def test_faults_of_records(tmp_path):
             assert is_clean(fault) and "\x1b" not in fault[2], f"{what}: {fault}"
         for other in (os.path.join(tmp_path, "none"), tmp_path):
             assert is_clean(call(*command, other)), other
-        status, _, errors = call("sh", "-c", '"$@" | head -c 10; "$@" --help | head -n 1', "sh", *command, record)
+        status, _, errors = call(
+            "sh", "-c", '"$@" --names can0,can1 | head -c 10; "$@" --help | head -n 1', "sh", *command, record
+        )
         assert (status, errors) == (0, ""), errors
         with open("/dev/full", "w", encoding="ascii") as full:
             done = subprocess.run([*command, record], stdout=full, stderr=subprocess.PIPE, text=True, check=False)
@@ -249,7 +251,7 @@ SHOWN = [
             "can0 wins with its frame 0, 123#. Fault: global bit. Outcome: destroyed.",
             "Accepted by nobody. can0 goes bus off.",
             "248 \u2192 256",
-            "32 of its 32 attempts since attempt 0 failed: global bit 32",
+            "all its 32 attempts from attempt 0 on failed (32 x global bit)",
             "can0 went bus off at transmit count 256",
         ],
     ),

@@ -85,6 +85,18 @@ def test_waits(nodes):
     ]
 
 
+@needs_tools
+def test_example(tmp_path):
+    """`examples/scenario.sh` prints ten frames, one each second, the same at each run, and leaves no file"""
+    env = {**os.environ, "CANBUSD": program(), "CANBUSD_RUN": command(), "TMPDIR": str(tmp_path)}
+    runs = [virtual(os.path.join(ROOT, "examples", "scenario.sh"), env=env) for _ in range(2)]
+    assert [(run.returncode, run.stderr) for run in runs] == [(0, "")] * 2
+    assert runs[0].stdout == runs[1].stdout and not os.listdir(tmp_path)
+    lines = re.findall(r"^ \((\d+)\.(\d+)\)  can1  123   \[2\]  11 22$", runs[0].stdout, re.M)
+    assert len(lines) == len(runs[0].stdout.splitlines()) == 10
+    assert [int(second) - int(lines[0][0]) for second, _ in lines] == list(range(10))
+
+
 @needs_gcc
 @needs_tools
 def test_moments(tmp_path, nodes):

@@ -10,6 +10,9 @@ place=${script%/*}/../libexec/canbusd
 # Where the Python package is, which `make install` writes here.
 # shellcheck disable=SC2034
 package=$place/../python/src
+# The program for commands of the package, also where this is not on the PATH.
+: "${CANBUSD:=$place/canbusd}"
+export CANBUSD
 # shellcheck source=tools/commands
 . "$place/commands"
 [ "${1-}" != serve ] || exec "$place/serve" "$place/canbusd" "$@"

@@ -38,3 +38,19 @@ def test_what_candump_writes_on_a_screen_is_known_as_such(line):
 def test_another_line_is_not():
     done = converted("(1.000000) can0 123#1122\n# a comment\n")
     assert done.stderr.endswith("not `(SECONDS.MICROS) INTERFACE FRAME`: # a comment\n")
+
+
+def test_lines_that_are_alike():
+    """those of a bus off, which differ in their moments, are named once; others are named each"""
+    failed = [f"(1.{number:06}) ecu 20000080#0000000000000000\n" for number in range(32)]
+    others = ["garbage\n", "(2.000000) can1 20000080#0000000000000000\n", "rubbish\n"]
+    done = converted("(0.000000) ecu 123#1122\n" + "".join([*failed, *others]))
+    assert done.returncode == 1
+    assert done.stderr.splitlines() == [
+        "candump2bench: standard input:2: an error message frame, which nobody sends: (1.000000) ecu "
+        "20000080#0000000000000000; 31 lines more like it",
+        "candump2bench: standard input:34: not `(SECONDS.MICROS) INTERFACE FRAME`: garbage",
+        "candump2bench: standard input:35: an error message frame, which nobody sends: (2.000000) can1 "
+        "20000080#0000000000000000",
+        "candump2bench: standard input:36: not `(SECONDS.MICROS) INTERFACE FRAME`: rubbish",
+    ]

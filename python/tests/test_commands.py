@@ -295,7 +295,6 @@ def test_send_of_several_frames_and_flags():
         (("can0", "800#"), "canbusd send: 800#: no identifier"),
         (("can0", "20000040#0000000000000000"), "nobody sends"),
         (("can7", "123#"), "no such interface; the server has can0, can1"),
-        (("--address", "nowhere", "can0", "123#"), "address"),
     ],
 )
 def test_send_refuses_in_one_line(words, fault):
@@ -399,7 +398,7 @@ def test_a_full_record_and_its_cures():
         status, written, said = call("status", server=server)
     cure = "start the server again with a higher limit= (--limit), or with record='live' (--record live)"
     assert (status, written) == (1, "")
-    assert said == (f"canbusd status: canbusd: channel 'can0' of the server at {server.address}: record full: {cure}\n")
+    assert said == (f"canbusd status: channel 'can0' of the server at {server.address}: record full: {cure}\n")
 
 
 def test_fault_of_a_bus_that_runs():
@@ -418,7 +417,6 @@ def test_fault_of_a_bus_that_runs():
 @pytest.mark.parametrize(
     "words, fault",
     [
-        (["can0"], "a rule is missing, such as 'next 32 from ecu global bit', or --left or --end"),
         (["can0", "next 1 bad"], "rule 'next 1 bad': its verdict is .*, not 'bad'"),
         (["can0", "5 lastbit"], "'5 lastbit' names an attempt by number, .*"),
         (["can0", "next 1 from can9 good"], "no such interface: next 1 from can9 good: can9 is none of can0, can1"),
@@ -508,6 +506,73 @@ def test_commands_and_their_help():
     assert call("help")[:2] == (0, written)
     assert call("dance")[0] == call("help", "dance")[0] == call()[0] == 2
     assert call("--version") == (0, f"canbusd {canbusd.__version__}\n", "")
+
+
+@pytest.mark.parametrize(
+    "words, said",
+    [
+        (["--verson"], "canbusd: error: no option --verson; the command comes first"),
+        (["-a", "127.0.0.1:9", "status"], "canbusd: error: no option -a; the command comes first"),
+        (["snd", "can0", "123#"], "canbusd: error: no command snd; did you mean send?"),
+        (["help", "replya"], "canbusd: error: no command replya; did you mean replay?"),
+        (["zzz"], "canbusd: error: no command zzz"),
+        ([], "canbusd: error: the following arguments are required: COMMAND"),
+    ],
+)
+def test_first_words_that_are_wrong(words, said):
+    status, written, errors = call(*words)
+    assert (status, written, errors.splitlines()[-1]) == (2, "", said)
+
+
+@pytest.mark.parametrize(
+    "words, said",
+    [
+        ("report --items -5 R", "not a number in decimal digits: '-5'"),
+        ("report --text --first -1 R", "not a number in decimal digits: '-1'"),
+        ("report --first 40 R", "--first: attempts are drawn with --text, --counters or --arbitration only"),
+        ("report --text --first 5 --last 2 R", "--first 5 --last 2: no attempt is from there to there"),
+        ("send --timeout -1 can0 123#", "not a number of at least 0: '-1'"),
+        ("send --timeout nan can0 123#", "not a number of at least 0: 'nan'"),
+        ("status --interval 0", "not a number above 0: '0'"),
+        ("watch --interval x", "not a number of at least 0: 'x'"),
+        ("watch --port 65536", "--port is a number from 0 to 65535, not 65536"),
+        ("dump -n -1 can0", "not a number in decimal digits: '-1'"),
+        ("dump -T -1 can0", "not a number of at least 0: '-1'"),
+        ("dump -L --dbc car.dbc can0", "--dbc does not go with -L: a log has frames only"),
+        ("restbus --for 0 car.dbc", "not a number above 0: '0'"),
+        ("restbus --node Engine car.dbc", "--node is NODE=NAME, not 'Engine'"),
+        ("fault can0", "a rule is missing, such as 'next 32 from ecu global bit', or --left or --end"),
+        (
+            "status -a 29536",
+            "address is HOST:PORT, [V6]:PORT, or a Unix path that begins with / or ., not '29536' (127.0.0.1:29536?)",
+        ),
+    ],
+)
+def test_options_that_are_wrong(words, said):
+    """the status is 2, as of a fault of the program's command line, before a server or a file is looked for"""
+    status, written, errors = call(*words.split())
+    assert (status, written) == (2, "") and errors.endswith(f": {said}\n"), errors
+
+
+def test_output_that_cannot_be_written():
+    for words in (["--help"], ["--version"], ["report", "--help"]):
+        with open("/dev/full", "w", encoding="utf-8") as full:
+            done = subprocess.run(words_of(*words), env=environment(), stdout=full, stderr=subprocess.PIPE, text=True)
+        name = "canbusd report" if words[0] == "report" else "canbusd"
+        assert (done.returncode, done.stderr) == (1, f"{name}: No space left on device\n")
+
+
+def test_no_server_is_said_once(tmp_path):
+    status, written, said = call("status", "-a", tmp_path / "none")
+    assert (status, written) == (1, "") and said.startswith(f"canbusd status: the server at {tmp_path}/none: ")
+
+
+def test_replay_of_a_fault_in_the_last_bit(tmp_path):
+    with Bench("can0,can1", faults=Faults().last_bit(0), out=tmp_path) as bench:
+        bench.open("can0").send(0x123)
+        bench.run()
+    written = call("replay", "--names", "can0,can1", tmp_path / "can0.rec")[1]
+    assert written.splitlines()[0] == "(0.000000) can0 123# lastbit accepted by can1, counts 8/0"
 
 
 def test_a_replay_in_json(tmp_path):

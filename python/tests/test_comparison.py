@@ -9,6 +9,7 @@ from test_page import CUT, WEAK, WIDE, browser, opened  # noqa: F401  fixtures
 from canbusd.bench import Bench
 from canbusd.comparison import beside, first_difference
 from canbusd.faults import Faults
+from canbusd.record import read_record
 from canbusd.report import Pair
 
 
@@ -59,7 +60,76 @@ def test_the_command(tmp_path):
     status, written, said = call("report", "--text", "--names", "can0,can1", *records)
     assert (status, said) == (0, "") and written.startswith("First difference in attempt 4: outcome, fault")
     status, written, said = call("report", *records)
-    assert (status, "</html>" in written, said) == (0, True, "")
+    assert (status, "</html>" in written) == (0, True)
+    note = "no log names interface 1: name all interfaces with --names can0,NAME"
+    assert said == f"canbusd report: note: {records[0]}: {note}\n"
+
+
+def runs_of_two_nodes(tmp_path, *names):
+    """The records of two runs: in both the first interface sends a frame, in the second then the other one."""
+    records = []
+    for folder, senders in (("a", [0]), ("b", [0, 1])):
+        (tmp_path / folder).mkdir()
+        with Bench(",".join(names), out=tmp_path / folder) as bench:
+            sessions = [bench.open(name) for name in bench.names]
+            for number in senders:
+                sessions[number].send(0x123, b"\xab\xcd")
+                bench.run()
+        records.append(tmp_path / folder / f"{names[0]}.rec")
+    return records
+
+
+def test_names_of_senders_only(tmp_path):
+    """a log names who sent: an interface without a name in one run is the one of its number in the other"""
+    one, other = runs_of_two_nodes(tmp_path, "can0", "can1")
+    more = ["First difference in attempt 1: the second run has 1 attempt more", "       0 can0 123#ABCD done"]
+    wanted = [*more, "+      1 can1 123#ABCD done"]
+    assert beside(read_record(one), read_record(other)) == wanted
+    assert beside(read_record(one, "can0,can1"), read_record(other, "can0,can1")) == wanted
+    # With neither log, with one of them, and as one run against itself without its log.
+    one.with_suffix(".log").unlink()
+    assert beside(read_record(one), read_record(other)) == wanted
+    assert first_difference(read_record(one), read_record(one, "can0,can1")) is None
+    other.with_suffix(".log").unlink()
+    assert beside(read_record(one), read_record(other))[2] == "+      1 interface 1 123#ABCD done"
+
+
+@pytest.mark.parametrize("names", ["can1,can0", "can1,can2", "ecu,tester"])
+def test_names_that_do_not_fit(tmp_path, names):
+    """by their names where both runs have names for all, by their numbers where one has not"""
+    one, other = runs_of_two_nodes(tmp_path, "can0", "can1")
+    assert first_difference(read_record(other, "can0,can1"), read_record(other, names)).attempt == 0
+    assert first_difference(read_record(one), read_record(one, names)) is None
+
+
+def test_receivers_in_another_order(tmp_path):
+    """the same names at other numbers are the same receivers"""
+    one = tmp_path / "a" / "can0.rec"
+    run_of(tmp_path, "a", names="can0,can1,can2")
+    assert first_difference(read_record(one, "can0,can1,can2"), read_record(one, "can0,can2,can1")) is None
+
+
+def test_the_exit_status(tmp_path):
+    """0 whether or not they differ; with --exit-code 1 where they do, also with a page"""
+    one, other = runs_of_two_nodes(tmp_path, "can0", "can1")
+    words = ["report", "--names", "can0,can1"]
+    for form in ([], ["--text"]):
+        assert call(*words, *form, one, other)[::2] == (0, "")
+        assert call(*words, *form, "--exit-code", one, other)[::2] == (1, "")
+        assert call(*words, *form, "--exit-code", one, one)[::2] == (0, "")
+    assert call(*words, "--exit-code", one) == (2, "", "canbusd report: --exit-code needs a second record\n")
+
+
+def test_interfaces_without_a_name(tmp_path):
+    """one line says how to give names; none where there are names, or no name is written"""
+    one, other = runs_of_two_nodes(tmp_path, "can0", "can1")
+    note = f"note: {one}: no log names interface 1: name all interfaces with --names can0,NAME\n"
+    for words in (["report"], ["report", "--text"], ["replay"], ["replay", "--json"]):
+        assert call(*words, one)[::2] == (0, f"canbusd {words[0]}: {note}")
+        assert call(*words, other)[::2] == (0, "")
+        assert call(*words, "--names", "can0,can1", one)[::2] == (0, "")
+    assert call("replay", "--quiet", one)[2] == ""
+    assert call("report", "--text", other, one)[2] == f"canbusd report: {note}"
 
 
 @pytest.mark.skipif(PROGRAM is None, reason="not installed: chromium")

@@ -110,6 +110,17 @@ def test_any_of_them_as_input_of_the_bench(log, tmp_path, ending):
     assert f"{path}:4: an error message frame" in done.stderr
 
 
+def test_a_record_in_place_of_a_log(tmp_path):
+    """its log is what is meant"""
+    with Bench("ecu", out=tmp_path):
+        pass
+    record, said = tmp_path / "ecu.rec", "this is a record; take its log, which has the ending .log"
+    status, written, errors = convert(record, tmp_path / "run.asc")
+    assert (status, written, errors) == (1, "", f"canbusd convert: {record}: {said}\n")
+    done = subprocess.run([sys.executable, TOOL, record], capture_output=True, text=True, check=False)
+    assert (done.returncode, done.stdout, done.stderr) == (1, "", f"candump2bench: {record}: {said}\n")
+
+
 def test_the_log_of_a_run(tmp_path):
     with Bench("ecu,tester", bitrate=500_000, out=tmp_path) as bench:
         ecu = bench.open("ecu", fd=True)

@@ -437,7 +437,7 @@ def test_interfaces_that_never_sent(opened):
 
 def test_what_was_lost_is_on_the_page(shown):
     text = shown.run("at('chosen').innerText")
-    assert "32 of its 32 attempts since attempt 0 failed: global bit 32" in text
+    assert "all its 32 attempts from attempt 0 on failed (32 x global bit)" in text
     assert "123#" in text and "124#" in text and "Lost with it" in text
     shown.run("showTab('tab-nodes')")
     assert "refused: bus off" in shown.run("at('ifaces').textContent")

@@ -114,12 +114,12 @@ def test_the_detail(opened):
             "on the wire": "210 \u00b5s: 105 bits",
             "attempt": "216 \u00b5s, from its start until the next one may begin",
             # It loses the attempts that begin at 864 and 1080.
-            "queueing delay": "at least 642 \u00b5s, from the start of attempt 4, its first, to this end of frame",
+            "response time": "at least 642 \u00b5s, from the start of attempt 4, its first, to this end of frame",
             "003 in view": "load 28.6 %, 28.6 % of the busy time",
         }.items()
     )
     shown.run("choose(3)")
-    assert "at least 210 \u00b5s, only the frame" in shown.run("at('chosen').textContent")
+    assert "at least 210 \u00b5s, the frame itself" in shown.run("at('chosen').textContent")
 
 
 def test_an_attempt_that_failed_sent_no_whole_frame(opened):

@@ -463,9 +463,14 @@ def test_the_command_with_a_log_and_an_end(car, tmp_path):
 @pytest.mark.parametrize(
     "words, said",
     [
-        (["--without", "ECU"], "node Engine has no interface: give nodes={'Engine': ..} or interface=.., one of "),
+        (
+            ["--without", "ECU"],
+            "node Engine has no interface: give --interface engine or --node Engine=engine, or leave it out with --without "
+            "Engine; there are engine, gateway, ecu",
+        ),
+        (["--without", "ECU,Engine", "--without", "E"], "no node E in the database; there are Engine, ECU, Gateway"),
+        (["--without", "ECU,Engine", "--node", "Gateway=can7"], "node Gateway has no interface 'can7': give "),
         (["--without", "E"], "no node E in the database; there are Engine, ECU, Gateway"),
-        (["--node", "Engine"], "--node is NODE=NAME, not 'Engine'"),
         (["--without", "ECU", "--interface", "ecu", "--set", "Engine.X=1"], "Engine sends no X; it sends EngineData."),
     ],
 )

@@ -157,7 +157,7 @@ def test_words_that_do_not_go(server, library):
     status, _, said = call("send", "can0", "Engine.speed=1", server=server)
     assert (status, said) == (1, "canbusd send: Engine.speed: the names of signals need --dbc FILE\n")
     status, _, said = call("dump", "-L", "--dbc", CAR, "can0", server=server)
-    assert (status, said) == (1, "canbusd dump: --dbc does not go with -L: a log has frames only\n")
+    assert (status, said) == (2, "canbusd dump: --dbc does not go with -L: a log has frames only\n")
     status, _, said = call("dump", "--dbc", "/no/such.dbc", "can0", server=server)
     assert (status, said) == (1, "canbusd dump: /no/such.dbc: No such file or directory\n")
 
@@ -189,6 +189,6 @@ def test_the_command_that_makes_a_page(library, tmp_path):
     with Bench("can0,can1", out=tmp_path) as bench:
         bench.open("can0").send(Frame.parse(DRIVES))
         bench.run()
-    status, written, said = call("report", "--dbc", CAR, tmp_path / "can0.rec")
+    status, written, said = call("report", "--names", "can0,can1", "--dbc", CAR, tmp_path / "can0.rec")
     assert (status, said) == (0, "")
     assert list(data_of(written)[0]["messages"].values()) == ["Engine"]

@@ -138,6 +138,9 @@ def test_attempts_at_the_last_moment():
     assert overlaps_of(run, slots_of(run)) == []
 
 
+NAMES = ["--names", "a,b,c"]
+
+
 @pytest.fixture
 def full(tmp_path):
     path = tmp_path / "full.rec"
@@ -147,11 +150,11 @@ def full(tmp_path):
 
 def test_replay_with_a_bit_rate(full):
     load = "load 100.0 %: the wire was busy for 0.001512 of 0.001512 seconds\n"
-    status, written, said = call("replay", "--bitrate", 500000, full)
+    status, written, said = call("replay", *NAMES, "--bitrate", 500000, full)
     assert (status, said) == (0, "")
-    assert written == call("replay", full)[1].replace("ok", load + "ok")
+    assert written == call("replay", *NAMES, full)[1].replace("ok", load + "ok")
     assert call("replay", "--quiet", "--bitrate", 500000, full)[1] == load + "ok 18 entries\n"
-    status, written, said = call("replay", "--json", "--bitrate", 1000000, full)
+    status, written, said = call("replay", *NAMES, "--json", "--bitrate", 1000000, full)
     assert json.loads(written.splitlines()[-1]) == {
         "type": "load", "busy": 0.000756, "time": 0.001404, "share": pytest.approx(756 / 1404)
     }  # fmt: skip
@@ -166,19 +169,21 @@ def test_replay_of_a_record_with_overlaps(full):
     )
     assert len(said.splitlines()) == 6
     full.write_bytes(run_of(*[(0, A, 1)] * 13))
-    assert call("replay", "--json", "--bitrate", 500000, full)[2].splitlines()[10:] == ["canbusd replay: 2 more do"]
+    assert call("replay", *NAMES, "--json", "--bitrate", 500000, full)[2].splitlines()[10:] == [
+        "canbusd replay: 2 more do"
+    ]
     full.write_bytes(run_of())
-    assert call("replay", "--bitrate", 500000, full) == (0, "load 0 %: no frame was tried\nok 4 entries\n", "")
+    assert call("replay", *NAMES, "--bitrate", 500000, full) == (0, "load 0 %: no frame was tried\nok 4 entries\n", "")
 
 
 def test_a_report_with_a_bit_rate(full):
-    status, text, said = call("report", "--bitrate", 500000, "--dbitrate", 2000000, full)
+    status, text, said = call("report", *NAMES, "--bitrate", 500000, "--dbitrate", 2000000, full)
     assert (status, said) == (0, "")
     assert [data_of(text)[0]["wire"][name] for name in ("bitrate", "dbitrate")] == [500000, 2000000]
-    assert "wire" not in data_of(call("report", full)[1])[0]
-    drawn = call("report", "--text", "--bitrate", 500000, full)[1]
+    assert "wire" not in data_of(call("report", *NAMES, full)[1])[0]
+    drawn = call("report", *NAMES, "--text", "--bitrate", 500000, full)[1]
     load = "load 100.0 %: the wire was busy for 0.001512 of 0.001512 seconds\n"
-    assert load in drawn and drawn.replace(load, "") == call("report", "--text", full)[1]
+    assert load in drawn and drawn.replace(load, "") == call("report", *NAMES, "--text", full)[1]
 
 
 @pytest.mark.parametrize("command", ["replay", "report"])

@@ -292,8 +292,9 @@ def test_other_sites_and_paths_are_refused():
 def test_a_wrong_number_is_named(words):
     with Server("can0") as server:
         done = called(server, *words)
-    assert (done.returncode, done.stdout) == (1, "")
-    assert re.fullmatch(rf"canbusd watch: {words[0]} is a number .* not {words[1]}(\.0)?\n", done.stderr)
+    assert (done.returncode, done.stdout) == (2, "")
+    said = done.stderr.splitlines()[-1]
+    assert re.fullmatch(rf"canbusd watch: .*{words[0]}.* number .*{words[1]}'?", said), said
 
 
 def test_a_port_in_use():

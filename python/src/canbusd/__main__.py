@@ -1,9 +1,10 @@
 """canbusd COMMAND .., which `python3 -m canbusd COMMAND ..` is too."""
 
 import argparse
+import difflib
 import importlib
 import sys
-from collections.abc import Callable
+from collections.abc import Callable, Sequence
 from typing import NoReturn, Optional
 
 from canbusd import __version__
@@ -76,28 +77,48 @@ def main_parser() -> argparse.ArgumentParser:
     parser.add_argument("-h", "--help", action="help", help="show this help; after COMMAND, that of the command")
     version = f"canbusd {__version__}"
     parser.add_argument("-V", "--version", action="version", version=version, help="show the version")
-    names = [*PROGRAM, *COMMANDS, "help"]
-    parser.add_argument("command", choices=names, metavar="COMMAND", help=argparse.SUPPRESS)
+    parser.add_argument("command", nargs="?", metavar="COMMAND", help=argparse.SUPPRESS)
     return parser
 
 
-def main(given: Optional[list[str]] = None) -> None:
-    """Carries out a command."""
-    arguments = sys.argv[1:] if given is None else given
-    if arguments[:1] == ["help"]:
-        # `help COMMAND` is `COMMAND --help`.
-        arguments = [*arguments[1:2], "--help"]
-    name = main_parser().parse_args(arguments[:1]).command
+def command_named(words: Sequence[str]) -> str:
+    """The command that these words name, by the first of them."""
+    parser = main_parser()
+    found, unknown = parser.parse_known_args(words[:1])
+    if unknown:
+        parser.error(f"no option {unknown[0]}; the command comes first")
+    name: Optional[str] = found.command
+    if name is None:
+        parser.error("the following arguments are required: COMMAND")
+    if name not in COMMANDS and name not in PROGRAM:
+        near = difflib.get_close_matches(name, [*PROGRAM, *COMMANDS], 1)
+        parser.error(f"no command {name}{f'; did you mean {near[0]}?' if near else ''}")
+    return name
+
+
+def carry_out(words: Sequence[str]) -> Optional[int]:
+    """Carries out the command that these words name; the status."""
+    name = command_named(words)
     if name in PROGRAM:
-        run_command(lambda: run_program("canbusd", arguments), f"canbusd {name}")
+        run_program("canbusd", words)
     try:
-        options = parser_of(name).parse_args(arguments[1:])
+        options = parser_of(name).parse_args(words[1:])
     except ImportError as fault:
         if type(fault).__name__ != "NoPythonCan":
             raise
         sys.exit(f"canbusd {name}: {fault}")
     run: Callable[[argparse.Namespace], Optional[int]] = importlib.import_module(COMMANDS[name][0]).run
-    run_command(lambda: run(options), f"canbusd {name}")
+    return run(options)
+
+
+def main(given: Optional[list[str]] = None) -> NoReturn:
+    """Carries out a command."""
+    arguments = sys.argv[1:] if given is None else given
+    if arguments[:1] == ["help"]:
+        # `help COMMAND` is `COMMAND --help`.
+        arguments = [*arguments[1:2], "--help"]
+    first = "".join(arguments[:1])
+    run_command(lambda: carry_out(arguments), f"canbusd {first}" if first in {*PROGRAM, *COMMANDS} else "canbusd")
 
 
 def canbusd_run() -> NoReturn:

@@ -9,7 +9,7 @@ from collections.abc import Callable
 from typing import NoReturn, Optional
 
 from canbusd._rates import Rates
-from canbusd.record import BadRecord, Record, read_run
+from canbusd.record import BadRecord, Record, is_named, read_run
 
 
 class BadWords(ValueError):
@@ -25,7 +25,7 @@ def run_command(work: Callable[[], Optional[int]], name: str) -> NoReturn:
     # A long run is many objects and no cycles.
     gc.disable()
     try:
-        status = work()
+        status = status_of(work)
         sys.stdout.flush()
     except BrokenPipeError:
         forget_output()
@@ -41,8 +41,18 @@ def run_command(work: Callable[[], Optional[int]], name: str) -> NoReturn:
     except Exception as fault:
         if not is_can_error(fault):
             raise
-        sys.exit(f"{name}: {fault}")
+        sys.exit(f"{name}: {str(fault).removeprefix('canbusd: ')}")
     sys.exit(status)
+
+
+def status_of(work: Callable[[], Optional[int]]) -> Optional[int]:
+    """The status of a command's work, also where the parser of its words ends it, which may have written help."""
+    try:
+        return work()
+    except SystemExit as end:
+        if isinstance(end.code, str):
+            raise
+        return end.code
 
 
 def forget_output() -> None:
@@ -76,3 +86,14 @@ def replayed(path: str, names: Optional[str], cut: bool = False, rates: Optional
         return read_run(path, names, cut, rates)
     except BadRecord as fault:
         raise BadRecord(f"{path}: {fault}") from None
+
+
+def note_of_names(command: str, *runs: tuple[str, Record]) -> None:
+    """Says on standard error which interfaces have no name, in the first record in which some have none, and what helps."""
+    for path, record in runs:
+        nameless = [name for name in record.names if not is_named(name)]
+        if nameless:
+            names = ",".join(name if is_named(name) else "NAME" for name in record.names)
+            said = f"no log names {', '.join(nameless)}: name all interfaces with --names {names}"
+            print(f"{command}: note: {path}: {said}", file=sys.stderr)
+            return

@@ -12,6 +12,17 @@ from canbusd.signals import Database, load_database
 Source = Union[Database, str, "os.PathLike[str]"]
 
 
+class NoInterface(ValueError):
+    """A node that sends something has no interface, or one that there is not. The text has the cure in words of Python."""
+
+    def __init__(self, node: str, interface: str, known: Sequence[str]) -> None:
+        self.node, self.known = node, known
+        #: What is wrong, without a cure.
+        self.fault = f"node {node} has no interface{f' {interface!r}' if interface else ''}"
+        cure = f"give nodes={{{node!r}: ..}} or interface=.., one of {', '.join(known)}, or without=[{node!r}]"
+        super().__init__(f"{self.fault}: {cure}")
+
+
 def database_of(source: Source) -> Database:
     """Returns a database, which may be given as the path of its file."""
     return source if isinstance(source, Database) else load_database(source)
@@ -48,8 +59,8 @@ def interfaces_of(
 ) -> dict[str, str]:
     """Returns the interface of each node that sends something, but for those that are left out.
 
-    It is the one given for the node, else `interface`, else the one that has the node's name. ValueError where there is
-    none, or a name is wrong.
+    It is the one given for the node, else `interface`, else the one that has the node's name. NoInterface where there is
+    none, and ValueError where the name of a node is wrong.
     """
     senders = list(dict.fromkeys(sender(message) for message in database.messages if message.senders))
     left_out = [without] if isinstance(without, str) else list(without)
@@ -61,7 +72,5 @@ def interfaces_of(
         if name not in left_out:
             found[name] = nodes.get(name) or interface or (name if name in known else "")
             if found[name] not in known:
-                which = f"has no interface {found[name]!r}" if found[name] else "has no interface"
-                cure = f"give nodes={{{name!r}: ..}} or interface=.., one of {', '.join(known)}, or without=[{name!r}]"
-                raise ValueError(f"node {name} {which}: {cure}")
+                raise NoInterface(name, found[name], known)
     return found

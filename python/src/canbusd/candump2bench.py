@@ -3,18 +3,20 @@
 import argparse
 import re
 import sys
+from collections import Counter
 from collections.abc import Iterable, Sequence
 
 from canbusd._command import run_command
-from canbusd._text import NAME, shown
+from canbusd._text import NAME, shown, times
 from canbusd.frames import BadFrame, Frame, command_of, log_line
-from canbusd.logs import LINE, is_candump, read_entries
+from canbusd.logs import LINE, RECORD, is_candump, read_entries
 
 EPILOG = """\
 Each line of the log, `(MOMENT) INTERFACE FRAME`, becomes a frame that a session on that interface sends, and an attempt
 at that moment. So the frames go over the bus in the order of the log, whatever their identifiers are. The first line of
 the output says how to run it. An FD frame keeps its bit rate switch and its error state indicator. A line that is no
-data, remote or FD frame is named on standard error and left out; the status is 1 then.
+data, remote or FD frame is named on standard error and left out, lines that differ in their moments only once; the status
+is 1 then.
 
   candump2bench --listen tester run.log > run.bench
   canbusd bench tester,can0 < run.bench
@@ -129,18 +131,31 @@ def convert() -> int:
 
 
 def take_lines(bench: BenchInput, log: Iterable[bytes], place: str) -> int:
-    """Adds the lines of a log, and names those that can't be taken; returns how many these are."""
+    """Adds the lines of a log, and names those that can't be taken; returns how many these are.
+
+    Lines that differ in their moments only are named once, with their number, as the frames of a bus off that failed.
+    """
     left_out = 0
+    named: dict[tuple[str, str], str] = {}
+    alike = Counter[tuple[str, str]]()
     for number, line in enumerate(log, 1):
         text = line.decode("utf-8", "replace").rstrip("\r\n ")
+        if number == 1 and text.startswith(RECORD):
+            raise ValueError(f"{place}: this is a record; take its log, which has the ending .log")
         try:
             if text:
                 bench.take(text)
         except (NotTaken, BadFrame) as fault:
             left_out += 1
-            if left_out <= MOST_NAMED:
-                print(f"candump2bench: {place}:{number}: {fault}: {shown(text)}", file=sys.stderr)
-    if left_out > MOST_NAMED:
+            words = LINE.fullmatch(text)
+            kind = (f"{fault}", f"{words[2]} {words[3]}" if words else text)
+            if kind in named or len(named) < MOST_NAMED:
+                named.setdefault(kind, f"{place}:{number}: {fault}: {shown(text)}")
+                alike[kind] += 1
+    for kind, said in named.items():
+        more = f"; {times(alike[kind] - 1, 'line')} more like it" if alike[kind] > 1 else ""
+        print(f"candump2bench: {said}{more}", file=sys.stderr)
+    if left_out > sum(alike.values()):
         print(f"candump2bench: {place}: {left_out} lines in all were left out", file=sys.stderr)
     return left_out
 

@@ -1,10 +1,14 @@
-"""Two runs beside each other: where they first differ, and the columns by which the page of one shows the other."""
+"""Two runs beside each other: where they first differ, and the columns by which the page of one shows the other.
 
+Interfaces are compared by their names where both runs have names for all of theirs, and else by their numbers.
+"""
+
+import itertools
 from collections.abc import Callable, Iterable, Sequence
 from typing import Any, NamedTuple, Optional
 
 from canbusd._text import times
-from canbusd.record import Attempt, Record
+from canbusd.record import Attempt, Record, attempts_of, is_named, number_named
 
 Column = list[Any]
 #: What of an attempt is compared, and how it is named: all but its moment, which no two runs of a server share.
@@ -28,16 +32,38 @@ class Difference(NamedTuple):
     words: str
 
 
-def tried(record: Record) -> list[Attempt]:
-    """The attempts of a run that had a frame; they are numbered from 0."""
-    return [attempt for attempt in record.attempts if attempt.outcome != "idle"]
+def names_of_both(one: Record, other: Record) -> tuple[Sequence[str], Sequence[str]]:
+    """Returns the names by which the interfaces of two runs are compared and shown.
+
+    They are those of each run where all have one. Else an interface is called alike in both: by the name that it has in
+    either of them, or all by their numbers, where the names of the runs don't fit each other.
+    """
+    if all(map(is_named, [*one.names, *other.names])):
+        return one.names, other.names
+    pairs = itertools.zip_longest(one.names, other.names, fillvalue="")
+    known = [set(filter(is_named, pair)) for pair in pairs]
+    names = [next(iter(found), number_named(number)) for number, found in enumerate(known)]
+    if any(len(found) > 1 for found in known) or len(set(names)) < len(names):
+        names = [number_named(number) for number in range(len(known))]
+    return names[: len(one.names)], names[: len(other.names)]
+
+
+def tried(record: Record, names: Sequence[str]) -> list[Attempt]:
+    """The attempts of a run that had a frame, with these names; they are numbered from 0."""
+    return [attempt for attempt in attempts_of(record.replay, names) if attempt.outcome != "idle"]
+
+
+def tried_in_both(one: Record, other: Record) -> tuple[list[Attempt], list[Attempt]]:
+    """The attempts of each run that had a frame, with names by which they can be compared."""
+    mine, its = names_of_both(one, other)
+    return tried(one, mine), tried(other, its)
 
 
 def first_difference(one: Record, other: Record) -> Optional[Difference]:
     """Returns where two runs first differ; None where both made the same attempts."""
-    mine, its = tried(one), tried(other)
+    mine, its = tried_in_both(one, other)
     for number, (attempt, same) in enumerate(zip(mine, its)):
-        found = [what for name, what in COMPARED.items() if getattr(attempt, name) != getattr(same, name)]
+        found = [what for name, what in COMPARED.items() if value_of(attempt, name) != value_of(same, name)]
         if found:
             return Difference(number, f"{', '.join(found)}: {line(attempt)} against {line(same)}")
     if len(mine) == len(its):
@@ -46,9 +72,15 @@ def first_difference(one: Record, other: Record) -> Optional[Difference]:
     return Difference(min(len(mine), len(its)), f"{longer} has {times(abs(len(mine) - len(its)), 'attempt')} more")
 
 
+def value_of(attempt: Attempt, name: str) -> object:
+    """What of an attempt is compared; of interfaces it is which they are, in whatever order their buses have them."""
+    value = getattr(attempt, name)
+    return set(value) if isinstance(value, tuple) else value
+
+
 def line(attempt: Attempt) -> str:
     """An attempt in short: `can0 123#11 destroyed (global bit)`."""
-    fault = "" if attempt.fault == "good" else f" ({attempt.fault})"
+    fault = "" if attempt.fault in ("good", attempt.outcome) else f" ({attempt.fault})"
     off = f", {' and '.join(attempt.off)} bus off" if attempt.off else ""
     return f"{attempt.winner} {attempt.frame} {attempt.outcome}{fault}{off}"
 
@@ -57,7 +89,7 @@ def heading(one: Record, other: Record) -> str:
     """Returns in one line where two runs first differ."""
     found = first_difference(one, other)
     if found is None:
-        return f"No difference in {times(len(tried(one)), 'attempt')}"
+        return f"No difference in {times(len(tried(one, one.names)), 'attempt')}"
     return f"First difference in attempt {found.attempt:,}: {found.words}"
 
 
@@ -67,7 +99,7 @@ def beside(one: Record, other: Record) -> list[str]:
     lines = [heading(one, other)]
     if found is None:
         return lines
-    mine, its = tried(one), tried(other)
+    mine, its = tried_in_both(one, other)
     for number in range(max(0, found.attempt - AROUND), found.attempt + AROUND + 1):
         left, right = ("".join(map(line, run[number : number + 1])) for run in (mine, its))
         if left == right:
@@ -81,16 +113,17 @@ def columns_of(
     one: Record, other: Record, title: str, kinds: Sequence[str], column: Callable[[str, Iterable[float]], Column]
 ) -> dict[str, Any]:
     """Returns what the page of a run has of another one: names, texts, and a number of each for an attempt."""
-    attempts, found = tried(other), first_difference(one, other)
+    _, names = names_of_both(one, other)
+    attempts, found = tried(other, names), first_difference(one, other)
     texts: dict[str, int] = {}
     places = [texts.setdefault(line(attempt), len(texts)) for attempt in attempts]
     first = attempts[0].timestamp if attempts else 0.0
     return {
         "title": title,
-        "names": list(other.names),
+        "names": list(names),
         "difference": None if found is None else found.attempt,
         "kind": column("B", (kinds.index(attempt.outcome) for attempt in attempts)),
-        "iface": column("B", (other.names.index(attempt.winner) for attempt in attempts)),
+        "iface": column("B", (names.index(attempt.winner) for attempt in attempts)),
         "line": column("I", places),
         "since": column("d", (attempt.timestamp - first for attempt in attempts)),
         "texts": list(texts),

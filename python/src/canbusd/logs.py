@@ -20,6 +20,8 @@ WRITTEN = (".log", ".asc", ".blf")
 LINE = re.compile(r"\(([0-9]{1,10}\.[0-9]{6})\) +(\S+) +(\S+)(?: +[RT])?")
 # python-can counts channels from 0, and its ASC and BLF files have one more.
 NUMBER = re.compile("[0-9]+")
+# How a record begins.
+RECORD = "canbus record "
 
 
 class Entry(NamedTuple):
@@ -60,6 +62,8 @@ def candump_entries(path: Path) -> Iterator[Entry]:
     with open(path, encoding="utf-8", errors="replace") as file:
         for number, line in enumerate(file, 1):
             text = line.rstrip("\r\n ")
+            if number == 1 and text.startswith(RECORD):
+                raise ValueError(f"{os.fspath(path)}: this is a record; take its log, which has the ending .log")
             if text:
                 yield entry_of(text, f"{os.fspath(path)}:{number}")
 

@@ -210,7 +210,17 @@ def names_of(run: Replay, path: Optional[Path], given: Optional[Sequence[str]]) 
         return tuple(names)
     log = log_beside(path) if path is not None else None
     winners = names_in_log(run.steps, log) if log else {}
-    return tuple(winners.get(number, f"interface {number}") for number in range(len(run.ifaces)))
+    return tuple(winners.get(number, number_named(number)) for number in range(len(run.ifaces)))
+
+
+def number_named(number: int) -> str:
+    """What an interface is called whose name is not known."""
+    return f"interface {number}"
+
+
+def is_named(name: str) -> bool:
+    """Whether this is the name of an interface, and not only its number."""
+    return NAME.fullmatch(name) is not None
 
 
 def members_of(verdict: str, names: Sequence[str]) -> list[str]:

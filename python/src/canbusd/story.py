@@ -104,12 +104,11 @@ class Climb:
             self.faults[KINDS[kind] if kind == NOACK else steps.verdict(number)] += 1
 
     def words(self, names: Sequence[str]) -> str:
-        """`32 of its 33 attempts since attempt 1,000 failed: global bit 31, last bit 1`."""
-        each = [f"{fault_words(fault, names)} {count:,}" for fault, count in self.faults.most_common()]
-        since = f"since attempt {self.first:,}"
-        return (
-            f"{sum(self.faults.values()):,} of its {times(self.attempts, 'attempt')} {since} failed: {', '.join(each)}"
-        )
+        """`32 of its 33 attempts from attempt 1,000 on failed (31 x global bit, 1 x last bit)`, or `all its 32 attempts ..`."""
+        each = ", ".join(f"{count:,} x {fault_words(fault, names)}" for fault, count in self.faults.most_common())
+        failed, attempts = sum(self.faults.values()), times(self.attempts, "attempt")
+        which = f"all its {attempts}" if 1 < failed == self.attempts else f"{failed:,} of its {attempts}"
+        return f"{which} from attempt {self.first:,} on failed ({each})"
 
 
 def fault_words(fault: str, names: Sequence[str]) -> str:

@@ -3,6 +3,7 @@
 import argparse
 from typing import Optional
 
+from canbusd._address import parse_address
 from canbusd._command import BadWords
 from canbusd._rates import LEAST_BITRATE, MOST_BITRATE, MOST_DBITRATE, Rates
 from canbusd.signals import Database, load_database
@@ -13,6 +14,7 @@ def add_address(parser: argparse.ArgumentParser) -> None:
     parser.add_argument(
         "-a",
         "--address",
+        type=address_of,
         help="HOST:PORT of the server, or its Unix path, which begins with / or . (default: $CANBUSD_ADDRESS, else "
         "127.0.0.1:29536)",
     )
@@ -56,6 +58,34 @@ def digits(text: str) -> int:
     if not (text.isascii() and text.isdigit()):
         raise argparse.ArgumentTypeError(f"not a number in decimal digits: {text!r}")
     return int(text)
+
+
+def least_zero(text: str) -> float:
+    """Returns the number of at least 0 that a word writes."""
+    try:
+        found = float(text)
+    except ValueError:
+        found = -1.0
+    if not 0 <= found < float("inf"):
+        raise argparse.ArgumentTypeError(f"not a number of at least 0: {text!r}")
+    return found
+
+
+def above_zero(text: str) -> float:
+    """Returns the number above 0 that a word writes."""
+    found = least_zero(text)
+    if not found:
+        raise argparse.ArgumentTypeError(f"not a number above 0: {text!r}")
+    return found
+
+
+def address_of(text: str) -> str:
+    """Returns an address that is one."""
+    try:
+        parse_address(text)
+    except ValueError as fault:
+        raise argparse.ArgumentTypeError(f"{fault}") from None
+    return text
 
 
 def rates_of(options: argparse.Namespace) -> Optional[Rates]:

@@ -8,9 +8,10 @@ import time
 from collections.abc import Callable
 from typing import Any, Optional
 
+from canbusd._command import BadWords
 from canbusd._protocol import ALL_CLASSES
 from canbusd.bus import CanbusdBus
-from canbusd.commands import add_address, add_database, database_of
+from canbusd.commands import add_address, add_database, database_of, digits, least_zero
 from canbusd.frames import ERROR, EXTENDED, INVERTED, Frame, frame_like, log_line
 from canbusd.signals import Database
 
@@ -121,9 +122,9 @@ def add_arguments(parser: argparse.ArgumentParser) -> None:
         choices=("a", "A", "d", "z"),
         help="timestamps: absolute, absolute with date, delta, or from zero",
     )
-    parser.add_argument("-n", dest="count", type=int, metavar="COUNT", help="end after COUNT frames")
+    parser.add_argument("-n", dest="count", type=digits, metavar="COUNT", help="end after COUNT frames")
     parser.add_argument(
-        "-T", dest="timeout", type=float, metavar="MS", help="end after MS milliseconds without a frame"
+        "-T", dest="timeout", type=least_zero, metavar="MS", help="end after MS milliseconds without a frame"
     )
     add_database(parser)
     add_address(parser)
@@ -179,7 +180,7 @@ class Drops:
 def run(options: argparse.Namespace) -> None:
     """Prints frames as they come."""
     if options.log and options.dbc:
-        raise ValueError("--dbc does not go with -L: a log has frames only")
+        raise BadWords("--dbc does not go with -L: a log has frames only")
     view = View(options, max(len(text.split(",")[0]) for text in options.interfaces), database_of(options))
     buses = [opened(text, options) for text in options.interfaces]
     drops = Drops(buses)

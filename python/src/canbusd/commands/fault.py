@@ -3,6 +3,7 @@
 import argparse
 
 from canbusd._address import reason_of, server_address
+from canbusd._command import BadWords
 from canbusd._connection import SessionRefused
 from canbusd._injection import Refused, RuleSession
 from canbusd.commands import add_address
@@ -36,7 +37,7 @@ def run(options: argparse.Namespace) -> None:
     """Ends rules, gives one, and prints how many are left."""
     rule = " ".join(options.rule)
     if not (rule or options.left or options.end):
-        raise ValueError("a rule is missing, such as 'next 32 from ecu global bit', or --left or --end")
+        raise BadWords("a rule is missing, such as 'next 32 from ecu global bit', or --left or --end")
     address = server_address(options.address)
     try:
         with RuleSession(address, options.interface) as session:

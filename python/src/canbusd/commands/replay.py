@@ -6,7 +6,7 @@ import json
 import sys
 from collections.abc import Iterator, Sequence
 
-from canbusd._command import add_record, replayed
+from canbusd._command import add_record, note_of_names, replayed
 from canbusd._slots import Load, load_of, load_words, overlaps_of, slots_of
 from canbusd._steps import RESTART, moment_of
 from canbusd.commands import add_rates, rates_of
@@ -50,6 +50,8 @@ def run(options: argparse.Namespace) -> int:
     rates = rates_of(options)
     record = replayed(options.record, options.names, options.cut, rates)
     slots = slots_of(record.replay) if rates else []
+    if not options.quiet:
+        note_of_names("canbusd replay", (options.record, record))
     if options.json:
         for fields in objects_of(record):
             print(json.dumps(fields))
@@ -110,7 +112,7 @@ def lines_of(record: Record) -> Iterator[str]:
 def words_of(attempt: Attempt) -> str:
     """What became of an attempt, in words."""
     words = [attempt.outcome]
-    if attempt.fault != "good":
+    if attempt.fault not in ("good", attempt.outcome):
         words.append(f"({attempt.fault})")
     words.append(f"accepted by {','.join(attempt.accepted) or 'nobody'}")
     if attempt.off:

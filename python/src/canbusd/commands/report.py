@@ -6,13 +6,15 @@ import os
 import sys
 from collections.abc import Iterable
 from pathlib import Path
+from typing import Optional
 
 from canbusd import _summary, drawings
-from canbusd._command import add_record, replayed
+from canbusd._command import BadWords, add_record, note_of_names, replayed
 from canbusd._deciders import deciders, faults_beside
+from canbusd._rates import Rates
 from canbusd._slots import load_of, load_words, slots_of
-from canbusd.commands import add_database, add_rates, database_of, rates_of
-from canbusd.comparison import beside
+from canbusd.commands import add_database, add_rates, database_of, digits, rates_of
+from canbusd.comparison import beside, first_difference
 from canbusd.record import BadRecord, Record
 
 EPILOG = """\
@@ -30,6 +32,7 @@ long each frame was on the wire, and how long it waited from the first attempt i
   canbusd report --bitrate 500000 --names can0,can1 run.rec > run.html
   canbusd report --counters --names can0,can1 run.rec
   canbusd report yesterday/ecu.rec today/ecu.rec > both.html
+  canbusd report --text --exit-code yesterday/ecu.rec today/ecu.rec || echo they differ
 """
 MOST_EVENTS = 1000
 
@@ -40,9 +43,12 @@ def add_arguments(parser: argparse.ArgumentParser) -> None:
     parser.add_argument(
         "other", nargs="?", metavar="OTHER", help="a second record: where the runs first differ, and both on one axis"
     )
+    parser.add_argument(
+        "--exit-code", action="store_true", help="with OTHER: the exit status is 1 where the runs differ (default: 0)"
+    )
     add_database(parser)
     parser.add_argument(
-        "--items", type=int, default=1000000, metavar="N", help="items on the page at most (default 1000000)"
+        "--items", type=digits, default=1000000, metavar="N", help="items on the page at most (default 1000000)"
     )
     add_rates(parser, "the page shows the bus load, and how long frames took and waited")
     parser.add_argument(
@@ -55,30 +61,56 @@ def add_arguments(parser: argparse.ArgumentParser) -> None:
     parser.add_argument(
         "--arbitration", action="store_true", help="draw the bits of each attempt in which several interfaces took part"
     )
-    parser.add_argument("--first", type=int, default=0, metavar="N", help="the first attempt to draw, from 0")
-    parser.add_argument("--last", type=int, default=1 << 24, metavar="N", help="the last attempt to draw")
+    parser.add_argument("--first", type=digits, metavar="N", help="the first attempt to draw, from 0")
+    parser.add_argument("--last", type=digits, metavar="N", help="the last attempt to draw")
 
 
-def run(options: argparse.Namespace) -> None:
-    """Writes the page, or the drawings, on standard output."""
+def run(options: argparse.Namespace) -> int:
+    """Writes the page, or the drawings, on standard output. Returns the status."""
     rates = rates_of(options)
+    check_words(options)
     record = replayed(options.record, options.names, options.cut, rates)
     other = None if options.other is None else replayed(options.other, options.names, options.cut)
-    if options.text or options.counters or options.arbitration:
+    note_of_names("canbusd report", (options.record, record), *([] if other is None else [(options.other, other)]))
+    write_run(record, other, options, rates)
+    return int(options.exit_code and other is not None and first_difference(record, other) is not None)
+
+
+def has_drawings(options: argparse.Namespace) -> bool:
+    """Whether text is asked for, in place of a page."""
+    return bool(options.text or options.counters or options.arbitration)
+
+
+def check_words(options: argparse.Namespace) -> None:
+    """Refuses options that have no effect together."""
+    if options.exit_code and options.other is None:
+        raise BadWords("--exit-code needs a second record")
+    given = [f"--{name}" for name in ("first", "last") if vars(options)[name] is not None]
+    if given and not has_drawings(options):
+        raise BadWords(f"{' and '.join(given)}: attempts are drawn with --text, --counters or --arbitration only")
+    if len(given) == 2 and options.last < options.first:
+        raise BadWords(f"--first {options.first} --last {options.last}: no attempt is from there to there")
+
+
+def write_run(record: Record, other: Optional[Record], options: argparse.Namespace, rates: Optional[Rates]) -> None:
+    """Writes the page, or the drawings, on standard output."""
+    if has_drawings(options):
+        first = options.first or 0
+        last = record.replay.attempts if options.last is None else options.last
         if options.text:
             write(_summary.story(record, MOST_EVENTS) if other is None else beside(record, other))
             write([load_words(load_of(slots_of(record.replay)))] if rates else [])
         if options.text or options.arbitration:
-            write(drawings.arbitration(record, options.first, options.last))
+            write(drawings.arbitration(record, first, last))
         if options.text or options.counters:
-            write(drawings.counters(record, options.first, options.last))
+            write(drawings.counters(record, first, last))
         return
     from canbusd.report import Pair, page
 
     title, rules = os.path.basename(options.record), rules_of(record, options)
     if isinstance(sys.stdout, io.TextIOWrapper):
         sys.stdout.reconfigure(encoding="utf-8")
-    database, most_items = database_of(options), max(options.items, 0)
+    database, most_items = database_of(options), options.items
     pair = None if other is None else Pair(record, other, title_beside(options.record, options.other))
     sys.stdout.write(page(record.replay, record.names, title, most_items, database, rules, rates, pair))
 

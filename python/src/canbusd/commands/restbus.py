@@ -5,15 +5,15 @@ import contextlib
 import signal
 import sys
 import time
-from collections.abc import Iterator, Sequence
+from collections.abc import Iterator, Mapping, Sequence
 from typing import Optional
 
+from canbusd._command import BadWords
 from canbusd._rest_live import LiveRestBus
-from canbusd._rest_nodes import interfaces_of, sender
+from canbusd._rest_nodes import NoInterface, interfaces_of, sender
 from canbusd._text import times
-from canbusd._arguments import seconds
 from canbusd.bus import CanbusdBus, interfaces
-from canbusd.commands import add_address
+from canbusd.commands import above_zero, add_address
 from canbusd.rest_bus import RestBus
 from canbusd.signals import Database, load_database
 
@@ -31,12 +31,18 @@ set with --set is as the file says it starts. With --log the frames of these nod
 def add_arguments(parser: argparse.ArgumentParser) -> None:
     """Adds the words of the command."""
     parser.add_argument("files", nargs="+", metavar="FILE", help="a DBC, ARXML, KCD or SYM file")
-    parser.add_argument("--without", action="append", default=[], metavar="NODE", help="a node that is not simulated")
+    parser.add_argument(
+        "--without",
+        action="append",
+        default=[],
+        metavar="NODE,..",
+        help="nodes that are not simulated; it may be given again",
+    )
     parser.add_argument("--interface", metavar="NAME", help="the interface of all nodes that have none by --node")
     parser.add_argument("--node", action="append", default=[], metavar="NODE=NAME", help="the interface of a node")
     parser.add_argument("--set", action="append", default=[], metavar="NODE.SIGNAL=VALUE", help="the value of a signal")
     parser.add_argument("--log", metavar="LOG", help="a log whose frames are sent, and then the command ends")
-    parser.add_argument("--for", dest="duration", metavar="S", help="end after S seconds")
+    parser.add_argument("--for", dest="duration", type=above_zero, metavar="S", help="end after S seconds")
     parser.add_argument("--list", action="store_true", help="print what the files say, and send nothing")
     add_address(parser)
 
@@ -45,13 +51,12 @@ def run(options: argparse.Namespace) -> None:
     """Sends until the end, and says what became of the frames."""
     nodes = dict(pairs_of(options.node, "--node", "NODE=NAME"))
     values = list(pairs_of(options.set, "--set", "NODE.SIGNAL=VALUE"))
-    duration = None if options.duration is None else seconds("--for", options.duration)
     database = load_database(*options.files)
     if options.list:
         print(database)
         return
     known = interfaces(options.address)
-    chosen = interfaces_of(database, options.without, nodes, options.interface, known)
+    chosen = chosen_of(database, options, nodes, known)
 
     def opened(channel: str, **more: object) -> CanbusdBus:
         return CanbusdBus(channel, address=options.address, **more)  # type: ignore[arg-type]
@@ -62,10 +67,24 @@ def run(options: argparse.Namespace) -> None:
         rest[node][name] = value
     print("\n".join(table_of(database, rest)), flush=True)
     with rest:
+        duration: Optional[float] = options.duration
         if options.log:
             length = rest.replay(options.log)
             duration = length + 0.1 if duration is None else duration
         send_until(rest, duration)
+
+
+def chosen_of(
+    database: Database, options: argparse.Namespace, nodes: Mapping[str, str], known: Sequence[str]
+) -> dict[str, str]:
+    """The interface of each node; where one has none, a fault says which options help."""
+    without = [name for names in options.without for name in names.split(",")]
+    try:
+        return interfaces_of(database, without, nodes, options.interface, known)
+    except NoInterface as fault:
+        first = known[0]
+        cure = f"give --interface {first} or --node {fault.node}={first}, or leave it out with --without {fault.node}"
+        raise ValueError(f"{fault.fault}: {cure}; there are {', '.join(known)}") from None
 
 
 def pairs_of(words: Sequence[str], option: str, form: str) -> Iterator[tuple[str, str]]:
@@ -73,7 +92,7 @@ def pairs_of(words: Sequence[str], option: str, form: str) -> Iterator[tuple[str
     for word in words:
         name, equals, value = word.partition("=")
         if not (name and equals and value):
-            raise ValueError(f"{option} is {form}, not {word!r}")
+            raise BadWords(f"{option} is {form}, not {word!r}")
         yield name, value
 
 

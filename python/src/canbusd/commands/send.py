@@ -12,13 +12,13 @@ import canbusd._python_can  # noqa: F401  it says what is missing, so it comes f
 from can.exceptions import CanOperationError
 
 from canbusd.bus import CanbusdBus
-from canbusd.commands import NOTHING, add_address, add_database, database_of
+from canbusd.commands import NOTHING, add_address, add_database, database_of, least_zero
 from canbusd.frames import BadFrame, Frame
 from canbusd.signals import Database, Value
 
 EPILOG = """\
 frames:
-  123#DEADBEEF       11 bits in 3 digits; bytes may be parted by points: 123#DE.AD.BE.EF
+  123#DEADBEEF       11 bits in 3 digits; bytes may be separated by dots: 123#DE.AD.BE.EF
   00000123#          29 bits in 8 digits
   123#R, 123#R4      remote frames of length 0 and 4
   123##0DEADBEEF     an FD frame; in place of 0 its flags: 1 bit rate switch, 2 error state indicator, 3 both
@@ -38,7 +38,7 @@ def add_arguments(parser: argparse.ArgumentParser) -> None:
     parser.add_argument("interface", metavar="INTERFACE", help="an interface of the server")
     parser.add_argument("frames", nargs="+", metavar="FRAME", help="frames to send, in their order")
     parser.add_argument(
-        "--timeout", type=float, default=1.0, metavar="S", help="seconds to wait for room in the queue (default 1)"
+        "--timeout", type=least_zero, default=1.0, metavar="S", help="seconds to wait for room in the queue (default 1)"
     )
     add_database(parser)
     add_address(parser)

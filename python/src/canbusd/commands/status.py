@@ -7,9 +7,8 @@ from collections.abc import Sequence
 
 from canbusd._protocol import Load
 from canbusd._summary import HEADINGS, Row, load_words, table
-from canbusd._arguments import seconds
 from canbusd.bus import CanbusdBus, interfaces
-from canbusd.commands import NOTHING, add_address
+from canbusd.commands import NOTHING, above_zero, add_address
 
 EPILOG = """\
 TEC and REC are the transmit and the receive error count: error warning from 96, error passive from 128, bus off from
@@ -29,14 +28,17 @@ def add_arguments(parser: argparse.ArgumentParser) -> None:
     )
     parser.add_argument("--watch", action="store_true", help="keep the table on the screen until Ctrl-C")
     parser.add_argument(
-        "--interval", type=float, default=0.5, metavar="S", help="seconds between two looks with --watch (default 0.5)"
+        "--interval",
+        type=above_zero,
+        default=0.5,
+        metavar="S",
+        help="seconds between two looks with --watch (default 0.5)",
     )
     add_address(parser)
 
 
 def run(options: argparse.Namespace) -> None:
     """Prints the table, once or again and again."""
-    interval = seconds("--interval", options.interval)
     names = options.interfaces or interfaces(options.address)
     buses = [CanbusdBus(name, NOTHING, address=options.address, error_frames=False) for name in names]
     on_screen = options.watch and sys.stdout.isatty()
@@ -51,7 +53,7 @@ def run(options: argparse.Namespace) -> None:
         sys.stdout.flush()
         if not options.watch:
             break
-        time.sleep(interval)
+        time.sleep(options.interval)
     for bus in buses:
         bus.shutdown()
 

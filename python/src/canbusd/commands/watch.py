@@ -19,12 +19,12 @@ import canbusd._python_can  # noqa: F401  it says what is missing, so it comes f
 
 from can.exceptions import CanOperationError
 
-from canbusd._arguments import seconds
+from canbusd._command import BadWords
 from canbusd._frame_times import FrameTimes
 from canbusd._program import ProgramNotFound
 from canbusd._rates import Rates
 from canbusd.bus import CanbusdBus, interfaces
-from canbusd.commands import add_address, add_database, database_of
+from canbusd.commands import above_zero, add_address, add_database, database_of, digits
 from canbusd.frames import SENDING, Frame, frame_like
 from canbusd.report import filled
 from canbusd.signals import Database, Decoded
@@ -304,11 +304,11 @@ def add_arguments(parser: argparse.ArgumentParser) -> None:
         "interfaces", nargs="*", metavar="INTERFACE", help="an interface of the server (default: all of them)"
     )
     parser.add_argument(
-        "--port", type=int, default=8029, metavar="N", help="the port of the page; 0 is any free one (default 8029)"
+        "--port", type=digits, default=8029, metavar="N", help="the port of the page; 0 is any free one (default 8029)"
     )
     parser.add_argument(
         "--interval",
-        type=float,
+        type=above_zero,
         default=0.25,
         metavar="S",
         help="seconds between two looks at the counts (default 0.25)",
@@ -319,9 +319,8 @@ def add_arguments(parser: argparse.ArgumentParser) -> None:
 
 def run(options: argparse.Namespace) -> None:
     """Serves the page until the server ends or Ctrl-C."""
-    interval = seconds("--interval", options.interval)
-    if not 0 <= options.port <= 65535:
-        raise ValueError(f"--port is a number from 0 to 65535, not {options.port}")
+    if options.port > 65535:
+        raise BadWords(f"--port is a number from 0 to 65535, not {options.port}")
     names: list[str] = options.interfaces or interfaces(options.address)
     watcher, board = Watcher(names, options.address, database_of(options)), Board()
     known = {
@@ -335,7 +334,7 @@ def run(options: argparse.Namespace) -> None:
         print(f"watching {', '.join(names)} on {pages.url}", flush=True)
         try:
             while True:
-                board.add(*watcher.tick(interval))
+                board.add(*watcher.tick(options.interval))
         except CanOperationError as fault:
             board.end(str(fault))
             raise

@@ -135,7 +135,7 @@ on("fields", (pairs, step) => {
   pairs.push(
     [isWhole(step) ? "on the wire" : "whole frame", `${duration(wire.frame[step])}: ${bitWords(step)}`],
     ["attempt", `${duration(wire.busy[step])}, from its start until the next one may begin`],
-    ["queueing delay", delayWords(step)],
+    ["response time", delayWords(step)],
     [`${wire.identifiers[identifier]} in view`, shareWords(of.busy[identifier], of)],
   );
 });
@@ -153,7 +153,7 @@ function delayWords(step) {
     return first === step ? "not sent in this attempt, the first in which it took part"
       : `not sent in this attempt; the first in which it took part, ${grouped(attemptOf[first])}, began ${before} before`;
   }
-  if (first === step) return `at least ${duration(nanos)}, only the frame: it took part in no attempt before`;
+  if (first === step) return `at least ${duration(nanos)}, the frame itself: it took part in no attempt before`;
   return `at least ${duration(nanos)}, from the start of attempt ${grouped(attemptOf[first])}, its first, to this end of frame`;
 }
 const shareWords = (busy, { all, nanos }) => `load ${percent(busy / nanos)}, ${percent(all ? busy / all : 0)} of the busy time`;
