@@ -71,7 +71,7 @@ def test_a_test_that_fails_says_what_was_on_the_bus(run, pytester):
             "*Captured canbusd teardown*",
             "2 nodes, 32 attempts: body went bus off in attempt 31",
             "  attempt 11: *",
-            "*/body.log ends:",
+            "*/body.log ends, each frame with its sender:",
             "*) body 20000080#0000000000000000  bus error",
             "interface  state *",
             "body       off     256    0     1     0        0     1        0",
@@ -242,7 +242,7 @@ def test_what_a_server_that_dies_has_written_is_kept(run, pytester):
     result.stdout.fnmatch_lines(
         [
             "2 nodes, 1 attempt*",
-            "*/can0.log ends:",
+            "*/can0.log ends, each frame with its sender:",
             "*) can0 123#",
             "*/can0.rec.new is cut off after * entries: `--cut` of the tools reads it",
             "can0 *active *1     1 *",
@@ -283,7 +283,7 @@ def test_records_that_are_written_live_and_not_at_all(run, pytester):
     """
     )
     result.assert_outcomes(failed=1)
-    result.stdout.fnmatch_lines(["*/can0.log ends:", "*) can0 123#"])
+    result.stdout.fnmatch_lines(["*/can0.log ends, each frame with its sender:", "*) can0 123#"])
     assert kept(pytester) == ["can0.log"]
 
 
@@ -318,7 +318,12 @@ def test_a_bench_that_is_not_ended_is_audited_too(run, pytester):
         assert False
     """
     ).stdout.fnmatch_lines(
-        ["*Captured canbusd teardown*", "*/can0.log ends:", "*) can0 123#", "can0 *active *1     1 *"]
+        [
+            "*Captured canbusd teardown*",
+            "*/can0.log ends, each frame with its sender:",
+            "*) can0 123#",
+            "can0 *active *1     1 *",
+        ]
     )
     assert kept(pytester) == ["can0.html", "can0.log", "can0.rec"]
 
@@ -420,7 +425,11 @@ def test_an_expectation_that_fails_shows_what_was_seen(run):
     )
     done.assert_outcomes(failed=1)
     done.stdout.fnmatch_lines(
-        ["E * no frame 124 within 0.1 seconds", "E * the last frames that can1 saw:", "E * (*) can1 123#0102"]
+        [
+            "E * no frame 124 within 0.1 seconds",
+            "E * the last frames that can1 saw, each with its receiver:",
+            "E * (*) can1 123#0102",
+        ]
     )
     # The fault is shown at the line of the test.
     done.stdout.no_fnmatch_line("*expectations.py*")

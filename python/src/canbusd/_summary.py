@@ -70,7 +70,8 @@ def end_of_log(path: Path) -> list[str]:
             last = file.read().decode("ascii", errors="replace").splitlines()[-LAST_LINES:]
     except OSError as fault:
         return [f"{path}: {fault.strerror}"]
-    return [f"{path} ends:" if last else f"{path} is empty", *(f"  {with_meaning(line)}" for line in last)]
+    heading = f"{path} ends, each frame with its sender:" if last else f"{path} is empty"
+    return [heading, *(f"  {with_meaning(line)}" for line in last)]
 
 
 def with_meaning(line: str) -> str:

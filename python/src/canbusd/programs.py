@@ -10,6 +10,7 @@ from collections.abc import Sequence
 from pathlib import Path
 from typing import Any, Optional, Union
 
+from canbusd._arguments import check_within
 from canbusd._connection import LONGEST_POLL, POLL
 from canbusd._program import ServerError, find_program
 from canbusd._text import seconds_words
@@ -99,6 +100,7 @@ class Program:
     def expect(self, text: str, *, within: float = 10.0) -> str:
         """Waits until its output has this text, and returns the output; AssertionError after these seconds, or at its end."""
         __tracebackhide__ = True
+        check_within(within)
         deadline, pause = time.monotonic() + within, POLL
         while True:
             # Before its output: what it wrote at its end counts.

@@ -292,13 +292,13 @@ class Server(Expectations, SimulatesNodes, RunsPrograms, ProgramRun):
         """The names of the interfaces of each bus."""
         return [bus[:-1] for bus in self._by_bus.values()]
 
-    def _shown(self) -> str:
+    def _shown(self, signals: Sequence[str] = ()) -> str:
         if self._record_when == "end":
-            return super()._shown()
+            return super()._shown(signals)
         from canbusd._summary import end_of_log
 
         logs = [line for name in self._by_bus for line in end_of_log(self._out / f"{name}.log")]
-        return "\n".join([super()._shown(), *logs])
+        return "\n".join([super()._shown(signals), *logs])
 
     def expect_from_now(self) -> None:
         if self._result is None and self._observer is not None:
