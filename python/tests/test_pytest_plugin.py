@@ -8,6 +8,7 @@ from xml.etree import ElementTree
 
 import pytest
 from conftest import needs_live
+from test_report import data_of
 
 import canbusd
 
@@ -148,7 +149,7 @@ def test_a_program_that_dies_fails_the_test(run):
     result.assert_outcomes(passed=3, errors=1, failed=1)
     result.stdout.fnmatch_lines(
         [
-            "sh -c 'echo last; exit 3' ended by itself, which `may_end=True` allows",
+            "sh -c 'echo last; exit 3' ended before the test did; pass may_end=True if it may",
             "sh -c 'echo last; exit 3': status 3, 1 line of output:",
             "  last",
         ]
@@ -433,6 +434,24 @@ def test_an_expectation_that_fails_shows_what_was_seen(run):
     )
     # The fault is shown at the line of the test.
     done.stdout.no_fnmatch_line("*expectations.py*")
+
+
+def test_a_database_is_in_the_failure_and_on_the_page(run, pytester):
+    pytest.importorskip("canmatrix")
+    done = run(
+        f"""
+    @pytest.mark.canbusd("can0,can1", database={str(Path(__file__).with_name("car.dbc"))!r})
+    def test_it(canbusd):
+        with canbusd.bus("can0") as can0:
+            can0.send(canbusd.database.encode("Engine", {{"speed": 2000}}).message())
+            canbusd.wait_for(lambda: can0.stats().done, 20)
+            canbusd.expect(signal="speed", above=2900, within=0)
+    """
+    )
+    done.assert_outcomes(failed=1)
+    done.stdout.fnmatch_lines(["E * can1 123#204E410000000000  Engine: speed=2000 km/h"])
+    page = next((pytester.path / "kept").rglob("can0.html")).read_text(encoding="utf-8")
+    assert list(data_of(page)[0]["messages"].values()) == ["Engine"]
 
 
 def test_a_server_that_tests_share_is_expected_from_each_test_on(run):

@@ -8,6 +8,7 @@ import pytest
 from canbusd.server import Server
 from canbusd.signals import DatabaseError, load_database
 from conftest import WAIT, message
+from test_report import data_of
 from test_signals import CAR
 
 
@@ -228,6 +229,15 @@ def test_cyclic_messages_and_orders_by_name(car_server):
     ecu.send(server.database.encode("Request", {"service": 34}).message())
     assert len(server.expect_cyclic("Engine", period=5, tolerance=5, count=1, within=WAIT)) == 1
     server.expect_sequence("Engine", {"signal": "Request.service", "equals": 34}, within=WAIT, between=())
+
+
+def test_the_page_has_the_signals_of_the_database(car_server):
+    server, ecu = car_server
+    ecu.send(engine(server.database, speed=2000))
+    server.expect("Engine", within=WAIT)
+    header, _ = data_of(server.report().read_text(encoding="utf-8"))
+    assert list(header["messages"].values()) == ["Engine"]
+    assert [*header["signals"].values()][0][0] == ["speed", 2000, "km/h"]
 
 
 def test_a_database_that_is_loaded():

@@ -270,7 +270,8 @@ class Server(Expectations, SimulatesNodes, RunsPrograms, ProgramRun):
         from canbusd._summary import write_page
 
         faults = faults_beside(left_by(path.with_suffix(".rec"), self._record_when))
-        return write_page(record, path, deciders(record, faults) if faults else [], self._rates)
+        rules = deciders(record, faults) if faults else []
+        return write_page(record, path, rules, self._rates, self.database)
 
     def _rule_session(self, interface: Optional[str]) -> RuleSession:
         """A session for the rules of the bus of this interface."""
