@@ -209,6 +209,63 @@ def test_the_marker_and_the_factory(run):
     ).assert_outcomes(passed=5)
 
 
+UNUSED = """
+    def send(bus, *numbers):
+        for number in numbers:
+            bus.send(can.Message(arbitration_id=number, is_extended_id=False))
+
+    @pytest.mark.canbusd("a,b", faults="next 1 id 7FE lastbit\\nnext 2 id 124 lastbit\\nalways id 7FD lastbit")
+    def test_a_server(canbusd):
+        canbusd.inject("next 3 id 7FC skip 1 lastbit")
+        with canbusd.bus("a") as a:
+            send(a, 0x123, 0x124, 0x7FC)
+            canbusd.expect(id=0x7FC, within=20)
+
+    @pytest.mark.canbusd("a,b", "c,d", record="live", faults={"c": "next 1 from c lastbit\\nnext 1 from d lastbit"})
+    def test_two_buses(canbusd):
+        with canbusd.bus("c") as c:
+            send(c, 0x123)
+            canbusd.expect(within=20)
+
+    @pytest.mark.canbusd("a,b", faults="next 1 id 7FE lastbit")
+    def test_ended(canbusd):
+        canbusd.inject("next 1 id 7FD lastbit")
+        canbusd.end_rules()
+        canbusd.inject("next 1 id 123 lastbit")
+        with canbusd.bus("a") as a:
+            send(a, 0x123)
+            canbusd.expect(within=20)
+
+    @pytest.mark.canbusd("a,b", faults="next 1 id 7FE lastbit\\nnext 2 id 123 lastbit")
+    def test_a_bench(canbusd_bench):
+        canbusd_bench.open("a").send(0x123)
+        canbusd_bench.attempt()
+
+    def test_none(canbusd):
+        with canbusd.bus("can0") as can0:
+            send(can0, 0x123)
+
+    def test_killed(canbusd):
+        canbusd.inject("next 1 id 7FE lastbit")
+        canbusd.kill()
+"""
+
+
+def test_rules_that_gave_no_verdict(run, pytester):
+    result = run(UNUSED)
+    result.assert_outcomes(passed=6)
+    said = re.findall(r"UnusedRule: (.*)", result.stdout.str())
+    assert said == [
+        "rule not used up: next 1 id 7FE lastbit",
+        "rule not used up: next 3 id 7FC skip 1 lastbit",
+        "rule not used up: next 1 from d lastbit",
+        "rule not used up: next 1 id 7FE lastbit",
+    ]
+    result = run(UNUSED, "-W", "error::canbusd.pytest_plugin.UnusedRule")
+    result.assert_outcomes(passed=6, errors=3)
+    assert kept(pytester) == []
+
+
 def test_a_server_that_dies(run):
     """One that a test kills is the test's own business; one that crashes fails the test."""
     result = run(
@@ -302,12 +359,35 @@ def test_what_a_marker_may_not_say(run):
     @pytest.mark.canbusd("a", "b")
     def test_a_bench(canbusd_bench):
         pass
+
+    @pytest.mark.canbusd("a", observe="a")
+    def test_an_option_of_a_bench(canbusd_bench):
+        pass
+
+    @pytest.mark.canbusd("a", database="nowhere.dbc")
+    def test_a_file(canbusd):
+        pass
+
+    @pytest.mark.canbusd("a", faults="next 1 lost")
+    def test_a_rule(canbusd):
+        pass
     """
     )
-    result.assert_outcomes(errors=3)
-    result.stdout.fnmatch_lines(["*colour*"])
-    result.stdout.fnmatch_lines(["*names of a bus's interfaces are *, not 'a,a'"])
-    result.stdout.fnmatch_lines(["*one bus*names 2*"])
+    result.assert_outcomes(errors=6)
+    mark = "@pytest.mark.canbusd"
+    result.stdout.fnmatch_lines(
+        [f"{mark}('a', colour='red'): there is no option colour; there are faults, ack, *, database and virtual"]
+    )
+    result.stdout.fnmatch_lines([f"{mark}('a,a'): names of a bus's interfaces are *, not 'a,a'"])
+    result.stdout.fnmatch_lines([f"{mark}('a', 'b'): canbusd_bench has one bus, not 2"])
+    result.stdout.fnmatch_lines(
+        [f"{mark}('a', observe='a'): there is no option observe; there are faults, *, out and virtual"]
+    )
+    result.stdout.fnmatch_lines([f"{mark}('a', database='nowhere.dbc'): *No such file*"])
+    result.stdout.fnmatch_lines([f"{mark}('a', faults='next 1 lost'): *script line 1: bad line"])
+    # Only that is shown of each, and no source of the package.
+    assert "def __init__" not in result.stdout.str() and "Traceback" not in result.stdout.str()
+    assert result.stdout.str().count("pytest_plugin.py") == 0
 
 
 def test_a_bench_that_is_not_ended_is_audited_too(run, pytester):

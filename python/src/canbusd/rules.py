@@ -184,6 +184,11 @@ class GivenRules:
         """Ends all rules."""
         self._left.clear()
 
+    def unused(self) -> list[Rule]:
+        """Returns those with a number, `next 1 ..`, that gave no verdict, and that nobody ended."""
+        left = [(self._rules[number - 1], left) for number, left in self._left.items() if left is not None]
+        return [rule for rule, left in left if rule.count == left]
+
     def gave(self, number: int) -> Rule:
         """Returns the rule of this number, which gave an attempt its verdict, and counts that."""
         left = self._left.get(number)
