@@ -116,7 +116,9 @@ def test_a_failed_test_in_a_junit_file(run, pytester):
                 found.setdefault(case.get("name"), []).append((one.get("name"), one.get("value")))
         assert found.keys() == {"test_it", "test_a_program"}
         facts = dict(found["test_it"])
-        assert [*facts] == ["canbusd_story", "canbusd_log", "canbusd_states", "canbusd_page"]
+        assert [*facts] == ["canbusd_story", "canbusd_log", "canbusd_states", "canbusd_page", "canbusd_page_relative"]
+        relative = pytester.path / facts["canbusd_page_relative"]
+        assert not os.path.isabs(facts["canbusd_page_relative"]) and relative.samefile(facts["canbusd_page"])
         assert facts["canbusd_story"].startswith("2 nodes, 32 attempts: body went bus off in attempt 31\n")
         assert facts["canbusd_log"].splitlines()[1].endswith("body 20000080#0000000000000000  bus error")
         assert "\nbody       off     256 " in facts["canbusd_states"]

@@ -52,8 +52,16 @@ class Observer:
     dropped while the test does something else.
     """
 
-    def __init__(self, address: str, buses: Sequence[Sequence[str]], observed: Sequence[str]) -> None:
+    def __init__(
+        self,
+        address: str,
+        buses: Sequence[Sequence[str]],
+        observed: Sequence[str],
+        full: Callable[[Optional[str]], str] = lambda channel: "",
+    ) -> None:
         self._address = address
+        # Says that a record is full, if it is so.
+        self._full = full
         self.received = Received(buses, observed)
         self._sessions: dict[str, ObservingSession] = {}
         # By the name of each interface that is observed, how many frames its socket had dropped when it was last expected.
@@ -96,9 +104,8 @@ class Observer:
                 if session.taken >= queued:
                     break
                 if left <= 0:
-                    raise fault(
-                        "CanTimeoutError", f"{session.channel}: frames did not come within {seconds_words(TIMEOUT)}"
-                    )
+                    late = f"{session.channel}: frames did not come within {seconds_words(TIMEOUT)}"
+                    raise fault("CanTimeoutError", ": ".join(filter(None, [late, self._full(session.channel)])))
                 wait_for_input([session], left)
 
     def wait(self, look: Callable[[], Optional[T]], may_be: Callable[[Seen], bool], within: float) -> Optional[T]:
@@ -245,6 +252,7 @@ class Observer:
             forgotten = self.received.missed(channel)
         if forgotten:
             texts.append(f"of more than {MOST_KEPT} since the last expectation the first {forgotten} were forgotten")
+        texts += filter(None, [self._full(channel)])
         return f": {', and '.join(texts)}" if texts else ""
 
     def _note_dropped(self) -> None:

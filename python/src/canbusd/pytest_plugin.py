@@ -275,9 +275,16 @@ class Runs:
             self._item.user_properties += [
                 (f"canbusd_{name}", "\n".join(lines)) for name, lines in one.items() if lines
             ]
-            page = [f"page: {path}" for path in one.pop("page", [])]
+            pages = one.pop("page", [])
+            self._item.user_properties += [("canbusd_page_relative", path) for path in map(self._from_junit, pages)]
+            page = [f"page: {path}" for path in pages]
             sections.append("\n".join([*itertools.chain(*one.values()), *page]))
         self._item.add_report_section("teardown", "canbusd", "\n\n".join(filter(None, sections)))
+
+    def _from_junit(self, page: str) -> str:
+        """The path of a page from the folder of the JUnit file, which finds it where both were copied elsewhere."""
+        file = self._item.config.getoption("xmlpath", None)
+        return os.path.relpath(page, os.path.dirname(os.path.abspath(file)) if file else None)
 
     def _facts(self, path: Path, run: Union["Server", Bench], names: list[str]) -> dict[str, list[str]]:
         """Makes the page of a bus; returns its story, the end of its log, states and counts, and the path of the page."""
