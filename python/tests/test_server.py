@@ -53,9 +53,8 @@ def test_what_a_server_leaves(tmp_path):
     page = server.report("can1")
     assert page == tmp_path / "can0.html"
     assert page.read_text(encoding="utf-8").startswith("<!DOCTYPE html>")
-    for wrong in (None, "can7"):
-        with pytest.raises(ValueError, match=f"^name .* one of can0, can1, car0, car1, not {wrong!r}$"):
-            server.log(wrong)
+    with pytest.raises(ValueError, match="^name .* one of can0, can1, car0, car1, not 'can7'$"):
+        server.log("can7")
 
 
 def test_the_log_has_all_kinds_of_frames(server):

@@ -6,6 +6,7 @@
     assert len(server.log("can0")) == 2
 """
 
+import functools
 import os
 import re
 import select
@@ -47,6 +48,13 @@ ENTRIES = re.compile(r"bus (\S+) entries (\d+)")
 FULL = re.compile(r"bus (\S+): record full")
 #: How many buses a server has at most.
 MOST_BUSES = 16
+
+
+def full_record(errors: Path, buses: Mapping[str, Sequence[str]], channel: Optional[str]) -> str:
+    """Says that the record of the bus of this interface is full, or of any: no frame is sent there any more."""
+    said = errors.read_text(errors="replace") if errors.exists() else ""
+    full = [name for name in FULL.findall(said) if channel is None or channel in buses[name][:-1]]
+    return f"{full[0]}: {RECORD_FULL}{CURES[RECORD_FULL]}" if full else ""
 
 
 class Result(NamedTuple):
@@ -289,7 +297,9 @@ class Server(Expectations, SimulatesNodes, RunsPrograms, ProgramRun):
     def _observing(self) -> Observer:
         """The sessions of the server's own."""
         if self._observer is None:
-            self._observer = Observer(self.address, self._names(), self._observed, self._full)
+            # Without the server itself, whose files go with it.
+            full = functools.partial(full_record, self._folder / "stderr", self._by_bus)
+            self._observer = Observer(self.address, self._names(), self._observed, full)
         return self._observer
 
     def _names(self) -> list[list[str]]:
@@ -307,11 +317,6 @@ class Server(Expectations, SimulatesNodes, RunsPrograms, ProgramRun):
     def expect_from_now(self) -> None:
         if self._result is None and self._observer is not None:
             super().expect_from_now()
-
-    def _full(self, channel: Optional[str] = None) -> str:
-        """Says that the record of the bus of this interface is full, or of any: no frame is sent there any more."""
-        full = [name for name in FULL.findall(self.said) if channel is None or channel in self._by_bus[name][:-1]]
-        return f"{full[0]}: {RECORD_FULL}{CURES[RECORD_FULL]}" if full else ""
 
     def _end_observer(self) -> None:
         if self._observer is not None:
