@@ -626,6 +626,7 @@ def test_pytest(tmp_path):
     ended = subprocess.run([*line, "--canbusd-virtual", "--canbusd-seed", "3"], **how)
     assert "1 failed, 2 passed" in ended.stdout, ended.stdout
     assert ended.stdout.count("UserWarning: in virtual time the frames of a server without bitrate= take no time") == 1
-    assert "repeat: canbusd-run --virtual --seed 3 --jitter 0 python3 -m pytest test_it.py::test_fault" in ended.stdout
+    repeated = "repeat: python3 -m pytest --canbusd-virtual --canbusd-seed 3 --canbusd-jitter 0 test_it.py::test_fault"
+    assert repeated in ended.stdout
     real = subprocess.run([*line, "-k", "heartbeats"], **how)
     assert real.returncode == 1 and "this test is for virtual time" in real.stdout, real.stdout

@@ -420,6 +420,12 @@ def test_values_given_as_texts(server):
         assert bus.recv(WAIT).is_fd
 
 
+def test_an_argument_that_is_none(server, caplog):
+    with CanbusdBus("can0", address=server.address, adress="127.0.0.1:1", single_handle=True):
+        said = [record.getMessage() for record in caplog.records if record.name == "can.canbusd"]
+    assert said == ["can0: adress is no argument of this interface, and is left out"]
+
+
 @pytest.mark.parametrize(
     "argument, value",
     [

@@ -49,7 +49,7 @@ def test_a_state_comes(tmp_path):
             "can0 is active (transmit count 0, receive count 0), and was not passive within 0.05 seconds: it was off, then "
             "active"
         )
-        assert heading == "the last frames that were seen:"
+        assert heading == "the last frames that were seen, each with its receiver:"
         assert seen[2].endswith("can0 20000040#0000000000000000  bus off")
         with pytest.raises(ValueError, match="state"):
             server.expect_state("can0", "bus off")
@@ -76,7 +76,7 @@ def test_a_frame_that_does_not_come(observed, can0):
         observed.expect(id=0x123, data=b"\x01", within=0.05)
     first, heading, line = str(failure.value).split("\n")
     assert first == "no frame 123 with data 01 within 0.05 seconds"
-    assert heading == "the last frames that can1 saw:"
+    assert heading == "the last frames that can1 saw, each with its receiver:"
     assert re.fullmatch(r"  \(\d{10}\.\d{6}\) can1 124#0102", line)
 
 
@@ -120,7 +120,12 @@ def test_the_end_of_a_log(tmp_path, last):
     log = tmp_path / "can0.log"
     lines = ["(0000000000.000001) can0 123#0102", "(0000000000.000002) can0 20000040#0000000000000000"]
     log.write_text("\n".join([*lines, last]))
-    assert end_of_log(log) == [f"{log} ends:", f"  {lines[0]}", f"  {lines[1]}  bus off", f"  {last}"]
+    assert end_of_log(log) == [
+        f"{log} ends, each frame with its sender:",
+        f"  {lines[0]}",
+        f"  {lines[1]}  bus off",
+        f"  {last}",
+    ]
 
 
 def test_nothing_was_seen(observed):
@@ -204,7 +209,9 @@ def test_a_failure_names_what_was_seen_just_before(server, pair):
     """Nothing else has looked for frames until then."""
     pair[0].send(message(0x124))
     server.wait_for(lambda: pair[0].stats().done, WAIT)
-    with pytest.raises(AssertionError, match=r"the last frames that were seen:\n  \(\d+\.\d+\) can1 124#$"):
+    with pytest.raises(
+        AssertionError, match=r"the last frames that were seen, each with its receiver:\n  \(\d+\.\d+\) can1 124#$"
+    ):
         server.expect_state("can0", "off", within=0)
 
 
@@ -253,6 +260,57 @@ def test_expecting_from_now(server, pair):
     assert server.expect(within=WAIT).arbitration_id == 2
 
 
+def expectations(server, within):
+    """A call of each expectation, with so many seconds."""
+    return [
+        lambda: server.expect(1, within=within),
+        lambda: server.expect_no_frame(1, within=within),
+        lambda: server.expect_cyclic(1, 0.01, within=within),
+        lambda: server.expect_sequence(1, within=within),
+        lambda: server.expect_no_change(1, within=within),
+        lambda: server.expect_state("can0", "active", within=within),
+    ]
+
+
+@pytest.mark.parametrize("within", [-1, float("nan")])
+def test_nobody_waits_a_negative_time(server, within):
+    for call in expectations(server, within):
+        with pytest.raises(ValueError, match=f"^within is a number of seconds, 0 or more, not {within}$"):
+            call()
+
+
+def test_the_other_identifier_of_the_same_number(server, pair):
+    """As by can.Message(arbitration_id=0x123), which has 29 bits."""
+    pair[0].send(can.Message(arbitration_id=0x123, data=[1]))
+    server.wait_for(lambda: pair[0].stats().done, WAIT)
+    came = "\n00000123 with 29 bits came: give can.Message is_extended_id=False, or expect is_extended_id=True\n"
+    for call in (
+        lambda: server.expect(0x123, within=0),
+        lambda: server.expect_cyclic(0x123, 0.01, within=0),
+        lambda: server.expect_sequence(0x123, within=0),
+        lambda: server.expect_no_change(0x123, within=0),
+    ):
+        with pytest.raises(AssertionError, match=came):
+            call()
+    with pytest.raises(AssertionError) as failure:
+        server.expect(0x124, within=0)
+    assert "with 29 bits came" not in str(failure.value)
+
+
+def test_a_failure_says_where_it_was_expected_and_with_how_many_bits():
+    with Server("can0,can1", "body,door") as server, server.bus("can0") as can0:
+        can0.send(message(0x101))
+        server.wait_for(lambda: can0.stats().done, WAIT)
+        with pytest.raises(AssertionError, match="^no frame 101 at body within 0 seconds\n"):
+            server.expect(0x101, channel="body", within=0)
+        with pytest.raises(AssertionError, match="^no frame 101 at body every 1 second, give or take 0.1: came 0 "):
+            server.expect_cyclic(0x101, 1, channel="body", within=0)
+        with pytest.raises(AssertionError, match="^no frame 102 after frame 101 at can1 within 0 seconds"):
+            server.expect_sequence(0x101, 0x102, channel="can1", within=0)
+        with pytest.raises(AssertionError, match="^no frame 00000101 with 29 bits within 0 seconds\n"):
+            server.expect(0x101, is_extended_id=True, within=0)
+
+
 @pytest.mark.parametrize("wrong", ["0x123", 1.5, True])
 def test_an_identifier_is_a_number(server, wrong):
     with pytest.raises(ValueError, match=f"^id is a number, .*, or the name of a message, not {wrong!r}$"):
@@ -270,7 +328,7 @@ def test_many_interfaces_have_one_observer_a_bus():
 def test_waiting_for_something(observed, can0):
     can0.send(message(1))
     assert observed.wait_for(lambda: can0.stats().done, WAIT) == 1
-    with pytest.raises(TimeoutError, match="not so within 0.05 seconds"):
+    with pytest.raises(TimeoutError, match="the condition was not true within 0.05 seconds"):
         observed.wait_for(lambda: can0.stats().done == 2, 0.05)
 
 

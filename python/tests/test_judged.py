@@ -150,6 +150,11 @@ def test_the_name_of_a_message(car):
         ({"id": 0x123, "data": b"\x11\x22"}, "frame 123 with data 11 22"),
         ({"id": 0x800, "data": b""}, "frame 00000800 with data of no byte"),
         ({}, "frame"),
+        ({"id": 0x101, "channel": "body"}, "frame 101 at body"),
+        ({"id": 0x101, "is_extended_id": True}, "frame 00000101 with 29 bits"),
+        ({"id": 0x101, "is_extended_id": False, "data": b"\1"}, "frame 101 with 11 bits and data 01"),
+        ({"id": 0x040, "is_error_frame": True}, "error message frame 040"),
+        ({"signal": "speed", "below": 5, "channel": "body"}, "signal speed below 5 at body"),
         ({"id": "Engine"}, "frame Engine"),
         ({"signal": "speed", "above": 2900}, "signal speed above 2900"),
         ({"signal": "speed", "above": 1, "below": 2.5}, "signal speed above 1 and below 2.5"),
@@ -169,6 +174,16 @@ def test_what_is_looked_for_in_words(car, arguments, text):
         ({"id": "Engine"}, "id is a number, such as 0x123, not 'Engine'; names .* need a database"),
         ({"id": 1.5}, "id is a number, such as 0x123, or the name of a message, not 1.5"),
         ({"id": True}, "id is a number, .* not True"),
+        # Identifiers are hexadecimal everywhere.
+        ({"id": "101"}, "id is a number, 0x101, or the name of a message, not '101'"),
+        ({"id": "7FE"}, "id is a number, 0x7FE, or the name of a message, not '7FE'"),
+        ({"id": 0x1FFFFFFFF}, "id is an identifier of 11 or 29 bits, from 0 to 1FFFFFFF, not 0x1ffffffff"),
+        ({"id": 0x20000000}, "id is an identifier of 11 or 29 bits"),
+        ({"id": -1}, "id is an identifier of 11 or 29 bits, from 0 to 1FFFFFFF, not -0x1"),
+        (
+            {"id": 0x800, "is_extended_id": False},
+            "id 800 has 29 bits: above 7FF there is none with is_extended_id=False",
+        ),
         ({"signal": "speed"}, "signal 'speed': names of messages and signals need a database"),
         ({"above": 5}, "above is of a signal"),
         ({"id": 1, "equals": 0}, "equals is of a signal"),
@@ -184,5 +199,79 @@ def test_names_that_the_database_does_not_have(car):
         Wanted("Motor", database=car)
     with pytest.raises(DatabaseError, match="^no signal Engine.sped; there are speed"):
         Wanted(signal="Engine.sped", database=car)
-    with pytest.raises(ValueError, match="^between has two ends"):
-        Wanted(signal="speed", between=5, database=car)
+    # Of Engine, Pages and Request; the close one first.
+    others = "temperature, gear, torque, page, left, right, service"
+    with pytest.raises(DatabaseError, match=f"^no signal sped; there are speed, {others}$"):
+        Wanted(signal="sped", database=car)
+    with pytest.raises(DatabaseError, match="^no signal Pages.speed; there are page, left, right$"):
+        Wanted(0x200, signal="speed", database=car)
+    with pytest.raises(DatabaseError, match="^124 is not the identifier of any message of the database$"):
+        Wanted(0x124, signal="speed", database=car)
+
+
+def test_many_signals_are_not_all_named(tmp_path):
+    lines = [f' SG_ s{number:02} : {number}|1@1+ (1,0) [0|1] "" ECU' for number in range(40)]
+    path = tmp_path / "many.dbc"
+    path.write_text("\n".join(['VERSION ""', "", "BU_: ECU", "", "BO_ 1 M: 8 ECU", *lines, ""]))
+    with pytest.raises(DatabaseError, match="^no signal x17; there are s17, .* and 28 more$") as fault:
+        Wanted(signal="x17", database=load_database(path))
+    assert fault.value.signal == "x17" and str(fault.value).count(", ") == 11
+
+
+@pytest.mark.parametrize(
+    "arguments, text",
+    [
+        ({"between": 5}, "between has two ends, such as (0, 100), not 5"),
+        ({"between": (100, 0)}, "between has its lower end first: (0, 100), not (100, 0)"),
+        ({"between": (0, float("nan"))}, "each end of between is a number, not nan"),
+        ({"above": float("nan")}, "above is a number, not nan"),
+        ({"below": "Drive"}, "below is a number, not 'Drive'"),
+        ({"equals": "fast"}, "speed is a number, not 'fast'"),
+        ({"equals": float("nan")}, "speed is a number, not nan"),
+        (
+            {"signal": "gear", "equals": "Driv"},
+            "gear is a number, or one of Park, Reverse, Neutral, Drive, not 'Driv'",
+        ),
+        ({"signal": "gear", "equals": 3}, "gear has a name for 3: equals='Drive'"),
+    ],
+)
+def test_what_can_never_be(car, arguments, text):
+    with pytest.raises(ValueError) as fault:
+        Wanted(**{"signal": "speed", "database": car, **arguments})
+    assert str(fault.value) == text
+
+
+def test_what_may_be_though_it_is_odd(car):
+    """A limit outside of the range, a number without a name, and the text of a number."""
+    assert not Wanted(signal="speed", above=99999, database=car).matches(Frame.parse(DRIVES))
+    assert Wanted(signal="gear", equals=6, database=car).matches(Frame.parse("123#0000000600000000"))
+    assert Wanted(signal="speed", equals="120.50", database=car).matches(Frame.parse(DRIVES))
+
+
+@pytest.mark.parametrize(
+    "arguments, text, hint",
+    [
+        (
+            {"id": 0x123},
+            "00000123#01",
+            "00000123 with 29 bits came: give can.Message is_extended_id=False, or expect is_extended_id=True",
+        ),
+        (
+            {"id": 0x123, "is_extended_id": True},
+            "123#01",
+            "123 with 11 bits came: give can.Message is_extended_id=True, or expect is_extended_id=False",
+        ),
+        ({"id": 0x123}, "123#01", ""),
+        ({"id": 0x123}, "00000124#", ""),
+        ({}, "00000123#", ""),
+    ],
+)
+def test_the_other_identifier_of_the_same_number(arguments, text, hint):
+    assert Wanted(**arguments).hint(Frame.parse(text)) == hint
+
+
+def test_the_bits_of_a_message_are_those_of_the_file(car):
+    came = "00000123 with 29 bits came: give can.Message is_extended_id=False"
+    assert Wanted("Engine", database=car).hint(Frame.parse("00000123#")) == came
+    with pytest.raises(ValueError, match="^is_extended_id=True: the database has 11 bits for this message$"):
+        Wanted("Engine", is_extended_id=True, database=car)

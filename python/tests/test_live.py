@@ -247,7 +247,7 @@ def test_a_failure_shows_the_end_of_the_log():
         with pytest.raises(AssertionError) as fault:
             server.expect_state("can0", "off", within=0)
         *_, heading, _, _, _, _, _, _, _, _, _, last = str(fault.value).split("\n")
-        assert heading.endswith("can0.log ends:") and last.endswith(" can0 013#")
+        assert heading.endswith("can0.log ends, each frame with its sender:") and last.endswith(" can0 013#")
         with pytest.raises(TimeoutError, match="can0 013#$"):
             server.wait_for(lambda: False, timeout=0)
 

@@ -115,7 +115,7 @@ def test_one_that_ends_by_itself():
         server.wait_for(lambda: gone.status is not None, timeout=WAIT)
         assert gone.stop() == 3
     assert str(fault.value).splitlines() == [
-        "sh -c 'echo one; echo two >&2; exit 3' ended by itself, which `may_end=True` allows",
+        "sh -c 'echo one; echo two >&2; exit 3' ended before the test did; pass may_end=True if it may",
         "sh -c 'echo one; echo two >&2; exit 3': status 3, 2 lines of output:",
         "  one",
         "  two",
@@ -163,8 +163,31 @@ def test_an_expectation_that_fails(server):
     gone = server.start("true", may_end=True)
     with pytest.raises(AssertionError, match="^no 'x' in the output\ntrue: status 0, and no output$"):
         gone.expect("x", within=WAIT)
-    unknown = server.start("no-such-program", may_end=True)
-    assert unknown.expect("no-such-program", within=WAIT) and unknown.wait(WAIT) == 127
+
+
+def test_a_program_that_can_not_be_started(server, tmp_path):
+    """As by subprocess, whatever the environment and the folder are; a status of its own is the caller's."""
+    (tmp_path / "plain").write_text("")
+    (tmp_path / "script").write_text("#!/bin/sh\nexit 127\n")
+    (tmp_path / "script").chmod(0o755)
+    there = {"PATH": str(tmp_path)}
+    for call in (server.run, server.start, lambda words, **more: subprocess.run([words], check=False, **more)):
+        with pytest.raises(FileNotFoundError) as fault:
+            call("candmp")
+        assert fault.value.filename == "candmp" and "candmp" in str(fault.value)
+        for words, more in (("true", {"env": there}), ("./nowhere", {"cwd": tmp_path}), (f"{tmp_path}/nowhere", {})):
+            with pytest.raises(FileNotFoundError):
+                call(words, **more)
+        for words, more in ((f"{tmp_path}/plain", {}), ("./plain", {"cwd": tmp_path}), ("plain", {"env": there})):
+            with pytest.raises(PermissionError):
+                call(words, **more)
+    # The launcher of a clone is a script of bash.
+    there = {"PATH": f"{tmp_path}:{os.environ['PATH']}"}
+    for words, more in (("script", {"env": there}), ("./script", {"cwd": tmp_path}), ("sh -c 'exit 127'", {})):
+        assert server.run(words, **more).returncode == 127
+        assert server.start(words, may_end=True, **more).wait(WAIT) == 127
+    with pytest.raises(subprocess.CalledProcessError):
+        server.run("sh -c 'exit 3'", check=True)
 
 
 def test_arguments_of_popen(server, tmp_path):

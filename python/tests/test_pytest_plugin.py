@@ -8,6 +8,7 @@ from xml.etree import ElementTree
 
 import pytest
 from conftest import needs_live
+from test_report import data_of
 
 import canbusd
 
@@ -71,7 +72,7 @@ def test_a_test_that_fails_says_what_was_on_the_bus(run, pytester):
             "*Captured canbusd teardown*",
             "2 nodes, 32 attempts: body went bus off in attempt 31",
             "  attempt 11: *",
-            "*/body.log ends:",
+            "*/body.log ends, each frame with its sender:",
             "*) body 20000080#0000000000000000  bus error",
             "interface  state *",
             "body       off     256    0     1     0        0     1        0",
@@ -115,7 +116,9 @@ def test_a_failed_test_in_a_junit_file(run, pytester):
                 found.setdefault(case.get("name"), []).append((one.get("name"), one.get("value")))
         assert found.keys() == {"test_it", "test_a_program"}
         facts = dict(found["test_it"])
-        assert [*facts] == ["canbusd_story", "canbusd_log", "canbusd_states", "canbusd_page"]
+        assert [*facts] == ["canbusd_story", "canbusd_log", "canbusd_states", "canbusd_page", "canbusd_page_relative"]
+        relative = pytester.path / facts["canbusd_page_relative"]
+        assert not os.path.isabs(facts["canbusd_page_relative"]) and relative.samefile(facts["canbusd_page"])
         assert facts["canbusd_story"].startswith("2 nodes, 32 attempts: body went bus off in attempt 31\n")
         assert facts["canbusd_log"].splitlines()[1].endswith("body 20000080#0000000000000000  bus error")
         assert "\nbody       off     256 " in facts["canbusd_states"]
@@ -148,7 +151,7 @@ def test_a_program_that_dies_fails_the_test(run):
     result.assert_outcomes(passed=3, errors=1, failed=1)
     result.stdout.fnmatch_lines(
         [
-            "sh -c 'echo last; exit 3' ended by itself, which `may_end=True` allows",
+            "sh -c 'echo last; exit 3' ended before the test did; pass may_end=True if it may",
             "sh -c 'echo last; exit 3': status 3, 1 line of output:",
             "  last",
         ]
@@ -208,6 +211,63 @@ def test_the_marker_and_the_factory(run):
     ).assert_outcomes(passed=5)
 
 
+UNUSED = """
+    def send(bus, *numbers):
+        for number in numbers:
+            bus.send(can.Message(arbitration_id=number, is_extended_id=False))
+
+    @pytest.mark.canbusd("a,b", faults="next 1 id 7FE lastbit\\nnext 2 id 124 lastbit\\nalways id 7FD lastbit")
+    def test_a_server(canbusd):
+        canbusd.inject("next 3 id 7FC skip 1 lastbit")
+        with canbusd.bus("a") as a:
+            send(a, 0x123, 0x124, 0x7FC)
+            canbusd.expect(id=0x7FC, within=20)
+
+    @pytest.mark.canbusd("a,b", "c,d", record="live", faults={"c": "next 1 from c lastbit\\nnext 1 from d lastbit"})
+    def test_two_buses(canbusd):
+        with canbusd.bus("c") as c:
+            send(c, 0x123)
+            canbusd.expect(within=20)
+
+    @pytest.mark.canbusd("a,b", faults="next 1 id 7FE lastbit")
+    def test_ended(canbusd):
+        canbusd.inject("next 1 id 7FD lastbit")
+        canbusd.end_rules()
+        canbusd.inject("next 1 id 123 lastbit")
+        with canbusd.bus("a") as a:
+            send(a, 0x123)
+            canbusd.expect(within=20)
+
+    @pytest.mark.canbusd("a,b", faults="next 1 id 7FE lastbit\\nnext 2 id 123 lastbit")
+    def test_a_bench(canbusd_bench):
+        canbusd_bench.open("a").send(0x123)
+        canbusd_bench.attempt()
+
+    def test_none(canbusd):
+        with canbusd.bus("can0") as can0:
+            send(can0, 0x123)
+
+    def test_killed(canbusd):
+        canbusd.inject("next 1 id 7FE lastbit")
+        canbusd.kill()
+"""
+
+
+def test_rules_that_gave_no_verdict(run, pytester):
+    result = run(UNUSED)
+    result.assert_outcomes(passed=6)
+    said = re.findall(r"UnusedRule: (.*)", result.stdout.str())
+    assert said == [
+        "rule not used up: next 1 id 7FE lastbit",
+        "rule not used up: next 3 id 7FC skip 1 lastbit",
+        "rule not used up: next 1 from d lastbit",
+        "rule not used up: next 1 id 7FE lastbit",
+    ]
+    result = run(UNUSED, "-W", "error::canbusd.pytest_plugin.UnusedRule")
+    result.assert_outcomes(passed=6, errors=3)
+    assert kept(pytester) == []
+
+
 def test_a_server_that_dies(run):
     """One that a test kills is the test's own business; one that crashes fails the test."""
     result = run(
@@ -242,7 +302,7 @@ def test_what_a_server_that_dies_has_written_is_kept(run, pytester):
     result.stdout.fnmatch_lines(
         [
             "2 nodes, 1 attempt*",
-            "*/can0.log ends:",
+            "*/can0.log ends, each frame with its sender:",
             "*) can0 123#",
             "*/can0.rec.new is cut off after * entries: `--cut` of the tools reads it",
             "can0 *active *1     1 *",
@@ -283,7 +343,7 @@ def test_records_that_are_written_live_and_not_at_all(run, pytester):
     """
     )
     result.assert_outcomes(failed=1)
-    result.stdout.fnmatch_lines(["*/can0.log ends:", "*) can0 123#"])
+    result.stdout.fnmatch_lines(["*/can0.log ends, each frame with its sender:", "*) can0 123#"])
     assert kept(pytester) == ["can0.log"]
 
 
@@ -301,12 +361,35 @@ def test_what_a_marker_may_not_say(run):
     @pytest.mark.canbusd("a", "b")
     def test_a_bench(canbusd_bench):
         pass
+
+    @pytest.mark.canbusd("a", observe="a")
+    def test_an_option_of_a_bench(canbusd_bench):
+        pass
+
+    @pytest.mark.canbusd("a", database="nowhere.dbc")
+    def test_a_file(canbusd):
+        pass
+
+    @pytest.mark.canbusd("a", faults="next 1 lost")
+    def test_a_rule(canbusd):
+        pass
     """
     )
-    result.assert_outcomes(errors=3)
-    result.stdout.fnmatch_lines(["*colour*"])
-    result.stdout.fnmatch_lines(["*names of a bus's interfaces are *, not 'a,a'"])
-    result.stdout.fnmatch_lines(["*one bus*names 2*"])
+    result.assert_outcomes(errors=6)
+    mark = "@pytest.mark.canbusd"
+    result.stdout.fnmatch_lines(
+        [f"{mark}('a', colour='red'): there is no option colour; there are faults, ack, *, database and virtual"]
+    )
+    result.stdout.fnmatch_lines([f"{mark}('a,a'): names of a bus's interfaces are *, not 'a,a'"])
+    result.stdout.fnmatch_lines([f"{mark}('a', 'b'): canbusd_bench has one bus, not 2"])
+    result.stdout.fnmatch_lines(
+        [f"{mark}('a', observe='a'): there is no option observe; there are faults, *, out and virtual"]
+    )
+    result.stdout.fnmatch_lines([f"{mark}('a', database='nowhere.dbc'): *No such file*"])
+    result.stdout.fnmatch_lines([f"{mark}('a', faults='next 1 lost'): *script line 1: bad line"])
+    # Only that is shown of each, and no source of the package.
+    assert "def __init__" not in result.stdout.str() and "Traceback" not in result.stdout.str()
+    assert result.stdout.str().count("pytest_plugin.py") == 0
 
 
 def test_a_bench_that_is_not_ended_is_audited_too(run, pytester):
@@ -318,7 +401,12 @@ def test_a_bench_that_is_not_ended_is_audited_too(run, pytester):
         assert False
     """
     ).stdout.fnmatch_lines(
-        ["*Captured canbusd teardown*", "*/can0.log ends:", "*) can0 123#", "can0 *active *1     1 *"]
+        [
+            "*Captured canbusd teardown*",
+            "*/can0.log ends, each frame with its sender:",
+            "*) can0 123#",
+            "can0 *active *1     1 *",
+        ]
     )
     assert kept(pytester) == ["can0.html", "can0.log", "can0.rec"]
 
@@ -420,10 +508,32 @@ def test_an_expectation_that_fails_shows_what_was_seen(run):
     )
     done.assert_outcomes(failed=1)
     done.stdout.fnmatch_lines(
-        ["E * no frame 124 within 0.1 seconds", "E * the last frames that can1 saw:", "E * (*) can1 123#0102"]
+        [
+            "E * no frame 124 within 0.1 seconds",
+            "E * the last frames that can1 saw, each with its receiver:",
+            "E * (*) can1 123#0102",
+        ]
     )
     # The fault is shown at the line of the test.
     done.stdout.no_fnmatch_line("*expectations.py*")
+
+
+def test_a_database_is_in_the_failure_and_on_the_page(run, pytester):
+    pytest.importorskip("canmatrix")
+    done = run(
+        f"""
+    @pytest.mark.canbusd("can0,can1", database={str(Path(__file__).with_name("car.dbc"))!r})
+    def test_it(canbusd):
+        with canbusd.bus("can0") as can0:
+            can0.send(canbusd.database.encode("Engine", {{"speed": 2000}}).message())
+            canbusd.wait_for(lambda: can0.stats().done, 20)
+            canbusd.expect(signal="speed", above=2900, within=0)
+    """
+    )
+    done.assert_outcomes(failed=1)
+    done.stdout.fnmatch_lines(["E * can1 123#204E410000000000  Engine: speed=2000 km/h"])
+    page = next((pytester.path / "kept").rglob("can0.html")).read_text(encoding="utf-8")
+    assert list(data_of(page)[0]["messages"].values()) == ["Engine"]
 
 
 def test_a_server_that_tests_share_is_expected_from_each_test_on(run):

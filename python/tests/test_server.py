@@ -53,9 +53,8 @@ def test_what_a_server_leaves(tmp_path):
     page = server.report("can1")
     assert page == tmp_path / "can0.html"
     assert page.read_text(encoding="utf-8").startswith("<!DOCTYPE html>")
-    for wrong in (None, "can7"):
-        with pytest.raises(ValueError, match=f"^name .* one of can0, can1, car0, car1, not {wrong!r}$"):
-            server.log(wrong)
+    with pytest.raises(ValueError, match="^name .* one of can0, can1, car0, car1, not 'can7'$"):
+        server.log("can7")
 
 
 def test_the_log_has_all_kinds_of_frames(server):
@@ -273,6 +272,41 @@ def test_what_a_server_says_of_a_full_record():
         with pytest.raises(can.CanInitializationError, match=f"^canbusd: channel 'can1' .*: {cure}"):
             server.bus("can1")
     assert "record full" in server.said
+
+
+def test_what_is_expected_where_the_record_is_full():
+    """Nothing is sent there any more: what does not come then does not count."""
+    with Server("can0,can1", limit=60) as server, server.bus("can0") as can0:
+        with pytest.raises(can.CanOperationError, match="^record full"):
+            for _ in range(60):
+                can0.send(message(1), timeout=WAIT)
+        cure = r"record full: start the server again with a higher limit= \(--limit\), or with record='live' "
+        server.wait_for(lambda: "record full" in server.said, timeout=WAIT)
+        for call in (
+            lambda: server.expect(2, within=0),
+            lambda: server.expect_cyclic(1, 5, 5, count=60, within=0),
+            lambda: server.expect_sequence(2, within=0),
+            lambda: server.expect_no_frame(2, within=0),
+            lambda: server.expect_no_change(1, within=0),
+        ):
+            # A session may have been told so, too, and then ended.
+            with pytest.raises((AssertionError, can.CanError), match=cure):
+                call()
+
+
+def test_of_several_buses_one_has_to_be_named():
+    with Server("can0,can1", "gwa,gwb") as server:
+        for call, example in (
+            (lambda: server.inject("next 1 lastbit"), "inject(faults, 'gwa')"),
+            (server.rules_left, "rules_left('gwa')"),
+            (server.end_rules, "end_rules('gwa')"),
+            (server.log, "'gwa'"),
+        ):
+            with pytest.raises(ValueError) as fault:
+                call()
+            assert str(fault.value) == f"the server has 2 buses: name an interface, as {example}"
+        server.inject("next 1 lastbit", "gwb")
+        assert (server.rules_left("gwa"), server.rules_left("can1")) == (1, 0)
 
 
 def test_a_server_that_is_killed_leaves_nothing(tmp_path):

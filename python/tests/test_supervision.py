@@ -6,8 +6,9 @@ import threading
 import pytest
 
 from canbusd.server import Server
-from canbusd.signals import load_database
+from canbusd.signals import DatabaseError, load_database
 from conftest import WAIT, message
+from test_report import data_of
 from test_signals import CAR
 
 
@@ -78,7 +79,7 @@ def test_each_wrong_gap_is_reported():
         wrong = f"0.00{period + other}00 s, 0.00{other}00 too long, from"
         for line, number in zip(lines, (2, 4)):
             assert re.fullmatch(rf"  gap {number}: {wrong} \(\d+\.\d+\) to \(\d+\.\d+\)", line)
-        assert lines[2] == "the last frames that were seen:"
+        assert lines[2] == "the last frames that were seen, each with its receiver:"
 
 
 def test_cyclic_frames_that_end(server, can0):
@@ -91,11 +92,17 @@ def test_cyclic_frames_that_end(server, can0):
     assert len(server.expect_cyclic(0x100, 5, 5, count=2, within=0)) == 2
 
 
+def test_a_cyclic_message_of_29_bits_with_a_small_number(server, can0):
+    can0.send_many([message(0x123), message(0x123, extended=True), message(0x123, extended=True)])
+    assert len(server.expect_cyclic(0x123, 5, 5, count=1, within=WAIT, is_extended_id=True)) == 1
+
+
 @pytest.mark.parametrize(
     "arguments, text",
     [
         ({"period": 0}, "period is a number of seconds above 0, not 0"),
         ({"period": 1, "tolerance": -1}, "tolerance is a number of seconds, not -1"),
+        ({"period": 1, "tolerance": float("nan")}, "tolerance is a number of seconds, not nan"),
         ({"period": 1, "count": 0}, "count is a number of gaps, 1 or more, not 0"),
         ({"period": 1, "count": 1.5}, "count is a number of gaps, 1 or more, not 1.5"),
     ],
@@ -189,7 +196,30 @@ def test_signals(car_server):
     with pytest.raises(AssertionError, match="^signal gear changed from Drive to Reverse: "):
         server.expect_no_change(signal="gear", within=WAIT)
     server.expect_no_frame(signal="speed", below=500, within=0)
+    # One that is misspelt is not one that did not come.
+    with pytest.raises(DatabaseError, match="^no signal sped; there are speed, "):
+        server.expect_no_frame(signal="sped", above=0, within=0)
+    with pytest.raises(DatabaseError, match="^no signal sped; there are speed, "):
+        server.expect_no_change(signal="sped", within=0)
+    with pytest.raises(DatabaseError, match="^no signal sped; there are speed, "):
+        server.expect_sequence("Engine", {"signal": "sped"}, within=0)
     assert server.expect("Engine", within=WAIT).arbitration_id == 0x123
+
+
+def test_a_failure_shows_the_signals_that_were_asked_for(car_server):
+    """speed 2000 is 20000 by its factor, 4E20; temperature starts as 25, which is 65, and torque and gear as 0."""
+    server, ecu = car_server
+    ecu.send(engine(server.database, speed=2000))
+    ecu.send(message(0x7FF))
+    server.wait_for(lambda: ecu.stats().done == 2, WAIT)
+    with pytest.raises(AssertionError) as failure:
+        server.expect(signal="speed", above=2900, within=0)
+    first, _, known, unknown = str(failure.value).split("\n")
+    assert first == "no signal speed above 2900 within 0 seconds: it was 2000"
+    assert known.endswith(" tester 123#204E410000000000  Engine: speed=2000 km/h")
+    assert unknown.endswith(" tester 7FF#")
+    with pytest.raises(AssertionError, match=r" tester 123#204E410000000000  Engine\n"):
+        server.expect(id=0x7FE, within=0)
 
 
 def test_cyclic_messages_and_orders_by_name(car_server):
@@ -199,6 +229,15 @@ def test_cyclic_messages_and_orders_by_name(car_server):
     ecu.send(server.database.encode("Request", {"service": 34}).message())
     assert len(server.expect_cyclic("Engine", period=5, tolerance=5, count=1, within=WAIT)) == 1
     server.expect_sequence("Engine", {"signal": "Request.service", "equals": 34}, within=WAIT, between=())
+
+
+def test_the_page_has_the_signals_of_the_database(car_server):
+    server, ecu = car_server
+    ecu.send(engine(server.database, speed=2000))
+    server.expect("Engine", within=WAIT)
+    header, _ = data_of(server.report().read_text(encoding="utf-8"))
+    assert list(header["messages"].values()) == ["Engine"]
+    assert [*header["signals"].values()][0][0] == ["speed", 2000, "km/h"]
 
 
 def test_a_database_that_is_loaded():

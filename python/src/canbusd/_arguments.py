@@ -53,3 +53,9 @@ def interface_name(channel: object) -> str:
     if not NAME.fullmatch(name):
         raise ValueError(f"channel is the name of an interface, such as can0, not {channel!r}")
     return name
+
+
+def check_within(seconds: float) -> None:
+    """ValueError where nobody can wait for so many seconds."""
+    if not seconds >= 0:
+        raise ValueError(f"within is a number of seconds, 0 or more, not {seconds!r}")

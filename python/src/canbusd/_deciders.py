@@ -1,14 +1,15 @@
 """Which rule of faults gave each attempt of a run its verdict: the program says it, for the faults of the run."""
 
 import tempfile
-from collections.abc import Iterable
+from collections.abc import Iterable, Iterator, Sequence
 from pathlib import Path
 from typing import Optional
 
 from canbusd._events import Events
 from canbusd._live import GrowingFile
-from canbusd.faults import rules_in, script_text
+from canbusd.faults import numbered_rules, rules_in, script_text
 from canbusd.record import Path as AnyPath, Record
+from canbusd.rules import Rule
 
 # How files end of which the last line may be torn: that of a run that goes on, and of one that was cut off.
 GROWING = (".new", ".cut")
@@ -45,13 +46,29 @@ def numbers_of(record: Record, faults: Path, path: Optional[AnyPath]) -> list[in
     bus = f"{','.join(record.names).replace(' ', '-')}@{faults}"
     if path is None:
         with Events(record.is_cut, faults=bus) as events:
-            return numbers_in(events.texts(record.text))
+            return list(numbers_in(events.texts(record.text)))
     with open(path, "rb") as file, Events(record.is_cut, file=file, faults=bus) as events:
-        return numbers_in(events.texts_of_file())
+        return list(numbers_in(events.texts_of_file()))
 
 
-def numbers_in(events: Iterable[str]) -> list[int]:
-    """Returns the numbers of rules that the lines of events have, of each attempt that tried a frame."""
+def unused_rules(record: Path, names: Sequence[str], faults: Path) -> list[Rule]:
+    """Returns the rules with a number, `next 1 ..`, that gave no attempt a verdict, and that nobody ended.
+
+    `record` is a whole one, and `faults` the file that the server has written beside it. Of the record no more is read
+    than up to where each rule has given its first verdict.
+    """
+    left = {number: rule for number, rule in numbered_rules(script_text(faults)).items() if rule.count is not None}
+    if not left:
+        return []
+    with open(record, "rb") as file, Events(file=file, faults=f"{','.join(names)}@{faults}") as events:
+        for number in numbers_in(events.texts_of_file()):
+            if left.pop(number, None) and not left:
+                break
+    return list(left.values())
+
+
+def numbers_in(events: Iterable[str]) -> Iterator[int]:
+    """Yields the numbers of rules that the lines of events have, of each attempt that tried a frame."""
     lines = (line for text in events for line in text.split("\n"))
     tried = (line for line in lines if line.startswith("attempt ") and " = tried " in line)
-    return [int(line.partition("; rule ")[2] or 0) for line in tried]
+    return (int(line.partition("; rule ")[2] or 0) for line in tried)

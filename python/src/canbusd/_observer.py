@@ -16,6 +16,7 @@ from canbusd._text import seconds_words, times
 from canbusd._received import MOST_KEPT, MOST_SHOWN, Received, Seen, StateSeen, state_in
 from canbusd._wanted import Wanted
 from canbusd.frames import Frame, described_line
+from canbusd.signals import Database
 
 T = TypeVar("T")
 
@@ -27,6 +28,15 @@ MOST_WITH_STATES = 16
 # How many frames a session keeps as they came, where nobody expects anything; what is more is handed on, so many at once,
 # and other threads, such as that of a rest bus, run for these seconds after each.
 MOST_UNREAD, SOME, BREATH = 20_000, 16, 0.0001
+
+
+def decoded_words(frame: Frame, database: Optional[Database], signals: Sequence[str]) -> str:
+    """Returns what follows a frame that the database knows: the name of its message, and these of its signals."""
+    decoded = None if database is None else database.decode(frame)
+    if decoded is None:
+        return ""
+    asked = ", ".join(str(signal) for signal in decoded.signals if signal.name in signals)
+    return f"  {decoded.message}{': ' if asked or decoded.fault else ''}{decoded.fault or asked}"
 
 
 def observed_by_default(buses: Sequence[Sequence[str]]) -> list[str]:
@@ -42,8 +52,16 @@ class Observer:
     dropped while the test does something else.
     """
 
-    def __init__(self, address: str, buses: Sequence[Sequence[str]], observed: Sequence[str]) -> None:
+    def __init__(
+        self,
+        address: str,
+        buses: Sequence[Sequence[str]],
+        observed: Sequence[str],
+        full: Callable[[Optional[str]], str] = lambda channel: "",
+    ) -> None:
         self._address = address
+        # Says that a record is full, if it is so.
+        self._full = full
         self.received = Received(buses, observed)
         self._sessions: dict[str, ObservingSession] = {}
         # By the name of each interface that is observed, how many frames its socket had dropped when it was last expected.
@@ -86,9 +104,8 @@ class Observer:
                 if session.taken >= queued:
                     break
                 if left <= 0:
-                    raise fault(
-                        "CanTimeoutError", f"{session.channel}: frames did not come within {seconds_words(TIMEOUT)}"
-                    )
+                    late = f"{session.channel}: frames did not come within {seconds_words(TIMEOUT)}"
+                    raise fault("CanTimeoutError", ": ".join(filter(None, [late, self._full(session.channel)])))
                 wait_for_input([session], left)
 
     def wait(self, look: Callable[[], Optional[T]], may_be: Callable[[Seen], bool], within: float) -> Optional[T]:
@@ -187,6 +204,11 @@ class Observer:
             return ""
         return f": it was {', '.join(['..'] * (len(contents) > MOST_SHOWN) + contents[-MOST_SHOWN:])}"
 
+    def hint(self, wanted: Wanted, channel: Optional[str]) -> str:
+        """Says that the number which is looked for came, but in an identifier of other bits; nothing if it did not."""
+        hints = (wanted.hint(seen.frame) for seen in self.untaken(channel))
+        return next((f"\n{hint}" for hint in hints if hint), "")
+
     def find_state(self, name: str, state: str, within: float) -> Optional[StateSeen]:
         """Returns when an interface came into a state, since the last that was expected and within seconds."""
         self.session(name)
@@ -230,6 +252,7 @@ class Observer:
             forgotten = self.received.missed(channel)
         if forgotten:
             texts.append(f"of more than {MOST_KEPT} since the last expectation the first {forgotten} were forgotten")
+        texts += filter(None, [self._full(channel)])
         return f": {', and '.join(texts)}" if texts else ""
 
     def _note_dropped(self) -> None:
@@ -237,15 +260,19 @@ class Observer:
         for name in self.received.observed:
             self._dropped[name] = self._sessions[name].stats().dropped
 
-    def shown(self) -> str:
-        """Returns the last frames that were seen, as lines of a log, and how the interfaces are, for a failure."""
+    def shown(self, database: Optional[Database] = None, signals: Sequence[str] = ()) -> str:
+        """Returns the last frames that were seen, as lines of a log, and how the interfaces are, for a failure.
+
+        With a database each has the name of its message, and what it says of these signals.
+        """
         observed = self.received.observed
         if not observed:
             return ""
         with self._lock:
-            lines = [self.line(seen) for seen in self.received.last()]
+            last = self.received.last()
+        lines = [f"{self.line(seen)}{decoded_words(seen.frame, database, signals)}" for seen in last]
         who = "were seen" if len(observed) == len(self._all) else f"{' and '.join(observed)} saw"
-        heading = f"the last frames that {who}:" if lines else "no frame was seen"
+        heading = f"the last frames that {who}, each with its receiver:" if lines else "no frame was seen"
         shown = ["", heading, *(f"  {line}" for line in lines)]
         for name in observed:
             dropped = self._sessions[name].stats().dropped

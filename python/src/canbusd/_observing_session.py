@@ -10,7 +10,7 @@ from canbusd._address import reason_of
 from canbusd._connection import SessionRefused
 from canbusd._injection import TIMEOUT, Refused
 from canbusd._protocol import counters_of, options
-from canbusd._raw_session import RawSession, fault
+from canbusd._raw_session import RawSession, fault, with_cure
 
 # Seconds for which what comes is left to come, so that much of it is read at once, where nobody waits for it.
 NAP = 0.02
@@ -67,10 +67,10 @@ class ObservingSession(RawSession):
         return self._connection.socket_fileno()
 
     def _refusal(self, text: str) -> Exception:
-        return Refused(text)
+        return Refused(with_cure(text))
 
     def _failed(self, kind: str, text: str) -> Exception:
-        return fault(kind, f"{self.channel}: {text}")
+        return fault(kind, f"{self.channel}: {with_cure(text)}")
 
 
 def wait_for_input(sessions: Sequence[ObservingSession], seconds: float) -> None:

@@ -40,6 +40,11 @@ def refusal(text: str, after: str = "") -> Exception:
     return fault("CanOperationError", f"{text}{after}{CURES.get(text, '')}", ERROR_CODES.get(text))
 
 
+def with_cure(text: str) -> str:
+    """Returns a text with what to do, where it ends as a full record's does."""
+    return f"{text}{CURES[RECORD_FULL]}" if text.endswith(RECORD_FULL) else text
+
+
 class RawSession(InjectsFaults):
     """A session in raw mode, whose socket has the options that these messages set.
 
@@ -177,7 +182,7 @@ class RawSession(InjectsFaults):
 
     def _failed(self, kind: str, text: str) -> Exception:
         """The exception of python-can of this kind."""
-        return fault(kind, text)
+        return fault(kind, with_cure(text))
 
     def _departure(self, before: Optional[Stats], deadline: float, after: str = "") -> Stats:
         """Waits until a frame has left the transmit queue since these counts, and returns the counts then.

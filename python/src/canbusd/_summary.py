@@ -10,6 +10,7 @@ from canbusd._protocol import STATES
 from canbusd._rates import Rates
 from canbusd.frames import ERROR_FRAME, meaning
 from canbusd.record import Record
+from canbusd.signals import Database
 from canbusd.story import events_of, heading_of
 
 HEADINGS = ("interface", "state", "TEC", "REC", "sent", "done", "waiting", "lost", "refused")
@@ -70,7 +71,8 @@ def end_of_log(path: Path) -> list[str]:
             last = file.read().decode("ascii", errors="replace").splitlines()[-LAST_LINES:]
     except OSError as fault:
         return [f"{path}: {fault.strerror}"]
-    return [f"{path} ends:" if last else f"{path} is empty", *(f"  {with_meaning(line)}" for line in last)]
+    heading = f"{path} ends, each frame with its sender:" if last else f"{path} is empty"
+    return [heading, *(f"  {with_meaning(line)}" for line in last)]
 
 
 def with_meaning(line: str) -> str:
@@ -82,12 +84,18 @@ def with_meaning(line: str) -> str:
 
 
 def write_page(
-    record: Record, path: "os.PathLike[str]", rules: Sequence[str] = (), rates: Optional[Rates] = None
+    record: Record,
+    path: "os.PathLike[str]",
+    rules: Sequence[str] = (),
+    rates: Optional[Rates] = None,
+    database: Optional[Database] = None,
 ) -> Path:
-    """Writes the page of a run, with the rule of each attempt and the bus load if they are given, and returns its path."""
+    """Writes the page of a run, with the rule of each attempt, the bus load, and messages with their signals, if these are
+    given; returns its path."""
     from canbusd.report import page
 
     target = Path(path)
     name = target.with_suffix(".rec").name
-    target.write_text(page(record.replay, record.names, name, rules=rules, rates=rates), encoding="utf-8")
+    text = page(record.replay, record.names, name, database=database, rules=rules, rates=rates)
+    target.write_text(text, encoding="utf-8")
     return target

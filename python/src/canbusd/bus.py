@@ -51,6 +51,8 @@ BUS_STATES = {
     "passive": BusState.PASSIVE,
     "off": BusState.ERROR,
 }
+# Arguments that python-can and its tools hand to all interfaces.
+OF_PYTHON_CAN = {"single_handle", "timing", "ignore_config", "config_context", "poll_interval"}
 # Seconds in which a server has to answer that may not be there.
 DETECTION = 1.0
 
@@ -134,6 +136,8 @@ class CanbusdBus(InjectsFaults, BusABC):
         self.channel = interface_name(channel)
         if "host" in kwargs or "port" in kwargs:
             raise ValueError("host and port are not taken; give address='HOST:PORT'")
+        for name in kwargs.keys() - OF_PYTHON_CAN:
+            LOG.warning("%s: %s is no argument of this interface, and is left out", self.channel, name)
         self.address = server_address(address)
         self._fd = truth("fd", fd)
         self._join = truth("join_filters", join_filters)

@@ -13,6 +13,7 @@ import time
 from collections.abc import Callable, Sequence
 from typing import TYPE_CHECKING, Any, Optional, TypeVar, Union
 
+from canbusd._arguments import check_within
 from canbusd._connection import LONGEST_POLL, POLL
 from canbusd._protocol import STATES, ErrorCounters, Stats, in_words
 from canbusd._text import seconds_words
@@ -58,9 +59,9 @@ class Expectations(Supervision):
         """Gives the bus of an interface rules of faults."""
         raise NotImplementedError
 
-    def _shown(self) -> str:
+    def _shown(self, signals: Sequence[str] = ()) -> str:
         """What was seen last, for the end of a failure."""
-        return self._observing().shown()
+        return self._observing().shown(self.database, signals)
 
     def error_counters(self, name: str) -> ErrorCounters:
         """Returns the state of an interface and its error counts, while the server runs."""
@@ -95,7 +96,7 @@ class Expectations(Supervision):
         __tracebackhide__ = True
         found = wait_for(predicate, timeout)
         if found is None:
-            raise TimeoutError(f"not so within {seconds_words(timeout)}{self._shown()}")
+            raise TimeoutError(f"the condition was not true within {seconds_words(timeout)}{self._shown()}")
         return found
 
     def expect_from_now(self) -> None:
@@ -128,14 +129,14 @@ class Expectations(Supervision):
         __tracebackhide__ = True
         wanted = self._wanted(
             id, data, signal=signal, above=above, below=below, equals=equals, between=between,
-            is_extended_id=is_extended_id, is_error_frame=is_error_frame,
+            is_extended_id=is_extended_id, is_error_frame=is_error_frame, within=within, channel=channel,
         )  # fmt: skip
         observer = self._observing()
         found = observer.find(wanted.matches, channel, within)
         if found is None:
             was = observer.said_instead(wanted, channel)
             text = f"no {wanted} within {seconds_words(within)}{was}{observer.missed(channel)}"
-            raise AssertionError(f"{text}{self._shown()}")
+            raise AssertionError(f"{text}{observer.hint(wanted, channel)}{self._shown(wanted.signals)}")
         return found.frame.message(channel or observer.channel(found))
 
     def expect_no_frame(
@@ -160,17 +161,19 @@ class Expectations(Supervision):
         __tracebackhide__ = True
         wanted = self._wanted(
             id, data, signal=signal, above=above, below=below, equals=equals, between=between,
-            is_extended_id=is_extended_id, is_error_frame=is_error_frame,
+            is_extended_id=is_extended_id, is_error_frame=is_error_frame, within=within, channel=channel,
         )  # fmt: skip
         observer = self._observing()
         found = observer.find(wanted.matches, channel, within)
         if found is not None:
-            raise AssertionError(f"{wanted} was not expected: {observer.line(found, channel)}{self._shown()}")
+            shown = self._shown(wanted.signals)
+            raise AssertionError(f"{wanted} was not expected: {observer.line(found, channel)}{shown}")
         missed = observer.missed(channel)
         if missed:
-            raise AssertionError(f"whether there was no {wanted} is not known{missed}{self._shown()}")
+            raise AssertionError(f"whether there was no {wanted} is not known{missed}{self._shown(wanted.signals)}")
 
-    def _wanted(self, id: Union[int, str, None], data: Optional[bytes], **more: Any) -> Wanted:
+    def _wanted(self, id: Union[int, str, None], data: Optional[bytes], *, within: float, **more: Any) -> Wanted:
+        check_within(within)
         return Wanted(id, data, database=self.database, **more)
 
     def expect_state(self, name: str, state: str, *, within: float = 1.0) -> ErrorCounters:
@@ -183,6 +186,7 @@ class Expectations(Supervision):
         __tracebackhide__ = True
         if state not in STATES:
             raise ValueError(f"state is one of {', '.join(STATES)}, not {state!r}")
+        check_within(within)
         observer = self._observing()
         found = observer.find_state(name, state, within)
         now = self.error_counters(name)

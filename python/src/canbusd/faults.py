@@ -305,6 +305,15 @@ def rules_in(script: str) -> list[Rule]:
     return [parse_rule(line) for line in [*lines, *later] if is_rule(line)]
 
 
+def numbered_rules(script: str) -> dict[int, Rule]:
+    """Returns the rules of the faults of a run by their numbers, from 1, without those that `nofaults` ended."""
+    rules = rules_in(script)
+    lines = lines_of(script)
+    later = [line[found.end() :] for line in lines if (found := LATER.match(line))]
+    after = later[::-1].index("nofaults") if "nofaults" in later else len(rules)
+    return {number: rule for number, rule in enumerate(rules, 1) if number > len(rules) - after}
+
+
 def rules_of(faults: Script) -> list[Rule]:
     """Returns the rules of these faults; ValueError where there are others, which nobody can give a bus that runs."""
     lines = lines_of(script_text(faults))

@@ -5,6 +5,7 @@
         assert ecu.recv(timeout=5) == b"\\x22\\xf1\\x90"
 """
 
+import contextlib
 import errno
 import importlib
 import os
@@ -19,6 +20,7 @@ from collections.abc import Callable
 from types import TracebackType
 from typing import TYPE_CHECKING, Any, Optional
 
+from canbusd._observing_session import ObservingSession
 from canbusd._program import ProgramNotFound, find_program
 from canbusd._text import seconds_words
 
@@ -165,6 +167,7 @@ class SocketIsoTp(IsoTp):
     library = "canbusd-run"
 
     def __init__(self, program: str, address: str, channel: str, tx: int, rx: int) -> None:
+        self._address, self._channel = address, channel
         self._own, theirs = socket.socketpair(socket.AF_UNIX, socket.SOCK_SEQPACKET)
         words = [sys.executable, "-I", "-S", SOCKET_PROGRAM, str(theirs.fileno()), channel, str(tx), str(rx)]
         with theirs:
@@ -195,11 +198,22 @@ class SocketIsoTp(IsoTp):
             answer = self._next("s", timeout)
         if answer is None:
             raise IsoTpError(f"the transfer is not over after {seconds_words(timeout)}")
-        raise_error(answer)
+        self._taken(answer)
 
     def recv(self, timeout: Optional[float] = None) -> Optional[bytes]:
         answer = self._next("re", timeout)
-        return None if answer is None else raise_error(answer)
+        return None if answer is None else self._taken(answer)
+
+    def _taken(self, packet: bytes) -> bytes:
+        """Returns the bytes of a packet, and raises the error that one of them is."""
+        if packet[:1] == b"r":
+            return packet[1:]
+        number = int(packet[1:])
+        if number:
+            is_off = is_bus_off(self._address, self._channel)
+            text = f"{self._channel} is bus off" if is_off else ERRORS.get(number, os.strerror(number))
+            raise IsoTpError(text, number)
+        return b""
 
     def close(self) -> None:
         # The process ends with its side of the pair.
@@ -255,11 +269,11 @@ class SocketIsoTp(IsoTp):
         return self._child.stderr.read().decode(errors="replace").strip().split("\n")[-1] or "without a word"
 
 
-def raise_error(packet: bytes) -> bytes:
-    """Returns the bytes of a packet, and raises the error that one of them is."""
-    if packet[:1] == b"r":
-        return packet[1:]
-    number = int(packet[1:])
-    if number:
-        raise IsoTpError(ERRORS.get(number, os.strerror(number)), number)
-    return b""
+def is_bus_off(address: str, channel: str) -> bool:
+    """Whether an interface is bus off now, as far as the server says so."""
+    # Of python-can, where there is python-can: no answer is none.
+    with contextlib.suppress(Exception):
+        session = ObservingSession(address, channel, has_frames=False)
+        session.close()
+        return session.first.state == "off"
+    return False

@@ -1,15 +1,17 @@
 """Programs with CAN sockets on the buses of a server: their words, and those that stay while a test goes on."""
 
+import errno
 import os
 import shlex
 import signal
 import subprocess
 import time
 import weakref
-from collections.abc import Sequence
+from collections.abc import Mapping, Sequence
 from pathlib import Path
 from typing import Any, Optional, Union
 
+from canbusd._arguments import check_within
 from canbusd._connection import LONGEST_POLL, POLL
 from canbusd._program import ServerError, find_program
 from canbusd._text import seconds_words
@@ -53,6 +55,23 @@ def split(text: str) -> list[str]:
     if operator is not None:
         raise ValueError(f"{text!r} has {operator!r}, which only a shell carries out: ['sh', '-c', {text!r}]")
     return found
+
+
+def check_program(
+    name: str, env: Optional[Mapping[str, str]] = None, cwd: Union[str, "os.PathLike[str]", None] = None
+) -> None:
+    """Raises what subprocess does where a program can't be started: FileNotFoundError, or PermissionError.
+
+    canbusd-run starts it, whose status 127 might be the program's own.
+    """
+    folder = cwd or ""
+    places = [""] if "/" in name else os.get_exec_path(env)
+    found = [path for place in places if os.path.isfile(path := os.path.join(folder, place, name))]
+    if not found:
+        where = folder if folder and not os.path.isdir(folder) else name
+        raise FileNotFoundError(errno.ENOENT, os.strerror(errno.ENOENT), os.fspath(where))
+    if not any(os.access(path, os.X_OK) for path in found):
+        raise PermissionError(errno.EACCES, os.strerror(errno.EACCES), name)
 
 
 def end_left(child: "subprocess.Popen[bytes]", process: int) -> None:
@@ -99,6 +118,7 @@ class Program:
     def expect(self, text: str, *, within: float = 10.0) -> str:
         """Waits until its output has this text, and returns the output; AssertionError after these seconds, or at its end."""
         __tracebackhide__ = True
+        check_within(within)
         deadline, pause = time.monotonic() + within, POLL
         while True:
             # Before its output: what it wrote at its end counts.
@@ -146,7 +166,7 @@ class Program:
         """Returns what is wrong where it has ended by itself and was not to; else None."""
         if self.status is None or self._may_end or self._is_stopped:
             return None
-        return f"{self._name()} ended by itself, which `may_end=True` allows\n{self.shown()}"
+        return f"{self._name()} ended before the test did; pass may_end=True if it may\n{self.shown()}"
 
     def shown(self) -> str:
         """Returns its words, its status and the end of its output, for a failure."""
@@ -176,21 +196,26 @@ class RunsPrograms:
         """Runs a program whose CAN sockets are those of this server to its end: ``"cansend can0 123#"``, or a list of words.
 
         With ``wait`` its writes wait where the transmit queue is full. The other arguments are those of subprocess.run,
-        but for ``shell``: a str is split into words as a shell does, and what only a shell does is a ValueError.
+        but for ``shell``: a str is split into words as a shell does, and what only a shell does is a ValueError. So
+        it raises FileNotFoundError where there is no such program; with ``check`` a status other than 0 is an error, too.
         """
         check_no_shell(kwargs)
-        return subprocess.run([*self._run_words(wait), *words_of(words)], **kwargs)
+        found = words_of(words)
+        check_program(found[0], kwargs.get("env"), kwargs.get("cwd"))
+        return subprocess.run([*self._run_words(wait), *found], **kwargs)
 
     def start(self, words: Words, wait: bool = False, may_end: bool = False, **kwargs: Any) -> Program:
         """Starts such a program, one that stays, as ``"candump can0"``; the end of the server ends it.
 
         If it has ended by itself before, :meth:`stop` is a ServerError, and so a failure of the test, unless it
-        ``may_end``. The other arguments are those of subprocess.Popen; its output is :attr:`Program.output`.
+        ``may_end``. The other arguments are those of subprocess.Popen, as FileNotFoundError is where there is no such
+        program; its output is :attr:`Program.output`.
         """
         check_no_shell(kwargs)
         found = words_of(words)
         if self._result is not None:
             raise ServerError("the server has ended, and no program can be started on its buses")
+        check_program(found[0], kwargs.get("env"), kwargs.get("cwd"))
         path = self._folder / f"program{len(self._programs)}"
         program = Program(found, self._run_words(wait), path, may_end, **kwargs)
         self._programs.append(program)

@@ -7,23 +7,26 @@
 """
 
 import contextlib
+import inspect
 import itertools
 import os
 import re
 import shutil
-from collections.abc import Iterator, Sequence
+from collections.abc import Callable, Iterator, Sequence
 from pathlib import Path
 from typing import TYPE_CHECKING, Any, Generator, Protocol, Union
 
 import pytest
 
 from canbusd import _summary
+from canbusd._deciders import faults_beside, unused_rules
 from canbusd._live import left_by
-from canbusd._program import SET_BY, audited
+from canbusd._program import SET_BY, ProgramNotFound, audited
 from canbusd._process import FOLDERS, RUNNING
 from canbusd.bench import Bench
 from canbusd.expectations import Expectations
 from canbusd.record import BadRecord, read_record
+from canbusd.rules import Rule
 from canbusd.virtual import is_virtual, python_words, repeated_by, virtual_words
 
 if TYPE_CHECKING:
@@ -145,6 +148,10 @@ def new_folder(place: Path, name: str) -> Path:
     raise AssertionError("numbers have an end")
 
 
+class UnusedRule(pytest.PytestWarning):
+    """A rule of faults, such as `next 1 id 7FE lastbit`, gave no verdict in a test: what it was for never happened."""
+
+
 class StartsServer(Protocol):
     """What the fixture `canbusd_server` is: it starts a server with these buses and the options of Server."""
 
@@ -203,8 +210,9 @@ class Runs:
             self._records[out / f"{names[0]}.rec"] = run, names
 
     def end(self) -> None:
-        """Ends the runs and audits their records; a fault of one of them fails the test."""
+        """Ends the runs and audits their records; a fault of one of them fails the test. Warns of rules that gave nothing."""
         faults = [*self._stop(), *self._audit()]
+        unused = [] if faults else [*self._unused()]
         failed = bool(faults) or self._item.stash.get(FAILED, False)
         if failed or self._keep == "all":
             self._report()
@@ -214,6 +222,8 @@ class Runs:
             shutil.rmtree(folder, ignore_errors=True)
         if faults:
             pytest.fail("\n".join(faults), pytrace=False)
+        for rule in unused:
+            self._item.warn(UnusedRule(f"rule not used up: {rule}"))
 
     def _stop(self) -> Iterator[str]:
         """Ends what still runs; yields what went wrong."""
@@ -246,6 +256,16 @@ class Runs:
             elif not self._was_killed(run) and record_when(run) != "none":
                 yield f"no record at {path}"
 
+    def _unused(self) -> Iterator[Rule]:
+        """Yields the rules that gave no verdict, as far as there is a record that says so."""
+        for path, (run, names) in self._records.items():
+            if isinstance(run, Bench):
+                yield from run._given.unused()
+                continue
+            faults = faults_beside(path)
+            if faults is not None and path.exists():
+                yield from unused_rules(path, names, faults)
+
     def _report(self) -> None:
         """Adds what is known of each bus and program to the test's report, and to its properties in a JUnit file."""
         facts = [self._facts(path, run, names) for path, (run, names) in self._records.items()]
@@ -255,9 +275,16 @@ class Runs:
             self._item.user_properties += [
                 (f"canbusd_{name}", "\n".join(lines)) for name, lines in one.items() if lines
             ]
-            page = [f"page: {path}" for path in one.pop("page", [])]
+            pages = one.pop("page", [])
+            self._item.user_properties += [("canbusd_page_relative", path) for path in map(self._from_junit, pages)]
+            page = [f"page: {path}" for path in pages]
             sections.append("\n".join([*itertools.chain(*one.values()), *page]))
         self._item.add_report_section("teardown", "canbusd", "\n\n".join(filter(None, sections)))
+
+    def _from_junit(self, page: str) -> str:
+        """The path of a page from the folder of the JUnit file, which finds it where both were copied elsewhere."""
+        file = self._item.config.getoption("xmlpath", None)
+        return os.path.relpath(page, os.path.dirname(os.path.abspath(file)) if file else None)
 
     def _facts(self, path: Path, run: Union["Server", Bench], names: list[str]) -> dict[str, list[str]]:
         """Makes the page of a bus; returns its story, the end of its log, states and counts, and the path of the page."""
@@ -296,15 +323,39 @@ def _canbusd_runs(request: pytest.FixtureRequest, tmp_path_factory: pytest.TempP
     runs.end()
 
 
-def marked(request: pytest.FixtureRequest) -> tuple[tuple[str, ...], dict[str, Any]]:
-    """The buses and the options of the test's marker."""
+def marked(request: pytest.FixtureRequest, kind: Callable[..., object]) -> tuple[tuple[str, ...], dict[str, Any]]:
+    """The buses and the options of the test's marker, those that the kind of run has."""
     marker = request.node.get_closest_marker("canbusd")
     if marker is None:
         return BUSES, {}
     options = dict(marker.kwargs)
     if options.pop("virtual", False) and not is_virtual():
         pytest.fail("this test is for virtual time: python3 -m pytest --canbusd-virtual", pytrace=False)
+    known = [name for name, one in inspect.signature(kind).parameters.items() if one.kind is one.KEYWORD_ONLY]
+    unknown = next((name for name in options if name not in known), None)
+    if unknown is not None:
+        raise refused(request, f"there is no option {unknown}; there are {', '.join(known)} and virtual")
     return tuple(marker.args) or BUSES, options
+
+
+@contextlib.contextmanager
+def blamed_on_marker(request: pytest.FixtureRequest) -> Iterator[None]:
+    """Fails the test at what is wrong with the arguments of its marker, without the source of this package."""
+    try:
+        yield
+    except ProgramNotFound:
+        raise
+    except (ValueError, OSError, RuntimeError) as fault:
+        raise refused(request, f"{fault}") from None
+
+
+def refused(request: pytest.FixtureRequest, fault: str) -> BaseException:
+    """What fails the test for what its marker says."""
+    marker = request.node.get_closest_marker("canbusd")
+    if marker is not None:
+        words = [*map(repr, marker.args), *(f"{name}={value!r}" for name, value in marker.kwargs.items())]
+        fault = f"@pytest.mark.canbusd({', '.join(words)}): {fault}"
+    return pytest.fail.Exception(fault, pytrace=False)
 
 
 @pytest.fixture
@@ -316,14 +367,18 @@ def canbusd_server(_canbusd_runs: Runs) -> StartsServer:
 @pytest.fixture
 def canbusd(request: pytest.FixtureRequest, _canbusd_runs: Runs) -> "Server":
     """A server for the test, with the buses of the marker `canbusd`, else with can0 and can1 on one bus."""
-    buses, options = marked(request)
-    return _canbusd_runs.server(*buses, **options)
+    from canbusd.server import Server
+
+    buses, options = marked(request, Server)
+    with blamed_on_marker(request):
+        return _canbusd_runs.server(*buses, **options)
 
 
 @pytest.fixture
 def canbusd_bench(request: pytest.FixtureRequest, _canbusd_runs: Runs) -> Bench:
     """A bench for the test, with the bus of the marker `canbusd`, else with can0 and can1."""
-    buses, options = marked(request)
+    buses, options = marked(request, Bench)
     if len(buses) != 1:
-        raise pytest.UsageError(f"canbusd_bench has one bus, and the marker canbusd names {len(buses)}")
-    return _canbusd_runs.bench(buses[0], **options)
+        raise refused(request, f"canbusd_bench has one bus, not {len(buses)}")
+    with blamed_on_marker(request):
+        return _canbusd_runs.bench(buses[0], **options)

@@ -85,14 +85,15 @@ def parse_rule(text: str) -> Rule:
         count = count_of(words)
         senders = senders_of(words) if taken(words, "from") else ()
         identifier = identifier_of(next_of(words)) if taken(words, "id") else None
-        skip = number_of(next_of(words), "skip") if taken(words, "skip") else 0
+        skip = number_of(next_of(words), "skip") if taken(words, "skip") else None
+        check_order(words, {"from": bool(senders), "id": identifier is not None, "skip": skip is not None})
         verdict = " ".join(words)
         if not VERDICT.fullmatch(verdict):
             known = "good, lastbit, global bit, global form, or local stuff, crc or form and names"
             raise ValueError(f"its verdict is {known}, not {verdict!r}")
     except ValueError as fault:
         raise ValueError(f"rule {shown(text)!r}: {fault}") from None
-    return Rule(count, verdict, senders, identifier, skip)
+    return Rule(count, verdict, senders, identifier, skip or 0)
 
 
 def taken(words: list[str], word: str) -> bool:
@@ -101,6 +102,15 @@ def taken(words: list[str], word: str) -> bool:
         return False
     del words[0]
     return True
+
+
+def check_order(words: list[str], given: dict[str, bool]) -> None:
+    """ValueError where the next of the words begins a part that has to be before one that is given, or is given twice."""
+    parts = list(given)
+    if words[:1] and words[0] in parts:
+        place = parts.index(words[0])
+        before = next((part for part in parts[place:] if given[part]), words[0])
+        raise ValueError(f"{words[0]} {'is given twice' if before == words[0] else f'comes before {before}'}")
 
 
 def next_of(words: list[str]) -> str:
@@ -183,6 +193,11 @@ class GivenRules:
     def end(self) -> None:
         """Ends all rules."""
         self._left.clear()
+
+    def unused(self) -> list[Rule]:
+        """Returns those with a number, `next 1 ..`, that gave no verdict, and that nobody ended."""
+        left = [(self._rules[number - 1], left) for number, left in self._left.items() if left is not None]
+        return [rule for rule, left in left if rule.count == left]
 
     def gave(self, number: int) -> Rule:
         """Returns the rule of this number, which gave an attempt its verdict, and counts that."""

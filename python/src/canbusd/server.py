@@ -6,6 +6,7 @@
     assert len(server.log("can0")) == 2
 """
 
+import functools
 import os
 import re
 import select
@@ -24,6 +25,7 @@ from canbusd._nodes import SimulatesNodes
 from canbusd._observer import Observer, observed_by_default
 from canbusd._program import ServerError as ServerError, audited
 from canbusd._process import RUNNING, ProgramRun, option_words, rate_words, rates_of
+from canbusd._raw_session import CURES, RECORD_FULL
 from canbusd._serve_words import bus_words, record_options
 from canbusd.expectations import Expectations
 from canbusd.faults import Script, rules_of
@@ -42,8 +44,17 @@ if TYPE_CHECKING:
 #: Seconds in which a server has to listen, and to end. Long records take their time.
 START, END = 10.0, 60.0
 ENTRIES = re.compile(r"bus (\S+) entries (\d+)")
+# What it says of a bus whose record is full.
+FULL = re.compile(r"bus (\S+): record full")
 #: How many buses a server has at most.
 MOST_BUSES = 16
+
+
+def full_record(errors: Path, buses: Mapping[str, Sequence[str]], channel: Optional[str]) -> str:
+    """Says that the record of the bus of this interface is full, or of any: no frame is sent there any more."""
+    said = errors.read_text(errors="replace") if errors.exists() else ""
+    full = [name for name in FULL.findall(said) if channel is None or channel in buses[name][:-1]]
+    return f"{full[0]}: {RECORD_FULL}{CURES[RECORD_FULL]}" if full else ""
 
 
 class Result(NamedTuple):
@@ -165,18 +176,19 @@ class Server(Expectations, SimulatesNodes, RunsPrograms, ProgramRun):
         than 64 rules: those before the one that is named are in force.
         """
         rules = rules_of(faults)
-        check_rules(rules, self._by_bus[self._first(interface, "interface")][:-1])
-        with self._rule_session(interface) as session:
+        first = self._first(interface, "interface", "inject(faults, {})")
+        check_rules(rules, self._by_bus[first][:-1])
+        with self._rule_session(first) as session:
             session._give(rules)
 
     def rules_left(self, interface: Optional[str] = None) -> int:
         """Returns how many rules of faults a bus has that are not used up, those without end too."""
-        with self._rule_session(interface) as session:
+        with self._rule_session(self._first(interface, "interface", "rules_left({})")) as session:
             return session.rules_left()
 
     def end_rules(self, interface: Optional[str] = None) -> None:
         """Ends all rules of faults of a bus; lines of its script by the numbers of attempts stay."""
-        with self._rule_session(interface) as session:
+        with self._rule_session(self._first(interface, "interface", "end_rules({})")) as session:
             session.end_rules()
 
     def stop(self) -> Result:
@@ -270,11 +282,11 @@ class Server(Expectations, SimulatesNodes, RunsPrograms, ProgramRun):
         from canbusd._summary import write_page
 
         faults = faults_beside(left_by(path.with_suffix(".rec"), self._record_when))
-        return write_page(record, path, deciders(record, faults) if faults else [], self._rates)
+        rules = deciders(record, faults) if faults else []
+        return write_page(record, path, rules, self._rates, self.database)
 
-    def _rule_session(self, interface: Optional[str]) -> RuleSession:
-        """A session for the rules of the bus of this interface."""
-        first = self._first(interface, "interface")
+    def _rule_session(self, first: str) -> RuleSession:
+        """A session for the rules of the bus with this first interface."""
         if self._result is not None:
             raise ServerError("the server has ended, and its rules with it")
         try:
@@ -285,20 +297,22 @@ class Server(Expectations, SimulatesNodes, RunsPrograms, ProgramRun):
     def _observing(self) -> Observer:
         """The sessions of the server's own."""
         if self._observer is None:
-            self._observer = Observer(self.address, self._names(), self._observed)
+            # Without the server itself, whose files go with it.
+            full = functools.partial(full_record, self._folder / "stderr", self._by_bus)
+            self._observer = Observer(self.address, self._names(), self._observed, full)
         return self._observer
 
     def _names(self) -> list[list[str]]:
         """The names of the interfaces of each bus."""
         return [bus[:-1] for bus in self._by_bus.values()]
 
-    def _shown(self) -> str:
+    def _shown(self, signals: Sequence[str] = ()) -> str:
         if self._record_when == "end":
-            return super()._shown()
+            return super()._shown(signals)
         from canbusd._summary import end_of_log
 
         logs = [line for name in self._by_bus for line in end_of_log(self._out / f"{name}.log")]
-        return "\n".join([super()._shown(), *logs])
+        return "\n".join([super()._shown(signals), *logs])
 
     def expect_from_now(self) -> None:
         if self._result is None and self._observer is not None:
@@ -308,10 +322,13 @@ class Server(Expectations, SimulatesNodes, RunsPrograms, ProgramRun):
         if self._observer is not None:
             self._observer.close()
 
-    def _first(self, name: Optional[str], what: str = "name") -> str:
-        """The first interface of the bus that has this one; a fault says what it was given as."""
+    def _first(self, name: Optional[str], what: str = "name", call: str = "{}") -> str:
+        """The first interface of the bus that has this one; a fault says what it was given as, and in which call."""
         found = [first for first, names in self._by_bus.items() if name in names[:-1] or name is None]
-        if len(found) != 1:
+        if name is None and len(found) > 1:
+            example = call.format(repr(found[-1]))
+            raise ValueError(f"the server has {len(found)} buses: name an interface, as {example}")
+        if not found:
             known = ", ".join(self.interfaces)
             raise ValueError(f"{what} is that of an interface of the server, one of {known}, not {name!r}")
         return found[0]

@@ -8,6 +8,7 @@
 from collections.abc import Sequence
 from typing import TYPE_CHECKING, Optional, Union
 
+from canbusd._arguments import check_within
 from canbusd._judged import Change, Followed, first_change, follow, gap_words, gaps_of, wrong_gaps
 from canbusd._received import Seen
 from canbusd._text import seconds_words
@@ -35,7 +36,7 @@ class Supervision:
         """The observer of the server."""
         raise NotImplementedError
 
-    def _shown(self) -> str:
+    def _shown(self, signals: Sequence[str] = ()) -> str:
         """What was seen last, for the end of a failure."""
         raise NotImplementedError
 
@@ -48,6 +49,7 @@ class Supervision:
         *,
         within: Optional[float] = None,
         channel: Optional[str] = None,
+        is_extended_id: Optional[bool] = None,
     ) -> list[float]:
         """Returns the times between so many frames of this identifier, or of the message with this name, in seconds.
 
@@ -60,12 +62,14 @@ class Supervision:
         if not period > 0:
             raise ValueError(f"period is a number of seconds above 0, not {period!r}")
         allowed = period / 10 if tolerance is None else tolerance
-        if allowed < 0:
+        if not allowed >= 0:
             raise ValueError(f"tolerance is a number of seconds, not {tolerance!r}")
         if isinstance(count, bool) or not isinstance(count, int) or count < 1:
             raise ValueError(f"count is a number of gaps, 1 or more, not {count!r}")
         seconds = (count + 1) * (period + allowed) + SLACK if within is None else within
-        wanted, observer = Wanted(id, database=self.database), self._observing()
+        check_within(seconds)
+        wanted = Wanted(id, is_extended_id=is_extended_id, database=self.database, channel=channel)
+        observer = self._observing()
         frames = observer.collect(wanted.matches, channel, count + 1, seconds)
         gaps = gaps_of([seen.moment for seen in frames])
         wrong = wrong_gaps(gaps, round(period * 1e6), round(allowed * 1e6))
@@ -77,7 +81,8 @@ class Supervision:
             fault = f"{came}, and {fault}" if fault else came
         if fault:
             every = f"{wanted} every {seconds_words(period)}, give or take {allowed:g}"
-            text = f"no {every}: {fault}{observer.missed(channel)}"
+            hint = observer.hint(wanted, channel) if len(gaps) < count else ""
+            text = f"no {every}: {fault}{observer.missed(channel)}{hint}"
             raise AssertionError("\n".join([text, *lines]) + self._shown())
         observer.take(frames[-1], channel)
         return [gap.length / 1e6 for gap in gaps]
@@ -98,6 +103,7 @@ class Supervision:
         __tracebackhide__ = True
         if not steps:
             raise ValueError("a sequence has steps, such as 0x100, 0x101")
+        check_within(within)
         wanted = [wanted_of(step, self.database) for step in steps]
         allowed = None if between is None else [wanted_of(step, self.database) for step in between]
         observer = self._observing()
@@ -112,7 +118,8 @@ class Supervision:
         observer.received.channels(channel)
         followed = observer.wait(look, may_be, within)
         if followed is None or followed.intruder:
-            raise AssertionError(f"{self._missing(wanted, followed, within, channel)}{self._shown()}")
+            signals = [name for one in wanted for name in one.signals]
+            raise AssertionError(f"{self._missing(wanted, followed, within, channel)}{self._shown(signals)}")
         observer.take(followed.found[-1], channel)
         return [seen.frame.message(channel or observer.channel(seen)) for seen in followed.found]
 
@@ -128,10 +135,11 @@ class Supervision:
             text = f"{observer.line(intruder, channel)} came between {wanted[len(found) - 1]} and {step}"
         else:
             after = f" after {wanted[len(found) - 1]}" if found else ""
-            text = f"no {step}{after} within {seconds_words(within)}{observer.missed(channel)}"
+            at = "" if channel is None else f" at {channel}"
+            text = f"no {step}{after}{at} within {seconds_words(within)}{observer.missed(channel)}"
             # It may be there, in another order.
             early = next((seen for seen in frames if found and step.matches(seen.frame)), None)
-            text += f": it came before, {observer.line(early, channel)}" if early else ""
+            text += f": it came before, {observer.line(early, channel)}" if early else observer.hint(step, channel)
         lines = [f"  {observer.line(seen, channel)}" for seen in found]
         return "\n".join([text, *(["of the sequence came:", *lines] if found else [])])
 
@@ -152,7 +160,8 @@ class Supervision:
         __tracebackhide__ = True
         if id is None and signal is None:
             raise ValueError("expect_no_change needs an id or a signal")
-        wanted = Wanted(id, is_extended_id=is_extended_id, signal=signal, database=self.database)
+        check_within(within)
+        wanted = Wanted(id, is_extended_id=is_extended_id, signal=signal, database=self.database, channel=channel)
         observer = self._observing()
         observer.received.channels(channel)
         before = observer.last_content(wanted, channel)
@@ -175,9 +184,9 @@ class Supervision:
         change = observer.wait(look, may_be, within)
         if change is not None:
             text = f"{wanted} changed from {change.before} to {change.after}"
-            raise AssertionError(f"{text}: {observer.line(change.seen, channel)}{self._shown()}")
+            raise AssertionError(f"{text}: {observer.line(change.seen, channel)}{self._shown(wanted.signals)}")
         missed = observer.missed(channel)
         if not missed and before is None and not observer.contents(wanted, channel):
-            missed = ": there was none"
+            missed = f": there was none{observer.hint(wanted, channel)}"
         if missed:
-            raise AssertionError(f"whether {wanted} changed is not known{missed}{self._shown()}")
+            raise AssertionError(f"whether {wanted} changed is not known{missed}{self._shown(wanted.signals)}")

@@ -46,5 +46,5 @@ def python_words(words: Sequence[str]) -> list[str]:
 
 def repeated_by(test: str) -> str:
     """Returns the command that repeats a test of pytest in this run's virtual time."""
-    options = os.environ.get(OPTIONS, "")
-    return " ".join(["canbusd-run --virtual", *([options] if options else []), "python3 -m pytest", shlex.quote(test)])
+    options = os.environ.get(OPTIONS, "").replace("--", "--canbusd-")
+    return " ".join(filter(None, ["python3 -m pytest --canbusd-virtual", options, shlex.quote(test)]))
