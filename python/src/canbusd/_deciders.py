@@ -1,53 +1,120 @@
 """Which rule of faults gave each attempt of a run its verdict: the program says it, for the faults of the run."""
 
+import dataclasses
+import functools
+import io
+import os
+import re
 import tempfile
-from collections.abc import Iterable
+from collections.abc import Iterable, Iterator, Sequence
 from pathlib import Path
+from types import TracebackType
 from typing import Optional
 
-from canbusd._events import Events
-from canbusd._live import GrowingFile
-from canbusd.faults import rules_in, script_text
+from canbusd._events import BadRecord, Events
 from canbusd.record import Path as AnyPath, Record
+from canbusd.rules import MOST_RULES, NAMES, RulesLeft, parse_rule
 
-# How files end of which the last line may be torn: that of a run that goes on, and of one that was cut off.
+# How files end of a run that goes on, and of one that was cut off.
 GROWING = (".new", ".cut")
+# The names in the lines of faults that are no comments.
+NAMED = re.compile(rf"(?:^| )(?:from|local (?:stuff|crc|form)) ({NAMES})(?= |$)".encode())
 
 
-def faults_beside(record: AnyPath) -> Optional[Path]:
+class FaultsFile:
+    """The script or the faults of a run, whose file is opened at once and read once: a pipe can't be read again, and a
+    server that ends renames its files. So the record is kept open with it, where that is a file."""
+
+    def __init__(self, path: AnyPath, record: Optional[AnyPath] = None, is_beside: bool = False) -> None:
+        self.path = os.fspath(path)
+        #: Whether it lies beside the record, as a server leaves it.
+        self.is_beside = is_beside
+        #: The last line, where it was left out.
+        self.torn = b""
+        self._file = open(path, "rb")
+        self.record = open(record, "rb") if record is not None and os.path.isfile(record) else None
+
+    def __enter__(self) -> "FaultsFile":
+        return self
+
+    def __exit__(
+        self,
+        kind: Optional[type[BaseException]],
+        fault: Optional[BaseException],
+        traceback: Optional[TracebackType],
+    ) -> None:
+        self._file.close()
+        if self.record is not None:
+            self.record.close()
+
+    @functools.cached_property
+    def text(self) -> bytes:
+        """What is in it when it is read."""
+        return self._file.read()
+
+
+def faults_beside(record: AnyPath) -> Optional[FaultsFile]:
     """The faults that a server writes beside this record, or None where the run had none: can0.rec.faults beside can0.rec,
     can0.rec.faults.new beside can0.rec.new."""
     path = Path(record)
     stem, ending = (path.stem, path.suffix) if path.suffix in GROWING else (path.name, "")
     faults = path.with_name(f"{stem}.faults{ending}")
-    return faults if faults.is_file() else None
+    return FaultsFile(faults, record, is_beside=True) if faults.is_file() else None
 
 
-def deciders(record: Record, faults: Path, path: Optional[AnyPath] = None) -> list[str]:
-    """Returns the rule that gave each attempt of a run that tried a frame its verdict; the empty text where none did.
-    Without any rule the list is empty.
+def with_names(record: Record, faults: FaultsFile) -> Record:
+    """Returns the record with a name for its one interface that has none, where faults name one that it does not have."""
+    unnamed = [place for place, name in enumerate(record.names) if " " in name]
+    if len(unnamed) != 1:
+        return record
+    lines = (line.rstrip(b"\n") for line in io.BytesIO(faults.text) if not line.startswith(b"#"))
+    found = {name for line in lines for names in NAMED.findall(line) for name in names.decode().split(",")}
+    missing = [*found.difference(record.names)]
+    if len(missing) != 1:
+        return record
+    names = [*record.names]
+    names[unnamed[0]] = missing[0]
+    return dataclasses.replace(record, names=tuple(names))
 
-    `faults` is the file of the run's script, or that of its faults, which a server writes; `path` is the file of the record,
-    where that was read without its text.
+
+def deciders(record: Record, faults: FaultsFile) -> list[str]:
+    """Returns the rule that gave each attempt of a run that tried a frame its verdict; the empty text where none did, and
+    `rule 66` where only its number is known. Where no rule did the list is empty. BadRecord says what is wrong with faults.
+
+    The last line of those beside a record that is cut off may be torn: it counts for no entry, and is left out where the
+    program can't read it.
     """
-    if faults.suffix in GROWING:
-        with tempfile.NamedTemporaryFile() as whole:
-            whole.write(GrowingFile(faults).text())
-            whole.flush()
-            return deciders(record, Path(whole.name), path)
-    rules = ["", *map(str, rules_in(script_text(faults)))]
-    return [rules[number] for number in numbers_of(record, faults, path)] if rules[1:] else []
+    with faults:
+        text = faults.text
+        try:
+            numbers = numbers_of(record, text, faults)
+        except BadRecord:
+            whole = text[: text.rfind(b"\n") + 1]
+            if not (faults.is_beside and record.is_cut) or whole == text:
+                raise
+            numbers = numbers_of(record, whole, faults)
+            faults.torn, text = text[len(whole) :], whole
+    texts = texts_of(text, numbers)
+    return [texts.get(number, f"rule {number}") if number else "" for number in numbers] if any(numbers) else []
 
 
-def numbers_of(record: Record, faults: Path, path: Optional[AnyPath]) -> list[int]:
-    """Returns the numbers of the rules that gave attempts their verdicts, 0 for none."""
-    # One that has no name here, `interface 1`, has one as the program takes it.
-    bus = f"{','.join(record.names).replace(' ', '-')}@{faults}"
-    if path is None:
-        with Events(record.is_cut, faults=bus) as events:
-            return numbers_in(events.texts(record.text))
-    with open(path, "rb") as file, Events(record.is_cut, file=file, faults=bus) as events:
-        return numbers_in(events.texts_of_file())
+def numbers_of(record: Record, text: bytes, faults: FaultsFile) -> list[int]:
+    """Returns the numbers of the rules of this text that gave attempts their verdicts, 0 for none."""
+    if not text:
+        return []
+    if not record.text and faults.record is None:
+        raise BadRecord("for its rules the record is read twice, so it has to be a file")
+    with tempfile.NamedTemporaryFile() as script:
+        script.write(text)
+        script.flush()
+        # One that has no name here, `interface 1`, has one as the program takes it.
+        bus = f"{','.join(record.names).replace(' ', '-')}@{script.name}"
+        if record.text or faults.record is None:
+            with Events(record.is_cut, faults=bus) as events:
+                return numbers_in(events.texts(record.text))
+        faults.record.seek(0)
+        with Events(record.is_cut, file=faults.record, faults=bus) as events:
+            return numbers_in(events.texts_of_file())
 
 
 def numbers_in(events: Iterable[str]) -> list[int]:
@@ -55,3 +122,71 @@ def numbers_in(events: Iterable[str]) -> list[int]:
     lines = (line for text in events for line in text.split("\n"))
     tried = (line for line in lines if line.startswith("attempt ") and " = tried " in line)
     return [int(line.partition("; rule ")[2] or 0) for line in tried]
+
+
+def texts_of(faults: bytes, numbers: Sequence[int]) -> dict[int, str]:
+    """Returns the texts of the rules that decided, by their numbers; `numbers` is the one of each attempt, 0 for none.
+
+    The program counts the rules that the bus took. Where it may have refused one for want of a place, the numbers of those
+    after it are not known.
+    """
+    wanted = {*numbers} - {0}
+    found: dict[int, str] = {}
+    taken = TakenRules(numbers)
+    for attempt, change in changes_in(faults):
+        if attempt >= len(numbers) or len(found) == len(wanted):
+            break
+        if change == b"nofaults":
+            taken.end(attempt)
+            continue
+        number = taken.take(attempt, change)
+        if number is None:
+            break
+        if number in wanted:
+            found[number] = str(parse_rule(change.decode()))
+    return found
+
+
+def changes_in(faults: bytes) -> Iterator[tuple[int, bytes]]:
+    """Yields each rule, and each `nofaults`, with the attempt before which it came; those of the start first."""
+    for line in io.BytesIO(faults):
+        if line.startswith((b"next ", b"always ")):
+            yield 0, line.rstrip(b"\n")
+    for line in io.BytesIO(faults):
+        if line.startswith(b"at "):
+            _, attempt, change = line.rstrip(b"\n").split(b" ", 2)
+            yield int(attempt), change
+
+
+class TakenRules:
+    """The rules that a bus took in a run, as far as the numbers say it that its attempts have."""
+
+    def __init__(self, numbers: Sequence[int]) -> None:
+        self._numbers = numbers
+        self._left = RulesLeft()
+        # How many attempts there were, and how many of them, since rules were ended, have no number: one where a rule did not
+        # fit the attempt has none either, and may have used it up.
+        self._attempts = self._unknown = 0
+
+    def take(self, attempt: int, rule: bytes) -> Optional[int]:
+        """The number of a rule that came before this attempt, 0 where the bus refused it, None where that is not known."""
+        if attempt > self._attempts:
+            self._go_on(attempt)
+        if len(self._left) < MOST_RULES:
+            return self._left.add(None if rule.startswith(b"always ") else int(rule.split(b" ", 2)[1]))
+        return 0 if self._left.least() > self._unknown else None
+
+    def end(self, attempt: int) -> None:
+        """Ends all rules before this attempt."""
+        if attempt > self._attempts:
+            self._go_on(attempt)
+        self._left.end()
+        self._unknown = 0
+
+    def _go_on(self, attempt: int) -> None:
+        for number in self._numbers[self._attempts : attempt]:
+            if number:
+                self._left.gave(number)
+            else:
+                self._unknown += 1
+        self._attempts = attempt
