@@ -185,6 +185,14 @@ def test_more_rules_than_have_a_place(tmp_path, faults, rules):
     assert {number: rule for number, rule in enumerate(found) if rule} == rules
 
 
+def test_an_interface_that_is_called_nofaults():
+    """a rule may end in its name, and ends no others"""
+    full = b"at 0 always id 7FF local crc nofaults\n" * 64
+    given = b"at 0 always local crc nofaults\nat 0 nofaults\nat 0 always good"
+    assert texts_of(full + given, [65]) == {65: "always good"}
+    assert texts_of(full + given + b"\nat 0 nofaults", [65, 66]) == {65: "always good"}
+
+
 def random_faults(source, attempts):
     """More than 64 rules for these attempts, each of which has an identifier of its own: its number. Some take several, some do
     not fit, and some are ended."""

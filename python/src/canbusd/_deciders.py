@@ -130,63 +130,62 @@ def texts_of(faults: bytes, numbers: Sequence[int]) -> dict[int, str]:
     The program counts the rules that the bus took. Where it may have refused one for want of a place, the numbers of those
     after it are not known.
     """
-    wanted = {*numbers} - {0}
     found: dict[int, str] = {}
-    taken = TakenRules(numbers)
-    for attempt, change in changes_in(faults):
-        if attempt >= len(numbers) or len(found) == len(wanted):
+    wanted = sorted({*numbers} - {0}, reverse=True)
+    last = 0
+    for begin, rules in stretches(faults):
+        taken, is_known = (rules, True) if len(rules) <= MOST_RULES else taken_of(rules, begin, last, numbers)
+        while wanted and wanted[-1] <= last + len(taken):
+            number = wanted.pop()
+            found[number] = str(parse_rule(parted(taken[number - last - 1])[1].decode()))
+        if not wanted or not is_known:
             break
-        if change == b"nofaults":
-            taken.end(attempt)
-            continue
-        number = taken.take(attempt, change)
-        if number is None:
-            break
-        if number in wanted:
-            found[number] = str(parse_rule(change.decode()))
+        last += len(taken)
     return found
 
 
-def changes_in(faults: bytes) -> Iterator[tuple[int, bytes]]:
-    """Yields each rule, and each `nofaults`, with the attempt before which it came; those of the start first."""
-    for line in io.BytesIO(faults):
-        if line.startswith((b"next ", b"always ")):
-            yield 0, line.rstrip(b"\n")
+def stretches(faults: bytes) -> Iterator[tuple[bytes, list[bytes]]]:
+    """Yields the lines of rules from the start to the first `nofaults`, from there to the next, and so on, each time after the
+    line that ended all before."""
+    begin = b"at 0 nofaults"
+    rules = [line for line in io.BytesIO(faults) if line.startswith((b"next ", b"always "))]
     for line in io.BytesIO(faults):
         if line.startswith(b"at "):
-            _, attempt, change = line.rstrip(b"\n").split(b" ", 2)
-            yield int(attempt), change
-
-
-class TakenRules:
-    """The rules that a bus took in a run, as far as the numbers say it that its attempts have."""
-
-    def __init__(self, numbers: Sequence[int]) -> None:
-        self._numbers = numbers
-        self._left = RulesLeft()
-        # How many attempts there were, and how many of them, since rules were ended, have no number: one where a rule did not
-        # fit the attempt has none either, and may have used it up.
-        self._attempts = self._unknown = 0
-
-    def take(self, attempt: int, rule: bytes) -> Optional[int]:
-        """The number of a rule that came before this attempt, 0 where the bus refused it, None where that is not known."""
-        if attempt > self._attempts:
-            self._go_on(attempt)
-        if len(self._left) < MOST_RULES:
-            return self._left.add(None if rule.startswith(b"always ") else int(rule.split(b" ", 2)[1]))
-        return 0 if self._left.least() > self._unknown else None
-
-    def end(self, attempt: int) -> None:
-        """Ends all rules before this attempt."""
-        if attempt > self._attempts:
-            self._go_on(attempt)
-        self._left.end()
-        self._unknown = 0
-
-    def _go_on(self, attempt: int) -> None:
-        for number in self._numbers[self._attempts : attempt]:
-            if number:
-                self._left.gave(number)
+            # An interface may have this name.
+            if line.endswith((b" nofaults\n", b" nofaults")) and line.count(b" ") == 2:
+                yield begin, rules
+                begin, rules = line, []
             else:
-                self._unknown += 1
-        self._attempts = attempt
+                rules.append(line)
+    yield begin, rules
+
+
+def parted(line: bytes) -> tuple[int, bytes]:
+    """The attempt before which a rule came, and the rule."""
+    text = line.rstrip(b"\n")
+    if not text.startswith(b"at "):
+        return 0, text
+    _, attempt, rule = text.split(b" ", 2)
+    return int(attempt), rule
+
+
+def taken_of(rules: list[bytes], begin: bytes, last: int, numbers: Sequence[int]) -> tuple[list[bytes], bool]:
+    """Returns those of these rules that the bus took, the first of them with the number after `last`, and whether that is known
+    of all of them; at `begin` there were no rules.
+
+    An attempt that has no number may be one that a rule did not fit: then that one may be used up all the same.
+    """
+    left, taken, unknown = RulesLeft(last), [], 0
+    done, _ = parted(begin)
+    for line in rules:
+        attempt, rule = parted(line)
+        for number in numbers[done:attempt]:
+            unknown += not number
+            left.gave(number)
+        done = attempt
+        if len(left) < MOST_RULES:
+            left.add(None if rule.startswith(b"always ") else int(rule.split(b" ", 2)[1]))
+            taken.append(line)
+        elif left.least() <= unknown or attempt >= len(numbers):
+            return taken, False
+    return taken, True

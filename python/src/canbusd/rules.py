@@ -165,8 +165,8 @@ def check_rules(rules: Iterable[Rule], names: Sequence[str]) -> None:
 class RulesLeft:
     """How many verdicts the rules of a bus still give, by the numbers that the program calls them."""
 
-    def __init__(self) -> None:
-        self._taken = 0
+    def __init__(self, taken: int = 0) -> None:
+        self._taken = taken
         # Of each rule that is not used up; None is without end.
         self._left: dict[int, Optional[int]] = {}
 
