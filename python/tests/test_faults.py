@@ -2,8 +2,9 @@
 
 import pytest
 
-from canbusd.bench import Bench
-from canbusd.faults import Faults, rules_in, rules_of, script_text
+from canbusd.bench import Bench, BenchError
+from canbusd.faults import Faults, rules_in, rules_of, script_bytes
+from canbusd.server import Server, ServerError
 
 SCRIPT = """\
 0 global bit
@@ -42,13 +43,31 @@ def test_rules_in_a_script():
         rules_in("next 1 bad")
 
 
-def test_rules_in_the_faults_of_a_run():
-    """first those of the start, then those that came later; of lines that are none the program says so"""
-    run = "at 0 next 1 good\n3 lastbit\nat 17 nofaults\nnext 2 good\n# at 17 next 9 good\nat 4294967294 next 3 good\n"
-    assert list(map(str, rules_in(run))) == ["next 2 good", "next 1 good", "next 3 good"]
-    assert rules_in("at 5 lastbit\nat next 1 good\nat 12345678901 next 1 good\nat 1 at 2 next 1 good") == []
-    with pytest.raises(ValueError, match="^rule 'next 1 bad': its verdict is"):
-        rules_in("at 0 next 1 bad")
+def test_a_line_ends_at_its_lf_only(tmp_path):
+    """as for the program: what follows a CR in a comment is none"""
+    script = b"# made by hand\rnext 1 lastbit\nnext 2 global bit\n"
+    path = tmp_path / "faults"
+    path.write_bytes(script)
+    assert script_bytes(path) == script
+    assert list(map(str, rules_of(path))) == list(map(str, rules_in(script.decode()))) == ["next 2 global bit"]
+    with Bench("a,b", faults=path) as bench:
+        bench.open("a").send(0x123)
+        assert [attempt.fault for attempt in bench.run()] == ["global bit", "global bit", "good"]
+    with Server("a,b", faults=path, out=tmp_path) as server:
+        server.inject("next 1 good")
+    assert (tmp_path / "a.rec.faults").read_bytes() == script + b"at 0 next 1 good\n"
+
+
+@pytest.mark.parametrize("script", [b"0 lastbit\r\n", b"next 1 lastbit\r\n", b"# caf\xe9\nnext 1 lastbit\n"])
+def test_a_script_that_the_program_refuses(tmp_path, script):
+    """here too, since it is handed on byte for byte"""
+    path = tmp_path / "faults"
+    path.write_bytes(script)
+    fault = "read fault" if b"\xe9" in script else "script line 1: bad line"
+    with pytest.raises(BenchError, match=fault):
+        Bench("a,b", faults=path)
+    with pytest.raises(ServerError, match=fault):
+        Server("a,b", faults=path)
 
 
 RULES = """\
@@ -114,7 +133,7 @@ def test_rules_show_themselves_as_code():
         (lambda: Faults().next(1).destroyed("crc"), "^kind"),
         (lambda: Faults().next(1).local("bit", "can0"), "^kind"),
         (lambda: Faults().next(1).local("crc", []), "^names"),
-        (lambda: script_text(Faults().next(1)), "^<the rule `next 1` without its fault>: .destroyed"),
+        (lambda: script_bytes(Faults().next(1)), "^<the rule `next 1` without its fault>: .destroyed"),
     ],
 )
 def test_what_is_wrong_with_a_rule_is_named(wrong, said):
@@ -179,19 +198,17 @@ def test_a_refused_call_changes_nothing():
 def test_a_script_is_faults_a_text_or_a_path(tmp_path):
     path = tmp_path / "faults"
     path.write_text(SCRIPT)
-    assert script_text(script()) == script_text(SCRIPT) == script_text(path) == script_text(str(path)) == SCRIPT
-    assert script_text(None) == script_text("") == ""
-    assert script_text("0 lastbit") == "0 lastbit"
-    assert script_text("7 local crc can1/can2") == "7 local crc can1/can2"
-    assert script_text("next 1 lastbit") == "next 1 lastbit"
-    assert script_text("always good") == "always good"
+    assert {script_bytes(given) for given in (script(), SCRIPT, path, str(path))} == {SCRIPT.encode()}
+    assert script_bytes(None) == script_bytes("") == b""
+    for text in ("0 lastbit", "7 local crc can1/can2", "next 1 lastbit", "always good"):
+        assert script_bytes(text) == text.encode()
     for path in ("no such file", "0lastbit", "lastbit", "next", "always"):
         with pytest.raises(
             FileNotFoundError, match=f"a text begins with the number of an attempt, as '0 lastbit' .*{path}"
         ):
-            script_text(path)
+            script_bytes(path)
     with pytest.raises(ValueError, match="faults"):
-        script_text(range(32))
+        script_bytes(range(32))
 
 
 def test_it_shows_itself_as_code():

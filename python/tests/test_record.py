@@ -190,8 +190,9 @@ def test_what_became_of_items():
     ]  # fmt: skip
 
 
-def test_names_of_interfaces(tmp_path):
-    path, log = tmp_path / "can0.rec", tmp_path / "can0.log"
+@pytest.mark.parametrize("name", ["can0", "can.0", "..."])
+def test_names_of_interfaces(tmp_path, name):
+    path, log = tmp_path / f"{name}.rec", tmp_path / f"{name}.log"
     path.write_text(EXAMPLE)
     assert read_record(path).names == ("interface 0", "interface 1")
     log.write_text("(0000000000.000001) body 123#01FF\n")
@@ -380,9 +381,10 @@ def test_faults_of_a_record_that_is_cut_off():
         assert audit(f"{text}end 1\n".encode()) == ("canbusd: bad version" if version == 3 else "ok 1 entries")
 
 
+@pytest.mark.parametrize("name", ["can0", "..."])
 @pytest.mark.parametrize("ending", ["new", "cut"])
-def test_names_in_the_log_of_a_run_that_was_killed(tmp_path, ending):
-    path, log = tmp_path / f"can0.rec.{ending}", tmp_path / "can0.log"
+def test_names_in_the_log_of_a_run_that_was_killed(tmp_path, ending, name):
+    path, log = tmp_path / f"{name}.rec.{ending}", tmp_path / f"{name}.log"
     path.write_text(LIVE[: LIVE.index("receive")])
     log.write_text("(0000000000.000001) body 123#01FF\n(0000000000.000002) bo")
     assert read_record(path, cut=True).names == ("body", "interface 1")

@@ -4,8 +4,6 @@ import base64
 import json
 import re
 import struct
-import subprocess
-import sys
 import zlib
 from array import array
 
@@ -189,53 +187,6 @@ def rules_on(text):
     header, column = data_of(text)
     verdicts = [header["verdicts"][place] for place in column(header["steps"]["verdict"])]
     return [verdict.partition(", by ")[2].strip("`") for verdict in verdicts]
-
-
-@pytest.fixture
-def ruled(tmp_path):
-    """Makes a page of a run in which a rule gave a's first frame a fault in the last bit. b never sends, so the log does not say
-    how it is called. Returns the rules of the attempts, and what the command says."""
-    with Bench("a,b", faults="next 1 from a lastbit\n", out=tmp_path) as bench:
-        bench.open("a").send(0x123)
-        assert [bench.attempt().outcome for _ in range(2)] == ["lastbit", "done"]
-
-    def ruled(*words):
-        command = [sys.executable, "-m", "canbusd", "report", *words]
-        done = subprocess.run(command, cwd=tmp_path, capture_output=True, text=True, timeout=60)
-        assert done.returncode == 0, done.stderr
-        said = done.stderr.splitlines(True)
-        return rules_on(done.stdout), "".join(line for line in said if "no log names interface 1" not in line)
-
-    return ruled
-
-
-def test_the_rule_where_not_all_names_are_known(ruled, tmp_path):
-    (tmp_path / "faults").write_text("next 1 from a lastbit\n", encoding="utf-8")
-    assert ruled("--faults", "faults", "a.rec") == (["next 1 from a lastbit", ""], "")
-
-
-def test_the_faults_beside_a_record(ruled, tmp_path):
-    """those that a server leaves, with rules that came while it ran"""
-    assert ruled("a.rec") == (["", ""], "")
-    (tmp_path / "a.rec.faults").write_text("5 good\nat 0 next 1 from a lastbit\nat 1 always good\n")
-    assert ruled("a.rec") == (["next 1 from a lastbit", "always good"], "")
-    (tmp_path / "faults").write_text("always lastbit\n")
-    assert ruled("--faults", "faults", "a.rec") == (["always lastbit", ""], "")
-    # Of a run that goes on, or was killed.
-    (tmp_path / "a.rec").rename(tmp_path / "a.rec.new")
-    assert ruled("--cut", "a.rec.new") == (["", ""], "")
-    (tmp_path / "a.rec.faults.new").write_text("at 0 always lastbit\nat 1 next")
-    assert ruled("--cut", "a.rec.new") == (["always lastbit", ""], "")
-
-
-def test_faults_that_name_who_has_no_name(ruled, tmp_path):
-    """the page is made without rules, unless the faults were asked for"""
-    (tmp_path / "a.rec.faults").write_text("always from a,b lastbit\n")
-    why = "script line 1: unknown interface: `always from a,b lastbit`; b is none of a,interface-1"
-    assert ruled("a.rec") == (["", ""], f"canbusd report: without rules of faults: a.rec.faults: {why}\n")
-    assert ruled("--names", "a,b", "a.rec") == (["always from a,b lastbit", ""], "")
-    with pytest.raises(AssertionError, match=f"canbusd report: {why}\n"):
-        ruled("--faults", "a.rec.faults", "a.rec")
 
 
 def test_what_bus_off_took_and_refused():

@@ -1,11 +1,7 @@
-"""Rules of faults: their grammar, how many are left, and which one gave an attempt its verdict. What they give is tried in
-tests/test_rules.py of the clone."""
+"""Rules of faults: their grammar, and how many are left. What they give is tried in tests/test_rules.py of the clone."""
 
 import pytest
 
-from canbusd._deciders import deciders, faults_beside
-from canbusd.bench import Bench
-from canbusd.record import BadRecord, read_record
 from canbusd.rules import GivenRules, Rule, check_rules, parse_rule
 
 
@@ -106,91 +102,3 @@ def test_how_many_rules_are_left():
     given.end()
     given.add(parse_rule("next 1 good"))
     assert (len(given), str(given.gave(4)), len(given)) == (1, "next 1 good", 0)
-
-
-SCRIPT = "0 global bit\nnext 1 from a local crc b\nnext 1 id 124 good\n"
-
-
-def run_of(folder, script, *injected):
-    """The record and the attempts of a run in which a sends 123 until it is done, then 124 and 125, and b as often the same."""
-    with Bench("a,b", faults=script or None, out=folder) as bench:
-        one, other = bench.open("a"), bench.open("b")
-        for identifier in (0x123, 0x124, 0x125):
-            one.send(identifier)
-        attempts = bench.run()
-        for rule in injected:
-            bench.inject(rule)
-        for identifier in (0x123, 0x124, 0x125):
-            other.send(identifier)
-        attempts += bench.run()
-        record = bench.record()
-    (folder / "faults").write_text(script, encoding="utf-8")
-    return record, attempts
-
-
-def test_which_rule_decided(tmp_path):
-    """a line by number is no rule, a good verdict of a rule counts, and the record says it as the bench does"""
-    record, attempts = run_of(tmp_path, SCRIPT)
-    wanted = ["", "next 1 from a local crc b", "", "next 1 id 124 good", *[""] * 4]
-    assert [attempt.fault for attempt in attempts] == ["global bit", "local crc b", *["good"] * 6]
-    assert record.attempts == attempts
-    assert deciders(record, tmp_path / "faults") == wanted
-    again = read_record(tmp_path / "a.rec", ["a", "b"])
-    assert deciders(again, tmp_path / "faults", path=tmp_path / "a.rec") == wanted
-    (tmp_path / "faults").write_text("0 global bit\n")
-    assert deciders(record, tmp_path / "faults") == []
-
-
-def test_which_of_the_rules_that_came_later_it_was(tmp_path):
-    """two of them would give the same fault; their numbers follow those of the script, wherever its lines are"""
-    rules = ["next 1 id 124 lastbit", "next 1 from b id 125 global form", "next 1 id 124:7FE global form"]
-    record, attempts = run_of(tmp_path, SCRIPT, *rules)
-    faults = [attempt.fault for attempt in attempts if attempt.winner == "b"]
-    assert faults == ["good", "lastbit", "global form", "good", "global form", "good"]
-    # a has made five attempts.
-    later = "".join(f"at 5 {rule}\n" for rule in rules)
-    of_a = ["", "next 1 from a local crc b", "", "next 1 id 124 good", ""]
-    for text in (f"{SCRIPT}{later}", f"{later}at 99 nofaults\nat 99 next 1 good\n{SCRIPT}"):
-        (tmp_path / "a.rec.faults").write_text(text)
-        found = deciders(record, tmp_path / "a.rec.faults")
-        assert found == [*of_a, "", rules[0], rules[2], "", rules[1], ""]
-
-
-def test_faults_whose_last_line_may_be_torn(tmp_path):
-    """of a run that goes on, or was killed; a script may end without a line feed"""
-    record, _ = run_of(tmp_path, "", "next 1 lastbit")
-    torn = "at 3 next 1 from b lastbit\nat 3 next 1 from b good\nat 4 next 1 from"
-    wanted = [*[""] * 3, "next 1 from b lastbit", "next 1 from b good", "", ""]
-    for name in ("a.rec.faults.new", "a.rec.faults.cut"):
-        (tmp_path / name).write_text(torn)
-        assert deciders(record, tmp_path / name) == wanted
-    (tmp_path / "a.rec.faults.new").write_text("at")
-    assert deciders(record, tmp_path / "a.rec.faults.new") == []
-    (tmp_path / "a.rec.faults").write_text(torn.rpartition("\n")[0])
-    assert deciders(record, tmp_path / "a.rec.faults") == wanted
-    (tmp_path / "a.rec.faults").write_text(torn)
-    with pytest.raises(ValueError, match="^rule 'next 1 from': "):
-        deciders(record, tmp_path / "a.rec.faults")
-
-
-@pytest.mark.parametrize("ending", ["", ".new", ".cut"])
-def test_faults_beside_a_record(tmp_path, ending):
-    record = tmp_path / f"can0.rec{ending}"
-    for name in ("can0.rec", "can0.faults", "can0.rec.faults", "can0.rec.faults.new", "can0.rec.faults.cut"):
-        if name != f"can0.rec.faults{ending}":
-            (tmp_path / name).touch()
-    assert faults_beside(record) is None and faults_beside(str(record)) is None
-    (tmp_path / f"can0.rec.faults{ending}").touch()
-    assert faults_beside(record) == faults_beside(str(record)) == tmp_path / f"can0.rec.faults{ending}"
-
-
-def test_a_name_that_looks_like_an_option(tmp_path):
-    with Bench("-a,b", out=tmp_path) as bench:
-        bench.open("-a").send(0x123)
-        bench.attempt()
-        record = bench.record()
-    (tmp_path / "faults").write_text("at 0 next 1 from -a good\n")
-    assert deciders(record, tmp_path / "faults") == ["next 1 from -a good"]
-    (tmp_path / "faults").write_text("at 0 next 1 from c good\n")
-    with pytest.raises(BadRecord, match="^script line 1: unknown interface: "):
-        deciders(record, tmp_path / "faults")

@@ -5,7 +5,7 @@ from pathlib import Path
 from typing import Optional, Union
 
 from canbusd._process import check_names
-from canbusd.faults import Script, script_text
+from canbusd.faults import Script, script_bytes
 
 
 def bus_words(
@@ -37,7 +37,7 @@ def bus_words(
         if "@" in by_bus[name][-1]:
             raise ValueError(f"faults of {given!r} are given twice")
         file = folder / f"{name}.faults"
-        file.write_text(script_text(script), encoding="utf-8")
+        file.write_bytes(script_bytes(script))
         by_bus[name][-1] += f"@{file}"
     return by_bus
 

@@ -25,7 +25,7 @@ from canbusd._process import bus_of, option_words, rate_words, rates_of
 from canbusd._program import audited
 from canbusd._protocol import Filters, options
 from canbusd._summary import write_page
-from canbusd.faults import Script, rules_in, rules_of, script_text
+from canbusd.faults import Script, rules_in, rules_of, script_bytes
 from canbusd.frames import Frame
 from canbusd.log import read_log
 from canbusd.record import Attempt, Record, read_record
@@ -77,7 +77,7 @@ class Bench(Dialogue, HasRestBus["BenchRestBus"]):
         words = option_words(ack, report, auto_restart=auto_restart, txqueue=txqueue, rxqueue=rxqueue, limit=limit)
         words += rate_words(bitrate, dbitrate)
         self.names, faults = bus_of(names, faults)
-        script = script_text(faults)
+        script = script_bytes(faults)
         super().__init__(out)
         self._sessions = 0
         self._sent: dict[str, list[Frame]] = {name: [] for name in self.names}
@@ -85,12 +85,12 @@ class Bench(Dialogue, HasRestBus["BenchRestBus"]):
         words += ["--record", str(self._path("rec")), "--log", str(self._path("log")), "--"]
         bus = ",".join(self.names)
         if script:
-            (self._folder / "faults").write_text(script, encoding="utf-8")
+            (self._folder / "faults").write_bytes(script)
             bus += f"@{self._folder / 'faults'}"
         self._start("bench", "--show-faults", *words, bus)
         # What is wrong with the words shows before the first session is used.
         self._greet()
-        self._given = GivenRules(rules_in(script))
+        self._given = GivenRules(rules_in(script.decode()))
         # The rule of each attempt, where one gave its fault.
         self._rules: list[str] = []
 

@@ -17,8 +17,6 @@ from canbusd._text import NAME, shown
 from canbusd.frames import EXTENDED
 from canbusd.rules import MOST, MOST_RULES, NUMBER, VERDICT, Rule, is_rule, parse_rule
 
-# How a line begins of what came while a run went on.
-LATER = re.compile("at [0-9]{1,10} ")
 # What no path is.
 IS_TEXT = re.compile(r"\A\Z|\n|\A(?:[0-9]+|next|always) ")
 
@@ -263,24 +261,24 @@ def identifier_arguments(word: int, mask: int) -> list[str]:
 Script = Union[str, "os.PathLike[str]", Faults]
 
 
-def script_text(script: Optional[Script]) -> str:
-    """Returns the text of a fault script.
+def script_bytes(script: Optional[Script]) -> bytes:
+    """Returns a fault script byte for byte, as the program is to have it.
 
     A `str` is the text if it is empty, has a line feed, or begins with a number and a space, as `0 lastbit` does, or as a
     rule does, such as `next 1 lastbit`; else it is a path.
     """
     if script is None:
-        return ""
+        return b""
     if isinstance(script, Faults):
-        return str(script)
+        return str(script).encode()
     if isinstance(script, Chosen):
         raise ValueError(f"{script!r}: .destroyed(), .last_bit(), .local(..) or .good() says which")
     if isinstance(script, str) and IS_TEXT.search(script):
-        return script
+        return script.encode()
     if not isinstance(script, (str, os.PathLike)):
         raise ValueError(f"faults are Faults, a path or a text, not {script!r}")
     try:
-        with open(script, encoding="utf-8") as file:
+        with open(script, "rb") as file:
             return file.read()
     except FileNotFoundError as fault:
         hint = (
@@ -291,32 +289,18 @@ def script_text(script: Optional[Script]) -> str:
 
 
 def lines_of(text: str) -> list[str]:
-    """The lines of a script that say something."""
+    """The lines of a script that say something; they end at their LF only."""
     return [line for line in text.split("\n") if line and not line.startswith("#")]
 
 
 def rules_in(script: str) -> list[Rule]:
-    """Returns the rules of a script, in their order; ValueError where one is none.
-
-    Of the faults of a run, which have lines `at N RULE`, those of the start come first. So a rule is where its number says.
-    """
-    lines = lines_of(script)
-    later = [line[found.end() :] for line in lines if (found := LATER.match(line))]
-    return [parse_rule(line) for line in [*lines, *later] if is_rule(line)]
-
-
-def numbered_rules(script: str) -> dict[int, Rule]:
-    """Returns the rules of the faults of a run by their numbers, from 1, without those that `nofaults` ended."""
-    rules = rules_in(script)
-    lines = lines_of(script)
-    later = [line[found.end() :] for line in lines if (found := LATER.match(line))]
-    after = later[::-1].index("nofaults") if "nofaults" in later else len(rules)
-    return {number: rule for number, rule in enumerate(rules, 1) if number > len(rules) - after}
+    """Returns the rules of a script, in their order; ValueError where one is none."""
+    return [parse_rule(line) for line in lines_of(script) if is_rule(line)]
 
 
 def rules_of(faults: Script) -> list[Rule]:
     """Returns the rules of these faults; ValueError where there are others, which nobody can give a bus that runs."""
-    lines = lines_of(script_text(faults))
+    lines = lines_of(script_bytes(faults).decode())
     other = next((line for line in lines if line[:1].isdigit()), None)
     if other is not None:
         raise ValueError(

@@ -37,8 +37,10 @@ def message_of(line: str, path: Path, number: int) -> "Message":
 
 def log_beside(path: Path) -> Optional[str]:
     """The log that `canbusd serve` writes beside this record, or None: can0.log beside can0.rec and can0.rec.new."""
-    stem, ending = os.path.splitext(path)
-    log = (os.path.splitext(stem)[0] if ending in (".new", ".cut") else stem) + ".log"
+    record = os.fspath(path).removesuffix(".new").removesuffix(".cut")
+    folder, name = os.path.split(record)
+    # For os.path.splitext the record `....rec` of the bus `...` has no ending.
+    log = os.path.join(folder, f"{name.rpartition('.')[0] or name}.log")
     return log if log != os.fspath(path) and os.path.isfile(log) else None
 
 

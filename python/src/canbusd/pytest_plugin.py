@@ -262,9 +262,9 @@ class Runs:
             if isinstance(run, Bench):
                 yield from run._given.unused()
                 continue
-            faults = faults_beside(path)
-            if faults is not None and path.exists():
-                yield from unused_rules(path, names, faults)
+            faults = faults_beside(path) if path.exists() else None
+            if faults is not None:
+                yield from unused_rules(names, faults)
 
     def _report(self) -> None:
         """Adds what is known of each bus and program to the test's report, and to its properties in a JUnit file."""

@@ -7,6 +7,7 @@
 The program has them decide; here is what they are.
 """
 
+import math
 import re
 from collections.abc import Iterable, Sequence
 from dataclasses import dataclass
@@ -171,13 +172,47 @@ def check_rules(rules: Iterable[Rule], names: Sequence[str]) -> None:
             raise ValueError(f"rule '{rule}': {unknown} is no interface of its bus, {','.join(names)}")
 
 
+class RulesLeft:
+    """How many verdicts the rules of a bus still give, by the numbers that the program calls them."""
+
+    def __init__(self, taken: int = 0) -> None:
+        self._taken = taken
+        # Of each rule that is not used up; None is without end.
+        self._left: dict[int, Optional[int]] = {}
+
+    def __len__(self) -> int:
+        """How many rules are left."""
+        return len(self._left)
+
+    def add(self, count: Optional[int]) -> int:
+        """Adds a rule after the others; returns its number."""
+        self._taken += 1
+        self._left[self._taken] = count
+        return self._taken
+
+    def end(self) -> None:
+        """Ends all rules."""
+        self._left.clear()
+
+    def gave(self, number: int) -> None:
+        """Counts a verdict of the rule of this number."""
+        left = self._left.get(number)
+        if left == 1:
+            del self._left[number]
+        elif left is not None:
+            self._left[number] = left - 1
+
+    def least(self) -> float:
+        """How many verdicts the rule still gives that gives the fewest."""
+        return min((left for left in self._left.values() if left is not None), default=math.inf)
+
+
 class GivenRules:
     """The rules that a bus was given, by the numbers that the program calls them, and how many of them are left."""
 
     def __init__(self, rules: Iterable[Rule] = ()) -> None:
         self._rules: list[Rule] = []
-        # How many verdicts each rule still gives that is not used up, by its number; None is without end.
-        self._left: dict[int, Optional[int]] = {}
+        self._left = RulesLeft()
         for rule in rules:
             self.add(rule)
 
@@ -188,11 +223,11 @@ class GivenRules:
     def add(self, rule: Rule) -> None:
         """Adds a rule after the others."""
         self._rules.append(rule)
-        self._left[len(self._rules)] = rule.count
+        self._left.add(rule.count)
 
     def end(self) -> None:
         """Ends all rules."""
-        self._left.clear()
+        self._left.end()
 
     def unused(self) -> list[Rule]:
         """Returns those with a number, `next 1 ..`, that gave no verdict, and that nobody ended."""
@@ -201,9 +236,5 @@ class GivenRules:
 
     def gave(self, number: int) -> Rule:
         """Returns the rule of this number, which gave an attempt its verdict, and counts that."""
-        left = self._left.get(number)
-        if left == 1:
-            del self._left[number]
-        elif left is not None:
-            self._left[number] = left - 1
+        self._left.gave(number)
         return self._rules[number - 1]

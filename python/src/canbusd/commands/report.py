@@ -5,14 +5,14 @@ import io
 import os
 import sys
 from collections.abc import Iterable
-from pathlib import Path
 from typing import Optional
 
 from canbusd import _summary, drawings
 from canbusd._command import BadWords, add_record, note_of_names, replayed
-from canbusd._deciders import deciders, faults_beside
+from canbusd._deciders import FaultsFile, deciders, faults_beside, with_names
 from canbusd._rates import Rates
 from canbusd._slots import load_of, load_words, slots_of
+from canbusd._text import shown
 from canbusd.commands import add_database, add_rates, database_of, digits, rates_of
 from canbusd.comparison import beside, first_difference
 from canbusd.record import BadRecord, Record
@@ -69,10 +69,16 @@ def run(options: argparse.Namespace) -> int:
     """Writes the page, or the drawings, on standard output. Returns the status."""
     rates = rates_of(options)
     check_words(options)
+    # Opened first: a server that ends meanwhile renames both.
+    faults = None if has_drawings(options) else faults_of(options)
     record = replayed(options.record, options.names, options.cut, rates)
     other = None if options.other is None else replayed(options.other, options.names, options.cut)
-    note_of_names("canbusd report", (options.record, record), *([] if other is None else [(options.other, other)]))
-    write_run(record, other, options, rates)
+    named, rules = with_rules(record, faults, options)
+    note_of_names("canbusd report", (options.record, named), *([] if other is None else [(options.other, other)]))
+    if has_drawings(options):
+        write_drawings(record, other, options, rates)
+    else:
+        write_page(named, rules, other, options, rates)
     return int(options.exit_code and other is not None and first_difference(record, other) is not None)
 
 
@@ -92,22 +98,28 @@ def check_words(options: argparse.Namespace) -> None:
         raise BadWords(f"--first {options.first} --last {options.last}: no attempt is from there to there")
 
 
-def write_run(record: Record, other: Optional[Record], options: argparse.Namespace, rates: Optional[Rates]) -> None:
-    """Writes the page, or the drawings, on standard output."""
-    if has_drawings(options):
-        first = options.first or 0
-        last = record.replay.attempts if options.last is None else options.last
-        if options.text:
-            write(_summary.story(record, MOST_EVENTS) if other is None else beside(record, other))
-            write([load_words(load_of(slots_of(record.replay)))] if rates else [])
-        if options.text or options.arbitration:
-            write(drawings.arbitration(record, first, last))
-        if options.text or options.counters:
-            write(drawings.counters(record, first, last))
-        return
+def write_drawings(
+    record: Record, other: Optional[Record], options: argparse.Namespace, rates: Optional[Rates]
+) -> None:
+    """Writes events as text, and drawings."""
+    first = options.first or 0
+    last = record.replay.attempts if options.last is None else options.last
+    if options.text:
+        write(_summary.story(record, MOST_EVENTS) if other is None else beside(record, other))
+        write([load_words(load_of(slots_of(record.replay)))] if rates else [])
+    if options.text or options.arbitration:
+        write(drawings.arbitration(record, first, last))
+    if options.text or options.counters:
+        write(drawings.counters(record, first, last))
+
+
+def write_page(
+    record: Record, rules: list[str], other: Optional[Record], options: argparse.Namespace, rates: Optional[Rates]
+) -> None:
+    """Writes the page, with the rule of each attempt."""
     from canbusd.report import Pair, page
 
-    title, rules = os.path.basename(options.record), rules_of(record, options)
+    title = os.path.basename(options.record)
     if isinstance(sys.stdout, io.TextIOWrapper):
         sys.stdout.reconfigure(encoding="utf-8")
     database, most_items = database_of(options), options.items
@@ -115,17 +127,43 @@ def write_run(record: Record, other: Optional[Record], options: argparse.Namespa
     sys.stdout.write(page(record.replay, record.names, title, most_items, database, rules, rates, pair))
 
 
-def rules_of(record: Record, options: argparse.Namespace) -> list[str]:
-    """The rule of each attempt, by the faults that are named, else by those that a server left beside the record."""
+def faults_of(options: argparse.Namespace) -> Optional[FaultsFile]:
+    """The faults that are named, else those that a server left beside the record, if there are any."""
     if options.faults is not None:
-        return deciders(record, Path(options.faults), options.record)
-    faults = faults_beside(options.record)
+        return FaultsFile(options.faults, options.record)
     try:
-        return deciders(record, faults, options.record) if faults else []
+        return faults_beside(options.record)
+    except OSError as fault:
+        note(f"without rules of faults: {fault.filename}: {fault.strerror}")
+        return None
+
+
+def with_rules(record: Record, faults: Optional[FaultsFile], options: argparse.Namespace) -> tuple[Record, list[str]]:
+    """The record with the name that its faults say, and the rule of each attempt. Those beside the record may be wrong.
+
+    Two runs have the names that their logs say, since they are compared.
+    """
+    if faults is None:
+        return record, []
+    named = with_names(record, faults)
+    try:
+        rules = deciders(named, faults)
     except BadRecord as fault:
-        # It names an interface that has no name here, for want of a log.
-        print(f"canbusd report: without rules of faults: {faults}: {fault}", file=sys.stderr)
-        return []
+        why = f"{faults.path}: {fault}"
+        if "unknown interface" in (fault.verdict or "") and any(" " in name for name in record.names):
+            why += "; --names says how they are called"
+        if options.faults is not None:
+            raise BadRecord(why) from None
+        note(f"without rules of faults: {why}")
+        return record, []
+    if faults.torn:
+        note(f"{faults.path}: without its last line, which is torn: `{shown(faults.torn.decode(errors='replace'))}`")
+    return named if options.other is None else record, rules
+
+
+def note(words: str) -> None:
+    """Writes a note on standard error."""
+    print(f"canbusd report: {words}", file=sys.stderr)
 
 
 def title_beside(path: str, other: str) -> str:

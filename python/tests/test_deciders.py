@@ -1,0 +1,232 @@
+"""Which rule of faults gave an attempt its verdict, by the file that a run had or left; the page is tried in test_report.py."""
+
+import itertools
+import os
+import random
+
+import pytest
+
+from canbusd import _deciders
+from canbusd._deciders import FaultsFile, deciders, faults_beside, texts_of
+from canbusd.bench import Bench
+from canbusd.record import BadRecord, parse_record, read_record, read_run
+
+SCRIPT = "0 global bit\nnext 1 from a local crc b\nnext 1 id 124 good\n"
+
+
+def ruled(record, path, *of):
+    """The rule of each attempt, by the faults in this file."""
+    return deciders(record, FaultsFile(path, *of))
+
+
+def run_of(folder, script, *injected):
+    """The record and the attempts of a run in which a sends 123 until it is done, then 124 and 125, and b as often the same."""
+    with Bench("a,b", faults=script or None, out=folder) as bench:
+        one, other = bench.open("a"), bench.open("b")
+        for identifier in (0x123, 0x124, 0x125):
+            one.send(identifier)
+        attempts = bench.run()
+        for rule in injected:
+            bench.inject(rule)
+        for identifier in (0x123, 0x124, 0x125):
+            other.send(identifier)
+        attempts += bench.run()
+        record = bench.record()
+    (folder / "faults").write_text(script, encoding="utf-8")
+    return record, attempts
+
+
+def test_which_rule_decided(tmp_path):
+    """a line by number is no rule, a good verdict of a rule counts, and the record says it as the bench does"""
+    record, attempts = run_of(tmp_path, SCRIPT)
+    wanted = ["", "next 1 from a local crc b", "", "next 1 id 124 good", *[""] * 4]
+    assert [attempt.fault for attempt in attempts] == ["global bit", "local crc b", *["good"] * 6]
+    assert record.attempts == attempts
+    assert ruled(record, tmp_path / "faults") == wanted
+    again = read_run(tmp_path / "a.rec", ["a", "b"], cut=False, rates=None)
+    assert not again.text and ruled(again, tmp_path / "faults", tmp_path / "a.rec") == wanted
+    for faults in ("0 global bit\n", ""):
+        (tmp_path / "faults").write_text(faults)
+        assert ruled(record, tmp_path / "faults") == []
+
+
+def test_which_of_the_rules_that_came_later_it_was(tmp_path):
+    """two of them would give the same fault; their numbers follow those of the script, wherever its lines are"""
+    rules = ["next 1 id 124 lastbit", "next 1 from b id 125 global form", "next 1 id 124:7FE global form"]
+    record, attempts = run_of(tmp_path, SCRIPT, *rules)
+    faults = [attempt.fault for attempt in attempts if attempt.winner == "b"]
+    assert faults == ["good", "lastbit", "global form", "good", "global form", "good"]
+    # a has made five attempts.
+    later = "".join(f"at 5 {rule}\n" for rule in rules)
+    of_a = ["", "next 1 from a local crc b", "", "next 1 id 124 good", ""]
+    for text in (f"{SCRIPT}{later}", f"{later}at 99 nofaults\nat 99 next 1 good\n{SCRIPT}"):
+        (tmp_path / "a.rec.faults").write_text(text)
+        found = ruled(record, tmp_path / "a.rec.faults")
+        assert found == [*of_a, "", rules[0], rules[2], "", rules[1], ""]
+
+
+@pytest.mark.parametrize("ending", [".new", ".cut"])
+def test_faults_whose_last_line_is_torn(tmp_path, ending):
+    """they lie beside a record that is cut off, as a server leaves both; what is whole without a line feed counts"""
+    _, _ = run_of(tmp_path, "", "next 1 lastbit")
+    text = (tmp_path / "a.rec").read_text().rpartition("end ")[0]
+    record = tmp_path / f"a.rec{ending}"
+    whole = "at 3 next 1 from b lastbit\nat 3 next 1 from b good"
+    wanted = [*[""] * 3, "next 1 from b lastbit", "next 1 from b good", "", ""]
+    for cut, last, left_out in ((True, "", b""), (True, "\nat 4 next 1 from", b"at 4 next 1 from"), (False, "", b"")):
+        record.write_text(text if cut else f"{text}end {text.count(chr(10)) - 2}\n")
+        (tmp_path / f"a.rec.faults{ending}").write_text(whole + last)
+        faults = faults_beside(record)
+        assert deciders(read_record(record, ["a", "b"], cut=True), faults) == wanted
+        assert faults.torn == left_out
+    (tmp_path / f"a.rec.faults{ending}").write_text(f"{whole}\nat")
+    for faults in (faults_beside(record), FaultsFile(tmp_path / f"a.rec.faults{ending}", record)):
+        # A record that is whole has whole faults, and so have those that are only called like this.
+        with pytest.raises(BadRecord, match="^script line 3: bad line: `at`"):
+            deciders(read_record(record, ["a", "b"], cut=True), faults)
+    record.write_text(text)
+    for only, fault in (("at", None), (f"bad\n{whole}\nat", "^script line 1: bad line: `bad`")):
+        (tmp_path / f"a.rec.faults{ending}").write_text(only)
+        if fault is None:
+            assert deciders(read_record(record, ["a", "b"], cut=True), faults_beside(record)) == []
+            continue
+        with pytest.raises(BadRecord, match=fault):
+            deciders(read_record(record, ["a", "b"], cut=True), faults_beside(record))
+
+
+@pytest.mark.parametrize("ending", ["", ".new", ".cut"])
+def test_faults_beside_a_record(tmp_path, ending):
+    record = tmp_path / f"can0.rec{ending}"
+    for name in ("can0.rec", "can0.faults", "can0.rec.faults", "can0.rec.faults.new", "can0.rec.faults.cut"):
+        if name != f"can0.rec.faults{ending}":
+            (tmp_path / name).touch()
+    assert faults_beside(record) is None and faults_beside(str(record)) is None
+    (tmp_path / f"can0.rec.faults{ending}").touch()
+    for path in (record, str(record)):
+        with faults_beside(path) as faults:
+            assert (faults.path, faults.is_beside) == (str(tmp_path / f"can0.rec.faults{ending}"), True)
+
+
+def test_a_name_that_looks_like_an_option(tmp_path):
+    with Bench("-a,b", out=tmp_path) as bench:
+        bench.open("-a").send(0x123)
+        bench.attempt()
+        record = bench.record()
+    (tmp_path / "faults").write_text("at 0 next 1 from -a good\n")
+    assert ruled(record, tmp_path / "faults") == ["next 1 from -a good"]
+    (tmp_path / "faults").write_text("at 0 next 1 from c good\n")
+    with pytest.raises(BadRecord, match="^script line 1: unknown interface: "):
+        ruled(record, tmp_path / "faults")
+
+
+def test_a_script_with_a_cr(tmp_path):
+    """a line ends at its LF only"""
+    record, _ = run_of(tmp_path, "# made by hand\rnext 1 lastbit\nnext 2 global bit\n")
+    assert ruled(record, tmp_path / "faults") == ["next 2 global bit"] * 2 + [""] * 6
+
+
+def test_faults_that_come_by_a_pipe(tmp_path):
+    """they are read once"""
+    record, _ = run_of(tmp_path, SCRIPT)
+    wanted = ruled(record, tmp_path / "faults")
+    reads, writes = os.pipe()
+    os.write(writes, SCRIPT.encode())
+    os.close(writes)
+    assert any(wanted) and ruled(record, f"/dev/fd/{reads}") == wanted
+    os.close(reads)
+
+
+def test_a_record_that_comes_by_a_pipe(tmp_path):
+    _, _ = run_of(tmp_path, SCRIPT)
+    os.mkfifo(tmp_path / "fifo")
+    record = read_run(tmp_path / "a.rec", ["a", "b"], cut=False, rates=None)
+    with pytest.raises(BadRecord, match="^for its rules the record is read twice, so it has to be a file$"):
+        ruled(record, tmp_path / "faults", tmp_path / "fifo")
+
+
+def record_of(*identifiers):
+    """A record in which a sends a frame of each of these identifiers."""
+    lines = ["open 0 256 = socket 0"]
+    for number, identifier in enumerate(identifiers):
+        frame = f"{identifier:03X}#"
+        lines += [f"send 0 {frame} = number {number}"]
+        lines += [f"attempt 0.{number:06} good = tried 0 {number} {frame} done 0002 0000"]
+    text = "\n".join(["canbus record 1", "bus 2 always 0000 10 10000", *lines, f"end {len(lines)}", ""])
+    return parse_record(text.encode(), names=["a", "b"])
+
+
+FULL = "".join(f"next 1 id 7{number:02X} lastbit\n" for number in range(64))
+LATE = "at 1 always lastbit\nat 1 nofaults\nat 1 next 1 id 001 good\n"
+USED = "".join(f"at {number} next 1 id {number:03X} good\n" for number in range(100))
+
+
+@pytest.mark.parametrize(
+    "faults, rules",
+    [
+        # None of the 64 can have been used up before the first attempt: the 65th has no number.
+        (f"{FULL}at 0 next 9 id 001 global form\nat 0 nofaults\nat 0 next 1 id 000 good\n", {0: "next 1 id 000 good"}),
+        # One may have been used up by attempt 0, which is good: only the number of those after the 65th is known.
+        (f"{FULL}at 1 next 9 id 001 good\nat 1 nofaults\nat 1 next 1 id 002 good\n", {2: "rule 65"}),
+        # Until then all are known.
+        (f"at 0 next 1 id 000 good\n{FULL[:-22]}at 1 always good\nat 2 nofaults", {0: "next 1 id 000 good", 1: "always good"}),
+        # No rule without end is used up, and none that gives more verdicts than there were attempts.
+        ("always id 7FF good\n" * 63 + "next 3 id 7FE good\nat 2 always lastbit\nat 2 nofaults\nat 2 always good", {2: "always good"}),
+        ("always id 7FF good\n" * 63 + "next 2 id 7FE good\nat 2 always lastbit\nat 2 nofaults\nat 2 always good", {2: "rule 65"}),
+        # What was before all rules were ended is forgotten.
+        ("at 1 nofaults\n" + "at 1 next 1 id 7FE good\n" * 64 + LATE, {1: "next 1 id 001 good"}),
+        # A hundred, each of which is used up at once.
+        (USED, {number: f"next 1 id {number:03X} good" for number in range(3)}),
+    ],
+    ids=["refused", "maybe refused", "all known", "none used up", "one used up", "ended", "all used up"],
+)  # fmt: skip
+def test_more_rules_than_have_a_place(tmp_path, faults, rules):
+    (tmp_path / "faults").write_text(faults)
+    found = ruled(record_of(0, 1, 2), tmp_path / "faults")
+    assert {number: rule for number, rule in enumerate(found) if rule} == rules
+
+
+def test_an_interface_that_is_called_nofaults():
+    """a rule may end in its name, and ends no others"""
+    full = b"at 0 always id 7FF local crc nofaults\n" * 64
+    given = b"at 0 always local crc nofaults\nat 0 nofaults\nat 0 always good"
+    assert texts_of(full + given, [65]) == {65: "always good"}
+    assert texts_of(full + given + b"\nat 0 nofaults", [65, 66]) == {65: "always good"}
+
+
+def random_faults(source, attempts):
+    """More than 64 rules for these attempts, each of which has an identifier of its own: its number. Some take several, some do
+    not fit, and some are ended."""
+    lines, left = [], source.choice([50, 70, 100])
+    for attempt in range(attempts):
+        for _ in range(source.choice([0, 1, 1, 1, 2, 3, left])):
+            identifier = source.choice([attempt, attempt, source.randrange(attempts), 0x7FF])
+            head = source.choice(["next 1", "next 1", "next 2", "always"])
+            verdict = "good" if source.random() < 0.97 else "lastbit"
+            lines.append(f"at {attempt} {head} id {identifier:03X} {verdict}")
+        left = 0
+        if source.random() < 0.03:
+            lines.append(f"at {attempt} nofaults")
+    start = [line.split(" ", 2)[2] for line in lines[: source.randrange(64)] if not line.endswith("nofaults")]
+    return "".join(f"{line}\n" for line in [*lines, *start])
+
+
+def test_the_numbers_are_those_of_the_program(tmp_path):
+    """a rule that gave an attempt its verdict is about the identifier of that one, if its text is known"""
+    known = unknown = 0
+    record = record_of(*range(120))
+    for seed in range(40):
+        (tmp_path / "faults").write_text(random_faults(random.Random(seed), 120))
+        for attempt, rule in enumerate(ruled(record, tmp_path / "faults")):
+            assert not rule or rule.startswith("rule ") or f" id {attempt:03X} " in f"{rule} ", (seed, attempt, rule)
+            known, unknown = known + rule.startswith(("next", "always")), unknown + rule.startswith("rule ")
+    assert known > 1000 and unknown > 100, (known, unknown)
+
+
+def test_only_the_rules_that_are_named_are_read(monkeypatch):
+    """of a hundred thousand"""
+    read = []
+    monkeypatch.setattr(_deciders, "parse_rule", lambda text: read.append(text) or text)
+    ended = itertools.repeat("at 0 next 1 good\nat 0 nofaults\n", 100_000)
+    faults = f"{''.join(ended)}at 0 next 2 lastbit\n"
+    assert texts_of(faults.encode(), [100_001, 0]) == {100_001: "next 2 lastbit"}
+    assert read == ["next 2 lastbit"]
