@@ -202,9 +202,13 @@ class RulesLeft:
         elif left is not None:
             self._left[number] = left - 1
 
+    def counted(self) -> dict[int, int]:
+        """How many verdicts each rule still gives that has an end, by its number."""
+        return {number: left for number, left in self._left.items() if left is not None}
+
     def least(self) -> float:
         """How many verdicts the rule still gives that gives the fewest."""
-        return min((left for left in self._left.values() if left is not None), default=math.inf)
+        return min(self.counted().values(), default=math.inf)
 
 
 class GivenRules:
@@ -231,8 +235,8 @@ class GivenRules:
 
     def unused(self) -> list[Rule]:
         """Returns those with a number, `next 1 ..`, that gave no verdict, and that nobody ended."""
-        left = [(self._rules[number - 1], left) for number, left in self._left.items() if left is not None]
-        return [rule for rule, left in left if rule.count == left]
+        counted = ((self._rules[number - 1], left) for number, left in self._left.counted().items())
+        return [rule for rule, left in counted if rule.count == left]
 
     def gave(self, number: int) -> Rule:
         """Returns the rule of this number, which gave an attempt its verdict, and counts that."""
