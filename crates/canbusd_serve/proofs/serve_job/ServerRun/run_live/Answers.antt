@@ -31,8 +31,8 @@ returns-clause-served g c = λ quiet.
     let new = c.finish_all-are_there.new.files in
     let settled = c.in_ok-settled.settled.items in
     let listening = c.in_ok-settled.ensures.listening in
-    let whole = subst (λ (s : List (Settled LongJournal)). AreAllWhole kept new s) c.deref-4.ensures.value c.finish_all-are_there.ensures.whole in
-    let there = subst (λ (s : List (Settled LongJournal)). AreAllThere o new s) c.deref-4.ensures.value (c.finish_all-are_there.ensures.there both.1) in
+    let whole = subst (λ (s : List (Settled LongJournal)). AreAllWhole kept new s) c.deref-5.ensures.value c.finish_all-are_there.ensures.whole in
+    let there = subst (λ (s : List (Settled LongJournal)). AreAllThere o new s) c.deref-5.ensures.value (c.finish_all-are_there.ensures.there both.1) in
     let each : length new ≡ old.len = zip_length _ new settled whole ∙ sym (zip_length _ old.items settled c.in_ok-settled.ensures.handed) ∙ sym old.ok.0 in
     let lines = put-lines g.W.Write.contents journal_of c.settle.new.output c.put_ends.new.output c.put_ends.result _ _ _ o.buses.items _ settled c.report.ensures.reported c.finish_all-are_there.ensures.told (sym c.has_reported.ensures ∙ both.0)
     c.deref.ensures.value c.deref-2.ensures.value c.put_ends.ensures in
