@@ -12,7 +12,7 @@ from types import TracebackType
 from typing import Optional
 
 from canbusd._events import BadRecord, Events
-from canbusd.record import Path as AnyPath, Record
+from canbusd.record import Path as AnyPath, Record, is_named
 from canbusd.rules import MOST_RULES, NAMES, Rule, RulesLeft, parse_rule
 
 # How files end of a run that goes on, and of one that was cut off.
@@ -64,7 +64,7 @@ def faults_beside(record: AnyPath) -> Optional[FaultsFile]:
 
 def with_names(record: Record, faults: FaultsFile) -> Record:
     """Returns the record with a name for its one interface that has none, where faults name one that it does not have."""
-    unnamed = [place for place, name in enumerate(record.names) if " " in name]
+    unnamed = [place for place, name in enumerate(record.names) if not is_named(name)]
     if len(unnamed) != 1:
         return record
     lines = (line.rstrip(b"\n") for line in io.BytesIO(faults.text) if not line.startswith(b"#"))

@@ -15,7 +15,7 @@ from canbusd._slots import load_of, load_words, slots_of
 from canbusd._text import shown
 from canbusd.commands import add_database, add_rates, database_of, digits, rates_of
 from canbusd.comparison import beside, first_difference
-from canbusd.record import BadRecord, Record
+from canbusd.record import BadRecord, Record, is_named
 
 EPILOG = """\
 The page is one file, which needs no network. It has a time line with a lane for each interface: its attempts, state,
@@ -150,7 +150,7 @@ def with_rules(record: Record, faults: Optional[FaultsFile], options: argparse.N
         rules = deciders(named, faults)
     except BadRecord as fault:
         why = f"{faults.path}: {fault}"
-        if "unknown interface" in (fault.verdict or "") and any(" " in name for name in record.names):
+        if "unknown interface" in (fault.verdict or "") and not all(map(is_named, record.names)):
             why += "; --names says how they are called"
         if options.faults is not None:
             raise BadRecord(why) from None
