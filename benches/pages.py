@@ -7,12 +7,14 @@ The kinds are `random`, in which each attempt sends a frame of 8 random bytes th
 same with 100 frames; `contend`, in which four interfaces have frames in their queues and three receive each; and `faults`,
 which is that with a script of faults on a bus that reports them, with interfaces that go bus off and come back. Records are
 made in the folder, the same at each run, and kept there. With several sources of the package they take turns, and what
-they write has to be the same. A line has the least of the runs: processor time of the command and the program that it
-calls, the time of the clock, and the memory of the larger of both.
+they write has to be the same. The bytecode of the package is kept in the folder too, as an installed package has it. A line has the
+least of the runs: processor time of the command and the program that it calls, the time of the clock, and the memory of the
+larger of both.
 """
 
 import argparse
 import hashlib
+import multiprocessing
 import os
 import random
 import subprocess
@@ -130,16 +132,26 @@ def record_of(kind, attempts, program, folder):
     """The path of the record of such a run, which is made where there is none."""
     path = os.path.join(folder, f"{kind}-{attempts}.rec")
     if not os.path.exists(path):
-        text = KINDS[kind](attempts, random.Random(kind), program, folder)
-        with open(path, "wb") as file:
-            file.write(text)
+        # By another process: what is measured would seem to need the memory that this one has.
+        maker = multiprocessing.Process(target=make_record, args=(path, kind, attempts, program, folder))
+        maker.start()
+        maker.join()
     return path
 
 
-def measured(words, variables):
+def make_record(path, kind, attempts, program, folder):
+    """Writes the record of such a run."""
+    text = KINDS[kind](attempts, random.Random(kind), program, folder)
+    with open(path, "wb") as file:
+        file.write(text)
+
+
+def measured(words, folder, **variables):
     """Seconds of a processor and of the clock, MB, and a hash of what was written."""
+    variables = {**os.environ, **variables, "PYTHONPYCACHEPREFIX": os.path.join(folder, "bytecode")}
+    variables.pop("PYTHONDONTWRITEBYTECODE", None)
     begin = time.monotonic()
-    child = subprocess.Popen(words, stdout=subprocess.PIPE, env={**os.environ, **variables})
+    child = subprocess.Popen(words, stdout=subprocess.PIPE, env=variables)
     found = hashlib.sha256()
     while block := child.stdout.read(1 << 20):
         found.update(block)
@@ -169,7 +181,7 @@ def main():
             for command in options.commands.split(","):
                 words = [sys.executable, "-m", "canbusd", *COMMANDS[command], path]
                 runs = [
-                    [measured(words, {"CANBUSD": program, "PYTHONPATH": source}) for source in sources]
+                    [measured(words, options.folder, CANBUSD=program, PYTHONPATH=source) for source in sources]
                     for _ in range(options.runs)
                 ]
                 if len({written for run in runs for _, written in run}) > 1:

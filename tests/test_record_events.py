@@ -172,7 +172,7 @@ def test_what_the_package_reads(request, cases, tmp_path):
         assert bus_of(run) == bus_of(model, lambda pending: pending.frame.text), data
         lost = {step: [(one.number, one.frame.text) for one in all_of] for step, all_of in model.lost.items()}
         assert run.lost == lost, data
-        items = [*zip(run.items.steps, run.items.sockets, run.items.errors, run.items.fates)]
+        items = [*zip(run.items.steps, run.items.sockets, run.items.errors, run.items.fates())]
         queued = [(run.steps.entries[step], socket, error) for step, socket, error, fate in items if fate != DROPPED]
         # A line has those of the restarts among those of the attempt.
         by_socket = sorted(queued, key=lambda item: item[:2])

@@ -7,10 +7,9 @@ from test_commands import call
 from test_page import CUT, WEAK, WIDE, browser, opened  # noqa: F401  fixtures
 
 from canbusd.bench import Bench
-from canbusd.comparison import beside, first_difference
+from canbusd.comparison import Comparison
 from canbusd.faults import Faults
 from canbusd.record import read_record
-from canbusd.report import Pair
 
 
 def run_of(tmp_path, name, faults=None, frames=6, names="can0,can1"):
@@ -26,12 +25,13 @@ def run_of(tmp_path, name, faults=None, frames=6, names="can0,can1"):
 
 def test_where_they_first_differ(tmp_path):
     one, other = run_of(tmp_path, "a"), run_of(tmp_path, "b", Faults().destroyed(4))
-    found = first_difference(one, other)
+    comparison = Comparison(one, other)
+    found = comparison.difference
     assert found.attempt == 4
     assert found.words == (
         "outcome, fault, who accepted it: can0 104#04 done against can0 104#04 destroyed (global bit)"
     )
-    assert beside(one, other) == [
+    assert comparison.beside() == [
         f"First difference in attempt 4: {found.words}",
         "       1 can0 101#01 done",
         "       2 can0 102#02 done",
@@ -46,11 +46,11 @@ def test_where_they_first_differ(tmp_path):
 
 def test_runs_that_are_alike_and_one_that_goes_on(tmp_path):
     one, same, longer = run_of(tmp_path, "a"), run_of(tmp_path, "b"), run_of(tmp_path, "c", frames=8)
-    assert beside(one, same) == ["No difference in 6 attempts"]
-    assert first_difference(one, longer) == (6, "the second run has 2 attempts more")
-    assert first_difference(longer, one) == (6, "the first run has 2 attempts more")
+    assert Comparison(one, same).beside() == ["No difference in 6 attempts"]
+    assert Comparison(one, longer).difference == (6, "the second run has 2 attempts more")
+    assert Comparison(longer, one).difference == (6, "the first run has 2 attempts more")
     nothing = run_of(tmp_path, "d", frames=0)
-    assert first_difference(nothing, nothing) is None
+    assert Comparison(nothing, nothing).difference is None
 
 
 def test_the_command(tmp_path):
@@ -84,29 +84,29 @@ def test_names_of_senders_only(tmp_path):
     one, other = runs_of_two_nodes(tmp_path, "can0", "can1")
     more = ["First difference in attempt 1: the second run has 1 attempt more", "       0 can0 123#ABCD done"]
     wanted = [*more, "+      1 can1 123#ABCD done"]
-    assert beside(read_record(one), read_record(other)) == wanted
-    assert beside(read_record(one, "can0,can1"), read_record(other, "can0,can1")) == wanted
+    assert Comparison(read_record(one), read_record(other)).beside() == wanted
+    assert Comparison(read_record(one, "can0,can1"), read_record(other, "can0,can1")).beside() == wanted
     # With neither log, with one of them, and as one run against itself without its log.
     one.with_suffix(".log").unlink()
-    assert beside(read_record(one), read_record(other)) == wanted
-    assert first_difference(read_record(one), read_record(one, "can0,can1")) is None
+    assert Comparison(read_record(one), read_record(other)).beside() == wanted
+    assert Comparison(read_record(one), read_record(one, "can0,can1")).difference is None
     other.with_suffix(".log").unlink()
-    assert beside(read_record(one), read_record(other))[2] == "+      1 interface 1 123#ABCD done"
+    assert Comparison(read_record(one), read_record(other)).beside()[2] == "+      1 interface 1 123#ABCD done"
 
 
 @pytest.mark.parametrize("names", ["can1,can0", "can1,can2", "ecu,tester"])
 def test_names_that_do_not_fit(tmp_path, names):
     """by their names where both runs have names for all, by their numbers where one has not"""
     one, other = runs_of_two_nodes(tmp_path, "can0", "can1")
-    assert first_difference(read_record(other, "can0,can1"), read_record(other, names)).attempt == 0
-    assert first_difference(read_record(one), read_record(one, names)) is None
+    assert Comparison(read_record(other, "can0,can1"), read_record(other, names)).difference.attempt == 0
+    assert Comparison(read_record(one), read_record(one, names)).difference is None
 
 
 def test_receivers_in_another_order(tmp_path):
     """the same names at other numbers are the same receivers"""
     one = tmp_path / "a" / "can0.rec"
     run_of(tmp_path, "a", names="can0,can1,can2")
-    assert first_difference(read_record(one, "can0,can1,can2"), read_record(one, "can0,can2,can1")) is None
+    assert Comparison(read_record(one, "can0,can1,can2"), read_record(one, "can0,can2,can1")).difference is None
 
 
 def test_the_exit_status(tmp_path):
@@ -137,7 +137,7 @@ def test_interfaces_without_a_name(tmp_path):
 def test_both_on_one_axis(opened, tmp_path, width):  # noqa: F811
     """a lane more for each node; the page begins at the first difference, and says what the other run did there"""
     one, other = run_of(tmp_path, "a"), run_of(tmp_path, "b", Faults().destroyed(4))
-    shown = opened(one.replay, one.names, pair=Pair(one, other, "b.rec"))
+    shown = opened(one.replay, one.names, comparison=Comparison(one, other, "b.rec"))
     shown.size(width)
     assert shown.run("view.step") == 4
     assert shown.run("at('title').textContent").startswith("First difference in attempt 4: ")

@@ -94,9 +94,9 @@ def browser(tmp_path_factory):
 def opened(browser, tmp_path):
     """Opens the page of a run, of a bus with these bit rates if there are any."""
 
-    def open_page(run, names=NAMES, rates=None, pair=None):
+    def open_page(run, names=NAMES, rates=None, comparison=None):
         path = tmp_path / "run.html"
-        path.write_text(page(run, names, "run.rec", rates=rates, pair=pair), encoding="utf-8")
+        path.write_text(page(run, names, "run.rec", rates=rates, comparison=comparison), encoding="utf-8")
         browser.size(1200)
         browser.open(f"file://{path}")
         return browser

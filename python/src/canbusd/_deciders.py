@@ -102,19 +102,18 @@ def numbers_of(record: Record, text: bytes, faults: FaultsFile) -> list[int]:
     """Returns the numbers of the rules of this text that gave attempts their verdicts, 0 for none."""
     if not text:
         return []
-    if not record.text and faults.record is None:
+    file = None if record.text else faults.record
+    if file is not None:
+        file.seek(0)
+    elif not record.text:
         raise BadRecord("for its rules the record is read twice, so it has to be a file")
     with tempfile.NamedTemporaryFile() as script:
         script.write(text)
         script.flush()
         # One that has no name here, `interface 1`, has one as the program takes it.
         bus = f"{','.join(record.names).replace(' ', '-')}@{script.name}"
-        if record.text or faults.record is None:
-            with Events(record.is_cut, faults=bus) as events:
-                return list(numbers_in(events.texts(record.text)))
-        faults.record.seek(0)
-        with Events(record.is_cut, file=faults.record, faults=bus) as events:
-            return list(numbers_in(events.texts_of_file()))
+        with Events(record.is_cut, file=file, faults=bus) as events:
+            return list(numbers_in(events.texts(record.text) if file is None else events.texts_of_file()))
 
 
 def unused_rules(names: Sequence[str], faults: FaultsFile) -> list[Rule]:

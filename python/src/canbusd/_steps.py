@@ -6,7 +6,7 @@ import itertools
 import operator
 import sys
 from array import array
-from collections import Counter
+from collections import Counter, defaultdict
 from collections.abc import Iterable, Iterator, Sequence
 from dataclasses import dataclass, field
 from typing import Optional, TypeVar, Union, overload
@@ -28,27 +28,23 @@ T = TypeVar("T")
 Counts = tuple[int, int]
 
 
-class Places(dict[T, int]):
+class Places(defaultdict[T, int]):
     """Each value once, with its place; one that is not there yet gets the next."""
 
     def __init__(self, *values: T) -> None:
-        super().__init__(zip(values, range(len(values))))
-        #: The values by their places.
-        self.all = list(values)
+        super().__init__(itertools.count(len(values)).__next__, zip(values, range(len(values))))
+        self._all: list[T] = []
 
-    def __missing__(self, value: T) -> int:
-        place = self[value] = len(self.all)
-        self.all.append(value)
-        return place
+    @property
+    def all(self) -> list[T]:
+        """The values by their places."""
+        fresh = itertools.islice(reversed(self), len(self) - len(self._all))
+        self._all += [*fresh][::-1]
+        return self._all
 
-    def places_of(self, values: Sequence[T], all_of: Iterable[T]) -> Iterable[int]:
-        """Returns the places of values, once all of these have theirs, which get them in this order."""
-        first = len(self.all)
-        fresh = list(itertools.filterfalse(self.__contains__, dict.fromkeys(all_of)))
-        self.update(zip(fresh, itertools.count(first)))
-        self.all += fresh
-        are_fresh = all_of is values and len(fresh) == len(values)
-        return range(first, len(self.all)) if are_fresh else map(self.__getitem__, values)
+    def places_of(self, values: Iterable[T]) -> list[int]:
+        """Returns the places of values."""
+        return [*map(self.__getitem__, values)]
 
 
 class WireFrame:
@@ -145,20 +141,12 @@ class Rows:
     wires: Sequence[Optional[tuple[int, ...]]]
     #: How many frames waited.
     waiting: Sequence[int]
-    #: The error message frames that it brought about.
+    #: The error message frames that it brought about, in the order of the steps.
     errors: dict[int, list[str]] = field(default_factory=dict)
     #: Who was hit.
     hit: dict[int, int] = field(default_factory=dict)
     #: The error counts after it, where they changed, as bytes of the column.
     counts: dict[int, bytes] = field(default_factory=dict)
-
-    def texts(self) -> Iterable[str]:
-        """The frames and error message frames, in the order in which they get their places."""
-        if not self.errors:
-            return self.frames
-        return itertools.chain.from_iterable(
-            (frame, *self.errors.get(row, ())) for row, frame in enumerate(self.frames)
-        )
 
 
 class Steps(Sequence[Step]):
@@ -205,8 +193,8 @@ class Steps(Sequence[Step]):
         self.moments.fromlist([*map(int, " ".join(rows.moments).replace(".", "").split(" "))])
         self.attempts.extend(self._numbered(self.kinds[first:]))
         self.numbers.fromlist([*map(int, rows.numbers)])
-        self.frames.extend(self.texts.places_of(rows.frames, rows.texts()))
-        self.verdicts.fromlist([*map(self.verdict_texts.__getitem__, rows.verdicts)])
+        self.frames.fromlist(self._places_of(rows))
+        self.verdicts.fromlist(self.verdict_texts.places_of(rows.verdicts))
         self.waiting.extend(by_iface(rows.waiting, len(self._all_ifaces)))
         self._count(rows.counts, first)
         self._note(self.hit, rows.hit, first)
@@ -214,6 +202,15 @@ class Steps(Sequence[Step]):
         wires = {row: wire for row, wire in enumerate(rows.wires) if wire} if any(rows.wires) else {}
         for place, column in enumerate((self.frame_nanos, self.busy_nanos, self.nominal_bits, self.fast_bits)):
             self._note(column, {row: wire[place] for row, wire in wires.items()}, first)
+
+    def _places_of(self, rows: Rows) -> list[int]:
+        """The places of the frames; the error message frames that a step brings about get theirs after its frame."""
+        places, first = [], 0
+        for row, errors in rows.errors.items():
+            places += self.texts.places_of(rows.frames[first : row + 1])
+            self.texts.places_of(errors)
+            first = row + 1
+        return places + self.texts.places_of(rows.frames[first:])
 
     def _numbered(self, kinds: "array[int]") -> Iterable[int]:
         """The numbers of these attempts; a restart has that of the next one."""
@@ -348,8 +345,6 @@ class Items:
         self._all_sockets = sockets
         # From where on items were dropped, and to where, one after the other: there may be a million.
         self._dropped = array("I")
-        # The last two columns, once they were asked for.
-        self._left: "Optional[tuple[array[int], array[int]]]" = None
 
     def __len__(self) -> int:
         return len(self.sockets)
@@ -360,45 +355,48 @@ class Items:
             for number in array("I", members):
                 self._all_sockets[number].handed += count
         self.sockets.frombytes(b"".join(sockets))
-        self.steps.fromlist([step for step, count in enumerate(counts, first) for _ in range(count)])
+        steps: Iterator[Iterable[int]] = map(itertools.repeat, itertools.count(first), counts)
+        self.steps.fromlist([*itertools.chain.from_iterable(steps)])
         self.errors.frombytes(bytes(self.errors.itemsize * (len(self.sockets) - len(self.errors))))
-        self._left = None
 
     def drop(self, first: int, count: int) -> None:
         """Items found no room: so many from this one on."""
         self._dropped.extend((first, first + count))
 
-    @property
+    def drops(self) -> Iterator[range]:
+        """Yields the places of the items that found no room, those in a row together."""
+        return map(range, self._dropped[::2], self._dropped[1::2])
+
     def fates(self) -> "array[int]":
-        """What became of each item."""
-        return self._ended()[0]
+        """Returns what became of each item."""
+        fates, queues = array("B", [TAKEN]) * len(self), self._queues()
+        for places in self.drops():
+            fates[places.start : places.stop] = array("B", [DROPPED]) * len(places)
+        # What a socket has not given are the last ones that it got.
+        left = Counter({socket.number: socket.queued - socket.taken for socket in self._all_sockets})
+        place, many = len(self), sum(left.values())
+        while many:
+            place -= 1
+            number = queues[place]
+            if left[number]:
+                fates[place] = WAITING if self._all_sockets[number].closed_after is None else UNREAD
+                left[number] -= 1
+                many -= 1
+        return fates
 
-    @property
     def ends(self) -> "array[int]":
-        """The number of steps before each was taken or its socket closed; 0 where it was neither."""
-        return self._ended()[1]
+        """Returns the number of steps before each was taken or its socket closed; 0 where it was neither."""
+        # What a socket got first it gives first.
+        ends = [*map(ends_at, self._all_sockets), itertools.repeat(0)]
+        found: Iterator[int] = map(next, map(ends.__getitem__, self._queues()), itertools.repeat(0))
+        return array("I", found)
 
-    def _ended(self) -> "tuple[array[int], array[int]]":
-        """What a socket got first it gives first."""
-        if self._left is None:
-            dropped, queues = len(self._all_sockets), array("I", self.sockets)
-            for begin, end in zip(self._dropped[::2], self._dropped[1::2]):
-                queues[begin:end] = array("I", [dropped]) * (end - begin)
-            fates = [*map(fates_at, self._all_sockets), itertools.repeat(DROPPED)]
-            ends = [*map(ends_at, self._all_sockets), itertools.repeat(0)]
-            self._left = array("B", in_turn(fates, queues)), array("I", in_turn(ends, queues))
-        return self._left
-
-
-def in_turn(columns: Sequence[Iterator[int]], places: Iterable[int]) -> Iterable[int]:
-    """The next number of each of these columns, of which none ends."""
-    return map(next, map(columns.__getitem__, places), itertools.repeat(0))
-
-
-def fates_at(socket: Socket) -> Iterator[int]:
-    """What becomes of each item that comes to a socket, without an end."""
-    last = WAITING if socket.closed_after is None else UNREAD
-    return itertools.chain(itertools.repeat(TAKEN, socket.taken), itertools.repeat(last))
+    def _queues(self) -> "array[int]":
+        """The number of the socket in whose queue each item was; of one that found no room how many sockets there are."""
+        queues, none = array("I", self.sockets), array("I", [len(self._all_sockets)])
+        for places in self.drops():
+            queues[places.start : places.stop] = none * len(places)
+        return queues
 
 
 def ends_at(socket: Socket) -> Iterator[int]:
@@ -414,11 +412,6 @@ def by_iface(waiting: Sequence[int], ifaces: int) -> "array[int]":
     if sys.byteorder == "big":
         found.byteswap()
     return found
-
-
-def micros_of(moment: str) -> int:
-    """Returns the microseconds of a moment of a record."""
-    return int(moment.replace(".", ""))
 
 
 def moment_of(micros: int) -> str:

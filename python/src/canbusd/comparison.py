@@ -3,6 +3,7 @@
 Interfaces are compared by their names where both runs have names for all of theirs, and else by their numbers.
 """
 
+import functools
 import itertools
 from collections.abc import Callable, Iterable, Sequence
 from typing import Any, NamedTuple, Optional
@@ -53,23 +54,63 @@ def tried(record: Record, names: Sequence[str]) -> list[Attempt]:
     return [attempt for attempt in attempts_of(record.replay, names) if attempt.outcome != "idle"]
 
 
-def tried_in_both(one: Record, other: Record) -> tuple[list[Attempt], list[Attempt]]:
-    """The attempts of each run that had a frame, with names by which they can be compared."""
-    mine, its = names_of_both(one, other)
-    return tried(one, mine), tried(other, its)
+class Comparison:
+    """Two runs, with names by which they can be compared; `title` is how a page calls the other one."""
 
+    def __init__(self, one: Record, other: Record, title: str = "") -> None:
+        self.title, self.names = title, names_of_both(one, other)
+        #: The attempts of each run that had a frame.
+        self.one, self.other = map(tried, (one, other), self.names)
 
-def first_difference(one: Record, other: Record) -> Optional[Difference]:
-    """Returns where two runs first differ; None where both made the same attempts."""
-    mine, its = tried_in_both(one, other)
-    for number, (attempt, same) in enumerate(zip(mine, its)):
-        found = [what for name, what in COMPARED.items() if value_of(attempt, name) != value_of(same, name)]
-        if found:
-            return Difference(number, f"{', '.join(found)}: {line(attempt)} against {line(same)}")
-    if len(mine) == len(its):
-        return None
-    longer = "the first run" if len(mine) > len(its) else "the second run"
-    return Difference(min(len(mine), len(its)), f"{longer} has {times(abs(len(mine) - len(its)), 'attempt')} more")
+    @functools.cached_property
+    def difference(self) -> Optional[Difference]:
+        """Where the runs first differ; None where both made the same attempts."""
+        for number, (attempt, same) in enumerate(zip(self.one, self.other)):
+            found = [what for name, what in COMPARED.items() if value_of(attempt, name) != value_of(same, name)]
+            if found:
+                return Difference(number, f"{', '.join(found)}: {line(attempt)} against {line(same)}")
+        more = len(self.other) - len(self.one)
+        if not more:
+            return None
+        longer = "the second run" if more > 0 else "the first run"
+        return Difference(min(len(self.one), len(self.other)), f"{longer} has {times(abs(more), 'attempt')} more")
+
+    def heading(self) -> str:
+        """Returns in one line where the runs first differ."""
+        if self.difference is None:
+            return f"No difference in {times(len(self.one), 'attempt')}"
+        return f"First difference in attempt {self.difference.attempt:,}: {self.difference.words}"
+
+    def beside(self) -> list[str]:
+        """Returns the lines that show where they first differ, with the attempts around it: `-` the first, `+` the second."""
+        lines = [self.heading()]
+        if self.difference is None:
+            return lines
+        first = self.difference.attempt
+        for number in range(max(0, first - AROUND), first + AROUND + 1):
+            left, right = ("".join(map(line, run[number : number + 1])) for run in (self.one, self.other))
+            if left == right:
+                lines += [f"  {number:6} {left}"] if left else []
+            else:
+                lines += [f"{sign} {number:6} {text}" for sign, text in (("-", left), ("+", right)) if text]
+        return lines
+
+    def columns(self, kinds: Sequence[str], column: Callable[[str, Iterable[float]], Column]) -> dict[str, Any]:
+        """Returns what the page of the first run has of the other: names, texts, and a number of each for an attempt."""
+        _, names = self.names
+        texts: dict[str, int] = {}
+        places = [texts.setdefault(line(attempt), len(texts)) for attempt in self.other]
+        first = self.other[0].timestamp if self.other else 0.0
+        return {
+            "title": self.title,
+            "names": list(names),
+            "difference": None if self.difference is None else self.difference.attempt,
+            "kind": column("B", (kinds.index(attempt.outcome) for attempt in self.other)),
+            "iface": column("B", (names.index(attempt.winner) for attempt in self.other)),
+            "line": column("I", places),
+            "since": column("d", (attempt.timestamp - first for attempt in self.other)),
+            "texts": list(texts),
+        }
 
 
 def value_of(attempt: Attempt, name: str) -> object:
@@ -83,48 +124,3 @@ def line(attempt: Attempt) -> str:
     fault = "" if attempt.fault in ("good", attempt.outcome) else f" ({attempt.fault})"
     off = f", {' and '.join(attempt.off)} bus off" if attempt.off else ""
     return f"{attempt.winner} {attempt.frame} {attempt.outcome}{fault}{off}"
-
-
-def heading(one: Record, other: Record) -> str:
-    """Returns in one line where two runs first differ."""
-    found = first_difference(one, other)
-    if found is None:
-        return f"No difference in {times(len(tried(one, one.names)), 'attempt')}"
-    return f"First difference in attempt {found.attempt:,}: {found.words}"
-
-
-def beside(one: Record, other: Record) -> list[str]:
-    """Returns the lines that show where two runs first differ, with the attempts around it: `-` the first, `+` the second."""
-    found = first_difference(one, other)
-    lines = [heading(one, other)]
-    if found is None:
-        return lines
-    mine, its = tried_in_both(one, other)
-    for number in range(max(0, found.attempt - AROUND), found.attempt + AROUND + 1):
-        left, right = ("".join(map(line, run[number : number + 1])) for run in (mine, its))
-        if left == right:
-            lines += [f"  {number:6} {left}"] if left else []
-        else:
-            lines += [f"{sign} {number:6} {text}" for sign, text in (("-", left), ("+", right)) if text]
-    return lines
-
-
-def columns_of(
-    one: Record, other: Record, title: str, kinds: Sequence[str], column: Callable[[str, Iterable[float]], Column]
-) -> dict[str, Any]:
-    """Returns what the page of a run has of another one: names, texts, and a number of each for an attempt."""
-    _, names = names_of_both(one, other)
-    attempts, found = tried(other, names), first_difference(one, other)
-    texts: dict[str, int] = {}
-    places = [texts.setdefault(line(attempt), len(texts)) for attempt in attempts]
-    first = attempts[0].timestamp if attempts else 0.0
-    return {
-        "title": title,
-        "names": list(names),
-        "difference": None if found is None else found.attempt,
-        "kind": column("B", (kinds.index(attempt.outcome) for attempt in attempts)),
-        "iface": column("B", (names.index(attempt.winner) for attempt in attempts)),
-        "line": column("I", places),
-        "since": column("d", (attempt.timestamp - first for attempt in attempts)),
-        "texts": list(texts),
-    }

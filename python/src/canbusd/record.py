@@ -91,7 +91,7 @@ class Record(Bus):
     def items(self) -> list[Item]:
         """What each socket received or lost: by the attempts, and of one by the sockets."""
         items = self.replay.items
-        return list(map(self._item, items.sockets, items.steps, items.errors, items.fates))
+        return list(map(self._item, items.sockets, items.steps, items.errors, items.fates()))
 
     def _item(self, socket: int, step: int, error: int, fate: int) -> Item:
         run, steps = self.replay, self.replay.steps

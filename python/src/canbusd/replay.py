@@ -10,10 +10,9 @@ import operator
 from array import array
 from collections import deque
 from collections.abc import Callable, Iterable, Sequence
-from itertools import repeat
 from typing import Optional
 
-from canbusd._event_lines import OTHER, RECEIVE, SEND, STEP, Lines, sockets_of
+from canbusd._event_lines import OTHER, RECEIVE, SEND, STEP, WORDS, Lines, receivers_of, senders_of
 from canbusd._outcomes import Outcomes, Parts
 from canbusd._program import ProgramNotFound
 from canbusd._rates import Rates
@@ -23,8 +22,6 @@ from canbusd._steps import DONE, Items, Places, Rows, Steps
 FIRST_LINE = "canbus events 1"
 #: In place of the text of an item that found no room, where no line says what it was.
 UNKNOWN = "?"
-#: How many words the line of a step has before what became of it.
-WORDS = 8
 #: The interfaces, as lines have them.
 IFACES = {str(number): number for number in range(16)}
 
@@ -89,7 +86,8 @@ class Replay:
             self._begin(front)
         if not text:
             return
-        lines = Lines(text, self.entries)
+        assert self.bus is not None
+        lines = Lines(text, self.entries, self.bus.auto_restart > 0)
         self.entries += lines.entries[-1] + 1 - lines.entries[0]
         self._take_others(lines)
         self._take_receives(lines)
@@ -172,21 +170,23 @@ class Replay:
     def _take_sends(self, lines: Lines) -> list[int]:
         """Frames come into queues. Returns what each adds to the number of those that wait."""
         sends = lines.of(SEND)
-        ifaces = [*map(self._senders.__getitem__, sockets_of(sends, "send", len(self.sockets)))]
+        ifaces = [*map(self._senders.__getitem__, senders_of(sends, len(self.sockets)))]
         for iface, line in zip(ifaces, sends):
             iface.queue.append(line)
         return [iface.unit for iface in ifaces]
 
     def _take_receives(self, lines: Lines) -> None:
         """Sockets give their items."""
-        sockets = sockets_of(lines.of(RECEIVE), "receive", len(self.sockets))
+        sockets = receivers_of(lines.of(RECEIVE), len(self.sockets))
         steps = lines.steps_before(RECEIVE, len(self.steps))
+        # What nobody was handed goes into the last one, which is not kept.
+        columns = [*self._taken, array("I")]
         # For each line in turn; a queue without room is the quickest that keeps nothing.
-        deque(map(array.append, map(self._taken.__getitem__, sockets), steps), maxlen=0)
+        deque(map(array.append, map(columns.__getitem__, sockets), steps), maxlen=0)
 
     def _take_steps(self, lines: Lines, units: Sequence[int]) -> None:
         """Attempts try frames, and interfaces are restarted; `units` is what the sends add to the frames that wait."""
-        words = [*itertools.chain.from_iterable(map(str.split, lines.of(STEP), repeat(" "), repeat(WORDS)))]
+        words = lines.words
         if not words:
             self._waiting += sum(units)
             return

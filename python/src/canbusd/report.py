@@ -21,11 +21,11 @@ import sys
 import zlib
 from array import array
 from collections.abc import Iterable, Sequence
-from typing import Any, NamedTuple, Optional
+from concurrent.futures import Future, ThreadPoolExecutor
+from typing import Any, Optional
 
-from canbusd import comparison
+from canbusd.comparison import Comparison
 from canbusd.frames import Frame, meaning
-from canbusd.record import Record
 from canbusd._protocol import STATES
 from canbusd._rates import Rates
 from canbusd._replayed import Socket
@@ -42,14 +42,6 @@ Json = dict[str, Any]
 Column = list[Any]
 
 
-class Pair(NamedTuple):
-    """Two runs that are compared, and how the second is called."""
-
-    one: Record
-    other: Record
-    title: str
-
-
 class Block:
     """The data of a page, compressed as it comes: columns, then the header in JSON, then the bytes that it has, lowest first.
 
@@ -59,7 +51,9 @@ class Block:
 
     def __init__(self) -> None:
         self._packer = zlib.compressobj(1)
-        self._parts: list[bytes] = []
+        # zlib lets the next column be made meanwhile.
+        self._pool = ThreadPoolExecutor(1)
+        self._parts: list[Future[bytes]] = []
         self._size = 0
 
     def column(self, code: str, numbers: Iterable[float]) -> Column:
@@ -70,19 +64,19 @@ class Block:
             column = array(code, numbers)
         place, text = self._size, column.tobytes()
         firsts = range(column.itemsize) if sys.byteorder == "little" else reversed(range(column.itemsize))
-        for first in firsts:
-            self._add(text[first :: column.itemsize])
+        self._add(b"".join(text[first :: column.itemsize] for first in firsts))
         return [code, place, len(column)]
 
     def packed(self, header: Json) -> str:
         """Returns the columns and the header: compressed, in base64."""
         text = json.dumps(header, separators=(",", ":")).encode()
-        self._add(text)
-        self._add(struct.pack("<I", len(text)))
-        return base64.b64encode(b"".join([*self._parts, self._packer.flush()])).decode()
+        self._add(text + struct.pack("<I", len(text)))
+        with self._pool:
+            parts = [part.result() for part in self._parts]
+        return base64.b64encode(b"".join([*parts, self._packer.flush()])).decode()
 
     def _add(self, text: bytes) -> None:
-        self._parts.append(self._packer.compress(text))
+        self._parts.append(self._pool.submit(self._packer.compress, text))
         self._size += len(text)
 
 
@@ -181,7 +175,7 @@ class Timeline:
 
 def items_of(items: Items, most: int, timeline: Timeline, block: Block) -> Json:
     """The first items: their sender and number are those of their step, unless they are error message frames."""
-    steps, ends = items.steps[:most], items.ends[:most]
+    steps, ends = items.steps[:most], items.ends()[:most]
     if timeline.idle:
         steps = array("I", map(timeline.places.__getitem__, steps))
         ends = array("I", map([0, *map((1).__add__, timeline.places)].__getitem__, ends))
@@ -190,7 +184,7 @@ def items_of(items: Items, most: int, timeline: Timeline, block: Block) -> Json:
         "step": block.column("I", steps),
         # 0 for the frame of the step, else the place of an error message frame.
         "error": block.column("I", items.errors[:most]),
-        "fate": block.column("B", items.fates[:most]),
+        "fate": block.column("B", items.fates()[:most]),
         # The first row in which it was no longer in its queue; 0 where it stayed there, or never was.
         "end": block.column("I", ends),
     }
@@ -278,11 +272,11 @@ def data_of(
     database: Optional[Database] = None,
     rules: Sequence[str] = (),
     rates: Optional[Rates] = None,
-    pair: Optional[Pair] = None,
+    comparison: Optional[Comparison] = None,
 ) -> str:
     """The data of a page, as its script reads it."""
     block, timeline, events = Block(), Timeline(run), events_of(run, names)
-    places, texts = timeline.places, run.texts.all
+    places, texts = timeline.places, run.texts
     heading, first = heading_of(run, names, events)
     faults, verdicts = timeline.faults(rules)
     header = {
@@ -310,9 +304,9 @@ def data_of(
     }
     if rates is not None:
         header["wire"] = wire_of(run, timeline, rates, block.column)
-    if pair is not None:
-        header["heading"] = comparison.heading(pair.one, pair.other)
-        other = comparison.columns_of(pair.one, pair.other, pair.title, KINDS, block.column)
+    if comparison is not None:
+        header["heading"] = comparison.heading()
+        other = comparison.columns(KINDS, block.column)
         step = run.steps.place_of(other["difference"])
         if step is not None:
             header["first"] = places[step]
@@ -328,14 +322,14 @@ def page(
     database: Optional[Database] = None,
     rules: Sequence[str] = (),
     rates: Optional[Rates] = None,
-    pair: Optional[Pair] = None,
+    comparison: Optional[Comparison] = None,
 ) -> str:
     """Returns the page of a run, with its first items, and with the rule of each attempt, if they are given.
 
-    With the bit rates of its bus it has the bus load, and with a pair the other run and where they first differ.
+    With the bit rates of its bus it has the bus load, and with a comparison the other run and where they first differ.
     """
-    data = data_of(run, names, title, most_items, database, rules, rates, pair)
-    more = [*(["wire"] if rates is not None else []), *(["other"] if pair is not None else [])]
+    data = data_of(run, names, title, most_items, database, rules, rates, comparison)
+    more = [*(["wire"] if rates is not None else []), *(["other"] if comparison is not None else [])]
     scripts = [f"{name}.js" for name in (*SCRIPTS, *more, "page")]
     return filled("page.html", scripts).replace("/*RUN*/", data)
 

@@ -1,14 +1,16 @@
 """A run in words: its heading, its facts, and the events that a reader looks for."""
 
+import bisect
 import itertools
 import operator
+import re
 from collections import Counter
 from collections.abc import Iterable, Iterator, Sequence
 from typing import NamedTuple
 
 from canbusd._protocol import STATES
 from canbusd._text import times
-from canbusd._steps import DONE, DROPPED, KINDS, LASTBIT, NOACK, RESTART, Step, Steps, micros_of, numbers_in
+from canbusd._steps import DONE, KINDS, LASTBIT, NOACK, RESTART, Steps, numbers_in
 from canbusd.record import members_of
 from canbusd._replayed import WARNING, severity
 from canbusd.replay import Replay
@@ -16,6 +18,8 @@ from canbusd.replay import Replay
 OUTCOMES = {"done": "done", "lastbit": "failed in the last bit", "destroyed": "destroyed", "noack": "not acknowledged"}
 # Refusals and drops of one place are one event where no more steps than these are between them.
 GAP = 8
+# Steps in a row in which a count is as bad.
+SAME_LEVEL = re.compile(rb"\x00+|\x01+|\x02+|\x03+")
 REASONS = {"no-buffers": "its transmit queue was full", "bus-off": "it was bus off"}
 
 
@@ -41,25 +45,29 @@ def events_of(run: Replay, names: Sequence[str]) -> list[Event]:
 
 def changes_of(run: Replay, names: Sequence[str]) -> Iterator[Event]:
     """Changes of state, frames lost by bus off, and restarts."""
-    steps, climbs = run.steps, [Climb() for _ in names]
-    before: Sequence[int] = [0, 0] * len(run.ifaces)
-    was_bad = False
+    steps = run.steps
     # The step in which each interface last went bus off.
-    went: dict[int, Step] = {}
-    # A restart changes counts too.
-    for number in steps.changed:
+    went: dict[int, int] = {}
+    for number in sorted({*steps.places_of(RESTART), *level_changes(steps, len(names))}):
         iface, now = steps.ifaces[number], steps.counts_row(number)
-        is_bad = max(now) >= WARNING
         if steps.kinds[number] == RESTART:
             back = f"{names[iface]} is back on the bus, with both counts 0"
-            yield Event(number, "restart", iface, back + outage_of(went[iface], steps[number]))
-        else:
-            climbs[iface].add(steps, number, before[2 * iface])
-            changes = map(operator.ne, states_of(before), states_of(now)) if is_bad or was_bad else ()
-            for i in itertools.compress(itertools.count(), changes):
-                went[i] = steps[number]
-                yield from change_of(number, went[i], i, names, climbs[i])
-        before, was_bad = now, is_bad
+            yield Event(number, "restart", iface, back + outage_of(steps, went[iface], number))
+            continue
+        before = steps.counts_row(number - 1) if number else [0] * len(now)
+        for i in itertools.compress(itertools.count(), map(operator.ne, states_of(before), states_of(now))):
+            went[i] = number
+            yield from change_of(steps, number, i, names)
+
+
+def level_changes(steps: Steps, ifaces: int) -> Iterator[int]:
+    """The steps in which a count of an interface becomes as bad as it was not before, or no longer is, and maybe the first."""
+    for place in range(2 * ifaces):
+        column = steps.counts[place :: 2 * ifaces]
+        if max(column, default=0) >= WARNING:
+            level = {count: severity(count) for count in set(column)}
+            levels = bytes(map(level.__getitem__, column))
+            yield from (found.start() for found in SAME_LEVEL.finditer(levels))
 
 
 def states_of(counts: Sequence[int]) -> list[int]:
@@ -67,12 +75,12 @@ def states_of(counts: Sequence[int]) -> list[int]:
     return [severity(max(both)) for both in zip(counts[::2], counts[1::2])]
 
 
-def outage_of(went: Step, back: Step) -> str:
-    """How long an interface was off: `; it was off for 203.1 ms, attempts 836 to 1,012`."""
-    micros = micros_of(back.moment) - micros_of(went.moment)
+def outage_of(steps: Steps, went: int, back: int) -> str:
+    """How long an interface was off, from one step to another: `; it was off for 203.1 ms, attempts 836 to 1,012`."""
+    micros = steps.moments[back] - steps.moments[went]
     duration = f" for {duration_words(micros)}" if micros > 0 else ""
-    last = back.attempt - 1
-    attempts = f"attempts {went.attempt:,} to {last:,}" if last > went.attempt else "and no frame was tried"
+    first, last = steps.attempts[went], steps.attempts[back] - 1
+    attempts = f"attempts {first:,} to {last:,}" if last > first else "and no frame was tried"
     return f"; it was off{duration}, {attempts}"
 
 
@@ -86,22 +94,14 @@ def duration_words(micros: int) -> str:
     return f"{minutes:,.0f} min {rest:.1f} s" if minutes else f"{rest:.1f} s"
 
 
-class Climb:
+class Climb(NamedTuple):
     """What raised the transmit count of an interface since it was last 0."""
 
-    def __init__(self) -> None:
-        self.first = self.attempts = 0
-        self.faults: Counter[str] = Counter()
-
-    def add(self, steps: Steps, number: int, tec: int) -> None:
-        """Adds an attempt of the interface, the step of this number, before which its transmit count was `tec`."""
-        if not tec:
-            self.first, self.attempts = steps.attempts[number], 0
-            self.faults.clear()
-        self.attempts += 1
-        kind = steps.kinds[number]
-        if kind != DONE:
-            self.faults[KINDS[kind] if kind == NOACK else steps.verdict(number)] += 1
+    #: The number of its first attempt, and how many there were that changed a count.
+    first: int
+    attempts: int
+    #: How many attempts failed, by their verdicts or `noack`.
+    faults: Counter[str]
 
     def words(self, names: Sequence[str]) -> str:
         """`32 of its 33 attempts from attempt 1,000 on failed (31 x global bit, 1 x last bit)`, or `all its 32 attempts ..`."""
@@ -111,19 +111,36 @@ class Climb:
         return f"{which} from attempt {self.first:,} on failed ({each})"
 
 
+def climb_to(steps: Steps, last: int, iface: int) -> Climb:
+    """What raised the transmit count of an interface up to this step of its own."""
+    found: list[int] = []
+    place = bisect.bisect_right(steps.changed, last)
+    # Before the first step it was 0.
+    while not found or found[-1] and steps.counts_row(found[-1] - 1)[2 * iface]:
+        place -= 1
+        number = steps.changed[place]
+        if steps.ifaces[number] == iface and steps.kinds[number] != RESTART:
+            found.append(number)
+    failed = [number for number in reversed(found) if steps.kinds[number] != DONE]
+    kinds = [(KINDS[steps.kinds[number]], steps.verdict(number)) for number in failed]
+    faults = Counter(kind if kind == KINDS[NOACK] else verdict for kind, verdict in kinds)
+    return Climb(steps.attempts[found[-1]], len(found), faults)
+
+
 def fault_words(fault: str, names: Sequence[str]) -> str:
     """A verdict in words, or a missing acknowledgement."""
     short = {"noack": "no acknowledgement", "lastbit": "last bit"}
     return short.get(fault) or verdict_words(fault, names)
 
 
-def change_of(number: int, step: Step, i: int, names: Sequence[str], climb: Climb) -> Iterator[Event]:
+def change_of(steps: Steps, number: int, i: int, names: Sequence[str]) -> Iterator[Event]:
     """The change of the state of an interface in a step."""
-    tec, rec = step.counts[i]
+    tec, rec = steps.counts_after(number)[i]
     name, state = names[i], severity(max(tec, rec))
     if state == 3:
-        yield Event(number, "bus off", i, f"{name} went bus off at transmit count {tec}: {climb.words(names)}")
-        lost = times(step.waiting[i], "frame")
+        why = climb_to(steps, number, i).words(names)
+        yield Event(number, "bus off", i, f"{name} went bus off at transmit count {tec}: {why}")
+        lost = times(steps.waiting_before(number)[i], "frame")
         yield Event(number, "lost", i, f"{name} lost {lost}: bus off empties its transmit queue")
     else:
         side = f"transmit count {tec}" if severity(tec) == state and state else f"receive count {rec}"
@@ -165,12 +182,11 @@ def refusals_of(run: Replay, names: Sequence[str]) -> Iterator[Event]:
 
 def drops_of(run: Replay, names: Sequence[str]) -> Iterator[Event]:
     """Items that found no room in the receive queue of a socket."""
-    places: dict[int, list[int]] = {}
-    if any(socket.dropped for socket in run.sockets):
-        for socket, step, fate in zip(run.items.sockets, run.items.steps, run.items.fates):
-            if fate == DROPPED:
-                places.setdefault(socket, []).append(step)
-    for number, steps in places.items():
+    items = run.items
+    found: dict[int, list[int]] = {}
+    for place in itertools.chain.from_iterable(items.drops()):
+        found.setdefault(items.sockets[place], []).append(items.steps[place])
+    for number, steps in found.items():
         iface = run.sockets[number].iface
         for first, count in groups(steps):
             words = f"socket {number} on {names[iface]} dropped {times(count, 'item')}: its receive queue was full"
@@ -227,9 +243,9 @@ def worst_of(run: Replay, names: Sequence[str], events: Sequence[Event]) -> tupl
     """The worst that happened, and the first step in which it did."""
     firsts = {event.kind: event for event in reversed(events)}
     if "bus off" in firsts:
-        offs = [run.steps[event.step] for event in events if event.kind == "bus off"]
-        each = [f"{names[step.iface]} went bus off in attempt {step.attempt:,}" for step in offs]
-        many = f"{len(offs):,} times bus off, first {names[offs[0].iface]} in attempt {offs[0].attempt:,}"
+        offs = [(names[event.iface], run.steps.attempts[event.step]) for event in events if event.kind == "bus off"]
+        each = [f"{name} went bus off in attempt {attempt:,}" for name, attempt in offs]
+        many = "{:,} times bus off, first {} in attempt {:,}".format(len(offs), *offs[0])
         return joined(each) if len(offs) <= 3 else many, firsts["bus off"].step
     if "passive" in firsts:
         first = firsts["passive"]

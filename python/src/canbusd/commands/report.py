@@ -14,7 +14,7 @@ from canbusd._rates import Rates
 from canbusd._slots import load_of, load_words, slots_of
 from canbusd._text import shown
 from canbusd.commands import add_database, add_rates, database_of, digits, rates_of
-from canbusd.comparison import beside, first_difference
+from canbusd.comparison import Comparison
 from canbusd.record import BadRecord, Record, is_named
 
 EPILOG = """\
@@ -75,11 +75,13 @@ def run(options: argparse.Namespace) -> int:
     other = None if options.other is None else replayed(options.other, options.names, options.cut)
     named, rules = with_rules(record, faults, options)
     note_of_names("canbusd report", (options.record, named), *([] if other is None else [(options.other, other)]))
+    title = "" if other is None else title_beside(options.record, options.other)
+    comparison = None if other is None else Comparison(record, other, title)
     if has_drawings(options):
-        write_drawings(record, other, options, rates)
+        write_drawings(record, comparison, options, rates)
     else:
-        write_page(named, rules, other, options, rates)
-    return int(options.exit_code and other is not None and first_difference(record, other) is not None)
+        write_page(named, rules, comparison, options, rates)
+    return int(options.exit_code and comparison is not None and comparison.difference is not None)
 
 
 def has_drawings(options: argparse.Namespace) -> bool:
@@ -99,13 +101,13 @@ def check_words(options: argparse.Namespace) -> None:
 
 
 def write_drawings(
-    record: Record, other: Optional[Record], options: argparse.Namespace, rates: Optional[Rates]
+    record: Record, comparison: Optional[Comparison], options: argparse.Namespace, rates: Optional[Rates]
 ) -> None:
     """Writes events as text, and drawings."""
     first = options.first or 0
     last = record.replay.attempts if options.last is None else options.last
     if options.text:
-        write(_summary.story(record, MOST_EVENTS) if other is None else beside(record, other))
+        write(_summary.story(record, MOST_EVENTS) if comparison is None else comparison.beside())
         write([load_words(load_of(slots_of(record.replay)))] if rates else [])
     if options.text or options.arbitration:
         write(drawings.arbitration(record, first, last))
@@ -114,17 +116,20 @@ def write_drawings(
 
 
 def write_page(
-    record: Record, rules: list[str], other: Optional[Record], options: argparse.Namespace, rates: Optional[Rates]
+    record: Record,
+    rules: list[str],
+    comparison: Optional[Comparison],
+    options: argparse.Namespace,
+    rates: Optional[Rates],
 ) -> None:
     """Writes the page, with the rule of each attempt."""
-    from canbusd.report import Pair, page
+    from canbusd.report import page
 
     title = os.path.basename(options.record)
     if isinstance(sys.stdout, io.TextIOWrapper):
         sys.stdout.reconfigure(encoding="utf-8")
     database, most_items = database_of(options), options.items
-    pair = None if other is None else Pair(record, other, title_beside(options.record, options.other))
-    sys.stdout.write(page(record.replay, record.names, title, most_items, database, rules, rates, pair))
+    sys.stdout.write(page(record.replay, record.names, title, most_items, database, rules, rates, comparison))
 
 
 def faults_of(options: argparse.Namespace) -> Optional[FaultsFile]:
