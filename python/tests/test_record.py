@@ -7,6 +7,7 @@ import pytest
 
 from canbusd._events import BLOCK, Events
 from canbusd._program import ProgramNotFound
+from canbusd._steps import FATES
 from canbusd.bench import Bench
 from canbusd.frames import Frame
 from canbusd.record import Attempt, BadRecord, Item, audit, attempts_of, parse_record, read_record
@@ -277,6 +278,26 @@ def test_pages_of_a_run_do_not_depend_on_how_it_is_read():
     # The frame that only waits has none.
     texts = ["", "123#", "20000088#0000010000000000"]
     assert whole.texts.all == parts.texts.all == texts and whole.items.errors == parts.items.errors
+
+
+def test_fates_as_a_run_goes_on():
+    """an item waits until it is received or its socket closes, also where no attempt follows"""
+    run = Replay()
+    run.take(["canbus events 1", "bus 2 always 0000 10 100", "open 0 5 = socket 0", "open 1 1 = socket 1"])
+    for number in range(3):
+        run.take([f"send 0 123#{number:02} = number {number}"])
+    step = "attempt 0.00000{0} good = tried 0 {0} 123#0{0} done 0002 0000; {1}".format
+    run.take([step(0, "put 1"), step(1, "dropped 1:1")])
+    assert fates_of(run) == [("waiting", 0), ("dropped", 0)]
+    run.take(["receive 1 = data 0 0 123#00 0.000000", "receive 1 = none"])
+    assert fates_of(run) == [("taken", 2), ("dropped", 0)]
+    run.take([step(2, "put 1"), "close 1 = closed 1 1"])
+    assert fates_of(run) == [("taken", 2), ("dropped", 0), ("unread", 3)]
+
+
+def fates_of(run):
+    """What became of each item, and the number of steps before."""
+    return [(FATES[fate], end) for fate, end in zip(run.items.fates(), run.items.ends())]
 
 
 def test_who_took_part():
