@@ -11,6 +11,7 @@ for each; without them neither.
 """
 
 import base64
+import concurrent.futures
 import functools
 import itertools
 import json
@@ -21,7 +22,6 @@ import sys
 import zlib
 from array import array
 from collections.abc import Iterable, Sequence
-from concurrent.futures import Future, ThreadPoolExecutor
 from typing import Any, Optional
 
 from canbusd.comparison import Comparison
@@ -52,8 +52,8 @@ class Block:
     def __init__(self) -> None:
         self._packer = zlib.compressobj(1)
         # zlib lets the next column be made meanwhile.
-        self._pool = ThreadPoolExecutor(1)
-        self._parts: list[Future[bytes]] = []
+        self._pool = concurrent.futures.ThreadPoolExecutor(1)
+        self._parts: list[concurrent.futures.Future[bytes]] = []
         self._size = 0
 
     def column(self, code: str, numbers: Iterable[float]) -> Column:
@@ -67,6 +67,12 @@ class Block:
         self._add(b"".join(text[first :: column.itemsize] for first in firsts))
         return [code, place, len(column)]
 
+    def text(self, text: bytes) -> Column:
+        """Adds a text as a column of its bytes."""
+        place = self._size
+        self._add(text)
+        return ["B", place, len(text)]
+
     def packed(self, header: Json) -> str:
         """Returns the columns and the header: compressed, in base64."""
         text = json.dumps(header, separators=(",", ":")).encode()
@@ -76,6 +82,8 @@ class Block:
         return base64.b64encode(b"".join([*parts, self._packer.flush()])).decode()
 
     def _add(self, text: bytes) -> None:
+        # No more than two wait: they may be large.
+        concurrent.futures.wait(self._parts[-2:-1])
         self._parts.append(self._pool.submit(self._packer.compress, text))
         self._size += len(text)
 
@@ -279,25 +287,26 @@ def data_of(
     places, texts = timeline.places, run.texts
     heading, first = heading_of(run, names, events)
     faults, verdicts = timeline.faults(rules)
+    lost = lost_frames(run, places)
     header = {
         "title": title,
         "heading": heading,
         "first": places[first] if places else 0,
         "facts": facts_of(run),
         "names": list(names),
+        # A frame a line: there may be a million. zlib has them while what became of the items is found.
+        "texts": block.text("\n".join(texts).encode()),
+        "items": items_of(run.items, most_items, timeline, block),
         "steps": timeline.columns(block, faults),
         **timeline.lines(block),
-        "items": items_of(run.items, most_items, timeline, block),
         "itemsInAll": len(run.items),
         "events": [event_of(event, places) for event in events],
-        "lost": lost_frames(run, places),
+        "lost": lost,
         "ifaces": ifaces_of(run),
         "sockets": [socket_of(socket) for socket in run.sockets],
         "socket": fullest_socket(run),
         # The frames that are first in the queues at the end: who takes part with one has it tried in a step, or here.
         "heads": ["".join(one.waiting[:1]) for one in run.ifaces],
-        # A frame a line: there may be a million.
-        "texts": block.column("B", array("B", "\n".join(texts).encode())),
         "meanings": meanings_of(run),
         **decoded_of(texts, database),
         "verdicts": [fault_of(fault, names) for fault in verdicts],

@@ -62,7 +62,7 @@ def changes_of(run: Replay, names: Sequence[str]) -> Iterator[Event]:
 
 def level_changes(steps: Steps, ifaces: int) -> Iterator[int]:
     """The steps in which a count of an interface becomes as bad as it was not before, or no longer is, and maybe the first."""
-    for place in range(2 * ifaces):
+    for place in range(2 * ifaces if steps.changed else 0):
         column = steps.counts[place :: 2 * ifaces]
         if max(column, default=0) >= WARNING:
             level = {count: severity(count) for count in set(column)}
