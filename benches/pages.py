@@ -136,6 +136,8 @@ def record_of(kind, attempts, program, folder):
         maker = multiprocessing.Process(target=make_record, args=(path, kind, attempts, program, folder))
         maker.start()
         maker.join()
+        if maker.exitcode:
+            raise SystemExit(f"{path}: not made")
     return path
 
 

@@ -193,7 +193,7 @@ class Steps(Sequence[Step]):
         self.moments.fromlist([*map(int, " ".join(rows.moments).replace(".", "").split(" "))])
         self.attempts.extend(self._numbered(self.kinds[first:]))
         self.numbers.fromlist([*map(int, rows.numbers)])
-        self.frames.fromlist(self._places_of(rows))
+        self.frames.fromlist(self._places_of_frames(rows))
         self.verdicts.fromlist(self.verdict_texts.places_of(rows.verdicts))
         self.waiting.extend(by_iface(rows.waiting, len(self._all_ifaces)))
         self._count(rows.counts, first)
@@ -203,7 +203,7 @@ class Steps(Sequence[Step]):
         for place, column in enumerate((self.frame_nanos, self.busy_nanos, self.nominal_bits, self.fast_bits)):
             self._note(column, {row: wire[place] for row, wire in wires.items()}, first)
 
-    def _places_of(self, rows: Rows) -> list[int]:
+    def _places_of_frames(self, rows: Rows) -> list[int]:
         """The places of the frames; the error message frames that a step brings about get theirs after its frame."""
         places, first = [], 0
         for row, errors in rows.errors.items():
@@ -295,6 +295,10 @@ class Steps(Sequence[Step]):
         """Returns the counts after a step, two of each interface."""
         wide = 2 * len(self._all_ifaces)
         return self.counts[wide * place : wide * (place + 1)]
+
+    def counts_before(self, place: int) -> "array[int]":
+        """Returns the counts before a step, two of each interface."""
+        return self.counts_row(place - 1) if place else array("H", [0, 0]) * len(self._all_ifaces)
 
     def counts_after(self, place: int) -> tuple[Counts, ...]:
         """Returns the counts of each interface after a step."""

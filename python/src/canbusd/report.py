@@ -62,16 +62,13 @@ class Block:
             column: array[Any] = numbers
         else:
             column = array(code, numbers)
-        place, text = self._size, column.tobytes()
+        text = column.tobytes()
         firsts = range(column.itemsize) if sys.byteorder == "little" else reversed(range(column.itemsize))
-        self._add(b"".join(text[first :: column.itemsize] for first in firsts))
-        return [code, place, len(column)]
+        return [code, self._add(b"".join(text[first :: column.itemsize] for first in firsts)), len(column)]
 
     def text(self, text: bytes) -> Column:
         """Adds a text as a column of its bytes."""
-        place = self._size
-        self._add(text)
-        return ["B", place, len(text)]
+        return ["B", self._add(text), len(text)]
 
     def packed(self, header: Json) -> str:
         """Returns the columns and the header: compressed, in base64."""
@@ -81,11 +78,13 @@ class Block:
             parts = [part.result() for part in self._parts]
         return base64.b64encode(b"".join([*parts, self._packer.flush()])).decode()
 
-    def _add(self, text: bytes) -> None:
+    def _add(self, text: bytes) -> int:
+        """Adds bytes, and returns their place."""
         # No more than two wait: they may be large.
         concurrent.futures.wait(self._parts[-2:-1])
         self._parts.append(self._pool.submit(self._packer.compress, text))
         self._size += len(text)
+        return self._size - len(text)
 
 
 class Timeline:
@@ -287,6 +286,7 @@ def data_of(
     places, texts = timeline.places, run.texts
     heading, first = heading_of(run, names, events)
     faults, verdicts = timeline.faults(rules)
+    # Before the texts, which get those of the frames that were never tried.
     lost = lost_frames(run, places)
     header = {
         "title": title,

@@ -54,8 +54,8 @@ def changes_of(run: Replay, names: Sequence[str]) -> Iterator[Event]:
             back = f"{names[iface]} is back on the bus, with both counts 0"
             yield Event(number, "restart", iface, back + outage_of(steps, went[iface], number))
             continue
-        before = steps.counts_row(number - 1) if number else [0] * len(now)
-        for i in itertools.compress(itertools.count(), map(operator.ne, states_of(before), states_of(now))):
+        before = states_of(steps.counts_before(number))
+        for i in itertools.compress(itertools.count(), map(operator.ne, before, states_of(now))):
             went[i] = number
             yield from change_of(steps, number, i, names)
 
@@ -114,16 +114,14 @@ class Climb(NamedTuple):
 def climb_to(steps: Steps, last: int, iface: int) -> Climb:
     """What raised the transmit count of an interface up to this step of its own."""
     found: list[int] = []
-    place = bisect.bisect_right(steps.changed, last)
-    # Before the first step it was 0.
-    while not found or found[-1] and steps.counts_row(found[-1] - 1)[2 * iface]:
-        place -= 1
+    for place in reversed(range(bisect.bisect_right(steps.changed, last))):
         number = steps.changed[place]
         if steps.ifaces[number] == iface and steps.kinds[number] != RESTART:
             found.append(number)
+            if not steps.counts_before(number)[2 * iface]:
+                break
     failed = [number for number in reversed(found) if steps.kinds[number] != DONE]
-    kinds = [(KINDS[steps.kinds[number]], steps.verdict(number)) for number in failed]
-    faults = Counter(kind if kind == KINDS[NOACK] else verdict for kind, verdict in kinds)
+    faults = Counter(KINDS[NOACK] if steps.kinds[one] == NOACK else steps.verdict(one) for one in failed)
     return Climb(steps.attempts[found[-1]], len(found), faults)
 
 
