@@ -2,6 +2,7 @@
  * the turn may go on at once; else it waits for its turn, with its descriptors in the epoll of the run. */
 #define _GNU_SOURCE
 #include "calls.h"
+#include "random.h"
 
 #include <fcntl.h>
 #include <string.h>
@@ -516,11 +517,15 @@ EXPORT int recvmmsg(int fd, struct mmsghdr *messages, unsigned count, int flags,
 }
 
 EXPORT ssize_t read(int fd, void *data, size_t length) {
-    return await_ready(fd, POLLIN, 0) ? answer(RAW(SYS_read, fd, data, length)) : -1;
+    ssize_t result = await_ready(fd, POLLIN, 0) ? answer(RAW(SYS_read, fd, data, length)) : -1;
+    random_read(fd, &(struct iovec){data, length}, 1, result);
+    return result;
 }
 
 EXPORT ssize_t readv(int fd, const struct iovec *parts, int count) {
-    return await_ready(fd, POLLIN, 0) ? answer(RAW(SYS_readv, fd, parts, count)) : -1;
+    ssize_t result = await_ready(fd, POLLIN, 0) ? answer(RAW(SYS_readv, fd, parts, count)) : -1;
+    random_read(fd, parts, count, result);
+    return result;
 }
 
 EXPORT ssize_t write(int fd, const void *data, size_t length) {

@@ -8,6 +8,7 @@
 #include <sched.h>
 #include <stdarg.h>
 #include <stdio.h>
+#include <sys/random.h>
 #include <sys/socket.h>
 #include <sys/time.h>
 #include <sys/wait.h>
@@ -114,6 +115,7 @@ static long call(long number, const long of[6]) {
     case SYS_close: return close((int)of[0]);
     case SYS_close_range: return close_range((unsigned)of[0], (unsigned)of[1], (int)of[2]);
     case SYS_sched_yield: return sched_yield();
+    case SYS_getrandom: return getrandom((void *)of[0], (size_t)of[1], (unsigned)of[2]);
     case SYS_kill: return kill((pid_t)of[0], (int)of[1]);
     default:
         return is_ready(number, of[0], of[2]) ? answer(raw_call(number, of[0], of[1], of[2], of[3], of[4], of[5])) : -1;

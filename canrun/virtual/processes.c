@@ -2,12 +2,14 @@
 #define _GNU_SOURCE
 #include "calls.h"
 #include "proc.h"
+#include "random.h"
 #include "tell.h"
 
 #include <arpa/inet.h>
 #include <fcntl.h>
 #include <pthread.h>
 #include <netinet/in.h>
+#include <netinet/tcp.h>
 #include <spawn.h>
 #include <stdarg.h>
 #include <stdio.h>
@@ -271,9 +273,19 @@ static uint32_t port_of(const struct sockaddr *address) {
                                             : 0;
 }
 
+/* TCP sends at once: what it holds back otherwise it sends by the real clock. Of one that listens its connections have
+ * it. */
+static void send_at_once(int fd) {
+    int on = 1;
+    RAW(SYS_setsockopt, fd, IPPROTO_TCP, TCP_NODELAY, &on, sizeof on);
+}
+
 EXPORT int listen(int fd, int backlog) {
     struct sockaddr_storage address;
     socklen_t length = sizeof address;
+    if (run) {
+        send_at_once(fd);
+    }
     long result = RAW(SYS_listen, fd, backlog);
     if (run && !result && !RAW(SYS_getsockname, fd, &address, &length)) {
         uint32_t port = port_of((struct sockaddr *)&address);
@@ -312,6 +324,9 @@ static void check_peer(int fd, const struct sockaddr *to) {
 
 EXPORT int connect(int fd, const struct sockaddr *to, socklen_t length) {
     my.has_talked = true;
+    if (run && port_of(to)) {
+        send_at_once(fd);
+    }
     long result = RAW(SYS_connect, fd, to, length);
     if (run && (!result || result == -EINPROGRESS)) {
         check_peer(fd, to);
@@ -366,7 +381,12 @@ static int open_at(int folder, const char *path, int flags, mode_t mode) {
     struct stat status;
     bool waits = run && !(flags & (O_NONBLOCK | O_PATH)) && (flags & O_ACCMODE) != O_RDWR &&
                  !RAW(SYS_newfstatat, folder, path, &status, 0) && S_ISFIFO(status.st_mode);
-    return waits ? open_pipe(folder, path, flags, &status) : (int)answer(RAW(SYS_openat, folder, path, flags, mode));
+    if (waits) {
+        return open_pipe(folder, path, flags, &status);
+    }
+    int fd = (int)answer(RAW(SYS_openat, folder, path, flags, mode));
+    random_opened(fd, path);
+    return fd;
 }
 
 #define MODE(flags)                        \

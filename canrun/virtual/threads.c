@@ -9,18 +9,22 @@
 #include <threads.h>
 
 /* Salts of keys: a condition variable may be where a mutex was. */
-enum { OF_MUTEX = 1, OF_CONDITION, OF_SEMAPHORE, OF_LOCK, OF_END };
+enum { OF_MUTEX = 1, OF_CONDITION, OF_SEMAPHORE, OF_LOCK, OF_END, OF_BARRIER };
 
 /* CPython's wait for its interpreter: it asks who has it to let it go where that has not come after 5 ms, for which the
  * coordinator sees where that one computes. */
 #define SWITCH_INTERVAL 5000000
 
-static enum kind kind_of_wait(uint64_t deadline) {
-    static int is_python = -1;
-    if (is_python < 0) {
-        is_python = dlsym(RTLD_DEFAULT, "PyEval_RestoreThread") != NULL;
+static bool is_python(void) {
+    static int is_known = -1;
+    if (is_known < 0) {
+        is_known = dlsym(RTLD_DEFAULT, "PyEval_RestoreThread") != NULL;
     }
-    return is_python && deadline - run->now == SWITCH_INTERVAL ? KIND_INTERPRETER : KIND_LOCK;
+    return is_known;
+}
+
+static enum kind kind_of_wait(uint64_t deadline) {
+    return is_python() && deadline - run->now == SWITCH_INTERVAL ? KIND_INTERPRETER : KIND_LOCK;
 }
 
 /* Waits for a key; 0, or ETIMEDOUT. */
@@ -328,6 +332,16 @@ EXPORT int cnd_broadcast(cnd_t *condition) {
 
 /* ---- semaphores, of one process or of several ---- */
 
+/* CPython looks at the clock for each lock that it takes, also of one that is free: how often hangs on its version. */
+EXPORT int sem_trywait(sem_t *semaphore) {
+    REAL(sem_trywait);
+    int result = real(semaphore);
+    if (run && !result && is_python()) {
+        forget_look();
+    }
+    return result;
+}
+
 static int semaphore_until(sem_t *semaphore, uint64_t deadline) {
     uint32_t flags = 0;
     regain_turn();
@@ -430,6 +444,37 @@ EXPORT int pthread_rwlock_unlock(pthread_rwlock_t *lock) {
         wake(key_of_lock(lock), INT_MAX);
     }
     return error;
+}
+
+/* ---- barriers ---- */
+
+/* The C library's; a barrier at which nobody waits is as one that was just made, so it may be destroyed. */
+struct barrier {
+    uint32_t in, round, count;
+    int is_shared;
+};
+
+static uint64_t key_of_barrier(const struct barrier *barrier) {
+    return barrier->is_shared ? key_of_any(barrier, OF_BARRIER) : key_of(barrier, OF_BARRIER);
+}
+
+/* Who is woken does not look at it again: the last one may have destroyed it. */
+static int wait_at_barrier(struct barrier *barrier) {
+    uint64_t key = key_of_barrier(barrier);
+    regain_turn();
+    if (++barrier->in == barrier->count) {
+        barrier->in = 0;
+        wake(key, INT_MAX);
+        return PTHREAD_BARRIER_SERIAL_THREAD;
+    }
+    while (!(wait_turn(NEVER, key, KIND_LOCK) & IS_WOKEN)) {
+    }
+    return 0;
+}
+
+EXPORT int pthread_barrier_wait(pthread_barrier_t *barrier) {
+    REAL(pthread_barrier_wait);
+    return run ? wait_at_barrier((struct barrier *)barrier) : real(barrier);
 }
 
 __attribute__((constructor(101))) static void make_key(void) {
