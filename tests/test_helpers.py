@@ -30,6 +30,7 @@ def test_no_program_of_these_sources(tmp_path):
     """no test is run, and nothing is built; it says what to do"""
     for name in ("tests", "scripts", "python"):
         shutil.copytree(os.path.join(ROOT, name), tmp_path / name)
+    shutil.copy(os.path.join(ROOT, "pytest.ini"), tmp_path)
     (tmp_path / "crates" / "can_bus" / "src").mkdir(parents=True)
     (tmp_path / "crates" / "can_bus" / "src" / "lib.rt").write_text("// other sources\n")
     (tmp_path / "crates.txt").write_text("can_bus:\n")

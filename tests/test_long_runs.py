@@ -732,7 +732,7 @@ class Disk:
     def __init__(self, folder):
         self.folder = folder
         library = os.path.join(folder, "failing_disk.so")
-        source = os.path.join(ROOT, "tests", "failing_disk.c")
+        source = os.path.join(ROOT, "tests", "helpers", "failing_disk.c")
         subprocess.run(["cc", "-O2", "-Wall", "-Werror", "-fPIC", "-shared", "-o", library, source], check=True)
         path = os.path.join(folder, "plan")
         with open(path, "wb") as file:

@@ -529,7 +529,7 @@ def killed_before(tmp_path):
     """The environments in which a program is killed before its first rename, its second and so on (killed_rename.c)."""
     if not shutil.which("cc"):
         pytest.skip("no C compiler: cc")
-    library, source = tmp_path / "killed_rename.so", os.path.join(ROOT, "tests", "killed_rename.c")
+    library, source = tmp_path / "killed_rename.so", os.path.join(ROOT, "tests", "helpers", "killed_rename.c")
     subprocess.run(["cc", "-O2", "-Wall", "-Werror", "-fPIC", "-shared", "-o", library, source], check=True)
     return ({**os.environ, "LD_PRELOAD": str(library), "RENAME": str(number)} for number in range(1, 20))
 
