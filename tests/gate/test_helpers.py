@@ -16,7 +16,7 @@ def run_in(folder, **more):
     """The status and the output of a test in this copy of the repository, in a minute at most."""
     environment = {name: value for name, value in os.environ.items() if name != "CANBUSD"}
     done = subprocess.run(
-        [sys.executable, "-m", "pytest", "-q", os.path.join(folder, "tests", "test_bench.py")],
+        [sys.executable, "-m", "pytest", "-q", os.path.join(folder, "tests", "bench", "test_bench_dialogue.py")],
         env={**environment, **more},
         capture_output=True,
         text=True,

@@ -19,11 +19,10 @@ import time
 import pytest
 
 from commands import call
+from live_records import FRONT, cut_audit, names_in
 from random_rules import FRAMES, RuleMaker
-from rule_model import MOST_RULES, Rule, RunFaults, word_of
+from rule_model import MOST_RULES, Rule, RunFaults, rules_of, word_of
 from serving import ROOT, WAIT, Plain, come_true, join, plain, program, serving_alone
-from test_audit_rules import rules_of
-from test_long_runs import FRONT, cut_audit, names_in
 
 WHEN = ("end", "live")
 LIVE = ("--record", "live", "--flush", "0")

@@ -18,7 +18,7 @@ from collections.abc import Callable, Sequence
 import pytest
 
 from serving import ROOT, Plain, Server, come_true, plain, program, serving, serving_alone, turns
-from test_wire_times import MICRO, bench, moment, random_frame, rate_options, send
+from timed_benches import MICRO, bench, moment, random_frame, rate_options, send
 from wire_model import Frame
 from wire_times import IDLE, SECOND, Ending, Rates
 
