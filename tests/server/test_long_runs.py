@@ -26,6 +26,7 @@ import time
 import pytest
 
 from commands import call
+from live_records import FRONT, cut_audit, names_in
 from record_events import audit
 from serving import ROOT, WAIT, Pair, Plain, come_true, plain, program, serving, serving_alone, turns, writes_live
 
@@ -36,8 +37,6 @@ FLUSH = 0.2
 # Of 64 sessions that a server has at once.
 AT_ONCE = 40
 MOMENT = re.compile(r"\b\d+\.\d{6}\b")
-# The first two lines of a record that is written while its run goes on.
-FRONT = "canbus record 4\nbus 2 always 0000 10 4294967294 0\n"
 
 
 def read(path):
@@ -48,24 +47,6 @@ def read(path):
 def run(*words, **more):
     """What the program says: status, standard output, standard error."""
     return call(program(), *words, **more)
-
-
-def cut_audit(path, is_replayed=True):
-    """How many entries a record has that was cut off, by the audit, which the model confirms; and whether it was."""
-    status, said, errors = run("audit", "--cut", path)
-    assert status == 0, f"{said}{errors}"
-    if is_replayed:
-        with open(path, "rb") as file:
-            assert audit(file.read(), cut=True) == said.rstrip("\n")
-    found = re.fullmatch(r"ok (\d+) entries(, then cut off)?\n", said)
-    return int(found[1]), bool(found[2])
-
-
-def names_in(folder):
-    """The files in a folder, but for what the server said, and for faults of which there are none so far."""
-    names = set(os.listdir(folder)) - {"stderr"}
-    growing = {name for name in names if name.endswith(".rec.faults.new")}
-    return sorted(names - {name for name in growing if not os.lstat(os.path.join(folder, name)).st_size})
 
 
 @pytest.mark.parametrize(
@@ -732,7 +713,7 @@ class Disk:
     def __init__(self, folder):
         self.folder = folder
         library = os.path.join(folder, "failing_disk.so")
-        source = os.path.join(ROOT, "tests", "failing_disk.c")
+        source = os.path.join(ROOT, "tests", "helpers", "failing_disk.c")
         subprocess.run(["cc", "-O2", "-Wall", "-Werror", "-fPIC", "-shared", "-o", library, source], check=True)
         path = os.path.join(folder, "plan")
         with open(path, "wb") as file:

@@ -16,7 +16,7 @@ def run_in(folder, **more):
     """The status and the output of a test in this copy of the repository, in a minute at most."""
     environment = {name: value for name, value in os.environ.items() if name != "CANBUSD"}
     done = subprocess.run(
-        [sys.executable, "-m", "pytest", "-q", os.path.join(folder, "tests", "test_bench.py")],
+        [sys.executable, "-m", "pytest", "-q", os.path.join(folder, "tests", "bench", "test_bench_dialogue.py")],
         env={**environment, **more},
         capture_output=True,
         text=True,
@@ -30,6 +30,7 @@ def test_no_program_of_these_sources(tmp_path):
     """no test is run, and nothing is built; it says what to do"""
     for name in ("tests", "scripts", "python"):
         shutil.copytree(os.path.join(ROOT, name), tmp_path / name)
+    shutil.copy(os.path.join(ROOT, "pytest.ini"), tmp_path)
     (tmp_path / "crates" / "can_bus" / "src").mkdir(parents=True)
     (tmp_path / "crates" / "can_bus" / "src" / "lib.rt").write_text("// other sources\n")
     (tmp_path / "crates.txt").write_text("can_bus:\n")

@@ -19,11 +19,10 @@ import time
 import pytest
 
 from commands import call
+from live_records import FRONT, cut_audit, names_in
 from random_rules import FRAMES, RuleMaker
-from rule_model import MOST_RULES, Rule, RunFaults, word_of
+from rule_model import MOST_RULES, Rule, RunFaults, rules_of, word_of
 from serving import ROOT, WAIT, Plain, come_true, join, plain, program, serving_alone
-from test_audit_rules import rules_of
-from test_long_runs import FRONT, cut_audit, names_in
 
 WHEN = ("end", "live")
 LIVE = ("--record", "live", "--flush", "0")
@@ -529,7 +528,7 @@ def killed_before(tmp_path):
     """The environments in which a program is killed before its first rename, its second and so on (killed_rename.c)."""
     if not shutil.which("cc"):
         pytest.skip("no C compiler: cc")
-    library, source = tmp_path / "killed_rename.so", os.path.join(ROOT, "tests", "killed_rename.c")
+    library, source = tmp_path / "killed_rename.so", os.path.join(ROOT, "tests", "helpers", "killed_rename.c")
     subprocess.run(["cc", "-O2", "-Wall", "-Werror", "-fPIC", "-shared", "-o", library, source], check=True)
     return ({**os.environ, "LD_PRELOAD": str(library), "RENAME": str(number)} for number in range(1, 20))
 

@@ -15,7 +15,7 @@ from record_events import events_of
 from record_text import BadRecord, parse_text
 from serving import WAIT, program
 from test_audit_events import EVENTS, RECORD
-from test_wire_times import random_rates, rate_options
+from timed_benches import random_rates, rate_options
 
 # Two interfaces at 248 each lose what they have to send with bus off; in the second attempt after that one is back.
 BUS_OFF = [

@@ -12,7 +12,7 @@ import pytest
 from serving import ROOT, WAIT, come_true, one_at_a_time, serving
 
 SOURCES = os.path.join(ROOT, "canrun")
-PROGRAMS = os.path.join(ROOT, "tests", "run_c")
+PROGRAMS = os.path.join(ROOT, "canrun", "tests", "run_c")
 FLAGS = ["-std=gnu11", "-O1", "-Wall", "-Wextra", "-Werror", "-pthread"]
 SANITIZERS = ["-g", "-fsanitize=address,undefined", "-fno-sanitize-recover=all"]
 #: Options of a server that is as fast as the test.
@@ -48,7 +48,7 @@ def sanitized_command():
 
 
 def compiled(name, folder, *flags):
-    """Compiles a program of tests/run_c into this folder, and returns its path."""
+    """Compiles a program of canrun/tests/run_c into this folder, and returns its path."""
     path = os.path.join(folder, name)
     subprocess.run(["gcc", *FLAGS, *flags, "-o", path, os.path.join(PROGRAMS, f"{name}.c")], check=True)
     return path

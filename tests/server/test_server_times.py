@@ -18,7 +18,7 @@ from collections.abc import Callable, Sequence
 import pytest
 
 from serving import ROOT, Plain, Server, come_true, plain, program, serving, serving_alone, turns
-from test_wire_times import MICRO, bench, moment, random_frame, rate_options, send
+from timed_benches import MICRO, bench, moment, random_frame, rate_options, send
 from wire_model import Frame
 from wire_times import IDLE, SECOND, Ending, Rates
 
@@ -230,7 +230,7 @@ def test_late_server_leaves_out_what_it_missed() -> None:
 def test_a_clock_that_is_set(words: Sequence[str], later: int, tmp_path: pathlib.Path) -> None:
     """By an hour (set_clock.c): moments with bit rates go on as before, and others are the clock's."""
     library, changed = tmp_path / "set_clock.so", tmp_path / "changed"
-    source = os.path.join(ROOT, "tests", "set_clock.c")
+    source = os.path.join(ROOT, "tests", "helpers", "set_clock.c")
     subprocess.run(["cc", "-O2", "-Wall", "-Werror", "-fPIC", "-shared", "-o", library, source], check=True)
     environment = {**os.environ, "LD_PRELOAD": str(library), "CLOCK": str(changed)}
     with serving_alone(*words, "can0,can1", env=environment) as server:

@@ -16,8 +16,8 @@ import pytest
 from running import FLAGS, command, needs, needs_gcc
 from serving import ROOT, come_true, program
 
-SOURCES = os.path.join(ROOT, "tests", "virtual_c")
-CASES = os.path.join(ROOT, "tests", "virtual_cases")
+SOURCES = os.path.join(ROOT, "canrun", "tests", "virtual_c")
+CASES = os.path.join(ROOT, "canrun", "tests", "virtual_cases")
 #: How often a case is run in the suite.
 RUNS = 5
 
@@ -52,7 +52,7 @@ def files_below(folder):
 
 
 def case(name, folder, nodes, options=(), **settings):
-    """Runs a case of tests/virtual_cases; what it wrote, and the files that it left."""
+    """Runs a case of virtual_cases/; what it wrote, and the files that it left."""
     env = {
         **os.environ,
         "RUN": command(),

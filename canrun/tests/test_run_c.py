@@ -1,4 +1,4 @@
-"""canbusd-run: C programs with CAN sockets, one for each part of SocketCAN's API (tests/run_c)."""
+"""canbusd-run: C programs with CAN sockets, one for each part of SocketCAN's API (run_c/)."""
 
 import os
 import re
@@ -126,7 +126,7 @@ def test_small_stack(build):
 def test_thread_sanitizer(tmp_path, compiler):
     """a program with the thread sanitizer goes on after it has made sockets"""
     path = str(tmp_path / "threads")
-    words = ["-g", "-O1", "-pthread", "-fsanitize=thread", "-o", path, f"{ROOT}/tests/run_c/threads.c"]
+    words = ["-g", "-O1", "-pthread", "-fsanitize=thread", "-o", path, f"{ROOT}/canrun/tests/run_c/threads.c"]
     if not shutil.which(compiler) or subprocess.run([compiler, *words], capture_output=True, check=False).returncode:
         pytest.skip(f"no {compiler} with the thread sanitizer")
     with serving(*FAST, "can0,can1") as server:

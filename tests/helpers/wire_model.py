@@ -1,6 +1,6 @@
 """Frames on the wire, bit by bit, apart from the program and its definitions.
 
-Read from the Bosch CAN Specification 2.0, sections 3 and 6, and ISO 11898-1:2015. `python3 tests/wire_model.py` prints
+Read from the Bosch CAN Specification 2.0, sections 3 and 6, and ISO 11898-1:2015. `python3 tests/helpers/wire_model.py` prints
 the random frames of tests/rattle/can_unit_tests/tests/wire.rtt, with the numbers of their bits.
 """
 

@@ -1,4 +1,4 @@
-/* Notes how many bytes a program hands to each send (LD_PRELOAD), as test_server.py says: a line with that number, at
+/* Notes how many bytes a program hands to each send (LD_PRELOAD), as test_serve.py says: a line with that number, at
  * the end of the file that SENDS names. */
 #include <fcntl.h>
 #include <stdio.h>

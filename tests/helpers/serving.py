@@ -9,6 +9,7 @@ import fcntl
 import functools
 import glob
 import os
+import pathlib
 import re
 import select
 import shutil
@@ -18,7 +19,7 @@ import subprocess
 import tempfile
 import time
 
-ROOT = os.path.dirname(os.path.dirname(os.path.abspath(__file__)))
+ROOT = str(pathlib.Path(__file__).resolve().parents[2])
 # Seconds in which what has to come comes, on any machine.
 WAIT = 20
 

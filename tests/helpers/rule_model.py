@@ -148,3 +148,8 @@ def ruled_lines(lines: Sequence[str], faults: RunFaults) -> Iterator[str]:
     for line in lines:
         part = faults.part(line.partition(";")[0])
         yield f"{line}; {part}" if part else line
+
+
+def rules_of(events):
+    """The numbers of the rules that decided, of each attempt that tried a frame; the empty text where there is none."""
+    return [line.partition("; rule ")[2] for line in events.splitlines() if " = tried " in line]

@@ -1,5 +1,5 @@
-"""From the first line of README to a passing test: tests/first_day.sh, in a clone, and once by each route on a fresh minimal
-Debian 12.
+"""From the first line of README to a passing test: first_day.sh, beside this file, in a clone, and once by each route on a fresh
+minimal Debian 12.
 
 For that BASES names a folder with a debootstrap of bookworm (debootstrap --variant=minbase); without it one is made. A network
 is needed.
@@ -35,7 +35,7 @@ def test_first_day_in_a_clone(tmp_path, fixed_ports):
     clone.put_program(program())
     if not clone.has_python_can():
         pytest.skip("python-can and pytest are not installed")
-    status, written = clone.shell("tests/first_day.sh here", timeout=300)
+    status, written = clone.shell("tests/gate/first_day.sh here", timeout=300)
     assert status == 0 and written.endswith("the first day went well\n"), written
 
 
@@ -49,7 +49,7 @@ def test_first_day(base, route, tmp_path):
     (debian / "etc" / "hosts").write_text("127.0.0.1 localhost\n", encoding="ascii")
     Clone(debian / "root" / "canbusd").put_program(program())
     environment = ["PATH=/usr/sbin:/usr/bin:/sbin:/bin", "HOME=/root", "LC_ALL=C.UTF-8"]
-    script = ["sh", "-c", "cd /root/canbusd && exec tests/first_day.sh $0", route]
+    script = ["sh", "-c", "cd /root/canbusd && exec tests/gate/first_day.sh $0", route]
     done = subprocess.run(
         ["unshare", "--mount", "--pid", "--fork", "sh", "-c", ENTER, debian, "env", "-i", *environment, *script],
         stdin=subprocess.DEVNULL,

@@ -14,7 +14,7 @@ from commands import run_line
 from serving import ROOT, WAIT, program
 from test_audit_events import BUS_OFF, EVENTS, RECORD
 from test_damage import example
-from test_wire_times import random_rates, rate_options
+from timed_benches import random_rates, rate_options
 from wire_model import FD_LENGTHS, KNOWN_LENGTHS, Frame, bit_counts, random_data, random_frames
 from wire_times import Rates, ending_of
 

@@ -44,7 +44,7 @@ TAKES_MEMORY = re.compile(r"< *(?:open|rawmode|filter)\b[^<>]*>")
 def library(tmp_path_factory):
     """The library that refuses memory."""
     path = tmp_path_factory.mktemp("library") / "refuse_memory.so"
-    source = os.path.join(ROOT, "tests", "refuse_memory.c")
+    source = os.path.join(ROOT, "tests", "helpers", "refuse_memory.c")
     subprocess.run(["cc", "-O2", "-shared", "-fPIC", "-o", path, source], check=True)
     return path
 

@@ -1,4 +1,4 @@
-/* What the programs of tests/test_virtual.py share. */
+/* What the programs of ../test_virtual.py share. */
 #define _GNU_SOURCE
 #include <errno.h>
 #include <linux/can.h>

@@ -1,5 +1,5 @@
-"""canbusd-run beside a real kernel: the programs of tests/run_c pass there too, and each case of tests/kernel has the answer
-that the kernel gave, as answers.txt has it, but for what differences.txt says, each with the line of LIMITS in canbusd-run.1.
+"""canbusd-run beside a real kernel: the programs of run_c/ pass there too, and each case of kernel/ has the answer that the kernel
+gave, as answers.txt has it, but for what differences.txt says, each with the line of LIMITS in canbusd-run.1.
 """
 
 import concurrent.futures
@@ -13,7 +13,7 @@ import pytest
 from running import FAST, FLAGS, compiled, needs_gcc, passes
 from serving import ROOT, serving
 
-KERNEL = os.path.join(ROOT, "tests", "kernel")
+KERNEL = os.path.join(ROOT, "canrun", "tests", "kernel")
 #: The kernel has the checks of these.
 SAME = (
     "calls",
@@ -87,7 +87,7 @@ def test_answers(tmp_path):
     """canbusd-run answers each case as the kernel did, or as differences.txt says"""
     kernel, program = answers(file_of("answers.txt")), probe(str(tmp_path))
     cases = subprocess.run([program, "--list"], stdout=subprocess.PIPE, text=True, check=True).stdout.split()
-    assert cases == list(kernel), "answers.txt is of other cases: tests/kernel/answers renews it"
+    assert cases == list(kernel), "answers.txt is of other cases: canrun/tests/kernel/answers renews it"
     with concurrent.futures.ThreadPoolExecutor(LOTS) as pool:
         lots = pool.map(lambda number: answered(program, cases[number::LOTS]), range(LOTS))
         got = {case: answer for lot in lots for case, answer in lot.items()}
@@ -102,7 +102,7 @@ def test_answers(tmp_path):
 
 def test_differences():
     """what differs is in LIMITS, and does differ"""
-    limits = plain(file_of("../../canbusd-run.1").split(".SH LIMITS")[1].split(".SH ENVIRONMENT")[0])
+    limits = plain(file_of("../../../canbusd-run.1").split(".SH LIMITS")[1].split(".SH ENVIRONMENT")[0])
     lines, cases = differences()
     kernel = answers(file_of("answers.txt"))
     assert lines and not [line for line in lines if line not in limits]
@@ -118,7 +118,7 @@ def test_recorded():
 
 @pytest.mark.slow
 def test_programs(tmp_path):
-    """the programs of tests/run_c end with status 0"""
+    """the programs of run_c/ end with status 0"""
     words = [compiled(name, str(tmp_path), "-static") for name in SAME]
     booted = boots(os.path.join(KERNEL, "boot"), *words)
     assert re.findall(r"^status (\d+) of (\w+)$", booted, re.M) == [("0", name) for name in SAME], booted

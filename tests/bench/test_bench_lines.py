@@ -179,7 +179,7 @@ def test_limit_of_the_input():
 def test_limit_of_the_reads(tmp_path):
     """where each gives one byte (short_reads.c), no read is left to find the end of the longest input"""
     library, text = tmp_path / "short_reads.so", tmp_path / "input"
-    source = os.path.join(ROOT, "tests", "short_reads.c")
+    source = os.path.join(ROOT, "tests", "helpers", "short_reads.c")
     subprocess.run(["cc", "-O2", "-Wall", "-Werror", "-fPIC", "-shared", "-o", library, source], check=True)
     environment = {**os.environ, "LD_PRELOAD": str(library)}
     for input_text, wanted in ((LONGEST_INPUT[:-1], (0, "", "")), (LONGEST_INPUT, (1, "", TOO_LONG))):

@@ -285,7 +285,7 @@ def test_bytes_of_a_write(most):
 def test_lengths_of_writes(words, most, tmp_path):
     """each has whole frames and is no longer than that, and where many wait one nearly is (noted_sends.c)"""
     library, sends = tmp_path / "noted_sends.so", tmp_path / "sends"
-    source = os.path.join(ROOT, "tests", "noted_sends.c")
+    source = os.path.join(ROOT, "tests", "helpers", "noted_sends.c")
     subprocess.run(["cc", "-O2", "-Wall", "-Werror", "-fPIC", "-shared", "-o", library, source], check=True)
     environment = {**os.environ, "LD_PRELOAD": str(library), "SENDS": str(sends)}
     with serving_alone("--pace", "0", "--txqueue", "100", *words, "can0,can1", env=environment) as server:

@@ -12,9 +12,9 @@ from commands import run_line
 from random_rules import RECORD as RECORD_FILE
 from random_rules import RuleMaker
 from record_events import events_of
-from rule_model import RunFaults, with_rules
+from rule_model import RunFaults, rules_of, with_rules
 from serving import WAIT, program
-from test_wire_times import random_rates, rate_options
+from timed_benches import random_rates, rate_options
 
 NAMES = "ecu,tester"
 # Rules 1 and 2 are there from the start, also where a line of the run comes between them. Rule 3 is given before attempt 3, and
@@ -60,11 +60,6 @@ def audited(folder, faults, *options, names=NAMES, record=RECORD):
     (folder / "run.rec").write_text(record)
     (folder / "run.faults").write_text(faults)
     return run_line(" ".join(["audit", "--events", *options, "--faults", f"{names}@run.faults", "run.rec"]), cwd=folder)
-
-
-def rules_of(events):
-    """The numbers of the rules that decided, of each attempt that tried a frame; the empty text where there is none."""
-    return [line.partition("; rule ")[2] for line in events.splitlines() if " = tried " in line]
 
 
 def test_a_run(tmp_path):

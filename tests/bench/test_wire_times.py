@@ -14,10 +14,10 @@ import pytest
 
 import random_benches
 from serving import ROOT
-from wire_model import FD_LENGTHS, KNOWN_LENGTHS, Frame, bit_counts, random_data
+from timed_benches import MICRO, bench, moment, random_frame, random_rates, rate_options, send
+from wire_model import KNOWN_LENGTHS, Frame, bit_counts, random_data
 from wire_times import Ending, Message, Rates, Release, Sent, ending_of, simulated, use, worst_response
 
-MICRO = 1000
 LAST = 1_000_000 * MICRO
 # The last nanosecond of the last moment.
 LATEST = 10**19 - 1
@@ -37,47 +37,6 @@ FAILED = [
     ("always", "local form can1", "destroyed - -", Ending.AFTER_CRC),
     ("peers", "good", "noack - -", Ending.NO_ACK),
 ]
-
-
-def moment(nanos: int) -> str:
-    """The microsecond that a time is in, as it is written."""
-    micros = nanos // MICRO
-    return f"{micros // 1_000_000}.{micros % 1_000_000:06}"
-
-
-def bench(
-    program: str, options: Sequence[str], names: Sequence[str], lines: Iterable[str], status: int = 0
-) -> list[str]:
-    """The lines that a bench writes of its attempts, where each interface has a session."""
-    opened = []
-    for number, name in enumerate(names, 1):
-        opened += [f"session {number}", f"feed {number} < open {name} >< rawmode >< fdframes 1 >"]
-    done = subprocess.run(
-        [program, "bench", *options, ",".join(names)],
-        input="".join(f"{line}\n" for line in [*opened, *lines]),
-        capture_output=True,
-        text=True,
-        timeout=60,
-        check=False,
-    )
-    assert done.returncode == status, done.stderr
-    return [line for line in done.stdout.splitlines() if line.startswith(("tried", "idle", "record"))]
-
-
-def rate_options(rates: Rates) -> list[str]:
-    data = [] if rates.fast is None else ["--dbitrate", str(rates.fast)]
-    return ["--bitrate", str(rates.nominal), *data]
-
-
-def send(frame: Frame) -> str:
-    """The message that sends a frame."""
-    name = f"{frame.number:0{8 if frame.extended else 3}X}"
-    if frame.requests is not None:
-        return f"< sendrtr {name} {frame.requests} >"
-    data = "".join(f" {byte:02X}" for byte in frame.data)
-    flags = frame.brs + 2 * frame.esi
-    verb = f"sendfdx {flags}" if flags else "sendfd" if frame.is_fd else "send"
-    return f"< {verb} {name} {len(frame.data)}{data or ' '} >"
 
 
 def interfaces(count: int) -> list[str]:
@@ -210,22 +169,6 @@ def test_frames_without_brs_do_not_switch(program: str) -> None:
     for rates in (Rates(1_000_000), Rates(1_000_000, 10_000_000)):
         lines = bench(program, rate_options(rates), ["can0"], [f"feed 1 {send(frame)}", "attempt"])
         assert lines == [f"tried can0 0 done - - at {moment(bits * MICRO)}"]
-
-
-def random_frame(maker: random.Random) -> Frame:
-    extended = maker.random() < 0.5
-    number = maker.getrandbits(29 if extended else 11)
-    if maker.random() < 0.4:
-        data = random_data(maker, maker.choice(FD_LENGTHS))
-        return Frame(number, extended, data, None, True, maker.random() < 0.6, maker.random() < 0.3)
-    if maker.random() < 0.2:
-        return Frame(number, extended, requests=maker.randrange(9))
-    return Frame(number, extended, random_data(maker, maker.randrange(9)))
-
-
-def random_rates(maker: random.Random) -> Rates:
-    nominal = maker.choice([5_000, 83_333, 500_000, 1_000_000, maker.randrange(5_000, 1_000_001)])
-    return Rates(nominal, maker.choice([None, nominal, 20_000_000, maker.randrange(nominal, 20_000_001)]))
 
 
 def test_random_frames(program: str, rng: random.Random, cases: int) -> None:
