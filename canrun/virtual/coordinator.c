@@ -45,6 +45,8 @@
 #define LONG_RUN 1000000000
 #define PROCESSOR_SECONDS 0.25
 #define PROCESSES 4096
+/* The length of the path of the run's memory up to its descriptor. */
+#define PATH_SLASHES 20
 
 static struct {
     const struct virtual_options *options;
@@ -432,6 +434,7 @@ static void loop(void) {
 }
 
 static bool make_run(const struct virtual_options *options) {
+    static const char slashes[PATH_SLASHES + 1] = "////////////////////";
     int fd = memfd_create(RUN_MEMORY, MFD_CLOEXEC);
     char path[64];
     if (fd < 0 || ftruncate(fd, sizeof *run)) {
@@ -448,7 +451,9 @@ static bool make_run(const struct virtual_options *options) {
     run->coordinator = getpid();
     run->turn = NOBODY;
     run->magic = RUN_MAGIC;
-    snprintf(path, sizeof path, "/proc/%d/fd/%d", getpid(), fd);
+    /* Of one length, which addresses in programs hang on. */
+    int length = snprintf(path, sizeof path, "/proc/%d", getpid());
+    snprintf(path + length, sizeof path - (size_t)length, "%.*sfd/%d", PATH_SLASHES - length, slashes, fd);
     setenv(RUN_SETTING, path, 1);
     snprintf(path, sizeof path, "--seed %lu --jitter %lu", options->seed, options->jitter / 1000);
     setenv(RUN_OPTIONS, path, 1);

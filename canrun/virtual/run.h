@@ -106,6 +106,7 @@ struct run {
     _Atomic uint32_t pause;
     _Atomic uint32_t births; /* a word to wait on for one that is born */
     _Atomic uint64_t waits, tickets;
+    _Atomic uint64_t ending;          /* process << 32 and thread of the one that handed the turn on as it ended */
     _Atomic uint64_t born;            /* how many have been */
     _Atomic uint64_t moments;         /* how often the clock went on */
     _Atomic uint64_t spun;            /* nanoseconds that went by as threads looked at the clock again and again */

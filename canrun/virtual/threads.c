@@ -67,6 +67,7 @@ static void thread_ends(void *count) {
         regain_turn();
     } while (!begin_deciding());
     wake(key_of((void *)(uintptr_t)pthread_self(), OF_END), INT_MAX);
+    run->ending = (uint64_t)slot->pid << 32 | slot->tid;
     free_slot(slot);
     uint32_t next = next_turn(false);
     my.slot = NULL;

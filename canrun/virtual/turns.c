@@ -17,6 +17,10 @@ void (*handle_deferred)(void);
 /* How long a thread sleeps before it looks whether the coordinator is still there, in real time. */
 #define LIVE_SECONDS 1
 #define BIRTH_NANOSECONDS 20000000
+/* How often it is looked whether a thread has ended, first without a pause, and the nanoseconds between; a minute. */
+#define END_YIELDS 20
+#define END_PAUSE 100000
+#define END_LOOKS 600000
 
 /* ---- what is random ---- */
 
@@ -287,11 +291,26 @@ void check_coordinator(void) {
     }
 }
 
+/* A thread that handed the turn on as it ended is gone before the next one goes on, which may get its stack. */
+static void await_end(void) {
+    struct timespec pause = {0, END_PAUSE};
+    uint64_t ending = run->ending;
+    for (int i = 0; ending && i < END_LOOKS && !RAW(SYS_tgkill, ending >> 32, (uint32_t)ending, 0); i++) {
+        if (i < END_YIELDS) {
+            RAW(SYS_sched_yield, 0);
+        } else {
+            RAW(SYS_nanosleep, &pause, NULL);
+        }
+    }
+    run->ending = 0;
+}
+
 void await_turn(void) {
     struct timespec patience = {LIVE_SECONDS, 0};
     for (;;) {
         uint32_t seen = my.slot->go;
         if (has_turn()) {
+            await_end();
             return;
         }
         /* With a timeout it returns EINTR after any handler, also of SA_RESTART. */
