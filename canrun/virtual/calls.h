@@ -79,6 +79,8 @@ bool is_of_day(clockid_t id);
 uint64_t moment_of(clockid_t id, const struct timespec *t);
 /* This thread has looked at the clock, or for what is not there: who does so again and again is given time. */
 void looked(void);
+/* The last look was not to wait. */
+void forget_look(void);
 
 /* ---- descriptors.c ---- */
 

@@ -34,6 +34,10 @@ void looked(void) {
     }
 }
 
+void forget_look(void) {
+    my.looks -= my.looks > 0;
+}
+
 bool is_of_day(clockid_t id) {
     return id == CLOCK_REALTIME || id == CLOCK_REALTIME_COARSE || id == CLOCK_TAI || id == CLOCK_REALTIME_ALARM;
 }

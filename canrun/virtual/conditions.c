@@ -112,6 +112,16 @@ EXPORT int cnd_broadcast(cnd_t *condition) {
 
 /* ---- semaphores, of one process or of several ---- */
 
+/* CPython looks at the clock for each lock that it takes, also of one that is free: how often hangs on its version. */
+EXPORT int sem_trywait(sem_t *semaphore) {
+    REAL(sem_trywait);
+    int result = real(semaphore);
+    if (run && !result && is_python()) {
+        forget_look();
+    }
+    return result;
+}
+
 /* Its third word says whether processes share it. */
 static uint64_t key_of_semaphore(const sem_t *semaphore) {
     return ((const int *)semaphore)[2] ? key_of_any(semaphore, OF_SEMAPHORE) : key_of(semaphore, OF_SEMAPHORE);

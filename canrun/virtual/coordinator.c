@@ -19,6 +19,7 @@
 #include <string.h>
 #include <sys/epoll.h>
 #include <sys/mman.h>
+#include <sys/personality.h>
 #include <sys/prctl.h>
 #include <sys/socket.h>
 #include <sys/syscall.h>
@@ -32,7 +33,7 @@
  * stays with one that sleeps they are as near as at first. */
 #define WATCH_MS 4
 #define LONGEST_WATCH_MS 32
-#define STEADY_LOOKS 8
+#define IDLE_LOOKS 8
 #define SOON_MS 1
 #define STATUS_STUCK 125
 /* Seconds of the run that programs have to end once PROGRAM has; of real time, where they wait for nothing that comes;
@@ -53,7 +54,7 @@ static struct {
     bool has_ended, is_over;
     volatile sig_atomic_t number; /* of a signal that ends the run */
     uint64_t seen_turn;
-    int looks, steady_looks;
+    int looks, idle_looks;
     double since; /* real time since which nothing has gone on */
     uint64_t run_before;
 } coordinator = {.root_status = -1};
@@ -280,12 +281,17 @@ static bool is_asked(void) {
 
 /* How long it is until the next look, in milliseconds. */
 static int watch_pause(void) {
-    int pause = WATCH_MS << coordinator.steady_looks / STEADY_LOOKS;
+    int pause = WATCH_MS << coordinator.idle_looks / IDLE_LOOKS;
     return pause < LONGEST_WATCH_MS ? pause : LONGEST_WATCH_MS;
 }
 
-static void note_steady(bool is_steady) {
-    coordinator.steady_looks = is_steady ? coordinator.steady_looks + (watch_pause() < LONGEST_WATCH_MS) : 0;
+/* Counts looks in a row at which there was nothing to do, as far as they make the next one later. */
+static void count_idle_looks(bool is_idle) {
+    if (!is_idle) {
+        coordinator.idle_looks = 0;
+    } else if (watch_pause() < LONGEST_WATCH_MS) {
+        coordinator.idle_looks++;
+    }
 }
 
 /* Somebody has the turn: whether it is handed on. It may run for long, but not for ever. */
@@ -297,10 +303,10 @@ static void watch(void) {
         coordinator.looks = 0;
         coordinator.since = 0;
         coordinator.run_before = 0;
-        note_steady(true);
+        count_idle_looks(true);
         return;
     }
-    note_steady(!outside_watch(turn, ++coordinator.looks, is_asked));
+    count_idle_looks(!outside_watch(turn, ++coordinator.looks, is_asked));
     if (run->turn != turn || coordinator.looks % RARELY) {
         return;
     }
@@ -444,7 +450,6 @@ static bool make_run(const struct virtual_options *options) {
     run->epoch = options->epoch;
     run->until = options->until;
     run->seed = options->seed;
-    run->random = options->seed * 0x9e3779b97f4a7c15ull + 0x2545f4914f6cdd1dull;
     run->jitter = options->jitter;
     run->coordinator = getpid();
     run->turn = NOBODY;
@@ -475,6 +480,7 @@ static void become_program(const char *file, char **words, const sigset_t *mask)
     int here = sched_getcpu();
     pin(0, here < 0 ? 0 : here);
     prctl(PR_SET_PDEATHSIG, SIGKILL);
+    personality(ADDR_NO_RANDOMIZE); /* Containers may refuse it. */
     sigprocmask(SIG_SETMASK, mask, NULL);
     execv(file, words);
     int error = errno;
@@ -528,11 +534,15 @@ static int coordinate(const struct virtual_options *options, const char *file, c
     say_notices();
     run->has_ended = 1;
     tree_kill();
+    int result = coordinator.status ? coordinator.status : status_of(coordinator.root_status);
+    if (result && (options->seed || options->jitter)) {
+        say("status %d; %s repeats it", result, getenv(RUN_OPTIONS));
+    }
     if (getenv("CANBUSD_RUN_DEBUG")) {
         say("%lu moments, %lu turns, %.6f s went by as programs looked at the clock again and again", run->moments,
             run->turn >> TURN_BITS, (double)run->spun / SECOND);
     }
-    return coordinator.status ? coordinator.status : status_of(coordinator.root_status);
+    return result;
 }
 
 /* ---- the guard: nothing is left of a run whose coordinator is killed ---- */

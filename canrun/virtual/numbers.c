@@ -15,6 +15,7 @@
 #include <sys/file.h>
 #include <sys/mman.h>
 #include <sys/msg.h>
+#include <sys/random.h>
 #include <sys/select.h>
 #include <sys/sem.h>
 #include <sys/sendfile.h>
@@ -149,6 +150,7 @@ static long call_of_data(long number, const long of[6], bool *is_known) {
     case SYS_close_range: return close_range((unsigned)of[0], (unsigned)of[1], INT(2));
     case SYS_open: return open(P(0), INT(1), (mode_t)of[2]);
     case SYS_openat: return openat(INT(0), P(1), INT(2), (mode_t)of[3]);
+    case SYS_getrandom: return getrandom(P(0), (size_t)of[1], (unsigned)of[2]);
     case SYS_munmap: return munmap(P(0), (size_t)of[1]);
     default: return *is_known = false;
     }

@@ -6,6 +6,7 @@
 
 #include <arpa/inet.h>
 #include <netinet/in.h>
+#include <netinet/tcp.h>
 #include <stdio.h>
 #include <stdlib.h>
 #include <string.h>
@@ -56,9 +57,19 @@ static uint32_t port_of(const struct sockaddr *address) {
                                             : 0;
 }
 
+/* TCP sends at once: what it holds back otherwise it sends by the real clock. Of one that listens its connections have
+ * it. */
+static void send_at_once(int fd) {
+    int on = 1;
+    RAW(SYS_setsockopt, fd, IPPROTO_TCP, TCP_NODELAY, &on, sizeof on);
+}
+
 EXPORT int listen(int fd, int backlog) {
     struct sockaddr_storage address;
     socklen_t length = sizeof address;
+    if (run) {
+        send_at_once(fd);
+    }
     long result = RAW(SYS_listen, fd, backlog);
     if (run && !result && !RAW(SYS_getsockname, fd, &address, &length)) {
         uint32_t port = port_of((struct sockaddr *)&address);
@@ -97,6 +108,9 @@ static void check_peer(int fd, const struct sockaddr *to) {
 
 EXPORT int connect(int fd, const struct sockaddr *to, socklen_t length) {
     my.has_talked = true;
+    if (run && port_of(to)) {
+        send_at_once(fd);
+    }
     long result = RAW(SYS_connect, fd, to, length);
     if (run && (!result || result == -EINPROGRESS)) {
         check_peer(fd, to);

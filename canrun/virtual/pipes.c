@@ -1,6 +1,7 @@
 /* Opening a named pipe, which waits for its other end. */
 #define _GNU_SOURCE
 #include "calls.h"
+#include "random.h"
 
 #include <fcntl.h>
 #include <stdarg.h>
@@ -56,7 +57,12 @@ static int open_at(int folder, const char *path, int flags, mode_t mode) {
     cancel_point();
     bool waits = run && !(flags & (O_NONBLOCK | O_PATH)) && (flags & O_ACCMODE) != O_RDWR &&
                  !RAW(SYS_newfstatat, folder, path, &status, 0) && S_ISFIFO(status.st_mode);
-    return waits ? open_pipe(folder, path, flags, &status) : (int)answer(RAW(SYS_openat, folder, path, flags, mode));
+    if (waits) {
+        return open_pipe(folder, path, flags, &status);
+    }
+    int fd = (int)answer(RAW(SYS_openat, folder, path, flags, mode));
+    random_opened(fd, path);
+    return fd;
 }
 
 #define MODE(flags)                        \

@@ -77,10 +77,12 @@ struct slot {
     _Atomic uint32_t is_foreign; /* a program that does not load this library */
     _Atomic uint64_t deadline;   /* nanoseconds of the run, or NEVER */
     _Atomic uint64_t key;        /* of the lock, child or thread that it waits for */
-    uint64_t since;              /* the number of its wait: who waits longer is woken first */
+    uint64_t since;              /* the number of its wait in the run: who waits longer is woken first */
     uint64_t ticket;             /* its place among those that can go on, 0 before it has one */
-    uint64_t thread;             /* pthread_self */
-    uint64_t go_at;              /* where its process has `go` */
+    uint64_t number;       /* of its birth, or of its age where a test began: what is drawn for it hangs on this, */
+    uint64_t waits, reads; /* and on how often it has waited, and read what is random, since then */
+    uint64_t thread;       /* pthread_self */
+    uint64_t go_at;        /* where its process has `go` */
 } __attribute__((aligned(128)));
 
 /* A timer that sends a signal: alarm, setitimer, timer_create. */
@@ -124,8 +126,9 @@ struct run {
     uint64_t magic;
     uint64_t epoch; /* CLOCK_REALTIME at the start */
     uint64_t until;
-    uint64_t seed, random; /* 0: the order is that of the slots */
-    uint64_t jitter;       /* nanoseconds that a timed wait is longer at most */
+    uint64_t seed;   /* 0: the order is that of their births */
+    uint64_t test;   /* what the name of the test at hand adds to the seed */
+    uint64_t jitter; /* nanoseconds that a timed wait is longer at most */
     int32_t coordinator;
     uint32_t has_ended;
     _Atomic uint32_t has_failed; /* a line has said why the run can't go on */
@@ -137,6 +140,7 @@ struct run {
     _Atomic uint64_t waits, tickets;
     _Atomic uint64_t progress;        /* how often one waited for something new, or ended */
     _Atomic uint32_t tries;           /* threads that wait for what nobody wakes them for */
+    _Atomic uint64_t born;            /* how many have been */
     _Atomic uint64_t moments;         /* how often the clock went on */
     _Atomic uint64_t spun;            /* nanoseconds that went by as threads looked at the clock again and again */
     _Atomic uint8_t ports[PORTS / 8]; /* a bit for each TCP port that a program of the run has listened at */

@@ -1,4 +1,4 @@
-/* Locks of readers and writers. */
+/* Locks of readers and writers, and barriers. */
 #define _GNU_SOURCE
 #include "locks.h"
 
@@ -70,3 +70,34 @@ EXPORT int pthread_rwlock_unlock(pthread_rwlock_t *lock) {
     return error;
 }
 ALSO(__pthread_rwlock_unlock, pthread_rwlock_unlock)
+
+/* ---- barriers ---- */
+
+/* The C library's; a barrier at which nobody waits is as one that was just made, so it may be destroyed. */
+struct barrier {
+    uint32_t in, round, count;
+    int is_shared;
+};
+
+static uint64_t key_of_barrier(const struct barrier *barrier) {
+    return barrier->is_shared ? key_of_any(barrier, OF_BARRIER) : key_of(barrier, OF_BARRIER);
+}
+
+/* Who is woken does not look at it again: the last one may have destroyed it. */
+static int wait_at_barrier(struct barrier *barrier) {
+    uint64_t key = key_of_barrier(barrier);
+    regain_turn();
+    if (++barrier->in == barrier->count) {
+        barrier->in = 0;
+        wake(key, INT_MAX);
+        return PTHREAD_BARRIER_SERIAL_THREAD;
+    }
+    while (!(wait_turn(NEVER, key, KIND_LOCK) & IS_WOKEN)) {
+    }
+    return 0;
+}
+
+EXPORT int pthread_barrier_wait(pthread_barrier_t *barrier) {
+    REAL(pthread_barrier_wait);
+    return run ? wait_at_barrier((struct barrier *)barrier) : real(barrier);
+}

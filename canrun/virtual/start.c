@@ -1,6 +1,7 @@
 /* A program, or a bridge, becomes part of the run. */
 #define _GNU_SOURCE
 #include "calls.h"
+#include "random.h"
 #include "rights.h"
 #include "tell.h"
 
@@ -125,4 +126,7 @@ __attribute__((constructor(103))) static void start(void) {
     start_signals();
 #endif
     begin_slot(index);
+#ifndef FOR_BRIDGE
+    start_random();
+#endif
 }

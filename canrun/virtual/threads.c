@@ -10,12 +10,16 @@
  * coordinator sees where that one computes. */
 #define SWITCH_INTERVAL 5000000
 
-static enum kind kind_of_wait(uint64_t deadline) {
-    static int is_python = -1;
-    if (is_python < 0) {
-        is_python = dlsym(RTLD_DEFAULT, "PyEval_RestoreThread") != NULL;
+bool is_python(void) {
+    static int is_known = -1;
+    if (is_known < 0) {
+        is_known = dlsym(RTLD_DEFAULT, "PyEval_RestoreThread") != NULL;
     }
-    return is_python && deadline - run->now == SWITCH_INTERVAL ? KIND_INTERPRETER : KIND_LOCK;
+    return is_known;
+}
+
+static enum kind kind_of_wait(uint64_t deadline) {
+    return is_python() && deadline - run->now == SWITCH_INTERVAL ? KIND_INTERPRETER : KIND_LOCK;
 }
 
 int wait_for_key(uint64_t key, uint64_t deadline) {

@@ -1,6 +1,7 @@
 /* Calls that read, write, send, receive and accept. */
 #define _GNU_SOURCE
 #include "calls.h"
+#include "random.h"
 
 #include <fcntl.h>
 #include <string.h>
@@ -238,12 +239,16 @@ EXPORT ssize_t read(int fd, void *data, size_t length) {
             return -1;
         }
     }
-    return answer(RAW(SYS_read, fd, data, length));
+    ssize_t result = answer(RAW(SYS_read, fd, data, length));
+    random_read(fd, &(struct iovec){data, length}, 1, result);
+    return result;
 }
 ALSO(__read, read)
 
 EXPORT ssize_t readv(int fd, const struct iovec *parts, int count) {
-    return await_ready(fd, POLLIN, 0) ? answer(RAW(SYS_readv, fd, parts, count)) : -1;
+    ssize_t result = await_ready(fd, POLLIN, 0) ? answer(RAW(SYS_readv, fd, parts, count)) : -1;
+    random_read(fd, parts, count, result);
+    return result;
 }
 
 /* Of -1 as an offset: that of the descriptor. */

@@ -19,13 +19,41 @@ void (*hold_cancel)(bool is_held);
 #define LIVE_SECONDS 1
 #define BIRTH_NANOSECONDS 20000000
 
-static uint64_t next_random(void) {
-    uint64_t x = run->random;
-    x ^= x << 13;
-    x ^= x >> 7;
-    x ^= x << 17;
-    run->random = x;
-    return x;
+/* ---- what is random ---- */
+
+static uint64_t scrambled(uint64_t x) {
+    x = (x ^ x >> 30) * 0xbf58476d1ce4e5b9ull;
+    x = (x ^ x >> 27) * 0x94d049bb133111ebull;
+    return x ^ x >> 31;
+}
+
+uint64_t draw(const struct slot *slot, enum chance what, uint64_t times) {
+    uint64_t of_thread = scrambled(scrambled(run->seed ^ run->test) + slot->number);
+    return scrambled(of_thread + times * CHANCES + what);
+}
+
+void begin_test(const char *name) {
+    uint64_t test = 0xcbf29ce484222325ull, below = 0;
+    for (; *name; name++) {
+        test = (test ^ (uint8_t)*name) * 0x100000001b3ull;
+    }
+    run->test = test;
+    run->born = 0;
+    /* The next older one each time. */
+    for (struct slot *next;; run->born++) {
+        next = NULL;
+        for (uint32_t i = 0; i < run->used; i++) {
+            struct slot *slot = &run->slots[i];
+            bool is_next = slot->state != SLOT_FREE && slot->number > below && (!next || slot->number < next->number);
+            next = is_next ? slot : next;
+        }
+        if (!next) {
+            return;
+        }
+        below = next->number;
+        next->number = run->born + 1;
+        next->waits = next->reads = 0;
+    }
 }
 
 /* ---- slots ---- */
@@ -44,6 +72,8 @@ uint32_t take_slot(void) {
         slot->deadline = NEVER;
         slot->key = slot->ticket = slot->thread = slot->go_at = 0;
         slot->generation++;
+        slot->number = ++run->born;
+        slot->waits = slot->reads = 0;
         uint32_t used = run->used;
         while (used < i + 1 && !__atomic_compare_exchange_n((uint32_t *)&run->used, &used, i + 1, 0, __ATOMIC_SEQ_CST,
                                                             __ATOMIC_SEQ_CST)) {
@@ -124,6 +154,12 @@ static bool can_go_on(const struct slot *slot, uint64_t now) {
     return slot->state == SLOT_READY || (slot->state == SLOT_WAITS && (slot->flags || slot->deadline <= now));
 }
 
+static bool goes_before(const struct slot *one, const struct slot *other) {
+    return one->rank != other->rank       ? one->rank < other->rank
+           : one->ticket != other->ticket ? one->ticket < other->ticket
+                                          : one->number < other->number;
+}
+
 /* Gives a place to each that can go on now and could not before, and finds the first. */
 static struct look look_round(void) {
     struct look look = {.best = NOBODY, .next = NEVER};
@@ -140,12 +176,10 @@ static struct look look_round(void) {
         }
         if (!slot->ticket) {
             round = round ? round : ++run->tickets;
-            slot->ticket = round << 16 | (run->seed ? next_random() & 0xffff : i);
+            uint64_t place = run->seed ? draw(slot, CHANCE_ORDER, slot->waits) : slot->number;
+            slot->ticket = round << 32 | (place & UINT32_MAX);
         }
-        if (look.best == NOBODY || slot->rank < best->rank ||
-            (slot->rank == best->rank && slot->ticket < best->ticket)) {
-            look.best = i;
-        }
+        look.best = look.best == NOBODY || goes_before(slot, best) ? i : look.best;
     }
     return look;
 }
@@ -331,8 +365,9 @@ void regain_turn(void) {
 
 uint32_t wait_turn(uint64_t deadline, uint64_t key, enum kind kind) {
     struct slot *slot = my_slot();
+    slot->waits++;
     if (deadline != NEVER && run->jitter) {
-        deadline += next_random() % (run->jitter / 1000 + 1) * 1000;
+        deadline += draw(slot, CHANCE_JITTER, slot->waits) % (run->jitter / 1000 + 1) * 1000;
     }
     slot->flags = 0;
     slot->deadline = deadline;
@@ -355,6 +390,7 @@ uint32_t wait_turn(uint64_t deadline, uint64_t key, enum kind kind) {
 }
 
 void yield_turn(void) {
+    my_slot()->waits++;
     my_slot()->state = SLOT_READY;
     give_turn();
 }

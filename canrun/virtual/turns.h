@@ -34,6 +34,13 @@ extern __thread struct my my __attribute__((tls_model("initial-exec")));
 enum { RANK_PROGRAM, RANK_BRIDGE, RANK_SESSION, RANK_DRIVER };
 extern bool is_server, is_bridge;
 
+/* What is random for a thread: the same for each seed, test, birth and number of times. */
+enum chance { CHANCE_ORDER, CHANCE_JITTER, CHANCE_BYTES, CHANCES };
+uint64_t draw(const struct slot *slot, enum chance what, uint64_t times);
+
+/* A test begins: what is random hangs on its name, and on who is there now by age, but on nothing before. */
+void begin_test(const char *name);
+
 /* The slot of this thread, which gets one if need be. */
 struct slot *my_slot(void);
 

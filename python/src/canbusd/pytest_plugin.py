@@ -27,7 +27,7 @@ from canbusd._run.live import left_by
 from canbusd.bench import Bench
 from canbusd.record import BadRecord, read_record
 from canbusd.rules import Rule
-from canbusd.virtual import is_virtual, python_words, repeated_by, virtual_words
+from canbusd.virtual import begin_test, is_virtual, python_words, repeated_by, virtual_words
 
 if TYPE_CHECKING:
     from canbusd.programs import Program
@@ -131,6 +131,8 @@ def pytest_runtest_makereport(item: pytest.Item) -> Generator[None, Any, None]:
 @pytest.hookimpl(tryfirst=True)  # type: ignore[misc]
 def pytest_runtest_setup(item: pytest.Item) -> None:
     """What a server that several tests share has received before a test is nothing that this one expects."""
+    if is_virtual():
+        begin_test(item.nodeid)
     for run in list(RUNNING):
         # One that has crashed is a fault of those that use it.
         with contextlib.suppress(Exception):

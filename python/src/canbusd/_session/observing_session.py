@@ -11,6 +11,7 @@ from canbusd._session.connection import SessionRefused
 from canbusd._session.injection import TIMEOUT, Refused
 from canbusd._session.protocol import counters_of, options
 from canbusd._session.raw_session import RawSession, fault, with_cure
+from canbusd._session.waits import wait_for_ready
 
 # Seconds for which what comes is left to come, so that much of it is read at once, where nobody waits for it.
 NAP = 0.02
@@ -75,10 +76,7 @@ class ObservingSession(RawSession):
 
 def wait_for_input(sessions: Sequence[ObservingSession], seconds: float) -> None:
     """Waits until something comes to one of these, or for these seconds; not for long, since another thread may read it."""
-    poll = select.poll()
-    for session in sessions:
-        poll.register(session.fileno(), select.POLLIN)
-    poll.poll(min(seconds, LONGEST_NAP) * 1000)
+    wait_for_ready([session.fileno() for session in sessions], select.POLLIN, min(seconds, LONGEST_NAP))
 
 
 class Reader:

@@ -12,6 +12,7 @@ from typing import Optional
 from canbusd._session.connection import LONGEST_POLL, POLL, Connection, NoAnswer, SessionRefused
 from canbusd._session.injection import NO_INTERFACE, InjectsFaults, no_interface
 from canbusd._session.protocol import ErrorCounters, Load, Stats, counters_of, load_of, refusal_in, stats_of
+from canbusd._session.waits import seconds_until
 from canbusd._text import times
 
 NO_BUFFERS, BUS_OFF, NOT_BUS_OFF, RECORD_FULL = "no buffers", "bus off", "not bus off", "record full"
@@ -192,9 +193,10 @@ class RawSession(InjectsFaults):
         pause = POLL
         while True:
             now = self.stats()
-            if time.monotonic() >= deadline:
+            left = seconds_until(deadline)
+            if left == 0:
                 raise fault("CanTimeoutError", f"{NO_BUFFERS}{after}: the transmit queue stayed full", errno.ENOBUFS)
             if before is None or now.done + now.lost != before.done + before.lost:
                 return now
-            time.sleep(min(pause, max(0.0, deadline - time.monotonic())))
+            time.sleep(min(pause, left))
             pause = min(2 * pause, LONGEST_POLL)
