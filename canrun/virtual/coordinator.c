@@ -120,6 +120,11 @@ static void forget(uint32_t pid) {
             run->alarms[i].pid = 0;
         }
     }
+    for (int i = 0; i < TIMERS; i++) {
+        if (run->timers[i].owner == pid && !run->timers[i].is_shared) {
+            run->timers[i].number = 0;
+        }
+    }
 }
 
 static void reap(void) {
@@ -255,6 +260,7 @@ static int decide(void) {
             if (ignores || tries < 3) {
                 continue;
             }
+            run->progress++;
             break;
         case PAUSE_ALARM: send_alarms(); return 0;
         case PAUSE_UNTIL: end_by_until(); return 0;

@@ -87,8 +87,9 @@ const char *who(uint32_t pid, uint32_t tid) {
 }
 
 void say_waits(void) {
-    static const char *const kinds[] = {"a moment",      "a descriptor", "a lock, condition or semaphore",
-                                        "a child's end", "a signal",     "the interpreter"};
+    static const char *const kinds[] = {
+        "a moment", "a descriptor",    "a lock, condition or semaphore",          "a child's end",
+        "a signal", "the interpreter", "a lock, queue or semaphore of the kernel"};
     int listed = 0;
     for (uint32_t i = 0; i < run->used; i++) {
         struct slot *slot = &run->slots[i];

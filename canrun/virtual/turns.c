@@ -13,6 +13,7 @@ int run_epoll = -1;
 bool is_server, is_bridge;
 __thread struct my my;
 void (*handle_deferred)(void);
+void (*hold_cancel)(bool is_held);
 
 /* How long a thread sleeps before it looks whether the coordinator is still there, in real time. */
 #define LIVE_SECONDS 1
@@ -71,7 +72,7 @@ uint32_t take_slot(void) {
         }
         slot->flags = slot->is_foreign = 0;
         slot->pid = slot->tid = slot->parent = 0;
-        slot->rank = slot->kind = 0;
+        slot->rank = slot->kind = slot->tries = 0;
         slot->deadline = NEVER;
         slot->key = slot->ticket = slot->thread = slot->go_at = 0;
         slot->generation++;
@@ -95,6 +96,7 @@ void free_slot(struct slot *slot) {
     slot->deadline = NEVER;
     slot->key = 0;
     slot->state = SLOT_FREE;
+    run->progress++;
 }
 
 void begin_slot(uint32_t index) {
@@ -186,6 +188,20 @@ static struct look look_round(void) {
     return look;
 }
 
+/* Lets those look once more that nobody wakes, where another has gone on since they did; false where there is none. */
+static bool try_again(void) {
+    bool has_one = false;
+    for (uint32_t i = 0; run->tries && i < run->used; i++) {
+        struct slot *slot = &run->slots[i];
+        if (slot->state == SLOT_WAITS && slot->tries && slot->tried != run->progress) {
+            slot->tried = run->progress;
+            slot->flags |= TRIES_AGAIN;
+            has_one = true;
+        }
+    }
+    return has_one;
+}
+
 /* Sets the clock to the next moment that one waits for, where the coordinator has nothing to do before. */
 static bool go_on(uint64_t next) {
     uint64_t alarm = NEVER;
@@ -239,7 +255,7 @@ uint32_t next_turn(bool ignores_outside) {
             run->pause = PAUSE_OUTSIDE;
             return NOBODY;
         }
-        if (!go_on(look.next)) {
+        if (!try_again() && !go_on(look.next)) {
             return NOBODY;
         }
     }
@@ -324,8 +340,22 @@ void await_turn(void) {
     }
 }
 
+/* Waits for the turn, in which it can't be cancelled anywhere, and goes on. */
+static void await_and_run(void) {
+    if (my.is_asynchronous) {
+        hold_cancel(true);
+    }
+    await_turn();
+    my.slot->state = SLOT_RUNS;
+    my.slot->ticket = 0;
+    if (my.is_asynchronous) {
+        hold_cancel(false);
+    }
+}
+
 /* Hands the turn on, and waits for the next one; the slot says what for. */
 static void give_turn(void) {
+    run->progress += my.tries != TRIES_ON;
     my.is_deciding++;
     if (begin_deciding()) {
         uint32_t next = next_turn(false);
@@ -341,18 +371,14 @@ static void give_turn(void) {
     if (handle_deferred) {
         handle_deferred();
     }
-    await_turn();
-    my.slot->state = SLOT_RUNS;
-    my.slot->ticket = 0;
+    await_and_run();
 }
 
 void regain_turn(void) {
     if (!has_turn()) {
         my_slot()->state = SLOT_READY;
         ring();
-        await_turn();
-        my.slot->state = SLOT_RUNS;
-        my.slot->ticket = 0;
+        await_and_run();
     }
 }
 
@@ -367,11 +393,16 @@ uint32_t wait_turn(uint64_t deadline, uint64_t key, enum kind kind) {
     slot->key = key;
     slot->kind = kind;
     slot->since = ++run->waits;
+    my.has_to_return = false;
+    slot->tries = my.tries != TRIES_NOT;
+    run->tries += slot->tries;
     if (is_server) {
         slot->rank = my.has_talked ? RANK_SESSION : RANK_DRIVER;
     }
     slot->state = SLOT_WAITS;
     give_turn();
+    run->tries -= slot->tries;
+    my.tries = slot->tries = 0;
     slot->deadline = NEVER;
     slot->key = 0;
     return slot->flags;
@@ -400,9 +431,9 @@ uint64_t key_of(const volatile void *at, uint64_t salt) {
     return mixed((uint64_t)(uintptr_t)at + salt, my_slot()->pid);
 }
 
-/* The same in each process that maps it: only the place in its page is known. */
-uint64_t key_of_any(const volatile void *at, uint64_t salt) {
-    return mixed(((uint64_t)(uintptr_t)at & 4095) + salt, 0);
+/* The same in each process that maps the file. */
+uint64_t key_of_file(uint64_t device, uint64_t inode, uint64_t offset) {
+    return mixed(mixed(device, inode), offset);
 }
 
 uint64_t key_of_number(uint64_t number) {
@@ -438,8 +469,8 @@ void wake(uint64_t key, int most) {
 void wake_descriptors(uint32_t pid) {
     for (uint32_t i = 0; i < run->used; i++) {
         struct slot *slot = &run->slots[i];
-        if (slot->state == SLOT_WAITS && slot->pid == pid && slot->kind == KIND_DESCRIPTOR) {
-            slot->flags |= HAS_EVENT;
+        if (slot->state == SLOT_WAITS && (!pid || slot->pid == pid) && slot->kind == KIND_DESCRIPTOR) {
+            slot->flags |= LOOKS_AGAIN;
         }
     }
 }

@@ -11,13 +11,19 @@
 extern struct run *run;
 extern int run_epoll;
 
+/* Whether a wait is for what nobody of the run wakes its thread for, and whether it is one more of the same. */
+enum tries { TRIES_NOT, TRIES, TRIES_ON };
+
 /* What a thread of a program knows of itself. */
 struct my {
     struct slot *slot;
     uint32_t index;
     uint32_t is_deciding; /* a signal that comes now is handled after it */
     uint32_t handled;     /* signals that a handler had */
-    bool has_to_return;   /* the last one had no SA_RESTART */
+    bool has_to_return;   /* one that came during this wait had no SA_RESTART */
+    bool is_asynchronous; /* pthread_cancel is to end it anywhere */
+    enum tries tries;     /* whether its next wait is one that nobody wakes */
+    uint32_t born;        /* the slot of a child that is about to be made */
     uint32_t looks;
     uint64_t looked_at, step;
     bool has_talked;
@@ -62,8 +68,11 @@ void check_coordinator(void);
 /* Lets those go on that wait for this key, the longest first. */
 void wake(uint64_t key, int most);
 
-/* Lets all of a process's threads look again that wait for descriptors. */
+/* Lets all of a process's threads look again that wait for descriptors; 0: of all processes. */
 void wake_descriptors(uint32_t pid);
+
+/* Turns, for a thread that pthread_cancel is to end anywhere, off and on that it does so now; NULL where none is. */
+extern void (*hold_cancel)(bool is_held);
 
 /* A moment from now, and the moment at which a clock shows this. */
 uint64_t after(uint64_t nanoseconds);
@@ -92,7 +101,7 @@ void settle(uint32_t pid);
 
 /* Keys of what is waited for in one process, and in any. */
 uint64_t key_of(const volatile void *at, uint64_t salt);
-uint64_t key_of_any(const volatile void *at, uint64_t salt);
+uint64_t key_of_file(uint64_t device, uint64_t inode, uint64_t offset);
 uint64_t key_of_number(uint64_t number);
 uint64_t key_of_children(uint32_t pid);
 uint64_t key_of_signals(uint32_t pid);
