@@ -91,7 +91,7 @@ void say_waits(void) {
         "a moment", "a descriptor",    "a lock, condition or semaphore",          "a child's end",
         "a signal", "the interpreter", "a lock, queue or semaphore of the kernel"};
     int listed = 0;
-    for (uint32_t i = 0; i < run->used; i++) {
+    for (uint32_t i = 0; i < slots_used(); i++) {
         struct slot *slot = &run->slots[i];
         if (slot->state == SLOT_FREE || slot->rank >= RANK_SESSION) {
             continue; /* A server always waits for its clients. */

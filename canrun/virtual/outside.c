@@ -125,7 +125,7 @@ static bool is_timed(const struct called *called) {
 
 /* Whether a thread that is thought to be outside has come back meanwhile, and sleeps on the word of its slot. */
 static bool waits_for_turn(uint32_t pid, uint32_t tid, const struct called *called) {
-    for (uint32_t i = 0; i < run->used && called->number == SYS_futex; i++) {
+    for (uint32_t i = 0; i < slots_used() && called->number == SYS_futex; i++) {
         struct slot *slot = &run->slots[i];
         uint32_t outside = SLOT_OUTSIDE;
         if (slot->pid == pid && slot->tid == tid && slot->go_at == called->arguments[0]) {
@@ -190,7 +190,7 @@ static bool all_sleep(uint32_t pid, uint32_t tid, uint64_t *times) {
 
 static bool one_pass(uint64_t *times) {
     *times = 0;
-    for (uint32_t i = 0; i < run->used; i++) {
+    for (uint32_t i = 0; i < slots_used(); i++) {
         struct slot *slot = &run->slots[i];
         if (slot->state == SLOT_OUTSIDE && !all_sleep(slot->pid, slot->is_foreign ? 0 : slot->tid, times)) {
             return false;
@@ -237,7 +237,7 @@ bool outside_sleeps(void) {
 
 /* One that is stopped may not have begun its turn. */
 static void take_back(uint64_t turn, bool is_stopped) {
-    struct slot *slot = &run->slots[(uint32_t)turn & NOBODY];
+    struct slot *slot = slot_at((uint32_t)turn & NOBODY);
     uint32_t state = slot->state;
     if ((state == SLOT_RUNS || is_stopped) && turn_change(turn, NOBODY)) {
         __atomic_compare_exchange_n((uint32_t *)&slot->state, &state, SLOT_OUTSIDE, 0, __ATOMIC_SEQ_CST,
@@ -264,7 +264,7 @@ static bool is_asleep_for_long(uint32_t index, char state, uint64_t times) {
 
 bool outside_watch(uint64_t turn, int looks, bool (*is_asked)(void)) {
     uint32_t index = (uint32_t)turn & NOBODY;
-    struct slot *slot = &run->slots[index];
+    struct slot *slot = slot_at(index);
     uint32_t pid = slot->pid, tid = slot->tid;
     char state = proc_state(pid, tid);
     if (state == 'Z' || state == 'X') {
@@ -283,9 +283,9 @@ bool outside_watch(uint64_t turn, int looks, bool (*is_asked)(void)) {
 }
 
 void outside_share(uint64_t turn) {
-    struct slot *slot = &run->slots[(uint32_t)turn & NOBODY];
+    struct slot *slot = slot_at((uint32_t)turn & NOBODY);
     uint32_t runs = SLOT_RUNS;
-    for (uint32_t i = 0; i < run->used; i++) {
+    for (uint32_t i = 0; i < slots_used(); i++) {
         struct slot *other = &run->slots[i];
         bool waits = other->state == SLOT_WAITS && (other->flags || other->kind == KIND_INTERPRETER);
         if (other == slot || other->pid != slot->pid || !(waits || other->state == SLOT_READY)) {
@@ -303,7 +303,7 @@ void outside_share(uint64_t turn) {
 
 /* Whether a process has a slot that it knows of. */
 static bool has_begun(uint32_t pid) {
-    for (uint32_t i = 0; i < run->used; i++) {
+    for (uint32_t i = 0; i < slots_used(); i++) {
         if (run->slots[i].pid == pid && run->slots[i].tid && run->slots[i].state != SLOT_FREE) {
             return true;
         }
@@ -312,7 +312,7 @@ static bool has_begun(uint32_t pid) {
 }
 
 bool outside_runs(void) {
-    for (uint32_t i = 0; i < run->used; i++) {
+    for (uint32_t i = 0; i < slots_used(); i++) {
         struct slot *slot = &run->slots[i];
         bool is_awaited = slot->state == SLOT_BORN || slot->state == SLOT_OUTSIDE;
         char state = is_awaited && slot->pid ? proc_state(slot->pid, slot->tid) : 'X';
@@ -324,7 +324,7 @@ bool outside_runs(void) {
 }
 
 void outside_births(int looks) {
-    for (uint32_t i = 0; i < run->used; i++) {
+    for (uint32_t i = 0; i < slots_used(); i++) {
         struct slot *slot = &run->slots[i];
         if (slot->state != SLOT_BORN || !slot->pid || slot->parent == 0) {
             continue;
@@ -340,7 +340,7 @@ void outside_births(int looks) {
 }
 
 static bool is_known(uint32_t pid) {
-    for (uint32_t i = 0; i < run->used; i++) {
+    for (uint32_t i = 0; i < slots_used(); i++) {
         if (run->slots[i].pid == pid && run->slots[i].state != SLOT_FREE) {
             return true;
         }
@@ -350,7 +350,7 @@ static bool is_known(uint32_t pid) {
 
 void outside_strangers(void) {
     static uint32_t pids[TREE_MOST];
-    for (uint32_t i = 0; i < run->used; i++) {
+    for (uint32_t i = 0; i < slots_used(); i++) {
         if (run->slots[i].state == SLOT_BORN && !run->slots[i].pid) {
             return; /* It may be the one that has this slot. */
         }

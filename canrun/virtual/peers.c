@@ -14,8 +14,6 @@
 #include <sys/un.h>
 
 #define NAME_SERVICES "/run/systemd/"
-/* How many processes there may be between one of the run and its coordinator. */
-#define DEEPEST 1000
 
 /* The run ends: for that server time goes on as ever. `host` is where it is, after `, at `, or empty. */
 static void fail_outside(const char *what, const char *host) {
@@ -29,12 +27,7 @@ static void fail_outside(const char *what, const char *host) {
 
 /* All of a run are below its coordinator. Of one that has ended it is not known. */
 static bool is_of_run(uint32_t pid) {
-    for (int i = 0; i < DEEPEST && pid > 1; i++, pid = proc_parent(pid)) {
-        if (pid == (uint32_t)run->coordinator) {
-            return true;
-        }
-    }
-    return pid == 0;
+    return proc_is_below(pid, (uint32_t)coordinator_pid) || !proc_parent(pid);
 }
 
 static bool has_port(uint32_t port) {

@@ -100,7 +100,7 @@ EXPORT int pthread_create(pthread_t *restrict thread, const pthread_attr_t *rest
 }
 
 static bool is_alive(pthread_t thread) {
-    for (uint32_t i = 0; i < run->used; i++) {
+    for (uint32_t i = 0; i < slots_used(); i++) {
         struct slot *slot = &run->slots[i];
         if (slot->state != SLOT_FREE && slot->thread == thread && slot->pid == my_slot()->pid) {
             return true;
