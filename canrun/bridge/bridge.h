@@ -27,7 +27,7 @@
 /* ---- main.c ---- */
 
 /* The protocol of the socket. */
-extern enum wire_protocol protocol;
+extern int protocol;
 /* The name of the program's end. */
 extern char program_name[WIRE_NAME_ROOM];
 
