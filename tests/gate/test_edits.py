@@ -150,8 +150,8 @@ def upper(tmp_path):
     return top
 
 
-def test_edits_wait_for_what_is_built_beside_them(upper, tmp_path):
-    """without the library of the crate below them none could be judged"""
+def test_edits_wait_for_what_is_proved_beside_them(upper, tmp_path):
+    """a crate that is proved as it is needs no check without its edits, so there is only one"""
     log = tmp_path / "log"
     log.write_text("rt: toys proved\n", encoding="utf-8")
     environment = {**os.environ, "CANBUSD_KEPT": str(tmp_path / "kept")}
@@ -159,7 +159,7 @@ def test_edits_wait_for_what_is_built_beside_them(upper, tmp_path):
     with subprocess.Popen(words, env=environment, stdout=subprocess.PIPE, stderr=subprocess.STDOUT, text=True) as child:
         subprocess.run(["rt", "lib"], cwd=upper / "crates/toy", stdout=subprocess.DEVNULL, timeout=900, check=True)
         with open(log, "a", encoding="utf-8") as file:
-            file.write("rt: toy proved\n")
+            file.write("rt: toy proved\nrt: upper proved\n")
         said = child.communicate(timeout=900)[0]
     assert said.startswith("upper/one_step: refused: second_after: ") and said.endswith("\n1 passed, 0 failed\n")
 
