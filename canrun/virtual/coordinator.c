@@ -68,12 +68,6 @@ bool register_process(void) {
     return false;
 }
 
-static double real_now(void) {
-    struct timespec t;
-    clock_gettime(CLOCK_MONOTONIC, &t);
-    return (double)t.tv_sec + (double)t.tv_nsec * 1e-9;
-}
-
 /* ---- processes of the run ---- */
 
 /* Whether a process is below this one, whose end is seen then. */

@@ -99,6 +99,26 @@ static void check_peer(int fd, const struct sockaddr *to) {
     }
 }
 
+/* The kernel's CAN sockets have its clock; those of the run are had by canbusd-run inside of it, which sets this. */
+#define HAS_INTERFACES "CANBUSD_INTERFACES"
+
+EXPORT int socket(int domain, int type, int protocol) {
+    static _Atomic bool is_said;
+    char test[TEST_ROOM];
+    if (!run || domain != PF_CAN || getenv(HAS_INTERFACES)) {
+        return (int)answer(RAW(SYS_socket, domain, type, protocol));
+    }
+    if (!is_said) {
+        is_said = true;
+        tell(false,
+             "%.60s (process %ld) has no CAN sockets%s: they take a server and canbusd-run inside of the run, as in "
+             "canbusd-run --virtual sh -c 'canbusd serve --bitrate 500000 can0 & sleep 1; canbusd-run %.60s ..'; "
+             "examples/scenario.sh is a whole one",
+             program_invocation_short_name, RAW(SYS_getpid, 0), tell_test(test), program_invocation_short_name);
+    }
+    return errno = EAFNOSUPPORT, -1;
+}
+
 EXPORT int connect(int fd, const struct sockaddr *to, socklen_t length) {
     my.has_talked = true;
     if (run && port_of(to)) {

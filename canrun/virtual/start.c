@@ -3,6 +3,7 @@
 #include "calls.h"
 #include "random.h"
 #include "rights.h"
+#include "../command/program.h"
 #include "tell.h"
 
 #include <fcntl.h>
@@ -121,9 +122,11 @@ static uint32_t find_slot(void) {
     return found == NOBODY ? take_slot() : found;
 }
 
+#define SELF "/proc/self/exe"
+
 static void recognize(void) {
     char path[PATH_MAX];
-    long length = RAW(SYS_readlinkat, AT_FDCWD, "/proc/self/exe", path, sizeof path - 1);
+    long length = RAW(SYS_readlinkat, AT_FDCWD, SELF, path, sizeof path - 1);
     path[length > 0 ? length : 0] = 0;
     const char *name = strrchr(path, '/');
     is_server = name && !strcmp(name, "/canbusd");
@@ -131,6 +134,19 @@ static void recognize(void) {
     is_bridge = true;
 #endif
 }
+
+#ifndef FOR_BRIDGE
+/* What calls the kernel itself, as programs of Go do also where they load libraries, waits unseen: so the run ends at
+ * once. */
+static void end_bypassing(void) {
+    const char *obstacle = is_server ? NULL : program_bypass(SELF);
+    char test[TEST_ROOM];
+    if (obstacle) {
+        tell(true, "%.60s (process %ld) %s, so its waits are not seen%s; start it outside of the run",
+             program_invocation_short_name, RAW(SYS_getpid, 0), obstacle, tell_test(test));
+    }
+}
+#endif
 
 __attribute__((constructor(103))) static void start(void) {
     const char *path = getenv(RUN_SETTING);
@@ -155,5 +171,6 @@ __attribute__((constructor(103))) static void start(void) {
     begin_slot(index);
 #ifndef FOR_BRIDGE
     start_random();
+    end_bypassing();
 #endif
 }
