@@ -133,6 +133,19 @@ class Connection:
                     self._readiness.show(False)
             raise
 
+    def take_frames(self, to: deque[str]) -> int:
+        """Reads once what the socket has, without waiting, and moves the frames that were read to the end of `to`.
+
+        Returns how many there were. One call for many: an exception of a signal's handler finds them here or there.
+        """
+        before = len(to)
+        try:
+            self._read(self._never, 0.0, select.POLLIN)
+        finally:
+            with contextlib.suppress(IndexError):
+                to.extend(iter(self._frames.popleft, None))
+        return len(to) - before
+
     def frames_at_hand(self) -> int:
         """Returns how many frames were read already, and wait to be taken."""
         return len(self._frames)

@@ -6,6 +6,7 @@ installed, faults are its exceptions.
 
 import errno
 import time
+from collections import deque
 from collections.abc import Sequence
 from typing import Optional
 
@@ -102,6 +103,13 @@ class RawSession(InjectsFaults):
         """Returns the next message that hands over a frame, from `<` on; None where none came in this time, in seconds."""
         try:
             return self._connection.frame(timeout)
+        except ConnectionError as reason:
+            raise self._failed("CanOperationError", str(reason)) from None
+
+    def take_frames(self, to: deque[str]) -> int:
+        """Reads once what has come, without waiting, and moves the frames to the end of `to`; returns how many there were."""
+        try:
+            return self._connection.take_frames(to)
         except ConnectionError as reason:
             raise self._failed("CanOperationError", str(reason)) from None
 
