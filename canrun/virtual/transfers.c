@@ -120,7 +120,7 @@ EXPORT int recvmmsg(int fd, struct mmsghdr *messages, unsigned count, int flags,
 EXPORT ssize_t sendto(int fd, const void *data, size_t length, int flags, const struct sockaddr *to, socklen_t room) {
     uint64_t deadline = 0;
     size_t done = 0;
-    my.has_talked = true;
+    my.has_talked = my.has_acted = true;
     cancel_point();
     if (!run || flags & MSG_DONTWAIT) {
         return answer(RAW(SYS_sendto, fd, data, length, flags, to, room));
@@ -149,7 +149,7 @@ EXPORT ssize_t sendmsg(int fd, const struct msghdr *message, int flags) {
     uint64_t deadline = 0;
     size_t done = 0;
     struct rest rest;
-    my.has_talked = true;
+    my.has_talked = my.has_acted = true;
     cancel_point();
     if (!run || flags & MSG_DONTWAIT || message->msg_iovlen > PARTS) {
         return await_ready(fd, POLLOUT, flags) ? answer(RAW(SYS_sendmsg, fd, message, flags)) : -1;
@@ -187,7 +187,7 @@ EXPORT int sendmmsg(int fd, struct mmsghdr *messages, unsigned count, int flags)
 }
 
 EXPORT int accept4(int fd, struct sockaddr *restrict from, socklen_t *restrict room, int flags) {
-    my.has_talked = true;
+    my.has_talked = my.has_acted = true;
     return await_ready(fd, POLLIN, 0) ? (int)answer(RAW(SYS_accept4, fd, from, room, flags)) : -1;
 }
 
@@ -298,6 +298,7 @@ static ssize_t write_pieces(int fd, const char *data, size_t length) {
 }
 
 EXPORT ssize_t write(int fd, const void *data, size_t length) {
+    my.has_acted = true;
     struct stat status;
     if (run && length > PIECE && !RAW(SYS_fstat, fd, &status) && !(RAW(SYS_fcntl, fd, F_GETFL) & O_NONBLOCK)) {
         if (S_ISFIFO(status.st_mode)) {
@@ -312,6 +313,7 @@ EXPORT ssize_t write(int fd, const void *data, size_t length) {
 ALSO(__write, write)
 
 EXPORT ssize_t writev(int fd, const struct iovec *parts, int count) {
+    my.has_acted = true;
     return await_ready(fd, POLLOUT, 0) ? answer(RAW(SYS_writev, fd, parts, count)) : -1;
 }
 
