@@ -4,7 +4,7 @@
     benches/virtual.py [SECONDS]    so many seconds of bus time (20), from which the rest is computed
 
 CANBUSD and CANBUSD_RUN name the programs. A turn is one handing on to a thread; time of a processor is that of all programs
-of the run, the server's too. Where there is strace it counts the system calls of a frame."""
+of the run, the server's too."""
 
 import os
 import re
@@ -72,14 +72,14 @@ def test_python(canbusd):
 PYTEST = 'mkdir "$OUT"; cd "$OUT"; "$PYTHON" -m pytest -q -p canbusd.pytest_plugin -p no:cacheprovider "$NODES/test_nodes.py" -k {} >&2'
 
 
-def run(name, script, seconds, folder, prefix=()):
+def run(name, script, seconds, folder):
     """Runs a script of so many seconds: the time of a processor, and the turns."""
     env = {**os.environ, "RUN": RUN, "CASES": CASES, "NODES": folder, "FRAMES": str(seconds * 100)}
     env.setdefault("CANBUSD", os.path.join(ROOT, "dist", "canbusd"))
     env.update(PYTHON=sys.executable, PYTHONPATH=os.path.join(ROOT, "python", "src"), CANBUSD_RUN=RUN)
     env.update(OUT=os.path.join(folder, f"{name.split()[0]}.{seconds}"), CANBUSD_RUN_DEBUG="1")
     before = resource.getrusage(resource.RUSAGE_CHILDREN)
-    words = [*prefix, RUN, "--virtual", "--", "bash", "-c", script]
+    words = [RUN, "--virtual", "--", "bash", "-c", script]
     ended = subprocess.run(words, env=env, stderr=subprocess.PIPE, text=True, check=True)
     shutil.rmtree(env["OUT"])
     after = resource.getrusage(resource.RUSAGE_CHILDREN)
@@ -96,24 +96,11 @@ def measure(name, script, seconds, frames, whole, folder):
         return
     used, all_turns = run(name, script, FIRST + seconds, folder)
     used, turns = (used - first) / seconds, (all_turns - turns) / seconds
-    rate = f"{turns / frames:.1f} turns{calls(name, script, frames, folder)}, {used / frames * 1e6:.1f} us a frame"
+    rate = f"{turns / frames:.1f} turns, {used / frames * 1e6:.1f} us a frame"
     rate += f", {used / turns * 1e6:.1f} us a turn"
     print(
         f"{name}: {rate}, {first + used * (whole - FIRST):.1f} s of a processor for {whole} s of bus time", flush=True
     )
-
-
-def calls(name, script, frames, folder):
-    """Says how many system calls a frame takes, as strace counts them, in a second after the first."""
-    if not shutil.which("strace"):
-        return ""
-    path = os.path.join(folder, "calls")
-    counts = []
-    for seconds in (FIRST, FIRST + 1):
-        run(name, script, seconds, folder, ("strace", "-f", "-c", "-o", path))
-        with open(path, encoding="ascii") as file:
-            counts.append(sum(int(line.split()[3]) for line in file if re.match(r" *[\d.]+ .*[a-z]\w+$", line)))
-    return f", {(counts[1] - counts[0]) / frames:.0f} system calls"
 
 
 def main():
