@@ -21,7 +21,7 @@ import canbusd
 from canbusd import Load
 from canbusd._process.program import find_program
 from canbusd._process.program_run import NUMBERS
-from canbusd.commands import NOTHING
+from canbusd._session.protocol import NO_FRAMES
 from canbusd.faults import Faults
 from canbusd.server import Server, ServerError
 
@@ -242,7 +242,7 @@ def test_the_load_of_a_bus():
     """A full bus is busy all the time, and an idle one never; each frame counts with the bits that follow it."""
     frame, size = message(1, bytes(8)), 500
     with Server("can0,can1", "car0", bitrate=50_000, txqueue=size) as server:
-        with server.bus("can0") as can0, server.bus("can1", can_filters=NOTHING) as can1, server.bus("car0") as car0:
+        with server.bus("can0") as can0, server.bus("can1", can_filters=NO_FRAMES) as can1, server.bus("car0") as car0:
 
             def is_full():
                 can0.send_many([frame] * (size - can0.stats().waiting), timeout=WAIT)
