@@ -276,6 +276,31 @@ def test_what_a_server_says_of_a_full_record():
     assert "record full" in server.said
 
 
+class UntilFull:
+    """A clock for deadlines that goes on only once the record of a server is full."""
+
+    sleep = staticmethod(time.sleep)
+
+    def __init__(self, server):
+        self._server = server
+
+    def monotonic(self):
+        return 1000.0 if "record full" in self._server.said else 0.0
+
+
+@pytest.mark.parametrize("sends", ["one", "many"])
+def test_a_record_that_fills_while_a_send_waits(monkeypatch, sends):
+    """Without an acknowledgement no frame leaves the queue, and each attempt is an entry: the counts stay as they are."""
+    with Server("can0", ack="peers", limit=300, txqueue=2, observe=()) as server, server.bus("can0") as can0:
+        monkeypatch.setattr("canbusd._session.raw_session.time", UntilFull(server))
+        with pytest.raises(can.CanOperationError, match="^record full.*: start the server again with a higher limit="):
+            if sends == "one":
+                for number in range(3):
+                    can0.send(message(number), timeout=WAIT)
+            else:
+                can0.send_many([message(number) for number in range(3)], WAIT)
+
+
 def test_what_is_expected_where_the_record_is_full():
     """Nothing is sent there any more: what does not come then does not count."""
     with Server("can0,can1", limit=60) as server, server.bus("can0") as can0:
