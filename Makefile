@@ -28,7 +28,7 @@ FISH = $(DESTDIR)$(PREFIX)/share/fish/vendor_completions.d
 # Where python3 looks for packages, below PREFIX.
 PYTHONDIR ?= $(shell ./scripts/python-package place "$(PREFIX)")
 # Tools that need python3 and the package: in bin/ each is a link.
-TOOLS = canbusd-report candump2bench
+TOOLS = candump2bench
 
 # The compiler of canbusd-run.
 CC_OF_RUN = $(if $(filter default,$(origin CC)),gcc,$(CC))
