@@ -1,17 +1,17 @@
 """Logs of other tools: candump's, and those that python-can reads and writes by a file's ending, as ASC and BLF."""
 
-import contextlib
 import importlib
+import io
 import itertools
 import os
 import re
 from collections.abc import Iterable, Iterator, Sequence
-from typing import Any, NamedTuple, Union
+from typing import Any, BinaryIO, NamedTuple
 
 from canbusd._text import shown
+from canbusd._whole_file import Path, replaced
 from canbusd.frames import BadFrame, Frame, frame_like, log_line
 
-Path = Union[str, "os.PathLike[str]"]
 #: The endings of files that python-can reads, also where `.gz` follows; another file is a log of candump.
 ENDINGS = (".asc", ".blf", ".csv", ".db", ".mf4", ".trc")
 #: Those of files that are written; the others that python-can writes lose frames, flags or channels.
@@ -106,31 +106,26 @@ def write_entries(path: Path, entries: Iterable[Entry], names: Sequence[str] = (
     Where it has numbers of channels the first interface is the first channel: of these names, and then as they turn up.
     What was there before is replaced once all is written; ValueError for another ending.
     """
-    stem, ending = os.path.splitext(os.fspath(path))
-    if ending.lower() not in WRITTEN:
+    ending = os.path.splitext(os.fspath(path))[1].lower()
+    if ending not in WRITTEN:
         raise ValueError(f"{os.fspath(path)}: a log that is written ends in {', '.join(WRITTEN[:-1])} or {WRITTEN[-1]}")
-    known, draft = list(names), f"{stem}.part{ending}"
-    try:
-        write = write_candump if ending.lower() == ".log" else write_by_python_can
-        count = write(draft, entries, known)
-        os.replace(draft, path)
-        return count, known
-    finally:
-        with contextlib.suppress(FileNotFoundError):
-            os.unlink(draft)
+    known = list(names)
+    with replaced(path) as file:
+        if ending == ".log":
+            return write_candump(file, entries), known
+        return write_by_python_can(file, ending, entries, known), known
 
 
-def write_candump(path: Path, entries: Iterable[Entry], known: list[str]) -> int:
+def write_candump(file: BinaryIO, entries: Iterable[Entry]) -> int:
     """Writes a log of candump; how many frames it has."""
     count = 0
-    with open(path, "w", encoding="ascii") as file:
-        for name, frame in entries:
-            file.write(f"{log_line(name, frame)}\n")
-            count += 1
+    for name, frame in entries:
+        file.write(f"{log_line(name, frame)}\n".encode("ascii"))
+        count += 1
     return count
 
 
-def write_by_python_can(path: Path, entries: Iterable[Entry], known: list[str]) -> int:
+def write_by_python_can(file: BinaryIO, ending: str, entries: Iterable[Entry], known: list[str]) -> int:
     """Writes a log with numbers of channels, those of the interfaces in this list, which grows; how many frames it has."""
     import canbusd._python_can  # noqa: F401  it says what is missing
 
@@ -138,7 +133,7 @@ def write_by_python_can(path: Path, entries: Iterable[Entry], known: list[str]) 
 
     first = next(iter(rest := iter(entries)), None)
     count = 0
-    with can_io.Logger(os.fspath(path)) as logger:
+    with can_io.BLFWriter(file) if ending == ".blf" else can_io.ASCWriter(io.TextIOWrapper(file, encoding="utf-8")) as logger:
         if first is not None and hasattr(logger, "start_timestamp"):
             # Its date has milliseconds, and moments are counted from there.
             logger.start_timestamp = int(first.frame.timestamp * 1000) / 1000
