@@ -133,7 +133,9 @@ def write_by_python_can(file: BinaryIO, ending: str, entries: Iterable[Entry], k
 
     first = next(iter(rest := iter(entries)), None)
     count = 0
-    with can_io.BLFWriter(file) if ending == ".blf" else can_io.ASCWriter(io.TextIOWrapper(file, encoding="utf-8")) as logger:
+    with can_io.BLFWriter(file) if ending == ".blf" else can_io.ASCWriter(
+        io.TextIOWrapper(file, encoding="utf-8")
+    ) as logger:
         if first is not None and hasattr(logger, "start_timestamp"):
             # Its date has milliseconds, and moments are counted from there.
             logger.start_timestamp = int(first.frame.timestamp * 1000) / 1000
