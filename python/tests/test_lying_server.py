@@ -11,7 +11,7 @@ from pathlib import Path
 import pytest
 from test_commands import environment
 
-from canbusd._program import find_program
+from canbusd._process.program import find_program
 
 HERE = Path(__file__).parent
 WAIT = 60

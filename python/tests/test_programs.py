@@ -13,7 +13,7 @@ import pytest
 from conftest import WAIT, message
 
 from canbusd import Server, ServerError
-from canbusd._output import BLOCK, MOST, Output, Search
+from canbusd._process.output import BLOCK, MOST, Output, Search
 from canbusd.programs import Program, words_of
 
 # A node for SocketCAN, which says what it receives.

@@ -13,7 +13,7 @@ import pytest
 from browser import PROGRAM, Browser
 from test_watch import WAIT, Watch, connections
 
-from canbusd._live_page import MOST_BYTES, MOST_WAITING, user_of
+from canbusd._page.live import MOST_BYTES, MOST_WAITING, user_of
 from canbusd.server import Server
 
 NOBODY = 65534

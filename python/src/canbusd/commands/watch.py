@@ -12,14 +12,14 @@ import canbusd._python_can  # noqa: F401  it says what is missing, so it comes f
 
 from can.exceptions import CanOperationError
 
-from canbusd._address import parse_address
-from canbusd._command import BadWords
-from canbusd._frame_times import FrameTimes
-from canbusd._live_page import MOST_FRAMES, Board, Json, Row, is_frame, opened
-from canbusd._program import ProgramNotFound
-from canbusd._rates import Rates
+from canbusd._page.live import MOST_FRAMES, Board, Json, Row, is_frame, opened
+from canbusd._process.program import ProgramNotFound
+from canbusd._process.rates import Rates
+from canbusd._run.frame_times import FrameTimes
+from canbusd._session.address import parse_address
 from canbusd.bus import CanbusdBus, interfaces
 from canbusd.commands import above_zero, add_address, add_database, database_of, digits
+from canbusd.commands._command import BadWords
 from canbusd.frames import SENDING, Frame, frame_like
 from canbusd.signals import Database, Decoded
 
