@@ -1,19 +1,25 @@
 """Logs of other tools: candump's, and those that python-can reads and writes by a file's ending, as ASC and BLF."""
 
+import collections
+import gzip
 import importlib
 import io
 import itertools
 import os
 import re
+import stat
 from collections.abc import Iterable, Iterator, Sequence
 from typing import Any, BinaryIO, NamedTuple
 
+from canbusd._run.log import LongLine, lines_of
 from canbusd._text import shown
 from canbusd._whole_file import Path, replaced
 from canbusd.frames import BadFrame, Frame, frame_like, log_line
 
 #: The endings of files that python-can reads, also where `.gz` follows; another file is a log of candump.
 ENDINGS = (".asc", ".blf", ".csv", ".db", ".mf4", ".trc")
+#: Those of files that are text.
+TEXTS = (".asc", ".csv", ".trc")
 #: Those of files that are written; the others that python-can writes lose frames, flags or channels.
 WRITTEN = (".log", ".asc", ".blf")
 # python-can and later versions of candump put the direction after the frame.
@@ -42,11 +48,10 @@ def read_entries(path: Path, names: Sequence[str] = ()) -> Iterator[Entry]:
         return
     # It has errors of many kinds for what a file should not be.
     try:
+        check_lines(path)
         for message in python_can_messages(path):
             yield Entry(name_of(message.channel, names), frame_like(message))
-    except ImportError:
-        raise
-    except OSError:
+    except (ImportError, OSError, LongLine):
         raise
     except Exception as fault:
         raise ValueError(f"{os.fspath(path)}: {fault or type(fault).__name__}") from None
@@ -60,7 +65,7 @@ def is_candump(path: Path) -> bool:
 def candump_entries(path: Path) -> Iterator[Entry]:
     """Yields the entries of a log of candump."""
     with open(path, encoding="utf-8", errors="replace") as file:
-        for number, line in enumerate(file, 1):
+        for number, line in enumerate(lines_of(file, path), 1):
             text = line.rstrip("\r\n ")
             if number == 1 and text.startswith(RECORD):
                 raise ValueError(f"{os.fspath(path)}: this is a record; take its log, which has the ending .log")
@@ -77,6 +82,16 @@ def entry_of(text: str, place: str) -> Entry:
         return Entry(words[2], Frame.parse(words[3], float(words[1])))
     except BadFrame as fault:
         raise ValueError(f"{place}: {fault}: {shown(text)}") from None
+
+
+def check_lines(path: Path) -> None:
+    """Reads the lines of a text file, of which python-can would keep each, however long it is; a fifo is read only once."""
+    name = os.fspath(path).lower()
+    is_text = os.path.splitext(name.removesuffix(".gz"))[1] in TEXTS
+    if is_text and not stat.S_ISFIFO(os.stat(path).st_mode):
+        opened: Any = gzip.open if name.endswith(".gz") else open
+        with opened(path, "rb") as file:
+            collections.deque(lines_of(file, path), maxlen=0)
 
 
 def python_can_messages(path: Path) -> "Iterator[Any]":
