@@ -82,6 +82,14 @@ def test_standard_input_without_a_line():
         assert call("candump2bench", stdin=zeros) == (1, "", f"candump2bench: standard input:1: {NO_LINE}\n")
 
 
+def test_a_log_without_end(tmp_path):
+    """makes no input of the bench, however long it would be"""
+    with subprocess.Popen(["yes", FRAME.strip()], stdout=subprocess.PIPE) as endless:
+        said = "candump2bench: the input would have more than the 16777216 bytes that canbusd reads: cut the log\n"
+        assert call("candump2bench", stdin=endless.stdout) == (1, "", said)
+        endless.kill()
+
+
 def test_no_blf_file(tmp_path):
     path = sparse(tmp_path / "x.blf")
     status, written, said = call("convert", path, tmp_path / "out.log")

@@ -121,9 +121,11 @@ def test_nothing_but_its_own_file_is_written(folder, name):
     assert [(line[1].startswith(".canbusd-"), line[2]) for line in moved] == ([(True, target)] if target else [])
 
 
-@pytest.fixture(params=["without a name", "with a name"])
+@pytest.fixture(params=["without a name", "with a name", "without /proc"])
 def drafts(request, monkeypatch):
-    """Both ways to write a new file: as most file systems let it, and as the others do."""
+    """The ways to write a new file: as most file systems let it, as the others do, and where it could get no name later."""
+    if request.param == "without /proc":
+        monkeypatch.setattr("canbusd._whole_file.OWN_FILES", "/nonexistent")
     if request.param == "with a name":
         real = os.open
 
@@ -157,6 +159,16 @@ def test_a_new_file_has_the_mode_of_the_umask_and_an_old_one_keeps_its(tmp_path,
         os.umask(before)
     assert contents(tmp_path) == {"old": b"new", "new": b"new"}
     assert [stat.S_IMODE((tmp_path / name).stat().st_mode) for name in ("old", "new")] == [0o604, 0o640]
+
+
+@pytest.mark.skipif(os.geteuid() != 0, reason="needs root, who may write files of others")
+def test_a_file_of_another_user_stays_that_users(tmp_path, drafts):
+    (tmp_path / "old").write_bytes(b"old")
+    os.chown(tmp_path / "old", 65534, 65533)
+    with replaced(tmp_path / "old") as file:
+        file.write(b"new")
+    status = (tmp_path / "old").stat()
+    assert (status.st_uid, status.st_gid, contents(tmp_path)) == (65534, 65533, {"old": b"new"})
 
 
 def test_another_name_of_the_old_file_keeps_the_old_content(tmp_path, drafts):
@@ -206,6 +218,14 @@ def test_a_folder_that_is_moved_meanwhile(tmp_path, drafts):
         file.write(b"new")
     assert (tmp_path / "other" / "file").read_bytes() == b"other"
     assert contents(tmp_path / "moved") == {"file": b"new"} and sorted(os.listdir(tmp_path / "other")) == ["file"]
+
+
+def test_a_folder_that_somebody_makes_meanwhile(tmp_path, drafts):
+    with pytest.raises(IsADirectoryError) as fault, replaced(tmp_path / "new") as file:
+        (tmp_path / "new").mkdir()
+        file.write(b"new")
+    assert fault.value.filename == str(tmp_path / "new")
+    assert sorted(os.listdir(tmp_path)) == ["new"] and os.listdir(tmp_path / "new") == []
 
 
 def test_a_fifo_gets_the_content_and_stays(tmp_path):

@@ -11,6 +11,8 @@ from collections.abc import Iterator
 from typing import BinaryIO, Optional, Union
 
 Path = Union[str, "os.PathLike[str]"]
+#: Where the system has the open files of this process.
+OWN_FILES = "/proc/self/fd"
 #: The errors of file systems in which each file has a name from the start, as NFS and FAT.
 NAMES_ONLY = (errno.EOPNOTSUPP, errno.EISDIR)
 
@@ -20,8 +22,9 @@ def replaced(path: Path) -> Iterator[BinaryIO]:
     """Yields a file for the new content of this path, which takes the place of the old content after the block.
 
     If the block raises an exception, or the process is killed, the old file stays as it was, and no other is left. A file
-    keeps its permissions, and one that may not be written is refused. A fifo or a device gets the content after the block.
-    A link to a file is refused: a file in its place would end it, and what it leads to may be the choice of somebody else.
+    keeps its permissions and, if possible, its owner; one that may not be written is refused. A fifo or a device gets the
+    content after the block. A link to a file is refused: a file in its place would end it, and what it leads to may be the
+    choice of somebody else.
     """
     with named(path):
         old = checked(path)
@@ -68,20 +71,24 @@ def renamed(path: Path, old: Optional[os.stat_result]) -> Iterator[BinaryIO]:
             yield file
         with named(path, is_its=True):
             if old is not None:
+                with contextlib.suppress(PermissionError):
+                    os.fchown(draft, old.st_uid, old.st_gid)
                 os.fchmod(draft, stat.S_IMODE(old.st_mode) & 0o777)
             os.fsync(draft)
             if not is_there:
-                os.link(f"/proc/self/fd/{draft}", name, dst_dir_fd=folder)
+                os.link(f"{OWN_FILES}/{draft}", name, dst_dir_fd=folder)
             os.rename(name, os.path.basename(path), src_dir_fd=folder, dst_dir_fd=folder)
 
 
 def drafted(folder: int, name: str) -> tuple[int, bool]:
     """Opens a new file in a folder, with this name only where there are none without; whether it has it."""
-    try:
-        return os.open(".", os.O_TMPFILE | os.O_WRONLY, 0o666, dir_fd=folder), False
-    except OSError as fault:
-        if fault.errno not in NAMES_ONLY:
-            raise
+    # Where it is not there, such a file can't get a name later.
+    if os.path.exists(OWN_FILES):
+        try:
+            return os.open(".", os.O_TMPFILE | os.O_WRONLY, 0o666, dir_fd=folder), False
+        except OSError as fault:
+            if fault.errno not in NAMES_ONLY:
+                raise
     return os.open(name, os.O_CREAT | os.O_EXCL | os.O_NOFOLLOW | os.O_WRONLY, 0o666, dir_fd=folder), True
 
 

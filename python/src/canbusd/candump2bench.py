@@ -147,6 +147,8 @@ def take_lines(bench: BenchInput, log: Iterable[bytes], place: str) -> int:
         try:
             if text:
                 bench.take(text)
+            if bench.bytes > MOST_BYTES:
+                break
         except (NotTaken, BadFrame) as fault:
             left_out += 1
             words = LINE.fullmatch(text)
