@@ -237,6 +237,13 @@ def test_nothing_is_left_of_one_that_has_ended(server):
         assert children() == before and program.status is not None
 
 
+def test_nothing_is_left_of_one_that_did_not_start(server):
+    before = children()
+    with pytest.raises(NotADirectoryError):
+        server.start("true", cwd="/dev/null", may_end=True, executable="/dev/null/x")
+    assert children() == before
+
+
 def test_one_that_is_forgotten(server):
     """It ends, as a server does that nobody refers to."""
     pid = Program(["sleep", "1000"], [], server._folder / "forgotten", False).pid

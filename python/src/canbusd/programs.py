@@ -89,15 +89,18 @@ class Program:
         self._may_end, self._is_stopped = may_end, False
         # Not in the terminal's foreground: Ctrl-C is the test's.
         how: dict[str, Any] = {"stdin": subprocess.DEVNULL, "start_new_session": True, **kwargs}
-        with open(output, "wb") as file:
-            self._child: "subprocess.Popen[bytes]" = subprocess.Popen(
-                [*command, *words], stdout=file, stderr=subprocess.STDOUT, **how
-            )
+        self._guard = Guard()
+        child: "Optional[subprocess.Popen[bytes]]" = None
         try:
-            self._guard = Guard(self._child.pid)
+            with open(output, "wb") as file:
+                child = subprocess.Popen([*command, *words], stdout=file, stderr=subprocess.STDOUT, **how)
+            self._guard.watch(child.pid)
         except BaseException:
-            self._child.kill()
+            if child is not None:
+                child.kill()
+            self._guard.release()
             raise
+        self._child = child
 
     @property
     def pid(self) -> int:
