@@ -7,8 +7,8 @@ from test_page import ATTEMPT, CUT, TABS, WRITTEN, browser, long_run, opened, sh
 from test_report import NAMES, bus_off, record_of
 from test_time_on_wire import three_messages
 
-from canbusd._rates import Rates
-from canbusd.report import page
+from canbusd._page.report import page
+from canbusd._process.rates import Rates
 
 pytestmark = pytest.mark.skipif(PROGRAM is None, reason="no chromium on the PATH")
 NODES = ("a", "b", "c")

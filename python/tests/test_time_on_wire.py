@@ -1,6 +1,6 @@
 """Time on the wire: when attempts begin and are over, the bus load, and the columns of a page.
 
-How many bits frames and attempts have is the program's: tests/test_audit_wire.py of the clone compares these.
+How many bits frames and attempts have is the program's: tests/record/test_audit_wire.py of the clone compares these.
 """
 
 import json
@@ -14,11 +14,11 @@ from test_report import NAMES, bus_off, data_of, record_of
 from wire_model import bit_counts, random_frames
 
 from canbusd import Bench
-from canbusd._events import Events
-from canbusd._rates import Rates
-from canbusd._slots import load_of, overlaps_of, slots_of
+from canbusd._page.report import page
+from canbusd._process.rates import Rates
+from canbusd._run.events import Events
+from canbusd._run.slots import load_of, overlaps_of, slots_of
 from canbusd.record import parse_record, timed
-from canbusd.report import page
 from canbusd.server import Server
 
 SLOW, SWITCHING = Rates(500000), Rates(500000, 2000000)

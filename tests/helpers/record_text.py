@@ -1,0 +1,254 @@
+"""The text of a record, as docs/RECORD.md describes it: its grammar, and the bus and the entries that it spells."""
+
+import dataclasses
+import re
+from collections.abc import Iterable, Iterator
+from dataclasses import dataclass
+from typing import Optional
+
+from canbusd._run.run_parts import Bus
+from canbusd._text import shown
+from canbusd.frames import ERROR_FRAME, FD_FRAME, FLAGGED_FRAME, FRAME, flags_in, is_fd
+
+
+def up_to(most: int) -> str:
+    """Returns a regular expression of the numbers from 0 to `most`, at least 10, without leading zeros."""
+    digits = str(most)
+    ways = [digits, "0", f"[1-9][0-9]{{0,{len(digits) - 2}}}"]
+    for place, digit in enumerate(digits):
+        least = 1 if place == 0 else 0
+        if int(digit) > least:
+            ways.append(f"{digits[:place]}[{least}-{int(digit) - 1}][0-9]{{{len(digits) - place - 1}}}")
+    return f"(?:{'|'.join(ways)})"
+
+
+IFACE, SOCKET, COUNT = up_to(15), up_to((1 << 32) - 1), up_to((1 << 64) - 1)
+SET = "[0-9A-F]{4}"
+WORD = "[0-9A-F]{8}"
+# A word without bit 29.
+MASK = "[014589CD][0-9A-F]{7}"
+MOMENT = r"(?:0|[1-9][0-9]{0,9})\.[0-9]{6}"
+VERDICT = f"(?:good|global-bit|global-form|lastbit|local-(?:stuff|crc|form):{SET})"
+REFUSALS = ["no-interface", "bad-capacity", "too-many-sockets", "no-socket", "bus-off", "no-buffers", "not-bus-off"]
+MOST_FILTERS = 512
+
+NUMBER = "(0|[1-9][0-9]*)"
+BUS = f"bus {NUMBER} (always|peers) ({SET}) {NUMBER} {NUMBER}"
+
+
+# About how many bytes are read at once.
+BLOCK = 1 << 20
+# How many entries a record has at most that is written at the end of its run, and one that is written while it runs.
+MOST_ENTRIES, MOST_LIVE_ENTRIES = 1 << 24, (1 << 32) - 2
+
+
+class Version:
+    """A version of the text: the line of its bus and its limits, and for each kind of event its words and its replies."""
+
+    def __init__(self, bus: str, fd: Optional[str] = None, limits: range = range(1, MOST_ENTRIES + 1)) -> None:
+        # FD frames as it spells them, if it has any.
+        self.bus, self.fd, self.limits = re.compile(bus), fd, limits
+
+    def entries(self, restarts: bool) -> dict[str, re.Pattern[str]]:
+        """Returns the entries' regular expressions, on a bus that restarts interfaces or one that does not."""
+        frame = f"(?:{FRAME}|{self.fd})" if self.fd else FRAME
+        options = "loopback|recvown|join|fd" if self.fd else "loopback|recvown|join"
+        restarted = f"(?: restarted (?!0000){SET})?" if restarts else ""
+        attempted = f"(?:idle|tried {IFACE} {COUNT} {frame} (?:done|lastbit|destroyed|noack) {SET} {SET}){restarted}"
+        received = f"none|data {IFACE} {COUNT} {frame} {MOMENT}|error {IFACE} {ERROR_FRAME} {MOMENT}"
+        lines = [
+            ("open", f"{IFACE} {SOCKET}", f"socket {SOCKET}"),
+            ("close", SOCKET, f"closed {COUNT} {COUNT}"),
+            ("filters", f"{SOCKET} {up_to(MOST_FILTERS)}(?: {WORD} {MASK})*", "ok"),
+            ("option", f"{SOCKET} (?:(?:{options}) [01]|errmask {WORD})", "ok"),
+            ("send", f"{SOCKET} {frame}", f"number {COUNT}"),
+            ("receive", SOCKET, received),
+            ("attempt", f"{MOMENT} {VERDICT}", attempted),
+            ("restart", f"{IFACE} {MOMENT}", "ok"),
+        ]
+        refusal = "|".join(REFUSALS)
+        spelled = {kind: f"{kind} {event} = (?:{reply}|{refusal})" for kind, event, reply in lines}
+        if self.fd:
+            spelled["send"] += f"|send {SOCKET} {self.fd} = fd-off"
+        return {kind: re.compile(line) for kind, line in spelled.items()}
+
+
+# From version 2 on a number after the limit says after how many attempts interfaces are restarted.
+VERSION_3 = Version(f"{BUS} {NUMBER}", FD_FRAME)
+# Version 5 has flags of FD frames.
+VERSION_5 = Version(f"{BUS} {NUMBER}", FLAGGED_FRAME)
+# By the first line. Version 4 is the text of the record of a long run, and of no other.
+VERSIONS = {
+    "canbus record 1": Version(BUS),
+    "canbus record 2": Version(f"{BUS} ([1-9][0-9]*)"),
+    "canbus record 3": VERSION_3,
+    "canbus record 4": Version(f"{BUS} {NUMBER}", FLAGGED_FRAME, range(MOST_ENTRIES + 1, MOST_LIVE_ENTRIES + 1)),
+    "canbus record 5": VERSION_5,
+}
+
+
+class BadRecord(ValueError):
+    """Why bytes are not the record of a run; `verdict` is what `canbusd audit` says of it, such as `line 5: bad line`."""
+
+    def __init__(self, message: str, verdict: str) -> None:
+        super().__init__(message)
+        self.verdict = verdict
+
+
+def bad_line(number: int, message: str) -> BadRecord:
+    """The fault of the line of this number, from 1."""
+    return BadRecord(f"line {number}: {message}", f"line {number}: bad line")
+
+
+@dataclass(frozen=True)
+class RecordText(Bus):
+    """What the text of a record spells: the configuration of its bus, and the lines of its entries."""
+
+    lines: list[str]
+    #: Whether the text ends before its line `end`.
+    is_cut: bool
+
+    def entries(self, first: int = 0) -> Iterator[tuple[list[str], list[str]]]:
+        """Yields each entry from this number on: the words of its event, and those of its reply."""
+        for number in range(first, len(self.lines)):
+            event, reply = self.lines[number].split(" = ")
+            yield event.split(" "), reply.split(" ")
+
+
+def parse_text(data: bytes, cut: bool = False) -> RecordText:
+    """Returns what these bytes spell; BadRecord at the first line that is none of a record.
+
+    With `cut` the text may end before its line `end`; what follows its last LF is not looked at then.
+    """
+    reader, end = TextReader(), data.rfind(b"\n") + 1
+    # That a byte is none of a text goes before what its lines are.
+    for block in blocks_of(data, end):
+        decoded(block)
+    if not cut:
+        decoded(data[end:])
+    for block in blocks_of(data, end):
+        reader.take(decoded(block).split("\n")[:-1])
+    return reader.finish(end < len(data), cut)
+
+
+def blocks_of(data: bytes, end: int) -> Iterator[bytes]:
+    """Yields the whole lines of these bytes, which end there, many at a time."""
+    first = 0
+    while first < end:
+        after = data.find(b"\n", min(first + BLOCK, end - 1)) + 1
+        yield data[first:after]
+        first = after
+
+
+def decoded(data: bytes) -> str:
+    """The text of these bytes."""
+    try:
+        return data.decode()
+    except UnicodeDecodeError:
+        raise BadRecord("no record: it is no UTF-8 text", "read fault") from None
+
+
+class TextReader:
+    """Reads the lines of a record as they come, all at once or while they are written."""
+
+    def __init__(self) -> None:
+        #: The lines of the entries that were read.
+        self.lines: list[str] = []
+        #: Whether the line `end` was read.
+        self.is_ended = False
+        self._version: Optional[Version] = None
+        self._bus: Optional[RecordText] = None
+        self._entries: dict[str, re.Pattern[str]] = {}
+
+    @property
+    def bus(self) -> Optional[RecordText]:
+        """The bus, once its line was read; it has the list `lines`, which grows."""
+        return self._bus
+
+    def take(self, lines: Iterable[str]) -> None:
+        """Reads these lines, which are whole and without their LF; BadRecord at the first that is wrong."""
+        for line in lines:
+            if self._bus is not None:
+                self._take_entry(line)
+            elif self._version is not None:
+                self._bus = bus_of(self._version, line, self.lines)
+                self._entries = self._version.entries(restarts=self._bus.auto_restart > 0)
+            else:
+                self._version = version_of(line)
+
+    def _take_entry(self, line: str) -> None:
+        if self.is_ended:
+            raise self._text_after_the_end()
+        kind = line.split(" ", 1)[0]
+        entry = self._entries.get(kind)
+        if entry is not None and entry.fullmatch(line) and (kind != "filters" or has_its_filters(line)):
+            self.lines.append(line)
+        elif not re.fullmatch("end (?:0|[1-9][0-9]*)", line):
+            raise bad_line(len(self.lines) + 3, f"no entry of a record: {shown(line)}")
+        elif line != f"end {len(self.lines)}":
+            raise bad_line(len(self.lines) + 3, f"`{shown(line)}` after {len(self.lines)} entries")
+        else:
+            self.is_ended = True
+
+    def finish(self, is_torn: bool = False, cut: bool = False) -> RecordText:
+        """Returns what the lines spell; `is_torn` says whether bytes follow that end no line.
+
+        With `cut` the line `end` may be missing.
+        """
+        if self._version is None:
+            raise no_version()
+        if self._bus is None:
+            raise bad_line(2, "cut off before its end" if is_torn else "the line of the bus is missing")
+        if not self.is_ended:
+            if cut:
+                return dataclasses.replace(self._bus, is_cut=True)
+            missing = "cut off before its end" if is_torn else f"the line `end {len(self.lines)}` is missing"
+            raise bad_line(len(self.lines) + 3, missing)
+        if is_torn:
+            raise self._text_after_the_end()
+        if self._version is VERSION_3 and not any(map(needs_fd, self.lines)):
+            raise BadRecord("version 3, with neither an FD frame nor the option for such", "bad version")
+        if self._version is VERSION_5 and not any(map(flags_in, self.lines)):
+            raise BadRecord("version 5, without a flag of an FD frame", "bad version")
+        return self._bus
+
+    def _text_after_the_end(self) -> BadRecord:
+        return bad_line(len(self.lines) + 4, f"text after the line `end {len(self.lines)}`")
+
+
+def no_version() -> BadRecord:
+    """The fault of a text whose first line is none of a record."""
+    first = " or ".join(f"`{line}`" for line in VERSIONS)
+    return BadRecord(f"no record: its first line is not {first}", "bad version")
+
+
+def version_of(line: str) -> Version:
+    """Returns the version of the text with this first line."""
+    if line not in VERSIONS:
+        raise no_version()
+    return VERSIONS[line]
+
+
+def needs_fd(line: str) -> bool:
+    """Whether neither version 1 nor version 2 has such a line."""
+    return is_fd(line) or line.startswith("option ") and line.split(" ")[2] == "fd"
+
+
+def has_its_filters(line: str) -> bool:
+    """Whether a line `filters` has as many filters as it says."""
+    words = line.split(" = ")[0].split(" ")
+    return len(words) == 3 + 2 * int(words[2])
+
+
+def bus_of(version: Version, line: str, entries: list[str]) -> RecordText:
+    """Returns the bus that this line spells, with this list of entries."""
+    words = version.bus.fullmatch(line)
+    if not words:
+        raise bad_line(2, f"no bus: {shown(line)}")
+    ifaces = int(words[1])
+    # Version 1 has no third number.
+    tx_capacity, limit, auto_restart = map(int, [*words.groups()[3:], "0"][:3])
+    if not (1 <= ifaces <= 16 and 1 <= tx_capacity <= 1024 and limit in version.limits and auto_restart <= 1000000):
+        raise bad_line(2, f"a number out of range: {shown(line)}")
+    reporting = int(words[3], 16)
+    return RecordText(ifaces, words[2] == "always", reporting, tx_capacity, limit, auto_restart, entries, is_cut=False)
