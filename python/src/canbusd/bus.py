@@ -21,6 +21,7 @@ from can.bus import BusABC, BusState
 from can.exceptions import CanInitializationError, CanOperationError
 from can.message import Message
 
+from canbusd._calls import NamesWhatThereIs
 from canbusd._session.address import reason_of, server_address
 from canbusd._session.arguments import bit_rates, interface_name, mask_or_truth, seconds, truth
 from canbusd._session.connection import Connection, SessionRefused
@@ -95,7 +96,7 @@ class Periodic:
             self._is_refused = True
 
 
-class CanbusdBus(InjectsFaults, BusABC):
+class CanbusdBus(InjectsFaults, NamesWhatThereIs, BusABC):
     """A raw socket on an interface of a canbusd server.
 
     :param channel: the name of the interface, such as ``can0``
@@ -114,6 +115,12 @@ class CanbusdBus(InjectsFaults, BusABC):
 
     It may be used by several threads at once. Each value may be a text, as in can.conf.
     """
+
+    _INSTEAD = {
+        **dict.fromkeys(("receive", "read"), "recv(timeout=1)"),
+        **dict.fromkeys(("status", "counters", "tec", "rec"), "error_counters() has the state and the counts"),
+        **dict.fromkeys(("expect", "expect_no_frame", "expect_state", "bus_off", "wait_for"), "the Server has it"),
+    }
 
     def __init__(
         self,
@@ -224,6 +231,8 @@ class CanbusdBus(InjectsFaults, BusABC):
         :param timeout: seconds for all messages; none: as long as some are accepted within the timeout of the bus
         :raises: what :meth:`send` raises; the text says how many messages were accepted
         """
+        if not isinstance(msgs, Iterable):
+            raise ValueError(f"msgs are several can.Message, as a list, not {msgs!r}")
         self._session.send_many([self._command(msg) for msg in msgs], self.window, timeout)
 
     def set_filters(self, filters: Optional[Filters] = None) -> None:

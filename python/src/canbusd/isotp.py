@@ -90,6 +90,10 @@ def open_isotp(
     for name, identifier in (("tx", tx), ("rx", rx)):
         if not isinstance(identifier, int) or not 0 <= identifier <= 0x1FFFFFFF:
             raise ValueError(f"{name} is an identifier of 11 or 29 bits, not {identifier!r}")
+    if tx == rx:
+        raise ValueError(
+            f"tx and rx are different, not both {tx:X}: rx is the identifier that the other end sends with"
+        )
     if (tx > 0x7FF) != (rx > 0x7FF):
         raise ValueError(f"tx and rx are both of 11 bits or both of 29, not {tx:X} and {rx:X}")
     if library not in (None, "can-isotp", "canbusd-run"):

@@ -192,6 +192,10 @@ class RunsPrograms:
     _result: Any
     _programs: list[Program]
 
+    def _check_runs(self, what: str) -> None:
+        """ServerError where the server has ended, with what is not possible then."""
+        raise NotImplementedError
+
     def run(self, words: Words, wait: bool = False, **kwargs: Any) -> "subprocess.CompletedProcess[Any]":
         """Runs a program whose CAN sockets are those of this server to its end: ``"cansend can0 123#"``, or a list of words.
 
@@ -201,6 +205,7 @@ class RunsPrograms:
         """
         check_no_shell(kwargs)
         found = words_of(words)
+        self._check_runs("no program can be run on its buses")
         check_program(found[0], kwargs.get("env"), kwargs.get("cwd"))
         return subprocess.run([*self._run_words(wait), *found], **kwargs)
 
@@ -213,8 +218,7 @@ class RunsPrograms:
         """
         check_no_shell(kwargs)
         found = words_of(words)
-        if self._result is not None:
-            raise ServerError("the server has ended, and no program can be started on its buses")
+        self._check_runs("no program can be started on its buses")
         check_program(found[0], kwargs.get("env"), kwargs.get("cwd"))
         path = self._folder / f"program{len(self._programs)}"
         program = Program(found, self._run_words(wait), path, may_end, **kwargs)

@@ -12,6 +12,7 @@ import functools
 import os
 import threading
 from collections.abc import Callable, Iterable, Iterator, Mapping, Sequence
+from numbers import Real
 from types import TracebackType
 from typing import NamedTuple, Optional, TypeVar, Union
 
@@ -52,7 +53,7 @@ class Outgoing:
         self._data: Optional[bytes] = None
         #: The name of the message.
         self.name = message.name
-        #: How many of it were sent before.
+        #: How many of it were sent before; a frame that the bus refused was not.
         self.count = count
 
     def __getitem__(self, signal: str) -> Value:
@@ -73,6 +74,13 @@ class Outgoing:
         self._data = bytes(data)
 
 
+def checked_row(row: object) -> tuple[int, Value]:
+    """The moment of a row of a table, in microseconds, and its value; ValueError where it is no such pair."""
+    if not isinstance(row, (tuple, list)) or len(row) != 2 or not isinstance(row[0], Real) or row[0] < 0:
+        raise ValueError(f"a table has pairs of seconds and values, such as [(0.0, 800), (1.5, 3000)], not {row!r}")
+    return micros(float(row[0])), row[1]
+
+
 class RestMessage:
     """A message that a rest bus sends."""
 
@@ -85,7 +93,7 @@ class RestMessage:
         self._tick: Callable[[int], None] = functools.partial(self._send_due, 0)
         # The number of the run, by which what was due in an earlier one is known; and of the table of each signal.
         self._run, self._tables = 0, dict[str, int]()
-        self._sent = self._accepted = self._refused = self._skipped = 0
+        self._accepted = self._refused = self._skipped = 0
         #: What the file says of it.
         self.format = message
         #: The interface by which it is sent.
@@ -114,7 +122,7 @@ class RestMessage:
     def play(self, signal: str, table: Iterable[tuple[float, Value]]) -> None:
         """Sets a signal by a table: each value at its moment, in seconds from now, until the next; in place of an earlier
         table of the signal."""
-        rows = sorted(((micros(moment), value) for moment, value in table), key=lambda row: row[0])
+        rows = sorted(map(checked_row, table), key=lambda row: row[0])
         for _, value in rows:
             self._check(signal, value)
         with self._rest.changing() as schedule:
@@ -177,10 +185,9 @@ class RestMessage:
         """The frame that is sent next."""
         frame = self._frame
         if self._function is not None:
-            outgoing = Outgoing(self.format, self._values, self._sent)
+            outgoing = Outgoing(self.format, self._values, self._accepted)
             self._function(outgoing)
             frame = frame_of(self.format, outgoing.data)
-        self._sent += 1
         return frame
 
 

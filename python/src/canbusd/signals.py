@@ -60,6 +60,14 @@ class Database:
                     raise DatabaseError(f"{one.path}: {one} is in the way of {other}", one.path, one.name)
             self._by_name[one.name] = self._by_frame[frame] = one
 
+    def with_more(self, other: "Database") -> "Database":
+        """Returns these messages and those of another; where one of that has a name or an identifier of these, it is left out."""
+        more = [one for one in other.messages if not self._has(one)]
+        return Database([*self.messages, *more]) if more else self
+
+    def _has(self, one: MessageFormat) -> bool:
+        return one.name in self._by_name or (one.identifier, one.is_extended) in self._by_frame
+
     @property
     def messages(self) -> list[MessageFormat]:
         """The messages, in the order of the files."""

@@ -24,8 +24,12 @@ class NoInterface(ValueError):
 
 
 def database_of(source: Source) -> Database:
-    """Returns a database, which may be given as the path of its file."""
-    return source if isinstance(source, Database) else load_database(source)
+    """Returns a database, which may be given as the path of its file; ValueError for what is neither."""
+    if isinstance(source, Database):
+        return source
+    if not isinstance(source, (str, os.PathLike)):
+        raise ValueError(f"database is the path of a file, or what load_database returns, not {source!r}")
+    return load_database(source)
 
 
 def sender(message: MessageFormat) -> str:
