@@ -15,7 +15,7 @@ import os
 import re
 from collections.abc import Mapping, Sequence
 from pathlib import Path
-from typing import TYPE_CHECKING, Optional, Union
+from typing import TYPE_CHECKING, Optional, Union, cast
 
 from canbusd._calls import NamesWhatThereIs, explained
 from canbusd._process.dialogue import MOST_INPUT as MOST_INPUT, BenchError as BenchError, Dialogue, moment_text
@@ -29,7 +29,7 @@ from canbusd._session.injection import Refused as Refused
 from canbusd._session.protocol import Filters, options
 from canbusd.faults import Script, rules_in, rules_of, script_bytes
 from canbusd.frames import Frame
-from canbusd.record import Attempt, Record, read_record
+from canbusd.record import Attempt, Outcome, Record, read_record
 from canbusd.rules import MOST_RULES, GivenRules, check_rules, parse_rule
 from canbusd.signals import Database
 
@@ -268,7 +268,7 @@ class Bench(Dialogue, HasRestBus["BenchRestBus"], NamesWhatThereIs):
             winner,
             number,
             str(self._sent[winner][number]),
-            words["outcome"],
+            cast(Outcome, words["outcome"]),
             words["fault"] or "good",
             set_of(words["accepted"]),
             set_of(words["off"]),

@@ -10,7 +10,7 @@ import functools
 import os
 from collections.abc import Iterable, Sequence
 from dataclasses import dataclass, field
-from typing import Optional, Union
+from typing import Literal, Optional, Union, cast
 
 from canbusd._process.rates import Rates
 from canbusd._run.events import BadRecord, Events
@@ -24,6 +24,8 @@ from canbusd.replay import UNKNOWN, Replay
 __all__ = ["Attempt", "BadRecord", "Item", "Record", "audit", "fault_named", "parse_record", "read_record"]
 
 Path = Union[str, "os.PathLike[str]"]
+Outcome = Literal["done", "lastbit", "destroyed", "noack", "idle"]
+Fate = Literal["taken", "waiting", "unread", "dropped"]
 
 
 @dataclass(frozen=True)
@@ -39,7 +41,7 @@ class Attempt:
     #: The frame in candump's spelling, such as `123#1122`.
     frame: str
     #: `done`, or `lastbit`, `destroyed` or `noack`, after which the frame is sent again; `idle` without a winner.
-    outcome: str
+    outcome: Outcome
     #: The fault of the attempt, in the words of a fault script: `good`, `global bit`, `local crc can1`.
     fault: str
     #: The interfaces that accepted the frame.
@@ -62,7 +64,7 @@ class Item:
     #: None of a dropped item where it may have been the frame or an error message frame.
     frame: Optional[Frame]
     #: `taken`, `waiting` at the end of the run, `unread` when the socket was closed, or `dropped` for want of room.
-    fate: str
+    fate: Fate
 
 
 @dataclass(frozen=True)
@@ -98,7 +100,8 @@ class Record(Bus):
         text = run.texts.all[error or steps.frames[step]]
         frame = None if text == UNKNOWN else Frame.parse(text, float(moment_of(steps.moments[step])))
         iface = run.sockets[socket].iface
-        return Item(self.names[iface], socket, self.names[iface if error else steps.ifaces[step]], frame, FATES[fate])
+        sender = self.names[iface if error else steps.ifaces[step]]
+        return Item(self.names[iface], socket, sender, frame, cast(Fate, FATES[fate]))
 
 
 def attempts_of(run: Replay, names: Sequence[str], first: int = 0) -> list[Attempt]:
@@ -130,7 +133,7 @@ def attempt_at(run: Replay, names: Sequence[str], place: int, restarted: Sequenc
         names[steps.ifaces[place]],
         steps.numbers[place],
         steps.text(place),
-        KINDS[steps.kinds[place]],
+        cast(Outcome, KINDS[steps.kinds[place]]),
         fault_named(steps.verdict(place), names),
         named(numbers_in(steps.accepted[place]), names),
         named(numbers_in(steps.off[place]), names),
