@@ -65,11 +65,27 @@ WITHOUT_A_RUN = [
     ("Frame(0x123, 5)", ValueError, "data is bytes, such as b'", "not 5"),
     ("Frame(0x123, [1, 300])", ValueError, "data is bytes, or numbers from 0 to 255, not [1, 300]"),
     ("Frame(0x1234)", ValueError, "arbitration_id 0x1234 is not in 0 to 7FF; is_extended_id=True has 29 bits"),
+    ("Frame.parse('')", ValueError, "an empty text: no frame such as 123#1122"),
+    ("Frame(0x123).id", AttributeError, "Frame has no id: arbitration_id"),
+    # The package.
+    ("canbusd.Sever", AttributeError, "module 'canbusd' has no attribute 'Sever' (Server?)"),
+    ("CanbusdBus()", TypeError, "CanbusdBus: missing a required argument: 'channel'; it is CanbusdBus(channel,"),
+    ("load_database()", ValueError, "load_database needs the path of a file, such as load_database('car.dbc')"),
+    ("read_record(5)", TypeError, "expected str, bytes or os.PathLike object, not int"),
     # Faults.
     ("Faults().last_bit().next(3)", TypeError, "last_bit: missing", "a rule comes first: Faults().next(1).last_bit()"),
     ("Faults().destroyed()", TypeError, "destroyed: missing", "a rule comes first: Faults().next(1)."),
     ("Faults().next(3).next(3)", AttributeError, "the rule `next 3`", "has no next yet: .destroyed(), .last_bit(),"),
     ("Faults().next(1, from_='can0')", TypeError, "next has no argument from_; there are count, sender, id,"),
+    (
+        "Faults().next(1).local('crc')",
+        TypeError,
+        "local: missing a required argument: 'names'; it is local(kind, names)",
+    ),
+    ("Faults('next 1 lastbit')", TypeError, "it is Faults(); a text needs no Faults: faults='next 1 lastbit'"),
+    ("Faults().add('next 1 lastbit')", AttributeError, "Faults has no add: next(..) and always(..) add a rule;"),
+    ("Faults().destroy(1)", AttributeError, "Faults has no destroy (destroyed?)"),
+    ("Faults().of('x')", ValueError, "attempt is a number from 0 to 99999999, not 'x'"),
     ("Faults().next()", TypeError, "next: missing a required argument: 'count'; it is next(count, *, sender=None,"),
 ]
 OF_A_SERVER = [
@@ -145,6 +161,27 @@ OF_A_SERVER = [
         "too many positional arguments; it is isotp(channel, *, tx, rx, library=None)",
     ),
     ("server.isotp('can0', tx=1, rx=2, padding=0)", TypeError, "isotp has no argument padding", "isotp.CanStack"),
+    (
+        "server.isotp('can0', tx=1, rx=2).send('22f190')",
+        ValueError,
+        "data is bytes, such as bytes.fromhex('22f190'), not",
+    ),
+    ("server.isotp('can0', tx=1, rx=2).receive()", AttributeError, "has no receive: recv(timeout=1)"),
+    # Programs.
+    ("server.start('cat', stdout=1)", ValueError, "stdout is the Program's: its `output` is what it writes to both"),
+    ("server.start('cat', may_end=True).kill()", AttributeError, "Program has no kill: stop() ends it"),
+    (
+        "server.start('cat', may_end=True).returncode",
+        AttributeError,
+        "Program has no returncode: status, which is None",
+    ),
+    ("server.start('cat', may_end=True).expect(5)", ValueError, "text is what its output has, such as", "not 5"),
+    ("server.start('cat', may_end=True).expect('x', timeout=1)", TypeError, "no argument timeout (within?)"),
+    (
+        "server.start('cat', may_end=True).wait()",
+        TypeError,
+        "wait: missing a required argument: 'timeout'; it is wait(timeout)",
+    ),
 ]
 OF_A_BENCH = [
     ("session.send(0x123, '0102')", ValueError, "data is bytes, such as bytes.fromhex('0102'), not '0102'"),
@@ -169,6 +206,28 @@ OF_A_REST_BUS = [
         "not 800",
     ),
     ("rest['Engine'].play('EngineSpeed', [('x', 900)])", ValueError, "pairs of seconds and values", "not ('x', 900)"),
+    ("rest['Engine'].play('EngineSpeed', 800)", ValueError, "a table has pairs of seconds and values", "not 800"),
+    ("rest['Engine'].EngineSpeed", AttributeError, "RestNode has no EngineSpeed: a signal is node['EngineSpeed']"),
+    ("setattr(rest['Engine'], 'EngineSpeed', 800)", AttributeError, "EngineSpeed"),
+    ("setattr(rest.message('EngineData'), 'EngineSpeed', 800)", AttributeError, "EngineSpeed"),
+    ("rest.Engine", AttributeError, "has no Engine: a node is rest['Engine'], a message rest.message('EngineData')"),
+    ("rest.run(until=1)", AttributeError, "has no run: that of a server sends in its with block by itself"),
+    ("rest.send('EngineData', 5)", ValueError, "values are a dict", "{'EngineSpeed': 800}, not 5"),
+    (
+        "rest.send('EngineData', EngineSpeed=3)",
+        TypeError,
+        "send has no argument EngineSpeed; there are message, values",
+    ),
+    ("rest.on_send('EngineData', 5)", ValueError, "a function is called before each frame, or None ends that, not 5"),
+    (
+        "server.rest_bus(database, nodes=['Engine'])",
+        ValueError,
+        "nodes are a dict of interfaces by nodes",
+        "not ['Engine']",
+    ),
+    ("server.rest_bus(database, without=5)", ValueError, "without is a node, or a list of nodes", "not 5"),
+    ("database.encode('EngineData', 5)", ValueError, "values are a dict of signals", "not 5"),
+    ("database.signals", AttributeError, "Database has no signals: message('EngineData').signals"),
     ("server.rest_bus(5)", ValueError, "database is the path of a file, or what load_database returns, not 5"),
     (
         "server.rest_bus(database, exclude=[])",
@@ -180,7 +239,7 @@ OF_A_REST_BUS = [
 
 def told(code, kind, words, **names):
     """A mistake is told by this error, with these words in their order."""
-    everything = {"can": can, **{name: getattr(canbusd, name) for name in canbusd.__all__}, **names}
+    everything = {"can": can, "canbusd": canbusd, **{name: getattr(canbusd, name) for name in canbusd.__all__}, **names}
     with pytest.raises(kind) as fault:
         eval(code, everything)
     said = str(fault.value)
@@ -271,7 +330,7 @@ def test_frames_that_are_expected_in_another_order(server):
     ):
         server.expect(0x100, within=0)
     with pytest.raises(AssertionError) as fault:
-        server.expect(0x300, within=0)
+        server.expect(0x7F3, within=0)
     assert "earlier" not in str(fault.value)
 
 
@@ -283,3 +342,15 @@ def test_expectations_know_the_names_of_a_rest_bus():
         with server.rest_bus(Path(__file__).parent / "rest.dbc", interface="can0"):
             assert server.expect("EngineData", within=WAIT).channel == "can1"
             server.expect(signal="EngineSpeed", within=WAIT)
+
+
+@pytest.mark.parametrize(
+    "record, said", [("", "it has no record beside it"), ("canbus record 1\n", "its record is .*run.rec")]
+)
+def test_a_log_is_named_in_place_of_its_record(tmp_path, record, said):
+    log = tmp_path / "run.log"
+    log.write_text("(1.000000) can0 123#11\n")
+    if record:
+        (tmp_path / "run.rec").write_text(record)
+    with pytest.raises(canbusd.BadRecord, match=f"^a log is no record: {said}$"):
+        canbusd.read_record(log)

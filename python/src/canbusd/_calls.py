@@ -84,7 +84,8 @@ def misfit(function: Callable[..., Any], args: tuple[Any, ...], kwargs: Mapping[
 class NamesWhatThereIs:
     """Has an attribute that is not there named with what may be meant."""
 
-    #: What to write for names that are those of other classes.
+    __slots__ = ()
+    #: What to write for names that are those of other classes; `*` is any.
     _INSTEAD: ClassVar[Mapping[str, str]] = {}
 
     if not TYPE_CHECKING:
@@ -94,6 +95,6 @@ class NamesWhatThereIs:
                 # What failed is inside a property.
                 return object.__getattribute__(self, name)
             public = [one for one in dir(type(self)) if not one.startswith("_")]
-            instead = self._INSTEAD.get(name)
-            cure = f": {instead}" if instead else meant(name, public)
+            instead = self._INSTEAD.get(name) or meant(name, public) or self._INSTEAD.get("*", "")
+            cure = instead if instead.startswith(" (") or not instead else f": {instead}"
             raise AttributeError(f"{type(self).__name__} has no {name}{cure}")

@@ -21,7 +21,7 @@ from can.bus import BusABC, BusState
 from can.exceptions import CanInitializationError, CanOperationError
 from can.message import Message
 
-from canbusd._calls import NamesWhatThereIs
+from canbusd._calls import NamesWhatThereIs, explained
 from canbusd._session.address import reason_of, server_address
 from canbusd._session.arguments import bit_rates, interface_name, mask_or_truth, one_data_rate, seconds, truth
 from canbusd._session.connection import Connection, SessionRefused
@@ -123,6 +123,7 @@ class CanbusdBus(InjectsFaults, NamesWhatThereIs, BusABC):
         **dict.fromkeys(("expect", "expect_no_frame", "expect_state", "bus_off", "wait_for"), "the Server has it"),
     }
 
+    @explained()
     def __init__(
         self,
         channel: str,

@@ -13,7 +13,7 @@ import re
 from collections.abc import Callable, Iterable, Sequence
 from typing import TYPE_CHECKING, Literal, Optional, Union
 
-from canbusd._calls import explained
+from canbusd._calls import NamesWhatThereIs, explained
 from canbusd._text import NAME, shown
 from canbusd.frames import EXTENDED
 from canbusd.rules import MOST, MOST_RULES, NUMBER, VERDICT, Rule, is_rule, parse_rule
@@ -93,18 +93,22 @@ class Chosen:
     def __init__(self, head: Rule, add: Callable[[Rule], "Faults"]) -> None:
         self._head, self._add = head, add
 
+    @explained()
     def good(self) -> "Faults":
         """No fault: the rule shields its attempts from the rules after it."""
         return self._given("good")
 
+    @explained()
     def destroyed(self, kind: Destroying = "bit") -> "Faults":
         """All nodes see a fault, and the frame is destroyed: a `bit` or a `form` error."""
         return self._given(global_fault(kind))
 
+    @explained()
     def last_bit(self) -> "Faults":
         """The sender sees a fault in the last bit: the others accept the frame, and it is sent again."""
         return self._given("lastbit")
 
+    @explained()
     def local(self, kind: Seen, names: Names) -> "Faults":
         """Only these interfaces see a fault: a `stuff`, a `crc` or a `form` error."""
         return self._given(local_fault(kind, names))
@@ -122,9 +126,17 @@ class Chosen:
         return self._add(Rule(head.count, verdict, head.senders, head.identifier, head.skip))
 
 
-class Faults:
+class Faults(NamesWhatThereIs):
     """Rules and lines of a fault script; each method adds to them, and returns the faults themselves."""
 
+    _INSTEAD = {
+        **dict.fromkeys(
+            ("add", "rule", "append"), "next(..) and always(..) add a rule; inject('next 1 lastbit') takes a text"
+        ),
+        "bus_off": "next(32, sender='ecu').destroyed(), or Server.bus_off('ecu')",
+    }
+
+    @explained("a text needs no Faults: faults='next 1 lastbit'")
     def __init__(self) -> None:
         self._verdicts: dict[int, str] = {}
         self._rules: list[Rule] = []
@@ -220,7 +232,7 @@ class Faults:
 
         What rules give depends on the run.
         """
-        return self._verdicts.get(attempt, "good")
+        return self._verdicts.get(whole_number(attempt, "attempt"), "good")
 
     @property
     def rules(self) -> list[str]:

@@ -5,6 +5,7 @@ from collections.abc import Callable, Iterable, Sequence
 from dataclasses import dataclass, field
 from typing import TYPE_CHECKING, Optional, Protocol, TypeVar, Union
 
+from canbusd._calls import NamesWhatThereIs
 from canbusd._text import shown
 
 if TYPE_CHECKING:
@@ -72,7 +73,7 @@ def data_bytes(data: object) -> bytes:
 
 
 @dataclass(frozen=True)
-class Frame:
+class Frame(NamesWhatThereIs):
     """A frame that is sent or was received, with the names that python-can's `Message` has.
 
     `str()` of it is candump's spelling, `123#1122`, which `Frame.parse` reads. Unlike a `Message` it has an 11-bit
@@ -95,6 +96,12 @@ class Frame:
     #: Of an FD frame: whether its sender says that it is error passive.
     error_state_indicator: bool = False
 
+    _INSTEAD = {
+        **dict.fromkeys(("id", "identifier", "can_id"), "arbitration_id"),
+        **dict.fromkeys(("extended", "is_extended"), "is_extended_id"),
+        "length": "dlc",
+    }
+
     def __post_init__(self) -> None:
         if self.data.__class__ is not bytes:
             object.__setattr__(self, "data", data_bytes(self.data))
@@ -112,7 +119,7 @@ class Frame:
         try:
             return cls._parsed(text, timestamp)
         except BadFrame as fault:
-            raise BadFrame(f"{shown(str(text))}: {fault}") from None
+            raise BadFrame(f"{shown(str(text)) or 'an empty text'}: {fault}") from None
 
     @classmethod
     def _parsed(cls, text: str, timestamp: float) -> "Frame":

@@ -11,6 +11,7 @@ from collections.abc import Mapping, Sequence
 from pathlib import Path
 from typing import Any, Optional, Union
 
+from canbusd._calls import NamesWhatThereIs, explained
 from canbusd._process.program import ServerError, find_program
 from canbusd._session.arguments import check_within
 from canbusd._session.connection import LONGEST_POLL, POLL
@@ -80,12 +81,18 @@ def end_left(child: "subprocess.Popen[bytes]", process: int) -> None:
         child.terminate()
 
 
-class Program:
+class Program(NamesWhatThereIs):
     """A program that stays while the test goes on, which :meth:`canbusd.Server.start` starts; the server ends it.
 
     Its standard output and standard error are in `output`, as far as it has written them: a program that buffers what it
     writes may do so late.
     """
+
+    _INSTEAD = {
+        **dict.fromkeys(("kill", "terminate", "send_signal", "close"), "stop() ends it"),
+        **dict.fromkeys(("returncode", "poll"), "status, which is None while it runs"),
+        **dict.fromkeys(("stdout", "stderr", "communicate", "read"), "output is what it has written so far"),
+    }
 
     def __init__(
         self, words: Sequence[str], command: Sequence[str], output: Path, may_end: bool, **kwargs: Any
@@ -115,9 +122,12 @@ class Program:
         """What it has written so far."""
         return self._path.read_text(encoding="utf-8", errors="replace")
 
+    @explained()
     def expect(self, text: str, *, within: float = 10.0) -> str:
         """Waits until its output has this text, and returns the output; AssertionError after these seconds, or at its end."""
         __tracebackhide__ = True
+        if not isinstance(text, str):
+            raise ValueError(f"text is what its output has, such as '123   [1]  11', not {text!r}")
         check_within(within)
         deadline, pause = time.monotonic() + within, POLL
         while True:
@@ -132,6 +142,7 @@ class Program:
             time.sleep(pause)
             pause = min(2 * pause, LONGEST_POLL)
 
+    @explained()
     def wait(self, timeout: float) -> int:
         """Waits until it ends by itself, as it may then, and returns its status; TimeoutError after these seconds."""
         __tracebackhide__ = True
@@ -217,6 +228,9 @@ class RunsPrograms:
         program; its output is :attr:`Program.output`.
         """
         check_no_shell(kwargs)
+        taken = next((name for name in ("stdout", "stderr", "capture_output") if name in kwargs), None)
+        if taken is not None:
+            raise ValueError(f"{taken} is the Program's: its `output` is what it writes to both")
         found = words_of(words)
         self._check_runs("no program can be started on its buses")
         check_program(found[0], kwargs.get("env"), kwargs.get("cwd"))

@@ -157,8 +157,20 @@ def read_record(
     does, and its entries are those whose lines are whole. With the bit rates of its bus its steps have the time on the
     wire.
     """
+    check_no_log(path)
     with open(path, "rb") as file:
         return parse_record(file.read(), path, names, cut, rates)
+
+
+def check_no_log(path: Path) -> None:
+    """BadRecord where this is a log, with the record beside it; what is no file is left to the program."""
+    if os.path.isfile(os.fspath(path)):
+        with open(path, "rb") as file:
+            is_log = file.read(1) == b"("
+        if is_log:
+            record = os.path.splitext(path)[0] + ".rec"
+            beside = f"its record is {record}" if os.path.exists(record) else "it has no record beside it"
+            raise BadRecord(f"a log is no record: {beside}")
 
 
 def parse_record(
@@ -175,6 +187,7 @@ def parse_record(
 
 def read_run(path: Path, names: Optional[Sequence[str]], cut: bool, rates: Optional[Rates]) -> Record:
     """Returns the record in this file, as read_record does, but without its text, which may be large."""
+    check_no_log(path)
     with open(path, "rb") as file, Events(cut, rates, file) as events:
         return record_of(events.texts_of_file(), b"", path, names, rates)
 

@@ -16,6 +16,7 @@ from numbers import Real
 from types import TracebackType
 from typing import NamedTuple, Optional, TypeVar, Union
 
+from canbusd._calls import NamesWhatThereIs, explained
 from canbusd._database.formats import DatabaseError, MessageFormat, Value
 from canbusd._restbus.nodes import has, is_sendable, phases_of, sender
 from canbusd._restbus.schedule import MICROS, Schedule, micros
@@ -81,8 +82,21 @@ def checked_row(row: object) -> tuple[int, Value]:
     return micros(float(row[0])), row[1]
 
 
-class RestMessage:
+def checked_rows(table: object) -> list[tuple[int, Value]]:
+    """The rows of a table in the order of their moments."""
+    rows = list(table) if isinstance(table, Iterable) and not isinstance(table, (str, Mapping)) else [table]
+    return sorted(map(checked_row, rows), key=lambda row: row[0])
+
+
+class RestMessage(NamesWhatThereIs):
     """A message that a rest bus sends."""
+
+    # A signal is no attribute, also where one is set.
+    __slots__ = (
+        "_accepted", "_cycle", "_frame", "_function", "_phase", "_refused", "_rest", "_run", "_skipped", "_tables", "_tick",
+        "_values", "format", "interface", "is_running",
+    )  # fmt: skip
+    _INSTEAD = {"*": "a signal is message['EngineSpeed'], and what the file says is in message.format"}
 
     def __init__(self, rest: "RestBus", message: MessageFormat, interface: str, phase: int) -> None:
         self._rest, self._phase = rest, phase
@@ -112,8 +126,11 @@ class RestMessage:
     def __setitem__(self, signal: str, value: Value) -> None:
         self.set({signal: value})
 
+    @explained("values are a dict, such as {'EngineSpeed': 800}")
     def set(self, values: Mapping[str, Value]) -> None:
         """Sets signals, from the next frame on; DatabaseError where one can't have its value, and then none has."""
+        if not isinstance(values, Mapping):
+            raise ValueError(f"values are a dict of signals, such as {{'EngineSpeed': 800}}, not {values!r}")
         with self._rest.changing():
             wanted = {**self._values, **values}
             self._frame = frame_of(self.format, self.format.encode(wanted, is_strict=False))
@@ -122,7 +139,7 @@ class RestMessage:
     def play(self, signal: str, table: Iterable[tuple[float, Value]]) -> None:
         """Sets a signal by a table: each value at its moment, in seconds from now, until the next; in place of an earlier
         table of the signal."""
-        rows = sorted(map(checked_row, table), key=lambda row: row[0])
+        rows = checked_rows(table)
         for _, value in rows:
             self._check(signal, value)
         with self._rest.changing() as schedule:
@@ -133,6 +150,8 @@ class RestMessage:
 
     def on_send(self, function: Optional[Callable[[Outgoing], None]]) -> None:
         """Has this function called before each frame, to set counters and checksums in it."""
+        if function is not None and not callable(function):
+            raise ValueError(f"a function is called before each frame, or None ends that, not {function!r}")
         with self._rest.changing():
             self._function = function
 
@@ -191,8 +210,11 @@ class RestMessage:
         return frame
 
 
-class RestNode:
+class RestNode(NamesWhatThereIs):
     """A node that a rest bus simulates. A signal that several of its messages have is named as `EngineData.Counter`."""
+
+    __slots__ = ("messages", "name")
+    _INSTEAD = {"*": "a signal is node['EngineSpeed']"}
 
     def __init__(self, name: str, messages: Sequence[RestMessage]) -> None:
         self.name, self.messages = name, messages
@@ -235,8 +257,14 @@ class RestNode:
         raise DatabaseError(f"{self.name} sends no {signal}; it sends {', '.join(names) or 'nothing'}", signal=name)
 
 
-class RestBus:
+class RestBus(NamesWhatThereIs):
     """What rest buses share: nodes and messages by their names, values, and what is due when."""
+
+    _INSTEAD = {
+        **dict.fromkeys(("set", "get"), "a signal is rest['Engine']['EngineSpeed']"),
+        "run": "that of a server sends in its with block by itself, only that of a bench has run",
+        "*": "a node is rest['Engine'], a message rest.message('EngineData')",
+    }
 
     def __init__(self, database: Database, interfaces: Mapping[str, str]) -> None:
         self._lock = threading.RLock()
@@ -279,6 +307,7 @@ class RestBus:
         """
         self.message(message).on_send(function)
 
+    @explained("values are a dict, such as {'EngineSpeed': 800}")
     def send(self, message: str, values: Optional[Mapping[str, Value]] = None) -> None:
         """Sends one frame of a message now, as an event does, with these values, which stay."""
         self.message(message).send(values)
