@@ -18,6 +18,10 @@
 # make clean        removes what was built here
 
 PREFIX ?= /usr/local
+# Some shells leave ~ in PREFIX=~/inst as it is.
+ifneq ($(filter ~/%,$(PREFIX)),)
+override PREFIX := $(patsubst ~/%,$(HOME)/%,$(PREFIX))
+endif
 DESTDIR ?=
 BINDIR = $(DESTDIR)$(PREFIX)/bin
 LIBEXECDIR = $(DESTDIR)$(PREFIX)/libexec/canbusd
@@ -74,6 +78,8 @@ install:
 	install -m 755 tools/serve "$(LIBEXECDIR)/serve"
 	install -m 644 tools/commands "$(LIBEXECDIR)/commands"
 	./scripts/python-package install "$(DESTDIR)$(PYTHONDIR)"
+	ln -sfn "$$(realpath -m --relative-to="$(PYTHONDIR)/canbusd" "$(PREFIX)/libexec/canbusd")" \
+		"$(DESTDIR)$(PYTHONDIR)/canbusd/program"
 	package=$$(realpath -m --relative-to="$(PREFIX)/libexec/canbusd" "$(PYTHONDIR)") && \
 	sed "s|^package=.*|package=\$$place/\"$$package\"|" tools/canbusd.sh >"$(BINDIR)/canbusd" && chmod 755 "$(BINDIR)/canbusd" && \
 	for tool in $(TOOLS); do \
@@ -85,6 +91,7 @@ install:
 	install -m 644 tools/completions/canbusd.bash "$(COMPLETIONS)/canbusd"
 	install -m 644 tools/completions/canbusd.zsh "$(ZSH)/_canbusd"
 	install -m 644 tools/completions/canbusd.fish "$(FISH)/canbusd.fish"
+	@[ -n "$(DESTDIR)" ] || ./scripts/python-package note "$(PYTHONDIR)"
 
 uninstall:
 	rm -f "$(BINDIR)/canbusd" "$(MANDIR)/canbusd.1" "$(COMPLETIONS)/canbusd" "$(ZSH)/_canbusd" "$(FISH)/canbusd.fish"

@@ -5,6 +5,7 @@
 
 #include <errno.h>
 #include <linux/can/bcm.h>
+#include <linux/can/raw.h>
 #include <stdlib.h>
 #include <string.h>
 

@@ -174,6 +174,11 @@ def test_an_older_server_has_no_list_of_interfaces(play, monkeypatch):
             ["data_bitrate 2000000 is left out: that of the server is 500000"],
         ),
         (
+            "load 0 0 500000 500000",
+            {"bitrate": 500_000, "dbitrate": 2_000_000},
+            ["data_bitrate 2000000 is left out: that of the server is 500000"],
+        ),
+        (
             "load 0 0 0 0",
             {"bitrate": 500_000},
             ["bitrate 500000 is left out: the server has none, and frames take no time"],

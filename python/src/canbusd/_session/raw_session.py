@@ -167,7 +167,8 @@ class RawSession(InjectsFaults):
         """Brings the interface back from bus off; that it is not bus off is a fault unless it is not `is_needed`."""
         answer = self.answer("restart")
         if answer and (is_needed or answer != NOT_BUS_OFF):
-            raise refusal(answer)
+            state = f", but {self.error_counters().state}" if answer == NOT_BUS_OFF else ""
+            raise refusal(f"{self.channel}: {answer}{state}")
 
     def error_counters(self) -> ErrorCounters:
         """Returns the state of the interface and its error counts."""
