@@ -7,7 +7,7 @@ import sys
 import time
 
 import pytest
-from conftest import WAIT, message
+from common import WAIT, message
 
 from canbusd import Server, ServerError
 from canbusd.programs import words_of
