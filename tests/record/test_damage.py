@@ -2,7 +2,8 @@
 
 Each byte of the record in docs/RECORD.md is changed, to 30 others or, with --all-bytes, to all 255; it is cut at
 each byte, and audited with and without `--cut`. So is one with an automatic restart, whose text is version 2, one with FD
-frames, whose text is version 3, and one that was written while its run went on, version 4. Records of the examples and of random runs, which have every kind of line, have bytes changed, and lines
+frames, whose text is version 3, and one that was written while its run went on, version 4. Records of the examples and of random
+runs, which have every kind of line, have bytes changed, and lines
 left out, doubled, exchanged, moved, and given other words and replies. Both have to name the same first wrong line
 or entry, and `ok` the same records. With --beside another program that audits as canbusd does has to say the same.
 """
