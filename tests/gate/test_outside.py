@@ -103,6 +103,17 @@ def test_nothing_runs(outside, tmp_path, monkeypatch):
     assert outside.one_by_one(empty, ["bench"], "") == {}
 
 
+def test_without_what_may_be_missing(outside, tmp_path, monkeypatch):
+    """no pytest-xdist: the tests run one after the other; no tool: its part is skipped"""
+    monkeypatch.setattr(outside, "has_module", lambda name: False)
+    monkeypatch.setitem(outside.ROOMS, "bench", ("test_some.py",))
+    text = "def test_one(request):\n    assert not hasattr(request.config, 'workerinput')\n"
+    results = outside.side_by_side(suite(outside, tmp_path, text), ["bench"], "")
+    assert results == {"test_some.py::test_one": "passed"}
+    assert not [word for word in outside.pytest_suite().words if "timeout" in word]
+    assert outside.check("no-tool", ["no-tool"]) == "no-tool is not installed"
+
+
 def test_a_run_that_hangs(outside, tmp_path, monkeypatch):
     monkeypatch.setattr(outside, "LONGEST", 1)
     text = "import time\ndef test_hangs():\n    time.sleep(1000)\n"
