@@ -13,6 +13,8 @@ LONGEST_MESSAGE, LONGEST_ANSWER = 1024, 4120
 ALL_CLASSES = 0x1FFFFFFF
 # The states of an interface, by how bad they are.
 STATES = ("active", "warning", "passive", "off")
+# Filters that no frame passes: everything, inverted.
+NO_FRAMES = [{"can_id": INVERTED, "can_mask": 0}]
 
 Filters = Sequence[Mapping[str, Any]]
 
