@@ -191,8 +191,14 @@ void raw_want_own(void) {
 
 /* ---- frames ---- */
 
+static bool waits;
+
+__attribute__((constructor)) static void read_setting(void) {
+    waits = getenv("CANBUSD_RUN_WAIT");
+}
+
 bool raw_waits(void) {
-    return getenv("CANBUSD_RUN_WAIT");
+    return waits;
 }
 
 int raw_send(struct session *to, const struct canfd_frame *frame, bool is_fd, const struct later *later) {

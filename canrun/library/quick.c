@@ -18,8 +18,9 @@
 #include <sys/syscall.h>
 #include <time.h>
 
-/* A socket has one of these: one of the few that follow the sum of its name. */
-#define KNOWN 16
+/* A socket has one of these: one of the few from the hash of its name on. */
+#define KNOWN_BITS 4
+#define KNOWN (1u << KNOWN_BITS)
 #define FEW 4
 /* The write of a process to a socket at which it asks for the memory. */
 #define ASKING 4
@@ -73,22 +74,29 @@ static void change(struct known *one, const char *name) {
     __atomic_fetch_sub(&one->users, IS_CHANGING, __ATOMIC_RELEASE);
 }
 
+/* Fibonacci hashing: each bit of a name changes the upper ones of the product. */
+static uint32_t hash_of(const char *name) {
+    uint64_t hash = 0, word;
+    for (size_t i = 0; i < WIRE_NAME_ROOM; i += sizeof word) {
+        memcpy(&word, name + i, sizeof word);
+        hash = (hash ^ word) * 0x9E3779B97F4A7C15;
+    }
+    return (uint32_t)(hash >> (64 - KNOWN_BITS));
+}
+
 /* That of the socket with this name, which is used from now on; NULL where there is none yet. */
 static struct known *enter(const char *name) {
     static uint32_t turn;
-    uint32_t sum = 0;
-    for (size_t i = 0; i < WIRE_NAME_ROOM && name[i]; i++) {
-        sum = sum * 31 + (unsigned char)name[i];
-    }
+    uint32_t hash = hash_of(name);
     for (uint32_t i = 0; i < FEW; i++) {
-        struct known *one = &known[(sum + i) % KNOWN];
+        struct known *one = &known[(hash + i) % KNOWN];
         bool is_changing = __atomic_fetch_add(&one->users, 1, __ATOMIC_ACQUIRE) & IS_CHANGING;
         if (!is_changing && !memcmp(one->name, name, sizeof one->name)) {
             return one;
         }
         leave(one);
     }
-    change(&known[(sum + __atomic_fetch_add(&turn, 1, __ATOMIC_RELAXED) % FEW) % KNOWN], name);
+    change(&known[(hash + __atomic_fetch_add(&turn, 1, __ATOMIC_RELAXED) % FEW) % KNOWN], name);
     return NULL;
 }
 
