@@ -94,12 +94,17 @@ int ask(int fd, const char *what, const struct wire_request *request, const stru
         return refuse(what, errno, "there is no descriptor for the reply");
     }
     struct asked asked = {fd, ends[0], what, request->kind == WIRE_SEND};
+    struct wait *wait = asked.may_end && request->number == WIRE_WAIT ? wait_begin(fd, ends[0]) : NULL;
     int error;
     while ((error = put_request(fd, ends[1], request, data, pieces)) == EINTR && !asked.may_end) {
     }
     syscall(SYS_close, ends[1]);
+    if (!error && wait_is_over(wait)) {
+        cancel(&asked);
+    }
     int result = error ? refuse_unsent(what, error) : get_reply(&asked, answer);
     error = result ? errno : before;
+    wait_end(wait);
     syscall(SYS_close, ends[0]);
     errno = error;
     return result;

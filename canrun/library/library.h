@@ -128,6 +128,14 @@ int put_request(int fd, int with, const struct wire_request *request, const stru
 /* What a call is that had this errno when it sent a request: -1, and errno. */
 int refuse_unsent(const char *what, int error);
 
+/* ---- stop.c: with --wait, signals that end a write which waits for room ---- */
+
+/* A write begins to wait for a reply by this pipe; NULL without --wait, or where too many wait. */
+struct wait *wait_begin(int fd, int reply_from);
+/* Its request has been sent; true where a signal came before that, and nothing has ended the wait yet. */
+bool wait_is_over(struct wait *wait);
+void wait_end(struct wait *wait);
+
 /* Asks the bridge of a socket of CAN_RAW for a quick write, and returns what became of it: it was done; it was refused,
  * and errno says why; it is to wait for room; or none can be had, and it is to be asked for by a pipe, too. */
 enum quick { QUICK_DONE, QUICK_REFUSED, QUICK_NO_ROOM, QUICK_NONE };
