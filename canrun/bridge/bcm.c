@@ -446,7 +446,7 @@ static int send_once(const struct bcm_head *head, const char *data, size_t lengt
     }
     memcpy(&frame, data, length);
     struct session *to = index ? sessions_for(index) : NULL;
-    return to ? raw_send(to, &frame, head->flags & CAN_FD_FRAME, raw_waits() ? later : NULL)
+    return to ? raw_send(to, &frame, head->flags & CAN_FD_FRAME, later)
               : refused(ENODEV, "to send, a task needs an interface");
 }
 
@@ -475,7 +475,7 @@ int bcm_write(const struct wire_request *request, const char *data, size_t lengt
     case RX_DELETE: return delete_task(&head, index, true);
     case TX_READ: return read_task(&head, index, false);
     case RX_READ: return read_task(&head, index, true);
-    case TX_SEND: return send_once(&head, data, length, index, &later);
+    case TX_SEND: return send_once(&head, data, length, index, request_waits(request) ? &later : NULL);
     default: return refused(EINVAL, "the broadcast manager has no such message");
     }
 }

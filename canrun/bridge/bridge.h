@@ -366,6 +366,9 @@ void request_reply(int to, int error, int value);
 void request_done(const struct later *later, int error);
 struct later request_later(const struct wire_request *request, int to, int value);
 
+/* Whether that write waits for room. */
+bool request_waits(const struct wire_request *request);
+
 /* Whether these are ends of one pipe. */
 bool is_same_pipe(int one, int other);
 

@@ -66,6 +66,10 @@ struct later request_later(const struct wire_request *request, int to, int value
                           .is_refused = request->option};
 }
 
+bool request_waits(const struct wire_request *request) {
+    return raw_waits() && request->number != WIRE_NO_WAIT;
+}
+
 bool is_same_pipe(int one, int other) {
     struct stat first, second;
     return !fstat(one, &first) && !fstat(other, &second) && first.st_ino == second.st_ino &&
@@ -92,7 +96,7 @@ static int send_message(const struct wire_request *request, const char *data, si
     default:
         /* A byte of data has the library say that this frame goes nowhere. */
         reply->head.length = length >= CAN_MTU && raw_is_error(data);
-        return raw_write(request->ifindex, data, length, raw_waits() ? &later : NULL);
+        return raw_write(request->ifindex, data, length, request_waits(request) ? &later : NULL);
     }
 }
 

@@ -134,7 +134,12 @@ int refuse_unsent(const char *what, int error);
 struct wait *wait_begin(int fd, int reply_from);
 /* Its request has been sent; true where a signal came before that, and nothing has ended the wait yet. */
 bool wait_is_over(struct wait *wait);
-void wait_end(struct wait *wait);
+/* The reply is there; whether such a signal came before. */
+bool wait_end(struct wait *wait);
+/* Whether such a signal has ended a wait, and no write found room since then. */
+bool waits_are_over(void);
+/* A write has found room. */
+void waits_begin(void);
 
 /* Asks the bridge of a socket of CAN_RAW for a quick write, and returns what became of it: it was done; it was refused,
  * and errno says why; it is to wait for room; or none can be had, and it is to be asked for by a pipe, too. */

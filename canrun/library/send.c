@@ -23,6 +23,11 @@ static bool is_deaf(void) {
     return !pthread_sigmask(SIG_BLOCK, NULL, &mask) && sigismember(&mask, SIGTERM) == 1;
 }
 
+/* How long a write may wait for room. The mask of signals is looked at, which is a system call. */
+static enum wire_wait wait_for_room(void) {
+    return !waits_for_room ? WIRE_WAIT : waits_are_over() ? WIRE_NO_WAIT : is_deaf() ? WIRE_SHORT_WAIT : WIRE_WAIT;
+}
+
 /* How long a write of ISO-TP may wait. */
 static enum wire_wait wait_of_message(int fd, int flags) {
     return flags & MSG_DONTWAIT || fcntl(fd, F_GETFL) & O_NONBLOCK ? WIRE_NO_WAIT : WIRE_WAIT;
@@ -103,9 +108,9 @@ static ssize_t ask_to_send(int fd, const struct kind *kind, struct wire_request 
     }
     enum quick quick = kind->protocol == WIRE_RAW ? ask_quickly(fd, kind, request, parts, count, &answer) : QUICK_NONE;
     if (quick == QUICK_NONE || quick == QUICK_NO_ROOM) {
-        /* Only this may wait for room, so only here is the mask of signals looked at, which is a system call. */
+        /* Only this may wait for room. */
         request->option = quick == QUICK_NO_ROOM;
-        request->number = waits_for_room && is_deaf() ? WIRE_SHORT_WAIT : WIRE_WAIT;
+        request->number = wait_for_room();
         quick = ask(fd, "write", request, parts, count, &answer) ? QUICK_REFUSED : QUICK_DONE;
     }
     if (quick == QUICK_REFUSED) {
@@ -113,6 +118,9 @@ static ssize_t ask_to_send(int fd, const struct kind *kind, struct wire_request 
     }
     if (answer.length) {
         note_error_frame();
+    }
+    if (waits_are_over()) {
+        waits_begin();
     }
     return answer.value;
 }

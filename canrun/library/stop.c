@@ -1,6 +1,7 @@
 /* With --wait: SIGINT, SIGTERM and SIGHUP end each write that waits for room, whatever the flags of their handlers. The
  * kernel begins a call anew after a handler with SA_RESTART, so that the wait would go on. So while a write waits, a
- * handler here is called first: it has the bridge end the waits of this process, and then calls the program's own. */
+ * handler here is called first: it has the bridge end the waits of this process, and then calls the program's own. A
+ * program that writes again all the same waits no more, until a write has found room. */
 #define _GNU_SOURCE
 #include "library.h"
 
@@ -23,7 +24,7 @@ static const int numbers[] = {SIGINT, SIGTERM, SIGHUP};
 #define NUMBERS (sizeof numbers / sizeof *numbers)
 static struct sigaction programs[NUMBERS];
 static uint32_t is_locked, users;
-static bool has_waits;
+static bool has_waits, is_stopped;
 
 static bool change(struct wait *wait, uint32_t from, uint32_t to) {
     return __atomic_compare_exchange_n(&wait->state, &from, to, false, __ATOMIC_ACQ_REL, __ATOMIC_ACQUIRE);
@@ -133,13 +134,25 @@ bool wait_is_over(struct wait *wait) {
     return wait && !change(wait, BEGUN, ASKED);
 }
 
-void wait_end(struct wait *wait) {
+bool wait_end(struct wait *wait) {
     if (!wait) {
-        return;
+        return false;
     }
     while (__atomic_load_n(&wait->state, __ATOMIC_ACQUIRE) == ENDING) {
         sched_yield();
     }
-    __atomic_store_n(&wait->state, UNUSED, __ATOMIC_RELEASE);
+    bool is_ended = __atomic_exchange_n(&wait->state, UNUSED, __ATOMIC_ACQ_REL) == ENDED;
+    if (is_ended) {
+        __atomic_store_n(&is_stopped, true, __ATOMIC_RELAXED);
+    }
     count_users(-1u);
+    return is_ended;
+}
+
+bool waits_are_over(void) {
+    return __atomic_load_n(&is_stopped, __ATOMIC_RELAXED);
+}
+
+void waits_begin(void) {
+    __atomic_store_n(&is_stopped, false, __ATOMIC_RELAXED);
 }

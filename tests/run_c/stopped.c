@@ -1,6 +1,6 @@
 /* A write that waits for room which never comes, on a bus that sends a frame a minute and queues one, ends at this
- * signal, though its handler has SA_RESTART; at another signal the wait goes on. So does one in another thread than
- * that of the handler. The arguments are the signal, and how often to try. Built with -pthread. */
+ * signal, whether its handler has SA_RESTART or not, and in whichever thread it runs; at another signal with SA_RESTART
+ * the wait goes on. The arguments are the signal, and how often to try. Built with -pthread. */
 #include "check.h"
 #include <pthread.h>
 #include <sys/mman.h>
@@ -20,29 +20,35 @@ static void on_tick(int of) {
     ticks++;
 }
 
-static void *write_in_vain(void *nothing) {
+static void *write_in_vain(void *error) {
     int fd = bound("can0");
     struct can_frame frame = frame_of(0x123, 0);
     *writer = gettid();
-    FAILS(write(fd, &frame, sizeof frame), EINTR);
+    FAILS(write(fd, &frame, sizeof frame), *(int *)error);
     CHECK(is_ended);
-    return nothing;
+    /* A program that does not look at its flag waits no more. */
+    for (int i = 0; i < 20; i++) {
+        FAILS(write(fd, &frame, sizeof frame), ENOBUFS);
+    }
+    return NULL;
 }
 
-static int child(bool has_thread) {
+static int child(bool has_thread, int flags) {
     struct itimerval often = {.it_value = {0, 1000}, .it_interval = {0, 1000}};
-    struct sigaction end = {.sa_handler = on_end, .sa_flags = SA_RESTART}, after;
+    struct sigaction end = {.sa_handler = on_end, .sa_flags = flags}, after;
+    /* One without SA_RESTART is EINTR to the thread that it comes in. */
+    int error = flags ? ENOBUFS : EINTR;
     struct sigaction tick = {.sa_handler = on_tick, .sa_flags = SA_RESTART};
     CHECK(sigaction(number, &end, NULL) == 0 && sigaction(SIGALRM, &tick, NULL) == 0);
     CHECK(setitimer(ITIMER_REAL, &often, NULL) == 0);
     if (has_thread) {
         pthread_t thread;
-        CHECK(pthread_create(&thread, NULL, write_in_vain, NULL) == 0 && pthread_join(thread, NULL) == 0);
+        CHECK(pthread_create(&thread, NULL, write_in_vain, &error) == 0 && pthread_join(thread, NULL) == 0);
     } else {
-        write_in_vain(NULL);
+        write_in_vain(&error);
         CHECK(ticks > 0);
     }
-    CHECK(sigaction(number, NULL, &after) == 0 && after.sa_handler == on_end && after.sa_flags & SA_RESTART && !(after.sa_flags & SA_SIGINFO));
+    CHECK(sigaction(number, NULL, &after) == 0 && after.sa_handler == on_end && (after.sa_flags & (SA_RESTART | SA_SIGINFO)) == flags);
     return 0;
 }
 
@@ -58,12 +64,12 @@ static bool is_in_read(pid_t thread) {
     return is_read;
 }
 
-static void try(bool has_thread) {
+static void try(bool has_thread, int flags) {
     int status;
     *writer = 0;
     pid_t process = fork();
     if (process == 0) {
-        exit(child(has_thread));
+        exit(child(has_thread, flags));
     }
     for (int i = 0; !*writer || !is_in_read(*writer); i++) {
         CHECK(i < PATIENCE && usleep(1000) == 0);
@@ -81,7 +87,7 @@ int main(int count, char **words) {
     put(fd, 0x123, 1);
     put(fd, 0x123, 2);
     for (int i = 0; i < atoi(words[2]); i++) {
-        try(i % 4 == 3);
+        try(i % 4 == 3, i % 4 == 1 ? 0 : SA_RESTART);
     }
     return 0;
 }
