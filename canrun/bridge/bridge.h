@@ -5,6 +5,7 @@
 #define BRIDGE_H
 
 #include "../shared/interfaces.h"
+#include "../shared/messages.h"
 #include "../shared/wire.h"
 
 #include <linux/can.h>
@@ -20,24 +21,13 @@
 #define NUMBERS_KEPT (1u << 24)
 /* Seconds that a server is given for a reply. */
 #define PATIENCE 5
-#define SECOND 1000000000ull
 #define MIN(a, b) ((a) < (b) ? (a) : (b))
 #define MAX(a, b) ((a) > (b) ? (a) : (b))
-
-/* A frame, as it comes and goes: of 16 bytes or, an FD frame, of 72. */
-struct item {
-    struct canfd_frame frame;
-    bool is_fd;
-    uint64_t moment; /* nanoseconds since 1970 */
-    enum { ORIGIN_NONE, ORIGIN_SAME, ORIGIN_OTHER } origin;
-    uint64_t number;        /* of the frame at its sender's interface, where it has an origin */
-    uint32_t message_flags; /* of recvmsg: MSG_DONTROUTE, MSG_CONFIRM */
-};
 
 /* ---- main.c ---- */
 
 /* The protocol of the socket. */
-extern enum wire_protocol protocol;
+extern int protocol;
 /* The name of the program's end. */
 extern char program_name[WIRE_NAME_ROOM];
 
@@ -47,20 +37,6 @@ void item_received(const struct item *item, int index);
 /* Keeps the text of a refusal for the program's debugging, and returns the error. */
 int refused(int error, const char *why);
 extern const char *refusal;
-
-/* ---- messages.c: frames as texts of the server's raw mode ---- */
-
-/* The longest command for a frame. */
-#define COMMAND 320
-
-/* Writes the command that sends a frame. */
-void message_of_frame(char text[COMMAND], const struct canfd_frame *frame, bool is_fd);
-
-/* Reads the text of a message, without < and >, that hands over a frame; false where it is another. */
-bool message_to_item(const char *text, struct item *item);
-
-/* Reads decimal digits, and goes past them; false where there are none. */
-bool message_number(const char **at, uint64_t *number);
 
 /* ---- session.c: a session of the server, on one interface ---- */
 

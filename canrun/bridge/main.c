@@ -10,7 +10,7 @@
 #include <sys/un.h>
 #include <unistd.h>
 
-enum wire_protocol protocol;
+int protocol;
 char program_name[WIRE_NAME_ROOM];
 const char *refusal = "";
 
@@ -21,8 +21,8 @@ int refused(int error, const char *why) {
 
 void item_received(const struct item *item, int index) {
     switch (protocol) {
-    case WIRE_BCM: bcm_receive(item, index); break;
-    case WIRE_ISOTP: isotp_receive(item); break;
+    case CAN_BCM: bcm_receive(item, index); break;
+    case CAN_ISOTP: isotp_receive(item); break;
     default: raw_receive(item, index);
     }
 }
@@ -59,7 +59,7 @@ static int64_t sooner(int64_t one, int64_t other) {
 
 static int64_t do_due(void) {
     int64_t order = order_due();
-    int64_t due = protocol == WIRE_BCM ? bcm_due() : protocol == WIRE_ISOTP ? isotp_due() : -1;
+    int64_t due = protocol == CAN_BCM ? bcm_due() : protocol == CAN_ISOTP ? isotp_due() : -1;
     return sooner(sooner(sooner(order, due), room_due()), outbox_counts_due());
 }
 
@@ -103,11 +103,11 @@ int main(void) {
             "canbusd-bridge: this is started by programs under canbusd-run, see canbusd-run(1)\n";
         return write(STDERR_FILENO, text, sizeof text - 1) < 0 ? 1 : 125;
     }
-    protocol = (enum wire_protocol)name.sun_path[sizeof WIRE_NAME];
+    protocol = name.sun_path[sizeof WIRE_NAME] - '0';
     length -= (socklen_t)offsetof(struct sockaddr_un, sun_path) + 1;
     memcpy(program_name, name.sun_path + 1, MIN(length, sizeof program_name - 1));
     leave_program();
-    if (protocol == WIRE_BCM) {
+    if (protocol == CAN_BCM) {
         raw_want(NULL, 0);
         raw_want_fd(true);
         raw_want_own();

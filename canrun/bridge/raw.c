@@ -213,7 +213,7 @@ bool raw_is_error(const void *data) {
 }
 
 void raw_note_room(void) {
-    if (is_virtual() && protocol == WIRE_RAW && outbox_is_full() != is_full) {
+    if (is_virtual() && protocol == CAN_RAW && outbox_is_full() != is_full) {
         is_full = !is_full;
         sessions_apply();
     }

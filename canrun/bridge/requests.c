@@ -78,7 +78,7 @@ bool is_same_pipe(int one, int other) {
 
 /* The write whose reply comes by this pipe waits no longer; it may have had its reply. */
 static int cancel(int asks) {
-    if (protocol == WIRE_ISOTP) {
+    if (protocol == CAN_ISOTP) {
         isotp_cancel(asks);
     }
     room_cancel(asks);
@@ -91,8 +91,8 @@ static int send_message(const struct wire_request *request, const char *data, si
     struct later later = request_later(request, to, (int)length);
     reply->head.value = (int)length;
     switch (protocol) {
-    case WIRE_BCM: return bcm_write(request, data, length, to, &reply->head.value);
-    case WIRE_ISOTP: return isotp_write(data, length, request->number == WIRE_NO_WAIT, to);
+    case CAN_BCM: return bcm_write(request, data, length, to, &reply->head.value);
+    case CAN_ISOTP: return isotp_write(data, length, request->number == WIRE_NO_WAIT, to);
     default:
         /* A byte of data has the library say that this frame goes nowhere. */
         reply->head.length = length >= CAN_MTU && raw_is_error(data);
@@ -121,20 +121,20 @@ static int begin_close(int pair) {
 }
 
 static int bind_to(const struct wire_request *request) {
-    if (protocol == WIRE_BCM && is_bound) {
+    if (protocol == CAN_BCM && is_bound) {
         return refused(EISCONN, "the socket is connected already");
     }
-    return protocol == WIRE_ISOTP ? isotp_bind(request->ifindex, request->rx_id, request->tx_id)
-                                  : sessions_bind(request->ifindex);
+    return protocol == CAN_ISOTP ? isotp_bind(request->ifindex, request->rx_id, request->tx_id)
+                                 : sessions_bind(request->ifindex);
 }
 
 static int set_option(int option, const char *data, size_t length) {
-    return protocol == WIRE_ISOTP ? isotp_set(option, data, length) : raw_set(option, data, length);
+    return protocol == CAN_ISOTP ? isotp_set(option, data, length) : raw_set(option, data, length);
 }
 
 static int get_option(int option, struct reply *reply) {
-    return protocol == WIRE_ISOTP ? isotp_get(option, reply->data, &reply->head.length)
-                                  : raw_get(option, reply->data, &reply->head.length);
+    return protocol == CAN_ISOTP ? isotp_get(option, reply->data, &reply->head.length)
+                                 : raw_get(option, reply->data, &reply->head.length);
 }
 
 static int get_address(struct reply *reply) {
@@ -142,7 +142,7 @@ static int get_address(struct reply *reply) {
     isotp_address(identifiers);
     memcpy(reply->data, identifiers, sizeof identifiers);
     reply->head.value = bound_index;
-    reply->head.length = protocol == WIRE_ISOTP ? sizeof identifiers : 0;
+    reply->head.length = protocol == CAN_ISOTP ? sizeof identifiers : 0;
     return 0;
 }
 
@@ -169,7 +169,7 @@ static int carry_out(const struct wire_request *request, const char *data, size_
 }
 
 static ssize_t next_request(struct msghdr *message) {
-    if (protocol != WIRE_ISOTP) {
+    if (protocol != CAN_ISOTP) {
         return recvmsg(PROGRAM, message, MSG_DONTWAIT | MSG_CMSG_CLOEXEC);
     }
     setsockopt(PROGRAM, SOL_SOCKET, SO_PEEK_OFF, &kept_length, sizeof kept_length);
@@ -190,7 +190,7 @@ int request_news(void) {
 }
 
 bool request_is_kept(void) {
-    if (protocol != WIRE_ISOTP) {
+    if (protocol != CAN_ISOTP) {
         return false;
     }
     setsockopt(PROGRAM, SOL_SOCKET, SO_PEEK_OFF, &kept_length, sizeof kept_length);
@@ -217,7 +217,7 @@ bool request_serve(void) {
     length = MIN(length, (ssize_t)sizeof data);
     struct cmsghdr *rights = CMSG_FIRSTHDR(&message);
     if (!rights) {
-        if (protocol == WIRE_RAW && !quick_serve(data, (size_t)length)) {
+        if (protocol == CAN_RAW && !quick_serve(data, (size_t)length)) {
             raw_write(WIRE_BOUND, data, (size_t)length, &(struct later){.reply_to = NOBODY});
         }
         return true;

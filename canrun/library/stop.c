@@ -154,5 +154,7 @@ bool waits_are_over(void) {
 }
 
 void waits_begin(void) {
-    __atomic_store_n(&is_stopped, false, __ATOMIC_RELAXED);
+    if (waits_are_over()) {
+        __atomic_store_n(&is_stopped, false, __ATOMIC_RELAXED);
+    }
 }

@@ -1,7 +1,7 @@
 /* What the preloaded library and a bridge say to each other, over the SOCK_SEQPACKET pair that is a CAN socket.
  *
- * The program's end of the pair has an abstract name that begins with WIRE_NAME and a letter for the protocol; that is
- * how the library knows a CAN socket.
+ * The program's end of the pair has an abstract name that begins with WIRE_NAME and a digit, the protocol's number of
+ * linux/can.h; that is how the library knows a CAN socket.
  *
  * Library to bridge: a request and its data, with the write end of a pipe (SCM_RIGHTS) that takes the one reply. What
  * comes without a pipe is a quick write, whose reply comes in memory that library and bridge share; or the frame of a
@@ -17,7 +17,6 @@
 #define WIRE_NAME "canbusd-can/"
 /* The room for a name, with the 0 after it. */
 #define WIRE_NAME_ROOM 64
-enum wire_protocol { WIRE_RAW = 'r', WIRE_BCM = 'b', WIRE_ISOTP = 'i' };
 
 /* The longest message, either way: one of ISO-TP. */
 #define WIRE_LARGEST 66000
