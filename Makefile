@@ -56,7 +56,7 @@ PYTHON ?= $(shell command -v /usr/bin/python3 || command -v python3)
 check:
 	@$(PYTHON) -c 'import can, pytest' || { echo 'make check: $(PYTHON) has no python-can or no pytest;' \
 		'`apt-get install python3-can python3-pytest` for /usr/bin/python3, else PYTHON=.. names another' >&2; exit 1; }
-	$(PYTHON) -m pytest -q -rs -m "not slow and not sanitized" tests
+	$(PYTHON) -m pytest -q -rs -m "not slow and not sanitized" tests canrun/tests
 
 dist:
 	./scripts/program dist

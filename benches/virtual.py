@@ -14,7 +14,7 @@ import sys
 import tempfile
 
 ROOT = os.path.dirname(os.path.dirname(os.path.abspath(__file__)))
-CASES = os.path.join(ROOT, "tests", "virtual_cases")
+CASES = os.path.join(ROOT, "canrun", "tests", "virtual_cases")
 RUN = os.environ.get("CANBUSD_RUN") or os.path.join(ROOT, "canbusd-run")
 SERVER = '. "$CASES/server.sh"; start --record none can0,can1,can2,can3,can4,can5,can6,can7,can8,can9; '
 DUMP = 'aside candump -ta can9 >"$OUT/candump"; dump=$!; '
@@ -67,7 +67,7 @@ def main():
     seconds = int(sys.argv[1]) if len(sys.argv) > 1 else 20
     with tempfile.TemporaryDirectory() as folder:
         for node, name, flag in NODES:
-            source = os.path.join(ROOT, "tests", "virtual_c", f"{name}.c")
+            source = os.path.join(ROOT, "canrun", "tests", "virtual_c", f"{name}.c")
             subprocess.run(["gcc", "-O1", flag, "-o", os.path.join(folder, node), source], check=True)
         measure("idle, with candump", IDLE, 3600, 0, 3600, folder)
         measure("two nodes and candump", TWO, seconds, 200, 600, folder)

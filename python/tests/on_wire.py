@@ -1,9 +1,9 @@
-"""How long frames take the wire, by the model of the clone's tests: tests/wire_model.py and tests/wire_times.py."""
+"""How long frames take the wire, by the model of the clone's tests: tests/helpers/wire_model.py and wire_times.py."""
 
 import sys
 from pathlib import Path
 
-sys.path.append(str(Path(__file__).parents[2] / "tests"))
+sys.path.append(str(Path(__file__).parents[2] / "tests" / "helpers"))
 
 from wire_model import Frame  # noqa: E402
 from wire_times import Rates  # noqa: E402

@@ -1,4 +1,4 @@
-"""tools/candump2bench: logs as inputs of the bench. tests/test_log_readers.py tries it with whole logs."""
+"""tools/candump2bench: logs as inputs of the bench. tests/record/test_log_readers.py tries it with whole logs."""
 
 import subprocess
 import sys

@@ -1,4 +1,4 @@
-"""Rules of faults: their grammar, and how many are left. What they give is tried in tests/test_rules.py of the clone."""
+"""Rules of faults: their grammar, and how many are left. What they give is tried in tests/bench/test_fault_rules.py of the clone."""
 
 import pytest
 

@@ -1,6 +1,6 @@
 """Time on the wire: when attempts begin and are over, the bus load, and the columns of a page.
 
-How many bits frames and attempts have is the program's: tests/test_audit_wire.py of the clone compares these.
+How many bits frames and attempts have is the program's: tests/record/test_audit_wire.py of the clone compares these.
 """
 
 import json

@@ -1,0 +1,124 @@
+"""canbusd-run beside a real kernel: the programs of run_c/ pass there too, and each case of kernel/ has the answer that the kernel
+gave, as answers.txt has it, but for what differences.txt says, each with the line of LIMITS in canbusd-run.1.
+"""
+
+import concurrent.futures
+import os
+import re
+import shutil
+import subprocess
+
+import pytest
+
+from running import FAST, FLAGS, compiled, needs_gcc, passes
+from serving import ROOT, serving
+
+KERNEL = os.path.join(ROOT, "canrun", "tests", "kernel")
+#: The kernel has the checks of these.
+SAME = (
+    "calls",
+    "faults",
+    "options",
+    "filters",
+    "own",
+    "epoll",
+    "fork",
+    "signals",
+    "bcm",
+    "isotp",
+    "isotp_state",
+    "edges",
+    "devices",
+    "rows",
+)
+#: Servers among which the cases are divided; most of their time is waits.
+LOTS = 12
+
+
+def answers(text):
+    """The cases of some lines, each with its answer."""
+    return dict(re.findall(r"^(\w+:\w+):(.*)$", text, re.M))
+
+
+def file_of(name):
+    with open(os.path.join(KERNEL, name), encoding="utf-8") as file:
+        return file.read()
+
+
+def differences():
+    """What is expected to differ: the lines of LIMITS, and the cases."""
+    text = re.sub(r"^#.*\n", "", file_of("differences.txt"), flags=re.M)
+    return re.findall(r"^(?!\w+:\w+:)(.+)$", text, re.M), answers(text)
+
+
+def plain(page):
+    """The words of a manual page, without its form."""
+    return " ".join(re.sub(r"\\f.|\\(?=-)|^\.\S+", "", page, flags=re.M).split())
+
+
+def probe(folder):
+    """Compiles the program of the cases."""
+    path = os.path.join(folder, "probe")
+    sources = [os.path.join(KERNEL, name) for name in sorted(os.listdir(KERNEL)) if name.endswith(".c")]
+    subprocess.run(["gcc", *FLAGS, "-o", path, *sources], check=True)
+    return path
+
+
+def answered(program, cases):
+    """What canbusd-run answers to these cases, with a server of their own."""
+    with serving(*FAST, "can0,can1", "vcan0") as server:
+        written = passes(server, program, *cases, patience=300)
+        server.end()
+    return answers(written)
+
+
+def boots(*words):
+    """What a command writes that boots a kernel."""
+    if not all(shutil.which(tool) for tool in ("gcc", "qemu-system-x86_64", "busybox", "cpio")):
+        pytest.skip("no gcc, or none of `apt-get install qemu-system-x86 busybox-static cpio`")
+    booted = subprocess.run(words, capture_output=True, text=True, timeout=1200, check=False)
+    if booted.returncode == 2:
+        pytest.skip(booted.stderr.strip())
+    return booted.stdout
+
+
+@needs_gcc
+def test_answers(tmp_path):
+    """canbusd-run answers each case as the kernel did, or as differences.txt says"""
+    kernel, program = answers(file_of("answers.txt")), probe(str(tmp_path))
+    cases = subprocess.run([program, "--list"], stdout=subprocess.PIPE, text=True, check=True).stdout.split()
+    assert cases == list(kernel), "answers.txt is of other cases: canrun/tests/kernel/answers renews it"
+    with concurrent.futures.ThreadPoolExecutor(LOTS) as pool:
+        lots = pool.map(lambda number: answered(program, cases[number::LOTS]), range(LOTS))
+        got = {case: answer for lot in lots for case, answer in lot.items()}
+    expected = {**kernel, **differences()[1]}
+    wrong = [
+        f"{case}\n  kernel  {kernel[case]}\n  wanted  {expected[case]}\n  answered{got.get(case)}"
+        for case in cases
+        if got.get(case) != expected[case]
+    ]
+    assert not wrong, "\n".join(wrong)
+
+
+def test_differences():
+    """what differs is in LIMITS, and does differ"""
+    limits = plain(file_of("../../../canbusd-run.1").split(".SH LIMITS")[1].split(".SH ENVIRONMENT")[0])
+    lines, cases = differences()
+    kernel = answers(file_of("answers.txt"))
+    assert lines and not [line for line in lines if line not in limits]
+    assert not [case for case, answer in cases.items() if kernel.get(case, answer) == answer]
+
+
+@pytest.mark.slow
+def test_recorded():
+    """answers.txt has what the kernel answers"""
+    booted = boots(os.path.join(KERNEL, "answers"))
+    assert answers(booted) == answers(file_of("answers.txt"))
+
+
+@pytest.mark.slow
+def test_programs(tmp_path):
+    """the programs of run_c/ end with status 0"""
+    words = [compiled(name, str(tmp_path), "-static") for name in SAME]
+    booted = boots(os.path.join(KERNEL, "boot"), *words)
+    assert re.findall(r"^status (\d+) of (\w+)$", booted, re.M) == [("0", name) for name in SAME], booted

@@ -1,0 +1,124 @@
+#!/bin/sh
+# What a newcomer does on the first day, on a fresh minimal Debian 12, as the documents print it: tests/gate/first_day.sh ROUTE,
+# at the top of a clone, as root. test_first_day.py runs it in such a Debian. ROUTE is
+#   path   README's route: a clone, PYTHONPATH, and Debian's packages
+#   here   the same without the installation of packages, which `make check` runs in a clone
+#   venv   that of docs/PYTHON.md: a virtual environment with Debian's packages, without a network
+#   pip    a virtual environment into which pip installs the package and what it needs; status 77 where it finds no packages
+#   check  the tests of the program, by the command of README
+set -eu
+export DEBIAN_FRONTEND=noninteractive
+python=python3
+
+# Runs the commands of a document that are given by the beginnings of their lines, each exactly as it is printed there.
+printed() {
+    document=$1
+    shift
+    for begin; do
+        line=$(sed -n 's/^    \(\$ \)\{0,1\}//p' "$document" | grep -m 1 -F -- "$begin") || {
+            echo "$document has no command that begins with: $begin"
+            exit 1
+        }
+        case $line in "$begin"*) ;; *) echo "$document: $line"; exit 1 ;; esac
+        echo "+ $line"
+        eval "$line"
+    done
+}
+
+# The only block of Python with this word in a document.
+block() {
+    awk -v word="$2" '/^```python$/ { text = ""; on = 1; next } /^```$/ { if (on && text ~ word) printf "%s", text; on = 0 }
+        on { text = text $0 "\n" }' "$1"
+}
+
+install() {
+    apt-get update -qq
+    # shellcheck disable=SC2086
+    apt-get install -qq -y --no-install-recommends $1 >/dev/null
+}
+
+# The packages of a line of a document that names them.
+packages_of() {
+    sed -n "s/.*apt-get install \([^\`]*\).*/\1/p" "$1" | grep -m 1 -- "$2"
+}
+
+# The first test of README, the one of the guide, the examples, and a client of a server in another window.
+try_package() {
+    block README.md test_bus_off >test_bus_off.py
+    block docs/GUIDE.md test_a_frame_that_arrives_twice >test_twice.py
+    block docs/PYTHON.md 'interface="canbusd"' >client.py
+    "$@"
+    $python -m pytest -q -p no:cacheprovider test_twice.py
+    printed docs/GUIDE.md "python3 -m pytest examples/python"
+    ./canbusd serve can0,can1 >served 2>&1 &
+    server=$!
+    for _ in 1 2 3 4 5 6 7 8 9 10; do
+        grep -q listening served || sleep 0.5
+    done
+    grep -q listening served || {
+        cat served
+        exit 1
+    }
+    $python client.py | grep "ID: *0*123 .* 01 02 03"
+    ./canbusd dump can0 >dumped &
+    dump=$!
+    for _ in 1 2 3 4 5 6 7 8 9 10; do
+        printed docs/GUIDE.md "./canbusd send can0" "./canbusd status"
+        grep -q "123 .* 11 22 33 44" dumped && break
+        sleep 0.5
+    done
+    kill $dump
+    grep "123 .* 11 22 33 44" dumped
+    $python examples/python/first_session.py
+    kill -TERM $server
+    wait $server
+    $python -m pytest -q -p no:cacheprovider test_bus_off.py
+}
+
+# README's first command, which needs nothing, with what it prints.
+try_first() {
+    printed README.md "./canbusd bench can0,can1 <" >first
+    sed 1d first | cmp - examples/first_frame.out
+    ./canbusd --help | grep "canbusd <COMMAND>\|canbusd COMMAND"
+}
+
+# The guide's record and page.
+try_page() {
+    printed docs/GUIDE.md "./canbusd bench --record run.rec" "./canbusd report --names can0,can1,can2 run.rec"
+    ./canbusd audit run.rec
+    grep -q "</html>" run.html
+}
+
+case $1 in
+path | here)
+    try_first
+    [ "$1" = here ] || install "$(packages_of README.md python3-pytest)"
+    try_package printed README.md "export PYTHONPATH=" "python3 -m pytest"
+    try_page
+    ;;
+venv)
+    install "$(packages_of docs/PYTHON.md python3-venv) python3-pytest"
+    printed docs/PYTHON.md "make wheel" "/usr/bin/python3 -m venv --system-site-packages venv" "pip install --no-index"
+    try_package true
+    canbusd --version
+    canbusd-run --version
+    candump2bench --help >/dev/null
+    ;;
+pip)
+    install python3-venv
+    python3 -m venv venv
+    . venv/bin/activate
+    pip download -q --no-deps -d wheels setuptools || exit 77
+    pip install -q pytest ./python
+    try_package true
+    ;;
+check)
+    try_first
+    scripts/check --yes
+    ;;
+*)
+    sed -n '2,/^set/s/^# \{0,1\}//p' "$0"
+    exit 2
+    ;;
+esac
+echo "the first day went well"

@@ -1,0 +1,64 @@
+"""From the first line of README to a passing test: first_day.sh, beside this file, in a clone, and once by each route on a fresh
+minimal Debian 12.
+
+For that BASES names a folder with a debootstrap of bookworm (debootstrap --variant=minbase); without it one is made. A network
+is needed.
+"""
+
+import os
+import shutil
+import subprocess
+
+import pytest
+
+from serving import program
+from test_docs import Clone, needs_port
+
+# In file systems and processes of their own, which are gone with the command.
+ENTER = 'mount -t proc proc "$0/proc" && mount --rbind /dev "$0/dev" && exec chroot "$0" "$@"'
+
+
+@pytest.fixture(scope="module")
+def base(tmp_path_factory):
+    """A Debian that nobody has used."""
+    if "BASES" in os.environ:
+        return os.path.join(os.environ["BASES"], "bookworm")
+    folder = tmp_path_factory.mktemp("base") / "bookworm"
+    subprocess.run(["debootstrap", "--variant=minbase", "bookworm", folder], check=True)
+    return folder
+
+
+def test_first_day_in_a_clone(tmp_path, fixed_ports):
+    """README's commands and test, the guide's page, commands for a server, with the packages that are there"""
+    needs_port(29536)
+    clone = Clone(tmp_path / "clone")
+    clone.put_program(program())
+    if not clone.has_python_can():
+        pytest.skip("python-can and pytest are not installed")
+    status, written = clone.shell("tests/gate/first_day.sh here", timeout=300)
+    assert status == 0 and written.endswith("the first day went well\n"), written
+
+
+@pytest.mark.slow
+@pytest.mark.root
+@pytest.mark.skipif(not shutil.which("debootstrap"), reason="not installed: debootstrap")
+@pytest.mark.parametrize("route", ["path", "venv", "pip", "check"])
+def test_first_day(base, route, tmp_path):
+    debian = tmp_path / "debian"
+    subprocess.run(["cp", "-a", base, debian], check=True)
+    (debian / "etc" / "hosts").write_text("127.0.0.1 localhost\n", encoding="ascii")
+    Clone(debian / "root" / "canbusd").put_program(program())
+    environment = ["PATH=/usr/sbin:/usr/bin:/sbin:/bin", "HOME=/root", "LC_ALL=C.UTF-8"]
+    script = ["sh", "-c", "cd /root/canbusd && exec tests/gate/first_day.sh $0", route]
+    done = subprocess.run(
+        ["unshare", "--mount", "--pid", "--fork", "sh", "-c", ENTER, debian, "env", "-i", *environment, *script],
+        stdin=subprocess.DEVNULL,
+        stdout=subprocess.PIPE,
+        stderr=subprocess.STDOUT,
+        text=True,
+        check=False,
+    )
+    shutil.rmtree(debian, ignore_errors=True)
+    if done.returncode == 77:
+        pytest.skip("pip finds no packages")
+    assert done.returncode == 0 and done.stdout.endswith("the first day went well\n"), done.stdout

@@ -1,0 +1,92 @@
+"""The helpers of these tests: a run without a program, waits with an end, threads at rest."""
+
+import os
+import shutil
+import subprocess
+import sys
+import threading
+import time
+
+import pytest
+
+from serving import ROOT, all_sleep, come_true, join, line_of, turns
+
+
+def run_in(folder, **more):
+    """The status and the output of a test in this copy of the repository, in a minute at most."""
+    environment = {name: value for name, value in os.environ.items() if name != "CANBUSD"}
+    done = subprocess.run(
+        [sys.executable, "-m", "pytest", "-q", os.path.join(folder, "tests", "bench", "test_bench_dialogue.py")],
+        env={**environment, **more},
+        capture_output=True,
+        text=True,
+        timeout=60,
+        check=False,
+    )
+    return done.returncode, done.stdout + done.stderr
+
+
+def test_no_program_of_these_sources(tmp_path):
+    """no test is run, and nothing is built; it says what to do"""
+    for name in ("tests", "scripts", "python"):
+        shutil.copytree(os.path.join(ROOT, name), tmp_path / name)
+    shutil.copy(os.path.join(ROOT, "pytest.ini"), tmp_path)
+    (tmp_path / "crates" / "can_bus" / "src").mkdir(parents=True)
+    (tmp_path / "crates" / "can_bus" / "src" / "lib.rt").write_text("// other sources\n")
+    (tmp_path / "crates.txt").write_text("can_bus:\n")
+    status, output = run_in(tmp_path)
+    assert status == pytest.ExitCode.USAGE_ERROR, output
+    assert "no program fits these sources: `make` proves and builds it" in output, output
+    assert "passed" not in output and "failed" not in output, output
+
+
+def test_no_program_of_that_name():
+    status, output = run_in(ROOT, CANBUSD="/nonexistent/canbusd")
+    assert status == pytest.ExitCode.USAGE_ERROR, output
+    assert "CANBUSD names no program: /nonexistent/canbusd" in output, output
+
+
+def test_turns():
+    """they go on until the loop is left, and fail once time is over"""
+    begin = time.monotonic()
+    for count, _ in enumerate(turns("three")):
+        if count == 3:
+            break
+    with pytest.raises(AssertionError, match="not within 0.2 seconds: the end"):
+        for _ in turns("the end", 0.2):
+            time.sleep(0.01)
+    assert time.monotonic() - begin >= 0.2
+
+
+def test_come_true():
+    assert come_true(lambda: True, 0.1) is True
+    assert come_true(lambda: False, 0.1) is False
+    late = time.monotonic() + 0.1
+    assert come_true(lambda: time.monotonic() > late)
+
+
+def test_join():
+    go_on = threading.Event()
+    thread = threading.Thread(target=go_on.wait)
+    thread.start()
+    with pytest.raises(AssertionError, match="a thread goes on after 0.1 seconds"):
+        join([thread], 0.1)
+    go_on.set()
+    join([thread])
+
+
+def test_all_sleep():
+    """one that waits for input sleeps; one that counts does not; one that has ended does"""
+    waiting = subprocess.Popen(["cat"], stdin=subprocess.PIPE, stdout=subprocess.DEVNULL)
+    counts = "print('counting', flush=True)\nwhile True: pass"
+    counting = subprocess.Popen([sys.executable, "-c", counts], stdout=subprocess.PIPE, text=True)
+    try:
+        assert line_of(counting.stdout) == "counting\n"
+        assert come_true(lambda: all_sleep([waiting.pid]))
+        assert not any(all_sleep([waiting.pid, counting.pid]) for _ in range(20))
+        counting.kill()
+        assert come_true(lambda: all_sleep([waiting.pid, counting.pid]))
+    finally:
+        counting.kill()
+        counting.communicate()
+        waiting.communicate()

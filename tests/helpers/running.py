@@ -1,0 +1,155 @@
+"""canbusd-run for tests: the command, C programs that are compiled for a test, and what is left after a run."""
+
+import contextlib
+import functools
+import os
+import shutil
+import signal
+import subprocess
+
+import pytest
+
+from serving import ROOT, WAIT, come_true, one_at_a_time, serving
+
+SOURCES = os.path.join(ROOT, "canrun")
+PROGRAMS = os.path.join(ROOT, "canrun", "tests", "run_c")
+FLAGS = ["-std=gnu11", "-O1", "-Wall", "-Wextra", "-Werror", "-pthread"]
+SANITIZERS = ["-g", "-fsanitize=address,undefined", "-fno-sanitize-recover=all"]
+#: Options of a server that is as fast as the test.
+FAST = ("--pace", "0", "--txqueue", "1024", "--rxqueue", "65536", "--write", "16384")
+
+needs_gcc = pytest.mark.skipif(not shutil.which("gcc"), reason="no gcc: apt-get install gcc")
+
+
+def needs(*tools):
+    """Skips a test where one of these programs is not installed."""
+    missing = [tool for tool in tools if not shutil.which(tool)]
+    return pytest.mark.skipif(bool(missing), reason=f"no {', '.join(missing)}: apt-get install can-utils")
+
+
+@functools.lru_cache(maxsize=None)
+def command():
+    """The path of canbusd-run: CANBUSD_RUN, else that of the sources at hand, which may have to be built."""
+    if "CANBUSD_RUN" in os.environ:
+        return os.path.abspath(os.environ["CANBUSD_RUN"])
+    words = [os.path.join(ROOT, "scripts", "run-program"), "choose"]
+    chosen = subprocess.run(words, stdout=subprocess.PIPE, text=True, check=False)
+    if chosen.returncode:
+        pytest.skip("no canbusd-run: it is built by gcc")
+    return os.path.join(ROOT, chosen.stdout.strip())
+
+
+@functools.lru_cache(maxsize=None)
+def sanitized_command():
+    """The path of canbusd-run with sanitizers, which is built for the tests."""
+    with one_at_a_time("sanitized"):
+        subprocess.run(["make", "-s", "-C", SOURCES, "sanitized"], check=True)
+    return os.path.join(SOURCES, "out", "sanitized", "canbusd-run")
+
+
+def compiled(name, folder, *flags):
+    """Compiles a program of canrun/tests/run_c into this folder, and returns its path."""
+    path = os.path.join(folder, name)
+    subprocess.run(["gcc", *FLAGS, *flags, "-o", path, os.path.join(PROGRAMS, f"{name}.c")], check=True)
+    return path
+
+
+def environment(server, **more):
+    """The environment of a program for this server, by which canbusd-run finds it."""
+    address = server.address
+    if address.startswith("."):
+        address = os.path.join(server.folder, address)
+    return {**os.environ, "CANBUSD_ADDRESS": address, **more}
+
+
+def run(server, *words, options=(), patience=60, runner=None, **how):
+    """Runs a program by canbusd-run, and returns how it ended and what it wrote."""
+    how.setdefault("env", environment(server))
+    line = [runner or command(), *options, "--", *words]
+    return subprocess.run(line, capture_output=True, text=True, timeout=patience, check=False, **how)
+
+
+def passes(server, *words, **how):
+    """Runs a program that has to end with status 0; what it wrote to standard output."""
+    ended = run(server, *words, **how)
+    assert ended.returncode == 0, f"status {ended.returncode}: {ended.stdout}{ended.stderr}"
+    return ended.stdout
+
+
+@contextlib.contextmanager
+def started(server, *words, options=(), **how):
+    """A program that runs by canbusd-run, in a group of its own, which is gone in the end."""
+    how.setdefault("env", environment(server))
+    how = {"stdout": subprocess.PIPE, "stderr": subprocess.PIPE, "text": True, "start_new_session": True, **how}
+    with subprocess.Popen([command(), *options, "--", *words], **how) as child:
+        try:
+            yield child
+        finally:
+            with contextlib.suppress(ProcessLookupError):
+                os.killpg(child.pid, signal.SIGKILL)
+
+
+def bridges(address):
+    """The numbers of the bridges for a server at this address that have not ended."""
+    found = []
+    for process in filter(str.isdigit, os.listdir("/proc")):
+        with contextlib.suppress(OSError):
+            with open(f"/proc/{process}/environ", "rb") as environ:
+                settings = environ.read().split(b"\0")
+            with open(f"/proc/{process}/comm", encoding="utf-8") as comm:
+                name = comm.read().strip()
+            if name == "canbusd-bridge" and f"CANBUSD_ADDRESS={address}".encode() in settings:
+                found.append(int(process))
+    return found
+
+
+def none_left(server):
+    """Whether no bridge is left of what ran for this server, soon."""
+    return come_true(lambda: not bridges(environment(server)["CANBUSD_ADDRESS"]), WAIT)
+
+
+#: Calls of the kernel in which a program waits for frames: poll, select, pselect6, ppoll, epoll_wait, epoll_pwait, recvmsg.
+#: While a socket is made or bound it waits in others.
+WAITING = {7, 23, 270, 271, 232, 281, 47}
+
+
+def settled(child):
+    """Returns the program once it waits for frames; it may have ended."""
+
+    def fact(name):
+        with open(f"/proc/{child.pid}/{name}", encoding="utf-8") as file:
+            return file.read().split()[0]
+
+    def waits():
+        # The command waits too, for the server's replies, and for a moment its process has the name of this one.
+        before, call, after = fact("comm"), fact("syscall"), fact("comm")
+        return "canbusd-run" not in (before, after) and call in map(str, WAITING)
+
+    def is_settled():
+        return child.poll() is not None or waits()
+
+    assert come_true(is_settled), "it does not wait for frames"
+    return child
+
+
+@contextlib.contextmanager
+def listening(server, *words, **how):
+    """A program that runs by canbusd-run, and waits for frames."""
+    with started(server, *words, **how) as child:
+        yield settled(child)
+
+
+def written(child, patience=WAIT):
+    """What a program has written until its end, which comes by itself."""
+    output, errors = child.communicate(timeout=patience)
+    assert child.returncode == 0, f"status {child.returncode}: {output}{errors}"
+    return output
+
+
+@pytest.fixture
+def server():
+    """A fast server of two buses, of whose sessions none is left after the test."""
+    with serving(*FAST, "can0,can1", "vcan0") as running:
+        yield running
+        assert none_left(running), "a bridge is left"
+        running.end()

@@ -1,0 +1,302 @@
+"""A server of the program in a folder of its own, and clients that are plain sockets.
+
+The package's Server ends a server in one way, and its clients know what a server says. Here a server is looked at
+from outside: its processes, its streams, how it ends; and clients show each text as it comes.
+"""
+
+import contextlib
+import fcntl
+import functools
+import glob
+import os
+import pathlib
+import re
+import select
+import shutil
+import signal
+import socket
+import subprocess
+import tempfile
+import time
+
+ROOT = str(pathlib.Path(__file__).resolve().parents[2])
+# Seconds in which what has to come comes, on any machine.
+WAIT = 20
+
+
+@functools.lru_cache(maxsize=None)
+def program():
+    """The path of the program, without its launcher: CANBUSD, else the one that fits the sources at hand."""
+    if "CANBUSD" in os.environ:
+        path = os.path.abspath(os.environ["CANBUSD"])
+        if not shutil.which(path):
+            raise NoProgram(f"CANBUSD names no program: {path}")
+        return path
+    words = [os.path.join(ROOT, "scripts", "program"), "fitting"]
+    fitting = subprocess.run(words, stdout=subprocess.PIPE, text=True, check=False)
+    if fitting.returncode:
+        raise NoProgram(
+            "no program fits these sources: `make` proves and builds it (20 to 40 minutes), "
+            "`scripts/program choose` says why dist/ has none, and CANBUSD=PROGRAM tests another"
+        )
+    return os.path.join(ROOT, fitting.stdout.strip())
+
+
+class NoProgram(Exception):
+    """There is no program to test; the text says what to do."""
+
+
+@functools.lru_cache(maxsize=None)
+def writes_live():
+    """Whether the program has `serve --record`."""
+    return b"--record" in subprocess.run([program(), "serve", "--help"], stdout=subprocess.PIPE, check=True).stdout
+
+
+class NotListening(Exception):
+    """A server said something else than where it listens; the text is what it said."""
+
+
+def come_true(question, patience=WAIT):
+    """Whether this comes true in time, in seconds."""
+    until = time.monotonic() + patience
+    while time.monotonic() < until:
+        if question():
+            return True
+        time.sleep(0.02)
+    return False
+
+
+def turns(what, patience=WAIT):
+    """The turns of a loop, which leaves it in time; else the test fails, since this has not come about."""
+    until = time.monotonic() + patience
+    while time.monotonic() < until:
+        yield
+    raise AssertionError(f"not within {patience} seconds: {what}")
+
+
+def join(threads, patience=WAIT):
+    """Waits until these threads have ended, at most these seconds in all."""
+    until = time.monotonic() + patience
+    for thread in threads:
+        thread.join(max(0, until - time.monotonic()))
+        assert not thread.is_alive(), f"a thread goes on after {patience} seconds"
+
+
+@contextlib.contextmanager
+def one_at_a_time(what):
+    """Waits until no other test of this user does so on this machine."""
+    path = os.path.join(tempfile.gettempdir(), f"canbusd-tests-{os.getuid()}-{what}.lock")
+    with open(path, "w", encoding="ascii") as file:
+        fcntl.flock(file, fcntl.LOCK_EX)
+        yield
+
+
+def threads_of(processes):
+    """The state of each thread, and how often it has gone to sleep."""
+    for process in processes:
+        for path in glob.glob(f"/proc/{process}/task/*/status"):
+            with contextlib.suppress(OSError), open(path, encoding="utf-8") as status:
+                yield path, *re.findall(r"^(?:State|voluntary_ctxt_switches):\s+(\S+)", status.read(), re.M)
+
+
+def all_sleep(processes):
+    """Whether all threads of these processes sleep, or have ended: each that is seen twice in the same sleep did not
+    run in between.
+    """
+    before, now = sorted(threads_of(processes)), sorted(threads_of(processes))
+    return before == now and all(state in "SZ" for _, state, _ in now)
+
+
+def line_of(stream):
+    """The next line of a pipe of text from which only lines are read."""
+    assert select.select([stream], [], [], WAIT)[0], "it writes nothing"
+    return stream.readline()
+
+
+class Server:
+    """A server that runs in a folder of its own, in a group of processes of its own.
+
+    The launcher's part for servers starts it, or the launcher of that path, or where `launcher` is False nothing does:
+    then it is the program itself. Ctrl-C ends it, or the end of its input where that is a pipe. Its files are in its
+    folder unless `out` says otherwise.
+    """
+
+    def __init__(self, *words, address="127.0.0.1:0", launcher=True, out=".", **how):
+        self.folder = tempfile.mkdtemp(prefix="canbusd-")
+        self.errors = open(self.path("stderr"), "w+", encoding="utf-8")
+        if launcher is True:
+            start = [os.path.join(ROOT, "tools", "serve"), program()]
+        else:
+            start = [launcher or program()]
+        self.child = subprocess.Popen(
+            [*start, "serve", "--listen", address, *(["--out", out] if out else []), *words],
+            cwd=self.folder,
+            stdout=subprocess.PIPE,
+            stderr=self.errors,
+            text=True,
+            start_new_session=True,
+            **{"stdin": subprocess.DEVNULL, **how},
+        )
+        line = line_of(self.child.stdout)
+        if not line.startswith("listening "):
+            with contextlib.suppress(subprocess.TimeoutExpired):
+                self.child.wait(WAIT)
+            said = self.said()
+            self.close()
+            raise NotListening(f"{line}{said}")
+        self.address = line.removeprefix("listening ").rstrip("\n")
+        if ":" in self.address:
+            host, _, port = self.address.rpartition(":")
+            self.host, self.port = host.strip("[]"), int(port)
+
+    def said(self):
+        with open(self.path("stderr"), encoding="utf-8") as errors:
+            return errors.read().strip()
+
+    def path(self, name):
+        return os.path.join(self.folder, name)
+
+    def processes(self):
+        """Its processes, each with the fields of its state."""
+        for process in filter(str.isdigit, os.listdir("/proc")):
+            with contextlib.suppress(OSError), open(f"/proc/{process}/stat", encoding="utf-8") as stat:
+                fields = stat.read().rsplit(") ", 1)[1].split()
+                if int(fields[3]) == self.child.pid:
+                    yield process, fields
+
+    def ticks(self):
+        """The processor time of all its processes, in hundredths of a second."""
+        return sum(int(fields[11]) + int(fields[12]) for _, fields in self.processes())
+
+    def held(self):
+        """How many file descriptors and threads its processes have."""
+        return sum(
+            len(os.listdir(f"/proc/{process}/{what}")) for process, _ in self.processes() for what in ("fd", "task")
+        )
+
+    def rests(self):
+        """Whether it waits with all its threads."""
+        return all_sleep([process for process, _ in self.processes()])
+
+    def memory(self, what):
+        """How much memory its processes have, in kilobytes, by VmRSS or VmHWM of their status."""
+        held = 0
+        for process, _ in self.processes():
+            with contextlib.suppress(OSError), open(f"/proc/{process}/status", encoding="utf-8") as status:
+                held += sum(int(line.split()[1]) for line in status if line.startswith(f"{what}:"))
+        return held
+
+    def finish(self, patience=WAIT):
+        """Ends it, which has to happen in time; its status, and what it wrote after `listening`."""
+        if self.child.stdin is None:
+            os.killpg(self.child.pid, signal.SIGINT)
+        try:
+            written, _ = self.child.communicate(timeout=patience)
+        except subprocess.TimeoutExpired:
+            raise AssertionError("the server did not end") from None
+        return self.child.returncode, written
+
+    def end(self, says="", patience=WAIT):
+        """Ends it, as it has to; what it wrote after `listening`."""
+        status, written = self.finish(patience)
+        assert status == 0, f"status {status}: {self.said()}"
+        assert self.said() == says, f"standard error: {self.said()}"
+        return written
+
+    def audited(self, name):
+        """How many entries the record of this name has, by the audit."""
+        audit = subprocess.run([program(), "audit", self.path(name)], capture_output=True, text=True, check=False)
+        assert re.fullmatch(r"ok \d+ entries\n", audit.stdout), f"the audit: {audit.stdout}{audit.stderr}"
+        return int(audit.stdout.split()[1])
+
+    def close(self):
+        with contextlib.suppress(ProcessLookupError):
+            os.killpg(self.child.pid, signal.SIGKILL)
+        self.child.wait()
+        self.errors.close()
+        self.child.stdout.close()
+        shutil.rmtree(self.folder)
+
+
+@contextlib.contextmanager
+def serving(*words, **how):
+    """A server that is gone in the end, whatever happens."""
+    server = Server(*words, **how)
+    try:
+        yield server
+    finally:
+        server.close()
+
+
+def serving_alone(*words, **how):
+    """A server that is the program without its launcher, and ends when its input does."""
+    return serving("--until-eof", *words, launcher=False, stdin=subprocess.PIPE, **how)
+
+
+class Plain:
+    """A connection that is a socket and nothing else, which shows the texts as they are."""
+
+    def __init__(self, server):
+        self.rest = ""
+        if ":" in server.address:
+            self.socket = socket.create_connection((server.host, server.port), WAIT)
+        else:
+            self.socket = socket.socket(socket.AF_UNIX)
+            self.socket.settimeout(WAIT)
+            self.socket.connect(os.path.join(server.folder, server.address))
+
+    def write(self, text):
+        self.socket.sendall(text.encode())
+
+    def text(self):
+        """The next message, or the empty text where the connection has ended."""
+        while ">" not in self.rest:
+            piece = self.socket.recv(65536)
+            if not piece:
+                return ""
+            self.rest += piece.decode()
+        text, self.rest = self.rest.split(">", 1)
+        return text + ">"
+
+    def answer(self, command):
+        self.write(command)
+        return self.text()
+
+    def frame(self):
+        """The next frame: its identifier as it is written, and its data."""
+        text = self.text()
+        frame = re.fullmatch(r"< frame ([0-9A-F]{3}|[0-9A-F]{8}) \d+\.\d{6} ([0-9A-F]*) >", text)
+        assert frame, text
+        return frame[1], bytes.fromhex(frame[2])
+
+    def close(self):
+        self.socket.close()
+
+
+def plain(server, name):
+    """A session in raw mode on the interface of this name."""
+    client = Plain(server)
+    greeted = client.text(), client.answer(f"< open {name} >"), client.answer("< rawmode >")
+    assert greeted == ("< hi >", "< ok >", "< ok >"), f"{greeted}"
+    return client
+
+
+class Pair:
+    """Two sessions between which frames go, whatever else happens on their bus. Nobody else sends 29-bit identifier 0,
+    which goes before all others but 11-bit identifier 0."""
+
+    def __init__(self, server, source="can0", target="can1"):
+        self.source, self.target, self.count = plain(server, source), plain(server, target), 0
+        replies = self.source.answer("< filter 0 >"), self.target.answer("< filter 1 80000000 DFFFFFFF >")
+        assert replies == ("< ok >", "< ok >"), f"{replies}"
+
+    def go_on(self, after="what happened"):
+        """The next frame from the one to the other."""
+        self.count += 1
+        data = self.count.to_bytes(4, "big")
+        self.source.write(f"< send 00000000 4 {data.hex(' ')} >")
+        try:
+            got = self.target.frame()
+        except TimeoutError:
+            got = "nothing"
+        assert got == ("00000000", data), f"after {after} others get {got} in place of frame {self.count}"

@@ -1,0 +1,100 @@
+"""The options and fixtures of the tests of the program and of canbusd-run: each conftest.py registers them.
+
+CANBUSD names the program; as it is, the one that fits the sources. Where there is none, no test is run.
+"""
+
+import os
+import random
+import signal
+import sys
+
+import pytest
+
+import commands
+import serving
+
+sys.dont_write_bytecode = True
+# The package from here, also in what the tests start.
+os.environ["PYTHONPATH"] = os.path.join(serving.ROOT, "python", "src")
+os.environ["PYTHONDONTWRITEBYTECODE"] = "1"
+# A job in the background, or under nohup, ignores these, and so would what the tests start: what is handled here is not
+# ignored there.
+for ignored in (signal.SIGINT, signal.SIGQUIT, signal.SIGHUP):
+    if signal.getsignal(ignored) == signal.SIG_IGN:
+        signal.signal(ignored, lambda *_: None)
+
+
+def share(pluginmanager):
+    """Registers this module as a plugin, once however many folders of tests are run."""
+    if not pluginmanager.has_plugin(__name__):
+        pluginmanager.register(sys.modules[__name__], __name__)
+
+
+def pytest_addoption(parser):
+    group = parser.getgroup("canbusd")
+    group.addoption("--seed", type=int, default=random.SystemRandom().randrange(10**6), help="of all that is random")
+    group.addoption("--cases", type=int, default=1000, help="how many random inputs a test tries (1000)")
+    group.addoption(
+        "--frames", type=int, default=1_000_000, help="how many frames test_load.py sends with the slow tests (1000000)"
+    )
+    group.addoption(
+        "--minutes", type=float, default=1, help="how long test_long_runs.py keeps up a steady load (1), 72 MB each"
+    )
+    group.addoption("--entries", type=int, default=20_000, help="of that load, how many entries a second (20000)")
+    group.addoption(
+        "--all-bytes", action="store_true", help="change each byte of a record to all others (test_damage.py)"
+    )
+    group.addoption("--beside", metavar="PROGRAM", help="another program that audits as canbusd does (test_damage.py)")
+    limit = os.path.join(serving.ROOT, "benches", "limit.c")
+    group.addoption("--other", metavar="SOURCE.c", default=limit, help="another program with a bench (benches/limit.c)")
+
+
+def pytest_sessionstart(session):
+    if not session.config.getoption("collectonly"):
+        try:
+            serving.program()
+        except serving.NoProgram as fault:
+            raise pytest.UsageError(f"{fault}") from None
+
+
+def pytest_terminal_summary(terminalreporter, config):
+    terminalreporter.write_line(f"--seed {config.getoption('seed')} repeats what was random")
+
+
+def pytest_runtest_setup(item):
+    if item.get_closest_marker("root") and os.geteuid() != 0:
+        pytest.skip("not root")
+    if item.get_closest_marker("browser") and not commands.BROWSER:
+        pytest.skip("no browser: chromium")
+
+
+@pytest.fixture
+def rng(request):
+    """A source of random numbers, the same for a test and a seed whatever other tests are run."""
+    return random.Random(f"{request.config.getoption('seed')} {request.node.name}")
+
+
+@pytest.fixture
+def cases(request):
+    """How many random inputs are tried."""
+    return request.config.getoption("cases")
+
+
+@pytest.fixture
+def fixed_ports():
+    """For a test of what listens at a port that a document or another program names: of these one runs at a time."""
+    with serving.one_at_a_time("ports"):
+        yield
+
+
+@pytest.fixture(scope="session")
+def program():
+    """The path of the program, without its launcher."""
+    return serving.program()
+
+
+@pytest.fixture
+def server():
+    """A server with can0 and can1 on one bus, as the launcher starts it."""
+    with serving.serving("can0,can1") as running:
+        yield running

@@ -1,0 +1,270 @@
+"""`canbusd audit --events --faults`: which rule gave each attempt its verdict.
+
+A run by hand, each thing that decides it; files that are no faults of a run, text for text; and random runs and files beside
+rule_model.py. test_memory.py refuses it memory.
+"""
+
+import subprocess
+
+import pytest
+
+from commands import run_line
+from random_rules import RECORD as RECORD_FILE
+from random_rules import RuleMaker
+from record_events import events_of
+from rule_model import RunFaults, rules_of, with_rules
+from serving import WAIT, program
+from timed_benches import random_rates, rate_options
+
+NAMES = "ecu,tester"
+# Rules 1 and 2 are there from the start, also where a line of the run comes between them. Rule 3 is given before attempt 3, and
+# ended before attempt 4; so is rule 2. Rule 4 is given before attempt 5, the first one after those that were idle.
+FAULTS = """# of an afternoon
+next 1 from ecu lastbit
+1 global bit
+at 3 next 1 global form
+
+always id 123 skip 1 good
+at 4 nofaults
+at 5 next 2 good
+"""
+FRONT = """canbus record 1
+bus 2 always 0000 10 100
+open 0 256 = socket 0
+send 0 123# = number 0
+send 0 123# = number 1
+send 0 123# = number 2
+"""
+# Each attempt with its parts. Rule 2 lets attempt 2 pass, since attempt 0 was rule 1's and attempt 1 the line's; that it is asked
+# before rule 3 shows in attempt 3. In attempt 6 rule 4 says good, and the record does not, so nothing is said; but it is used
+# up then.
+ATTEMPTS = """attempt 0.000000 lastbit = tried 0 0 123# lastbit 0002 0000; counts 0 8 0; rule 1
+attempt 0.000001 global-bit = tried 0 0 123# destroyed 0000 0000; counts 0 16 0; counts 1 0 1
+attempt 0.000002 good = tried 0 0 123# done 0002 0000; counts 0 15 0; counts 1 0 0
+attempt 0.000003 good = tried 0 1 123# done 0002 0000; counts 0 14 0; rule 2
+attempt 0.000004 good = tried 0 2 123# done 0002 0000; counts 0 13 0
+attempt 0.000005 lastbit = idle
+attempt 0.000006 good = idle
+send 0 124# = number 3
+send 0 124# = number 4
+attempt 0.000007 good = tried 0 3 124# done 0002 0000; counts 0 12 0; rule 4
+attempt 0.000008 lastbit = tried 0 4 124# lastbit 0002 0000; counts 0 20 0
+attempt 0.000009 good = tried 0 4 124# done 0002 0000; counts 0 19 0
+"""
+EVENTS = f"{FRONT.replace('record', 'events')}{ATTEMPTS}end 16\n"
+RECORD = FRONT + "".join(f"{line.partition(';')[0]}\n" for line in ATTEMPTS.splitlines()) + "end 16\n"
+
+
+def audited(folder, faults, *options, names=NAMES, record=RECORD):
+    """The status, the output and the errors of an audit with these faults."""
+    (folder / "run.rec").write_text(record)
+    (folder / "run.faults").write_text(faults)
+    return run_line(" ".join(["audit", "--events", *options, "--faults", f"{names}@run.faults", "run.rec"]), cwd=folder)
+
+
+def test_a_run(tmp_path):
+    assert audited(tmp_path, FAULTS) == (0, EVENTS, "")
+    assert audited(tmp_path, FAULTS, "--cut") == (0, EVENTS, "")
+    assert with_rules(events_of(RECORD.encode()), RunFaults(FAULTS, NAMES.split(","))) == EVENTS
+
+
+def test_beside_time_on_the_wire(tmp_path):
+    """the rule comes last"""
+    status, written, errors = audited(tmp_path, FAULTS, "--bitrate", "500000")
+    assert (status, errors) == (0, "") and rules_of(written) == ["1", "", "", "2", "", "4", "", ""]
+    assert "; counts 0 14 0; wire 90000 96000 45 0; rule 2\n" in written
+
+
+def test_a_record_that_is_cut_off(tmp_path):
+    front = "".join(RECORD.splitlines(True)[:10])
+    wanted = "".join(EVENTS.splitlines(True)[:10]) + "cut 8\n"
+    assert audited(tmp_path, FAULTS, "--cut", record=front) == (0, wanted, "")
+
+
+def test_without_a_rule(tmp_path):
+    """nothing is said"""
+    nothing = "".join(f"{line.partition('; rule')[0]}\n" for line in EVENTS.splitlines())
+    for faults in ("", "1 global bit\n", "next 9 id 125 good\n", "always from tester good\n", "at 99 always good\n"):
+        assert audited(tmp_path, faults) == (0, nothing, "")
+
+
+@pytest.mark.parametrize(
+    "faults, rules",
+    [
+        # The first that matches, by whom and what. The attempts 0, 1 and 6 are none that `good` is said of.
+        ("always good\nalways good", ["1", "1", "1", "1", "1"]),
+        ("always from tester good\nalways from tester,ecu good", ["2", "2", "2", "2", "2"]),
+        ("always id 124 good\nalways good", ["2", "2", "2", "1", "1"]),
+        # The first skips attempts 0 to 2, and of these the second skips attempt 0.
+        ("always skip 3 good\nalways skip 1 good", ["2", "1", "1", "1", "1"]),
+        # A line by number, and one more before the same attempt: they are in their order.
+        ("3 good\nalways good\nat 4 next 1 good", ["1", "", "1", "1", "1"]),
+        ("at 2 always id 124 good\nat 2 next 2 good\nalways from tester good", ["3", "3", "", "2", "2"]),
+    ],
+)
+def test_which_one(tmp_path, faults, rules):
+    status, written, errors = audited(tmp_path, faults)
+    assert (status, errors) == (0, "")
+    assert rules_of(written) == ["", "", *rules[:4], "", rules[4]]
+
+
+def test_64_rules(tmp_path):
+    """one that came while 64 were left has no number"""
+    full = "next 1 good\n" * 64
+    given = "at 0 always lastbit\nat 4 next 9 good\nat 4 next 9 global bit\n"
+    # Rules 1 and 2 are used up by attempts 0 and 1, 3 by attempt 2, 4 by attempt 3, and so on.
+    status, written, errors = audited(tmp_path, full + given)
+    assert (status, errors) == (0, "") and rules_of(written) == ["", "", "3", "4", "5", "6", "", "8"]
+    status, written, errors = audited(tmp_path, "next 3 good\n" * 64 + "at 8 nofaults\nat 7 nofaults\n")
+    assert (status, written) == (1, "") and errors.startswith("canbusd: script line 66: bad line\n")
+    late = (
+        "next 1 good\n" * 4
+        + "always id 7FF good\n" * 60
+        + "at 0 next 9 global form\nat 4 next 1 lastbit\nat 4 always good"
+    )
+    status, written, errors = audited(tmp_path, late)
+    # Attempts 4 and 5: the first four are used up, so rule 65 is that of line 66 and rule 66 that of line 67.
+    assert (status, errors) == (0, "") and rules_of(written) == ["", "", "3", "4", "", "66", "", "66"]
+
+
+# Lines of a file, and what is said of the last of them: the fault, and how its note begins.
+WRONG = [
+    ("at 1", "bad line", "a line is at N RULE or at N nofaults"),
+    ("at x nofaults", "bad line", "a line is at N RULE"),
+    ("at +1 nofaults", "bad line", "a line is at N RULE"),
+    ("at 12345678901 nofaults", "bad line", "a line is at N RULE"),
+    ("at  1 nofaults", "bad line", "a line is at N RULE"),
+    ("at 1 faults", "bad line", "a line is at N RULE"),
+    ("at 1 nofaults ", "bad line", "a line is at N RULE"),
+    ("at 1 5 global bit", "bad line", "a line is at N RULE"),
+    ("at 1 at 2 nofaults", "bad line", "a line is at N RULE"),
+    ("at 1 nofaults\r", "bad line", "this line ends with CR and LF"),
+    ("at 1 next 1 good\r", "bad line", "this line ends with CR and LF"),
+    ("at 1 next 0 good", "bad line", "next N: N has 1 to 8 digits and is not 0"),
+    ("at 1 always id 1234 good", "bad line", "id ID: 3 hexadecimal digits"),
+    ("at 1 next 1 from nobody good", "unknown interface", "nobody is none of ecu,tester"),
+    ("at 1 next 1 local crc ecu,nobody", "unknown interface", "nobody is none of ecu,tester"),
+    ("at 2 nofaults\nat 1 nofaults", "bad line", "the numbers after at do not decrease"),
+    ("at 2 nofaults\nalways good\nat 1 always good", "bad line", "the numbers after at do not decrease"),
+    ("next 1 from nobody good", "unknown interface", "nobody is none of ecu,tester"),
+    ("5 good\n5 good", "repeated attempt", "line 2 has a verdict for this attempt"),
+    ("always good\n" * 64 + "always good", "too many rules", "a bus has at most 64 rules"),
+    ("At 1 nofaults", "bad line", "a line is NUMBER VERDICT"),
+    ("nofaults", "bad line", "a line is NUMBER VERDICT"),
+]
+
+
+@pytest.mark.parametrize("lines, fault, note", WRONG)
+def test_a_file_that_is_none(tmp_path, lines, fault, note):
+    """nothing is written, and the line is shown"""
+    status, written, errors = audited(tmp_path, f"# faults\n{lines}\n")
+    number, last = lines.count("\n") + 2, lines.split("\n")[-1].replace("\r", "?")
+    first, shown, why = errors.splitlines()
+    assert (status, written, first) == (1, "", f"canbusd: script line {number}: {fault}")
+    assert shown == f"  run.faults:{number}: {last}" and why.startswith(f"  {note}")
+
+
+def test_lines_of_a_run_are_none_of_a_bus(tmp_path):
+    """a script of bench has none"""
+    (tmp_path / "my.script").write_text("at 0 always good\n")
+    status, written, errors = run_line("bench can0@my.script", cwd=tmp_path)
+    assert (status, written) == (1, "") and errors.startswith(
+        "canbusd: script line 1: bad line\n  my.script:1: at 0 always good\n"
+    )
+
+
+def test_names_and_files(tmp_path):
+    """the names are looked at first, then the file, and then the record"""
+    (tmp_path / "my.faults").write_text("x\n")
+    for word, fault in (
+        ("ecu,ecu@none", "bad bus"),
+        ("@my.faults", "bad bus"),
+        ("ecu@none", "cannot open none"),
+        ("ecu@my.faults", "script line 1: bad line"),
+        ("ecu@", "cannot open "),
+        ("ecu@.", "read fault"),
+    ):
+        status, written, errors = run_line(f"audit --events --faults {word} none.rec", cwd=tmp_path)
+        assert (status, written) == (1, "") and errors.startswith(f"canbusd: {fault}\n"), errors
+
+
+def test_names_by_their_places(tmp_path):
+    """a name says which interface sends"""
+    faults = "always from ecu good"
+    assert rules_of(audited(tmp_path, faults)[1]) == ["", "", "1", "1", "1", "1", "", "1"]
+    assert rules_of(audited(tmp_path, faults, names="tester,ecu")[1]) == [""] * 8
+
+
+# Random runs of the bench, and what their buses had for faults.
+
+
+def file_of(case, output, source):
+    """The faults of a run as a file: its script, and between its lines what was given or ended while it ran."""
+    later, tried = [], 0
+    answers = [line for line in output if line.startswith("1 <")][2:]
+    attempts = iter([line for line in output if line.startswith(("tried ", "idle"))])
+    for kind, text in case.operations:
+        if kind == "attempt":
+            tried += next(attempts).startswith("tried ")
+        elif kind == "line":
+            later.append(f"at {tried} {text}")
+        elif kind == "message":
+            command, _, words = " ".join(text.split()).partition(" ")
+            if answers.pop(0) in ("1 < ok >", "1 < error too many rules >"):
+                later.append(f"at {tried} {words if command == 'fault' else command}")
+    lines = case.script.split("\n")
+    places = sorted(source.randint(0, len(lines)) for _ in later)
+    for place, line in reversed([*zip(places, later)]):
+        lines.insert(place, line)
+    return "\n".join(lines)
+
+
+def runs(maker, count, folder):
+    """So many random runs: the names of each, its record, and the file of its faults."""
+    while count:
+        case = maker.case()
+        case.write_to(folder)
+        words = [program(), *case.words]
+        done = subprocess.run(
+            words, input=case.text.encode(), cwd=folder, capture_output=True, timeout=WAIT, check=False
+        )
+        # A line that gives one rule too many is a fault of the bench.
+        if done.returncode == 0:
+            yield case.names, (folder / RECORD_FILE).read_bytes(), file_of(
+                case, done.stdout.decode().splitlines(), maker.random
+            )
+            count -= 1
+
+
+def events_with(data, names, faults, folder, *options):
+    """What the program writes of a record with these faults."""
+    (folder / "run.faults").write_text(faults)
+    words = [program(), "audit", "--events", *options, "--faults", f"{','.join(names)}@run.faults", "/dev/stdin"]
+    done = subprocess.run(words, input=data, cwd=folder, capture_output=True, timeout=WAIT, check=False)
+    assert (done.returncode, done.stderr) == (0, b""), faults
+    return done.stdout.decode()
+
+
+def test_random_runs(request, cases, tmp_path):
+    """a hundred of them: the rule of each attempt that has one, and no other"""
+    found = 0
+    for names, data, faults in runs(RuleMaker(request.config.getoption("seed")), cases // 10, tmp_path):
+        wanted = with_rules(events_of(data), RunFaults(faults, names))
+        assert events_with(data, names, faults, tmp_path) == wanted, faults
+        found += wanted.count("; rule ")
+    assert found, "no rule decided"
+
+
+def test_faults_of_another_run(request, rng, cases, tmp_path):
+    """what does not fit is not said, and the rules go on as they would; with time on the wire"""
+    maker, found = RuleMaker(request.config.getoption("seed")), 0
+    for names, data, faults in runs(maker, cases // 20, tmp_path):
+        other = faults.split("\n")
+        rng.shuffle(other)
+        later = sorted((line for line in other if line.startswith("at ")), key=lambda line: int(line.split(" ")[1]))
+        faults = "\n".join([line for line in other if not line.startswith("at ")] + later)
+        rates = random_rates(rng)
+        wanted = with_rules(events_of(data, rates=rates), RunFaults(faults, names))
+        assert events_with(data, names, faults, tmp_path, *rate_options(rates)) == wanted, faults
+        found += wanted.count("; rule ")
+    assert found, "no rule decided"

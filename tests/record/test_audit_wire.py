@@ -1,0 +1,201 @@
+"""`canbusd audit --events --bitrate`: how long attempts take the wire, and how many bits their frames have.
+
+Frames of known lengths and attempts by their fields, each kind of frame and of attempt beside the model of wire_model.py and
+wire_times.py, which spells frames bit by bit, and the words that are refused. test_record_events.py has random runs.
+"""
+
+import os
+import re
+import subprocess
+
+import pytest
+
+from commands import run_line
+from serving import ROOT, WAIT, program
+from test_audit_events import BUS_OFF, EVENTS, RECORD
+from test_damage import example
+from timed_benches import random_rates, rate_options
+from wire_model import FD_LENGTHS, KNOWN_LENGTHS, Frame, bit_counts, random_data, random_frames
+from wire_times import Rates, ending_of
+
+# At these a nominal bit takes 1,000 nanoseconds, and a fast one 125.
+FAST = Rates(1_000_000, 8_000_000)
+# Attempts to send a frame to another interface: the verdict, the class and who accepts it. Interface 2 is not there to see a
+# fault.
+ATTEMPTS = [
+    ("lastbit", "lastbit", "0002"),
+    ("global-bit", "destroyed", "0000"),
+    ("local-stuff:0002", "destroyed", "0000"),
+    ("global-form", "destroyed", "0000"),
+    ("local-crc:0002", "destroyed", "0000"),
+    ("local-form:0002", "destroyed", "0000"),
+    ("local-stuff:0004", "done", "0002"),
+    ("good", "done", "0002"),
+]
+# Where nobody is to acknowledge it.
+NOBODY = [("good", "noack", "0000")]
+
+
+def record_of(frame, attempts):
+    """The record of attempts to send a frame, which is queued twice, as it is done twice at most."""
+    bus = "2 always" if attempts is ATTEMPTS else "1 peers"
+    lines = ["open 0 1 = socket 0", "option 0 fd 1 = ok", *(f"send 0 {frame} = number {k}" for k in (0, 1))]
+    number = 0
+    for verdict, kind, accepted in attempts:
+        lines.append(f"attempt 0.000000 {verdict} = tried 0 {number} {frame} {kind} {accepted} 0000")
+        number += kind == "done"
+    front = ["canbus record 4", f"bus {bus} 0000 10 4294967294 0"]
+    return "".join(f"{line}\n" for line in [*front, *lines, f"end {len(lines)}"])
+
+
+def wires(record, rates):
+    """What the last parts of the lines say of a record: nanoseconds of frame and attempt, bits at each rate."""
+    words = [program(), "audit", "--events", *rate_options(rates), "/dev/stdin"]
+    done = subprocess.run(words, input=record, capture_output=True, text=True, timeout=WAIT, check=False)
+    assert (done.returncode, done.stderr) == (0, ""), record
+    found = re.findall(r"; wire (\d+) (\d+) (\d+) (\d+)$", done.stdout, re.MULTILINE)
+    return [tuple(map(int, numbers)) for numbers in found]
+
+
+def bits_of(text):
+    """How many bits a frame has at each rate."""
+    return wires(record_of(text, NOBODY), FAST)[0][2:]
+
+
+@pytest.mark.parametrize("text, bits", KNOWN_LENGTHS)
+def test_known_lengths_of_classic_frames(text, bits):
+    assert bits_of(text) == (bits, 0)
+
+
+@pytest.mark.parametrize(
+    "text, nominal, fast",
+    [
+        ("555##1", 27, 32),
+        ("555##1" + 3 * "55", 27, 32 + 24),
+        ("555##1" + 20 * "55", 27, 37 + 160),
+        ("15555555##1" + 20 * "55", 46, 37 + 160),
+        ("123##1" + 64 * "00", 27, 651),
+        # Without a switch BRS is dominant: before a length of 3 that makes five zeros, which a stuff bit follows.
+        ("555##0" + 20 * "55", 27 + 37 + 160, 0),
+        ("555##0" + 3 * "55", 27 + 32 + 24 + 1, 0),
+    ],
+)
+def test_known_lengths_of_fd_frames(text, nominal, fast):
+    """without stuff bits but for the fixed ones, by counting fields; and with those of 64 zeros"""
+    assert bits_of(text) == (nominal, fast)
+
+
+def test_known_lengths_of_attempts():
+    """52 and 67 bits to the end of the data and of the CRC, 77 in all, and 3 bits of intermission after each attempt"""
+    frame, rates = "123#11223344", Rates(500_000)
+    lengths = [77 + 18, 52 + 23, 52 + 23, 67 + 26, 67 + 26, 67 + 26, 80, 80]
+    assert wires(record_of(frame, ATTEMPTS), rates) == [(154_000, 2_000 * length, 77, 0) for length in lengths]
+    assert wires(record_of(frame, NOBODY), rates) == [(154_000, 2_000 * (67 + 19), 77, 0)]
+    # An FD frame has 17 and 5 bits to the end of its data, and 17 and 32 to the end of its CRC.
+    frame, length = "123##1", 27_000 + 32 * 125
+    assert wires(record_of(frame, ATTEMPTS), FAST)[1] == (length, 40_000 + 5 * 125, 27, 32)
+    assert wires(record_of(frame, NOBODY), FAST) == [(length, 36_000 + 32 * 125, 27, 32)]
+
+
+@pytest.mark.parametrize(
+    "text, rates, frame, attempt",
+    [
+        ("000#", Rates(1_000_000), 50_000, 53_000),
+        ("000#", Rates(500_000), 100_000, 106_000),
+        # 50 and 53 bits of 3,333 and a third.
+        ("000#", Rates(300_000), 166_667, 176_667),
+        # 27 bits of 2,000 and 32 of 333 and a third; a switch to the nominal rate is none.
+        ("555##1", Rates(500_000, 3_000_000), 64_667, 70_667),
+        ("555##1", Rates(500_000), 118_000, 124_000),
+        ("123##1" + 64 * "00", FAST, 108_375, 111_375),
+        # The slowest bus and the longest of these frames, and the fastest.
+        ("123##1" + 64 * "00", Rates(5_000), 135_600_000, 136_200_000),
+        ("123##1" + 64 * "00", Rates(1_000_000, 20_000_000), 59_550, 62_550),
+    ],
+)
+def test_times_are_rounded_up(text, rates, frame, attempt):
+    assert wires(record_of(text, ATTEMPTS), rates)[-1][:2] == (frame, attempt)
+
+
+def frames(maker, count):
+    """Frames of every kind and length, and others at random."""
+    for number in (maker.getrandbits(11), maker.getrandbits(29)):
+        extended = number >= 1 << 11
+        yield from (Frame(number, extended, random_data(maker, length)) for length in range(9))
+        yield from (Frame(number, extended, requests=length) for length in range(9))
+        for length in FD_LENGTHS:
+            brs, esi = maker.random() < 0.5, maker.random() < 0.5
+            for flags in ((brs, esi), (not brs, esi)):
+                yield Frame(number, extended, random_data(maker, length), None, True, *flags)
+    yield from random_frames(maker.random(), count, is_fd=False, longest=8)
+    yield from random_frames(maker.random(), count, is_fd=True, longest=64)
+
+
+def test_each_kind_of_frame_and_attempt(rng, cases):
+    """beside the model, at random bit rates"""
+    for frame in frames(rng, cases // 10):
+        rates, whole = random_rates(rng), bit_counts(frame)
+        for attempts in (ATTEMPTS, NOBODY):
+            wanted = [
+                (rates.frame_nanos(frame), rates.attempt_nanos(frame, ending_of(kind, verdict)), *whole)
+                for verdict, kind, _ in attempts
+            ]
+            assert wires(record_of(frame, attempts), rates) == wanted, (str(frame), rates)
+
+
+def test_where_the_part_is(tmp_path):
+    """the last one of attempts that tried a frame; other lines are those without bit rates
+
+    123#01FF has 35 bits to the end of its data with 3 stuff bits, 15 of its CRC with 2, and 10 after that, each of 2,000
+    nanoseconds; the fault of the first attempt comes at the end of the data, and 23 bits follow.
+    """
+    (tmp_path / "run.rec").write_text(RECORD)
+    failed, done = "destroyed 0000 0000; counts", "; dropped 1:1"
+    wanted = re.sub(f"({failed}.*)", r"\1; wire 130000 122000 65 0", EVENTS)
+    wanted = wanted.replace(done, f"{done}; wire 130000 136000 65 0")
+    assert run_line("audit --events --bitrate 500000 run.rec", cwd=tmp_path) == (0, wanted, "")
+
+
+def test_the_worked_line(tmp_path):
+    """what docs/RECORD.md has of its example"""
+    with open(os.path.join(ROOT, "docs", "RECORD.md"), encoding="utf-8") as page:
+        (line,) = re.findall("^    (attempt .*; wire .*)$", page.read(), re.MULTILINE)
+    (tmp_path / "run.rec").write_bytes(example())
+    status, written, errors = run_line("audit --events --bitrate 500000 run.rec", cwd=tmp_path)
+    assert (status, errors) == (0, "") and line in written.splitlines()
+
+
+def test_restarts_and_idle_attempts_take_no_time(tmp_path):
+    """also where an attempt has both: it has the time of its own frame"""
+    entries = ["open 1 1 = socket 1", "send 1 000# = number 0"]
+    entries += ["attempt 0.000034 good = tried 1 0 000# done 0000 0000 restarted 0001", "end 40"]
+    both = BUS_OFF.replace("record 1", "record 2").replace("10 100", "10 100 2")
+    both = both.replace("restart 0 0.000034 = ok\nend 38\n", "".join(f"{entry}\n" for entry in entries))
+    for record in (BUS_OFF, both):
+        (tmp_path / "run.rec").write_text(record)
+        status, written, errors = run_line("audit --events --bitrate 1000000 run.rec", cwd=tmp_path)
+        assert (status, errors) == (0, "")
+        lines = written.splitlines()
+        assert [line for line in lines if "; wire " in line] == [line for line in lines if " tried " in line]
+        untimed = re.sub("; wire [0-9 ]+$", "", written, flags=re.MULTILINE)
+        assert run_line("audit --events run.rec", cwd=tmp_path) == (0, untimed, "")
+    # Its sender has no count to change, so all else is of the restart.
+    assert lines[-2].endswith("restarted 0001; counts 0 0 0; put 0:20000100#0000000000000000; wire 50000 53000 50 0")
+
+
+@pytest.mark.parametrize(
+    "words, fault",
+    [
+        ("--bitrate 500000", "'--bitrate' needs '--events'"),
+        ("--events --dbitrate 500000", "'--dbitrate' needs '--bitrate'"),
+        ("--events --bitrate 4999", "invalid value '4999' for '--bitrate': not a number from 5000 to 1000000"),
+        (
+            "--events --bitrate 500000 --dbitrate 499999",
+            "invalid value '499999' for '--dbitrate': not a number from 500000 to 20000000",
+        ),
+    ],
+)
+def test_bad_words(words, fault, tmp_path):
+    (tmp_path / "run.rec").write_text(RECORD)
+    status, written, errors = run_line(f"audit {words} run.rec", cwd=tmp_path)
+    assert (status, written) == (2, "") and errors.startswith(f"error: {fault}")

@@ -1,0 +1,180 @@
+"""`canbusd audit --events`: what it writes of random runs, whole and cut off, is what an independent model does.
+
+The model is record_events.py; of a record that is not legal the program writes the lines before the fault. With bit rates the
+lines have time on the wire, by wire_model.py and wire_times.py. And what the Python package reads of these lines is what the
+model has.
+"""
+
+import subprocess
+
+import record_events
+from canbusd._steps import DROPPED, RESTART
+from canbusd.replay import Replay
+from random_benches import Maker
+from record_events import events_of
+from record_text import BadRecord, parse_text
+from serving import WAIT, program
+from test_audit_events import EVENTS, RECORD
+from timed_benches import random_rates, rate_options
+
+# Two interfaces at 248 each lose what they have to send with bus off; in the second attempt after that one is back.
+BUS_OFF = [
+    "canbus record 2",
+    "bus 2 always 0000 10 100 2",
+    "open 0 256 = socket 0",
+    "option 0 errmask 00000140 = ok",
+    "send 0 123# = number 0",
+    "send 0 124# = number 1",
+    *(f"attempt 0.0000{number:02} global-bit = tried 0 0 123# destroyed 0000 0000" for number in range(1, 32)),
+    "attempt 0.000032 global-bit = tried 0 0 123# destroyed 0000 0001",
+    "attempt 0.000033 good = idle",
+    "attempt 0.000034 good = idle restarted 0001",
+    "end 38",
+]
+AT_BUS_OFF = "; counts 0 256 0; counts 1 0 32; lost 0 2; put 0:20000040#0000000000000000"
+AT_RESTART = "; counts 0 0 0; put 0:20000100#0000000000000000"
+
+
+def said(data, *options):
+    """What the program writes of a record, its status, and what it writes on standard error."""
+    words = [program(), "audit", *options, "/dev/stdin"]
+    done = subprocess.run(words, input=data, capture_output=True, timeout=WAIT, check=False)
+    return done.stdout.decode(), done.returncode, done.stderr.decode()
+
+
+def records(seed, count, folder):
+    """The records of so many random runs."""
+    maker = Maker(seed)
+    while count:
+        case, path = maker.case(), folder / "run.rec"
+        case.write_to(folder)
+        words = [program(), *case.words, "--record", path.name]
+        done = subprocess.run(words, input=case.text, cwd=folder, capture_output=True, timeout=WAIT, check=False)
+        if done.returncode == 0:
+            yield path.read_bytes()
+            count -= 1
+
+
+def test_the_model():
+    """its lines of two records, by hand"""
+    assert events_of(RECORD.encode()) == EVENTS
+    lines = events_of("".join(f"{line}\n" for line in BUS_OFF).encode()).splitlines()
+    assert lines[:2] == ["canbus events 1", BUS_OFF[1]] and lines[6] == f"{BUS_OFF[6]}; counts 0 8 0; counts 1 0 1"
+    assert lines[36:] == [
+        BUS_OFF[36] + "; counts 0 248 0; counts 1 0 31",
+        BUS_OFF[37] + AT_BUS_OFF,
+        BUS_OFF[38],
+        BUS_OFF[39] + AT_RESTART,
+        "end 38",
+    ]
+
+
+def test_events_of_random_runs(request, cases, tmp_path):
+    """two thousand records, and each cut off at a random place"""
+    items = 0
+    for data in records(request.config.getoption("seed"), cases // 2, tmp_path):
+        wanted = events_of(data)
+        assert said(data, "--events") == (wanted, 0, ""), data
+        items += wanted.count("; put ")
+    assert items, "nobody received anything"
+
+
+def test_time_on_the_wire_of_random_runs(request, rng, cases, tmp_path):
+    """hundreds of records, at random bit rates"""
+    tried = 0
+    for data in records(request.config.getoption("seed"), cases // 10, tmp_path):
+        rates = random_rates(rng)
+        wanted = events_of(data, rates=rates)
+        assert said(data, "--events", *rate_options(rates)) == (wanted, 0, ""), data
+        tried += wanted.count("; wire ")
+    assert tried, "nothing was tried"
+
+
+def test_events_of_records_that_are_cut_off(request, rng, cases, tmp_path):
+    """at a random place, which may be within a line"""
+    for data in records(request.config.getoption("seed"), cases // 10, tmp_path):
+        whole = data[: rng.randrange(data.index(b"\n", data.index(b"\n") + 1) + 1, len(data))]
+        written, status, _ = said(whole, "--events", "--cut")
+        assert (written, status) == (events_of(whole, cut=True), 0), whole
+
+
+def test_events_of_wrong_records(request, rng, cases, tmp_path):
+    """the lines before the one that is wrong, and the fault as without the option"""
+    for data in records(request.config.getoption("seed"), cases // 10, tmp_path):
+        lines = data.splitlines(True)
+        place = rng.randrange(2, len(lines))
+        other = b"".join([*lines[:place], rng.choice(lines[2:]), *lines[place + 1 :]])
+        try:
+            assert said(other, "--events")[0] == events_of(other)
+        except BadRecord:
+            written, status, errors = said(other, "--events")
+            assert ("", status, errors) == said(other) and status == 1
+            before = b"".join(other.splitlines(True)[: written.count("\n")])
+            assert events_of(before, cut=True).rpartition("cut ")[0] == written
+
+
+def step_of(step):
+    """A step, to be compared."""
+    lists = (step.accepted, step.off, step.hit, step.counts, step.waiting)
+    met = [(number, frame.text) for number, frame in step.contenders]
+    when = step.kind, step.entry, step.moment, step.attempt, step.idle
+    return when, step.iface, step.number, step.text, step.verdict, met, [(*one,) for one in lists]
+
+
+def bus_of(run, text=lambda frame: frame):
+    """The interfaces and sockets of a run at its end, the frames that were lost, and the sends that were refused."""
+    ifaces = [
+        ([*map(text, one.waiting)], one.sent, one.done, one.lost, one.refused, one.tec, one.rec, one.state())
+        for one in run.ifaces
+    ]
+    sockets = [
+        (one.iface, one.capacity, one.closed_after, one.queued, one.taken, one.dropped, one.waiting)
+        for one in run.sockets
+    ]
+    return ifaces, sockets, run.refused, (run.attempts, run.idle, run.idle_since, run.entries)
+
+
+def queued_in(parts):
+    """The items that parts of entries name, with their sockets."""
+    for words in (part.split(" ")[1:] for one in parts.values() for part in one if part.startswith("put ")):
+        yield from ((int(number), error) for number, _, error in (word.partition(":") for word in words))
+
+
+def times_in(lines):
+    """The time on the wire that lines say, by the numbers of their entries."""
+    found = {}
+    for number, line in enumerate(lines):
+        wire = line.partition("; wire ")[2]
+        if wire:
+            found[number] = tuple(map(int, wire.split(" ")))
+    return found
+
+
+def test_the_times_that_the_package_reads(request, rng, cases, tmp_path):
+    """of each attempt that tried a frame, and none of a restart"""
+    for data in records(request.config.getoption("seed"), cases // 20, tmp_path):
+        rates, run = random_rates(rng), Replay()
+        lines = events_of(data, rates=rates).splitlines()
+        run.take(lines)
+        steps = run.steps
+        columns = zip(steps.frame_nanos, steps.busy_nanos, steps.nominal_bits, steps.fast_bits)
+        read = {entry: times for entry, times in zip(steps.entries, columns) if any(times)}
+        assert read == times_in(lines[2:]), data
+        assert len(read) == run.attempts == len(steps) - len(steps.places_of(RESTART)), data
+
+
+def test_what_the_package_reads(request, cases, tmp_path):
+    """random runs: steps, items, lost frames, and the bus at the end"""
+    for data in records(request.config.getoption("seed"), cases // 4, tmp_path):
+        run, model = Replay(), record_events.Replay(parse_text(data))
+        run.take(events_of(data).splitlines())
+        assert [step_of(step) for step in run.steps] == [step_of(step) for step in model.steps], data
+        assert bus_of(run) == bus_of(model, lambda pending: pending.frame.text), data
+        lost = {step: [(one.number, one.frame.text) for one in all_of] for step, all_of in model.lost.items()}
+        assert run.lost == lost, data
+        items = [*zip(run.items.steps, run.items.sockets, run.items.errors, run.items.fates())]
+        queued = [(run.steps.entries[step], socket, error) for step, socket, error, fate in items if fate != DROPPED]
+        # A line has those of the restarts among those of the attempt.
+        by_socket = sorted(queued, key=lambda item: item[:2])
+        assert [(socket, run.texts.all[error]) for _, socket, error in by_socket] == [*queued_in(model.parts)], data
+        assert len(items) - len(queued) == sum(socket.dropped for socket in run.sockets), data

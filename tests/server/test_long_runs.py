@@ -1,0 +1,951 @@
+"""Servers whose logs and records are written while they run, and those without a record.
+
+Servers under load are killed at random moments (10, with the slow tests 200): what they leave is audited by
+`audit --cut` and by the independent model of record_events.py, and has at least what clients knew twice `--flush` before.
+Disks fill, stop, fail or are slow (failing_disk.c, compiled with cc and loaded with the program), or can't be written.
+After 20 million entries memory is what it was when both blocks of the bus were full, 100,000 sessions leave nothing,
+and a server under a steady load (--minutes) ends with a record that is right. What a record has is compared with that
+of the same dialogue with a server that writes it at its end.
+"""
+
+import collections
+import contextlib
+import mmap
+import os
+import re
+import resource
+import shlex
+import shutil
+import signal
+import struct
+import subprocess
+import tempfile
+import threading
+import time
+
+import pytest
+
+from commands import call
+from live_records import FRONT, cut_audit, names_in
+from record_events import audit
+from serving import ROOT, WAIT, Pair, Plain, come_true, plain, program, serving, serving_alone, turns, writes_live
+
+pytestmark = pytest.mark.skipif("not writes_live()", reason="the program is older than `serve --record`")
+LIVE = ("--record", "live")
+FAST = ("--pace", "0", "--txqueue", "1024", "--rxqueue", "65536", "--write", "16384")
+FLUSH = 0.2
+# Of 64 sessions that a server has at once.
+AT_ONCE = 40
+MOMENT = re.compile(r"\b\d+\.\d{6}\b")
+
+
+def read(path):
+    with open(path, encoding="ascii") as file:
+        return file.read()
+
+
+def run(*words, **more):
+    """What the program says: status, standard output, standard error."""
+    return call(program(), *words, **more)
+
+
+@pytest.mark.parametrize(
+    "words",
+    [
+        ["--record", "live"],
+        ["--record", "live", "--out", ".", "--limit", "1000000"],
+        ["--record", "live", "--out", ".", "--limit", "4294967294"],
+        ["--record", "none", "--limit", "16777216"],
+        ["--record", "always"],
+        ["--record"],
+        ["--record", "none", "--out", ".", "--flush", "60001"],
+        ["--record", "none", "--out", ".", "--flush", "x"],
+        ["--record", "none", "--out", ".", "--flush", "+5"],
+    ],
+)
+def test_words_that_are_refused(words, tmp_path):
+    status, said, errors = run("serve", "--listen", "127.0.0.1:0", *words, "can0", cwd=tmp_path)
+    assert (status, said) == (2, "") and errors, f"{words}: {status} {said} {errors}"
+    assert os.listdir(tmp_path) == [], "a file was made"
+
+
+@pytest.mark.parametrize("record", ["live", "none"])
+def test_a_folder_that_cannot_be_written(record, tmp_path):
+    """missing, a file, a place where no file can be made, a log that is a folder: before it listens"""
+    (tmp_path / "file").touch()
+    (tmp_path / "can0.log").mkdir()
+    for folder in (tmp_path / "none", tmp_path / "file", "/proc", tmp_path):
+        status, said, errors = run("serve", "--listen", "127.0.0.1:0", "--record", record, "--out", folder, "can0")
+        assert (status, said) == (1, ""), f"{folder}: {status} {said} {errors}"
+        assert errors.startswith(f"canbusd: cannot open {folder}\n  {folder}/can0."), f"{folder}: {errors}"
+
+
+def dialogue(server, has_fd):
+    """The same with each server: each reply and each frame is waited for."""
+    replies = []
+    with contextlib.closing(plain(server, "can0")) as can0, contextlib.closing(plain(server, "can1")) as can1:
+        for client in (can0, can1):
+            commands = ["echo", "recvown 0", "errmask FFFFFFFF", *(["fdframes 1"] if has_fd else [])]
+            replies += [client.answer(f"< {command} >") for command in commands]
+        replies.append(can1.answer("< filter 1 123 700 >"))
+        for number in range(50):
+            can0.write(f"< send {100 + number % 3} 2 {number:x} 5 >")
+            replies.append(MOMENT.sub("T", can1.text()))
+            if has_fd:
+                can0.write(f"< sendfd 1{number:02d} 12 {' '.join(['a5'] * 12)} >")
+                replies.append(MOMENT.sub("T", can1.text()))
+        for command in ("stats", "close"):
+            replies += [client.answer(f"< {command} >") for client in (can0, can1)]
+    return replies
+
+
+@pytest.mark.parametrize("has_fd", [False, True])
+def test_the_record_of_the_same_dialogue(has_fd):
+    """live and at the end: they differ in the first two lines, and the logs do not; nor does what clients get"""
+    runs = {}
+    for record in ("end", "live", "none"):
+        with serving_alone(*(() if record == "end" else ("--record", record)), "can0,can1") as server:
+            replies = dialogue(server, has_fd)
+            written = server.end()
+            names = ["can0.log"] if record == "none" else ["can0.log", "can0.rec"]
+            assert names_in(server.folder) == names
+            texts = [MOMENT.sub("T", read(server.path(name))) for name in names]
+            if record != "none":
+                assert written == f"bus can0 entries {server.audited('can0.rec')}\n"
+            runs[record] = replies, written, *texts
+    assert runs["live"][:3] == runs["end"][:3] == runs["none"]
+    first, bus, *live = runs["live"][3].splitlines()
+    first_of_end, bus_of_end, *end = runs["end"][3].splitlines()
+    assert live == end and len(live) > 150
+    assert (first, bus) == tuple(FRONT.splitlines())
+    assert first_of_end == f"canbus record {3 if has_fd else 1}"
+    assert bus_of_end == f"bus 2 always 0000 10 1000000{' 0' if has_fd else ''}"
+
+
+def test_each_front_of_a_record_that_a_server_wrote(tmp_path):
+    """cut at each byte: as many entries as it has whole lines after the first two"""
+    with serving_alone(*LIVE, "can0,can1") as server:
+        dialogue(server, has_fd=True)
+        server.end()
+        with open(server.path("can0.rec"), "rb") as file:
+            text = file.read()
+    assert text.startswith(FRONT.encode()) and len(text) > 10_000
+    path = tmp_path / "front"
+    # Each byte of the first lines, and around the end of each other.
+    ends = [place for place, byte in enumerate(text) if byte == 10]
+    for place in [*range(200), *(end + more for end in ends for more in (0, 1))]:
+        front = text[:place]
+        path.write_bytes(front)
+        status, said, errors = run("audit", "--cut", path)
+        entries = front.count(b"\n") - 2
+        if front == text:
+            assert (status, said, errors) == (0, f"ok {entries - 1} entries\n", "")
+        elif entries >= 0:
+            assert (status, said) == (0, f"ok {entries} entries, then cut off\n"), f"{place}: {said}{errors}"
+        else:
+            wanted = "bad version" if entries == -2 else "line 2: bad line"
+            assert (status, said) == (1, "") and errors.startswith(f"canbusd: {wanted}\n"), f"{place}: {said}{errors}"
+
+
+def test_the_files_of_a_run_that_goes_on():
+    """the front from the start; then each line soon after its call; the end line and the name with the end"""
+    with serving_alone(*LIVE, "can0,can1", "car0") as server:
+        assert names_in(server.folder) == ["can0.log", "can0.rec.new", "car0.log", "car0.rec.new"]
+        assert come_true(lambda: read(server.path("can0.rec.new")) == FRONT)
+        pair = Pair(server)
+        for number in range(20):
+            pair.go_on()
+            assert come_true(lambda: read(server.path("can0.log")).count("\n") == number + 1), "no line of the log"
+            assert come_true(lambda: f"data 0 {number} " in read(server.path("can0.rec.new"))), "no entry"
+        entries, is_cut = cut_audit(server.path("can0.rec.new"))
+        assert is_cut and entries >= 60 and cut_audit(server.path("car0.rec.new")) == (0, True)
+        assert server.end() == f"bus can0 entries {server.audited('can0.rec')}\nbus car0 entries 0\n"
+        assert names_in(server.folder) == ["can0.log", "can0.rec", "car0.log", "car0.rec"]
+        assert read(server.path("car0.rec")) == FRONT.replace("bus 2", "bus 1") + "end 0\n"
+        assert run("audit", server.path("can0.rec"))[0] == 0
+
+
+@pytest.mark.parametrize("flush", ["0", "1", "60000"])
+@pytest.mark.parametrize("more", [[], ["--sync"]])
+def test_when_lines_are_handed_over(flush, more):
+    """at once, or at the latest with the end"""
+    with serving_alone(*LIVE, "--flush", flush, *more, "can0,can1") as server:
+        pair = Pair(server)
+        for _ in range(10):
+            pair.go_on()
+        if flush != "60000":
+            assert come_true(lambda: read(server.path("can0.log")).count("\n") == 10), "no line of the log"
+        server.end()
+        assert read(server.path("can0.log")).count("\n") == 10
+        assert server.audited("can0.rec") >= 30
+
+
+def test_tail_follows_the_log():
+    with serving_alone("--record", "none", "--flush", "0", "can0,can1") as server:
+        words = ["tail", "-n", "+1", "-f", f"--pid={server.child.pid}", server.path("can0.log")]
+        with subprocess.Popen(words, stdout=subprocess.PIPE, text=True) as tail:
+            pair = Pair(server)
+            lines = []
+            for number in range(1, 101):
+                pair.go_on()
+                lines.append(tail.stdout.readline())
+                assert lines[-1].endswith(f" can0 00000000#{number:08X}\n"), lines[-1]
+            server.end()
+            assert "".join([*lines, tail.stdout.read()]) == read(server.path("can0.log"))
+            assert tail.wait(WAIT) == 0
+
+
+def test_without_a_record_and_a_log():
+    """nothing is written where nothing is asked for"""
+    with serving_alone("--record", "none", "can0,can1", out=None) as server:
+        pair = Pair(server)
+        for _ in range(100):
+            pair.go_on()
+        entries = int(re.fullmatch(r"bus can0 entries (\d+)\n", server.end())[1])
+        assert entries >= 300 and names_in(server.folder) == []
+
+
+def test_what_an_earlier_run_left():
+    """its record is renamed, with a note, and then replaced by that of the run after it"""
+    with tempfile.TemporaryDirectory() as folder:
+        path = os.path.join(folder, "can0.rec")
+        for text in ("of the first run\n" * 10, "of the second\n" * 10):
+            for name in ("can0.rec.new", "can0.log", "can0.rec"):
+                with open(os.path.join(folder, name), "w", encoding="ascii") as file:
+                    file.write(text)
+            with serving_alone(*LIVE, "can0", "can1", out=folder) as server:
+                assert read(f"{path}.cut") == text and read(os.path.join(folder, "can0.log")) == ""
+                # The record before stays until there is another.
+                assert read(path) == text
+                server.end(says=f"note: {path}.new of a run that was cut off is {path}.cut now")
+            assert run("audit", path) == (0, "ok 0 entries\n", "")
+            assert sorted(os.listdir(folder)) == ["can0.log", "can0.rec", "can0.rec.cut", "can1.log", "can1.rec"]
+
+
+@pytest.mark.parametrize("record", ["end", "live"])
+def test_what_a_start_that_failed_left(record, tmp_path):
+    """first lines take the place of nothing: what a run that was killed left before stays, and there is no note"""
+    text = FRONT + "of a run that was killed\n" * 10
+    (tmp_path / "can0.rec.cut").write_text(text)
+    (tmp_path / "can0.rec.new").write_text(FRONT)
+    with serving_alone("--record", record, "can0", out=tmp_path) as server:
+        server.end()
+    assert read(tmp_path / "can0.rec.cut") == text
+    assert names_in(tmp_path) == ["can0.log", "can0.rec", "can0.rec.cut"]
+
+
+@pytest.mark.parametrize("record", ["end", "live", "none"])
+def test_who_sets_aside_what_an_earlier_run_left(record, tmp_path):
+    """who writes a record, also at the end: that of each bus; and a fault of the address comes before"""
+    texts = {bus: f"of {bus} in a run that was killed\n" * 10 for bus in ("can0", "can1")}
+    for bus, text in texts.items():
+        (tmp_path / f"{bus}.rec.new").write_text(text)
+    words = "--record", record, "--out", tmp_path, *texts
+    status, said, errors = run("serve", "--listen", "nowhere.invalid:1", *words)
+    assert (status, said) == (1, "") and errors.startswith("canbusd: cannot listen\n")
+    assert names_in(tmp_path) == ["can0.rec.new", "can1.rec.new"]
+    with serving_alone("--record", record, *texts, out=tmp_path) as server:
+        paths = [f"{tmp_path}/{bus}.rec" for bus in texts]
+        notes = [f"note: {path}.new of a run that was cut off is {path}.cut now" for path in paths]
+        server.end(says="" if record == "none" else "\n".join(notes))
+    left = "rec.new" if record == "none" else "rec.cut"
+    assert {bus: read(tmp_path / f"{bus}.{left}") for bus in texts} == texts
+    kinds = ["log", left] if record == "none" else ["log", "rec", left]
+    assert names_in(tmp_path) == [f"{bus}.{kind}" for bus in texts for kind in kinds]
+
+
+@pytest.mark.parametrize("first", ["live", "none"])
+@pytest.mark.parametrize("second", ["end", "live", "none"])
+def test_a_second_server_by_mistake(first, second):
+    """at the same address, or in the same folder: it does not begin, and the files of the first stay as they are"""
+    with serving_alone("--record", first, "can0,can1") as server:
+        pair, names = Pair(server), names_in(server.folder)
+        pair.go_on()
+        for address, fault in [(server.address, "cannot listen"), ("127.0.0.1:0", "cannot open")]:
+            words = "serve", "--listen", address, "--record", second, "--out", server.folder, "can0,can1"
+            status, said, errors = run(*words)
+            assert (status, said) == (1, "") and errors.startswith(f"canbusd: {fault}"), f"{address}: {said}{errors}"
+            left = names_in(server.folder)
+            assert set(names) <= set(left) and "can0.rec.cut" not in left, left
+            pair.go_on()
+        server.end()
+        assert read(server.path("can0.log")).count("\n") == pair.count
+        assert first == "none" or server.audited("can0.rec") >= 3 * pair.count
+
+
+class Reader:
+    """What a client got, and when: after how many seconds how many texts."""
+
+    def __init__(self, client):
+        self.client, self.moments, self.count = client, [], 0
+
+    def read(self):
+        """Reads until the connection ends."""
+        with contextlib.suppress(OSError):
+            while piece := self.client.socket.recv(65536):
+                self.count += piece.count(b">")
+                self.moments.append((time.monotonic(), self.count))
+
+    def before(self, moment):
+        """How many texts had come by this moment."""
+        return max((count for when, count in self.moments if when <= moment), default=0)
+
+
+class Load:
+    """A session that sends frames with numbers, at a rate or as fast as it can, and one that receives them."""
+
+    def __init__(self, server, many=50, rate=float("inf")):
+        self.sender, self.receiver = Reader(plain(server, "can0")), Reader(plain(server, "can1"))
+        assert self.sender.client.answer("< filter 0 >") == "< ok >"
+        assert self.sender.client.answer("< ack 1 >") == "< ok >"
+        self.many, self.rate, self.sent, self.is_over = many, rate, 0, threading.Event()
+        works = self.sender.read, self.receiver.read, self.send
+        self.threads = [threading.Thread(target=work, daemon=True) for work in works]
+        for thread in self.threads:
+            thread.start()
+
+    def send(self):
+        """Sends frames, of which twice `many` are under way at most, so that none is refused."""
+        begin = time.monotonic()
+        with contextlib.suppress(OSError):
+            while not self.is_over.is_set():
+                if self.under_way() <= self.many and self.sent <= self.rate * (time.monotonic() - begin):
+                    numbers = range(self.sent, self.sent + self.many)
+                    self.sender.client.write("".join(f"< send 123 3 {spelled(number)} >" for number in numbers))
+                    self.sent += self.many
+                else:
+                    time.sleep(0.0005)
+
+    def under_way(self):
+        """How many frames were sent whose reply, or who themselves, have not come."""
+        return self.sent - min(self.sender.count, self.receiver.count)
+
+    def end(self):
+        """Ends the sessions, or what is left of them."""
+        self.is_over.set()
+        for one in (self.sender, self.receiver):
+            with contextlib.suppress(OSError):
+                one.client.socket.shutdown(2)
+        for thread in self.threads:
+            thread.join(WAIT)
+            assert not thread.is_alive()
+        for one in (self.sender, self.receiver):
+            one.client.close()
+
+
+def spelled(number):
+    return (number % 2**24).to_bytes(3, "big").hex(" ")
+
+
+def kill_under_load(rng, rate):
+    """A server is killed at a random moment. What it leaves is right, and the next server sets it aside. Returns how many
+    entries it has, and how many sends and receives the clients knew of in time."""
+    with serving_alone(*LIVE, *FAST, "--flush", str(round(1000 * FLUSH)), "can0,can1") as server:
+        load = Load(server, rate=rate)
+        # A moment, and not a wait for something.
+        time.sleep(rng.uniform(0, 1))
+        killed = time.monotonic()
+        server.child.kill()
+        server.child.wait()
+        load.end()
+        sent, received = (one.before(killed - 2 * FLUSH) for one in (load.sender, load.receiver))
+        assert names_in(server.folder) == ["can0.log", "can0.rec.new"]
+        path = server.path("can0.rec.new")
+        entries, is_cut = cut_audit(path, is_replayed=rate < float("inf"))
+        assert is_cut, "it was killed, and its record has an end"
+        text = read(path)
+        lines = text[: text.rindex("\n")].split("\n")[2:]
+        assert len(lines) == entries
+        numbers = [int(line.split(" = number ")[1]) for line in lines if line.startswith("send ")]
+        assert numbers == list(range(len(numbers)))
+        taken = [int(line.split(" ")[5]) for line in lines if " = data " in line]
+        assert taken == list(range(len(taken)))
+        logged = compare_log(read(server.path("can0.log")), lines)
+        if rate < float("inf"):
+            found = f"{len(numbers)} sends, {len(taken)} receives, {logged} lines of the log"
+            assert (
+                len(numbers) >= sent and min(len(taken), logged) >= received
+            ), f"{sent} sent, {received} received, {found}"
+        if entries:
+            set_aside(server, path, text)
+        return entries, sent, received
+
+
+def set_aside(server, path, text):
+    """The next server in the folder of one that was killed keeps its record, and says so."""
+    with serving_alone(*LIVE, "can0,can1", out=server.folder) as after:
+        aside = f"{server.folder}/can0.rec.cut"
+        after.end(says=f"note: {path} of a run that was cut off is {aside} now")
+        assert read(aside) == text
+
+
+def compare_log(log, entries):
+    """The log has the lines of the attempts, as far as it reaches: one is the front of the other. Returns how many."""
+    lines = log[: log.rfind("\n") + 1].splitlines()
+    tried = [entry.split(" ") for entry in entries if " = tried " in entry]
+    wanted = [f"({words[1]:0>17}) can{words[5]} {words[7]}" for words in tried]
+    both = min(len(lines), len(wanted))
+    assert lines[:both] == wanted[:both]
+    return len(lines)
+
+
+@pytest.mark.quiet
+@pytest.mark.parametrize("kills", [10, pytest.param(200, marks=pytest.mark.slow)])
+def test_kills_at_random_moments(rng, kills):
+    """under a load that the server can carry, so that its files are not late: 15,000 entries a second"""
+    runs = [kill_under_load(rng, 5000) for _ in range(kills)]
+    entries = [one[0] for one in runs]
+    print(f"{kills} kills, after {min(entries)} to {max(entries)} entries")
+    assert max(received for _, _, received in runs) > 100, "no run was long enough"
+
+
+@pytest.mark.parametrize("kills", [2, pytest.param(20, marks=pytest.mark.slow)])
+def test_kills_at_full_speed(rng, kills):
+    """as fast as it can: its files may be late, and are right all the same"""
+    entries = [kill_under_load(rng, float("inf"))[0] for _ in range(kills)]
+    print(f"{kills} kills, after {min(entries)} to {max(entries)} entries")
+
+
+def test_the_service_keeps_what_the_run_before_it_left(tmp_path):
+    """what it runs before each start: files of one run are moved together, and where there are none those are kept"""
+    with open(os.path.join(ROOT, "contrib", "canbusd.service"), encoding="utf-8") as unit:
+        settings = dict(re.findall(r"^(Exec\w+|Environment)=(.*)$", unit.read(), re.M))
+    before = shlex.split(settings["ExecStartPre"].replace("$$", "$"))
+
+    def moves(*names):
+        for name in names:
+            (tmp_path / name).write_text(f"{name} {names}\n" * 10)
+        subprocess.run(before, cwd=tmp_path, check=True)
+        left = sorted(os.listdir(tmp_path / "previous")) if (tmp_path / "previous").exists() else []
+        assert sorted(os.listdir(tmp_path)) == (["previous", "socket"] if left else ["socket"])
+        return left
+
+    (tmp_path / "socket").touch()
+    assert moves() == []
+    killed = ["can0.log", *(f"can0.rec{one}" for one in (".cut", ".faults.cut", ".faults.new", ".new")), "car0.log"]
+    assert moves(*killed) == killed and moves() == killed
+    # What a start leaves that failed: the first lines of records.
+    script = "# a script\n" * 100
+    failed = [("can0.rec.new", FRONT), ("can0.rec.faults.new", script), ("car0.rec.cut", FRONT)]
+    for name, text in [("can0.log", ""), *failed]:
+        (tmp_path / name).write_text(text)
+    subprocess.run(before, cwd=tmp_path, check=True)
+    assert sorted(os.listdir(tmp_path / "previous")) == killed
+    for name in ("can0.log", *(name for name, _ in failed)):
+        (tmp_path / name).unlink()
+    # A log of one line, of a server without a record.
+    (tmp_path / "can0.log").write_text("(0000000000.000001) can0 123#\n")
+    subprocess.run(before, cwd=tmp_path, check=True)
+    assert os.listdir(tmp_path / "previous") == ["can0.log"]
+    whole = ["can0.log", "can0.rec", "can0.rec.faults", "car0.log", "car0.rec"]
+    assert moves(*whole) == whole
+    assert (tmp_path / "previous" / "can0.rec").read_text().startswith(f"can0.rec {tuple(whole)}\n")
+    # The words of the program are those of a server.
+    variables = dict(word.split("=", 1) for word in shlex.split(settings["Environment"]))
+    words = (
+        settings["ExecStart"].replace("$OPTIONS", variables["OPTIONS"]).replace("$BUSES", variables["BUSES"]).split()
+    )
+    assert words[:2] == ["/usr/bin/canbusd", "serve"] and ("live" in words) is True
+    done = subprocess.run(
+        [program(), *words[1:], "--until-eof", "--listen", "127.0.0.1:0"],
+        stdin=subprocess.DEVNULL, stdout=subprocess.PIPE, cwd=tmp_path, check=True,
+    )  # fmt: skip
+    assert done.stdout.endswith(b"bus can0 entries 0\n") and (tmp_path / "can0.rec").exists()
+
+
+def test_a_run_after_one_that_was_killed():
+    """in the same folder: its record is audited under the other name"""
+    with tempfile.TemporaryDirectory() as folder:
+        path = os.path.join(folder, "can0.rec")
+        with serving_alone(*LIVE, "--flush", "0", "can0,can1", out=folder) as server:
+            Pair(server).go_on()
+            assert come_true(lambda: " data 0 0 " in read(f"{path}.new"))
+            server.child.kill()
+            server.child.wait()
+        entries, is_cut = cut_audit(f"{path}.new")
+        assert is_cut and entries >= 5
+        with serving_alone(*LIVE, "can0,can1", out=folder) as server:
+            server.end(says=f"note: {path}.new of a run that was cut off is {path}.cut now")
+        assert cut_audit(f"{path}.cut") == (entries, True) and cut_audit(path) == (0, False)
+
+
+def not_whole(server, name="can0.rec.new"):
+    """How many entries the server says that this record has, at once, without an end."""
+    found = re.search(
+        rf"^canbusd: write fault\n  \S*{re.escape(name)}: .+\n  it has the first (\d+) entries, and no end$",
+        server.said(),
+        re.M,
+    )
+    return int(found[1]) if found else None
+
+
+def may_grow(most):
+    """Lets files grow to a number of bytes; then writes are refused."""
+
+    def begin():
+        signal.signal(signal.SIGXFSZ, signal.SIG_IGN)
+        resource.setrlimit(resource.RLIMIT_FSIZE, (most, most))
+
+    return begin
+
+
+def fill(server, pair, *ready):
+    """Sends frames until the server has said what it has to; then the bus still goes on."""
+    for _ in turns("the disk is full, and nothing is said", 3 * WAIT):
+        for _ in range(100):
+            pair.go_on()
+        if all(one() is not None for one in ready):
+            break
+    for _ in range(10):
+        pair.go_on("a disk that is full")
+
+
+def test_files_that_grow_to_a_limit():
+    """each ends at a whole line, its server says how many it has, and the bus goes on"""
+    most = 20_000
+    # Its own standard error is bounded too, and long enough.
+    with serving_alone(*LIVE, "--pace", "0", "can0,can1", "car0,car1", preexec_fn=may_grow(most)) as server:
+        pair, other = Pair(server), Pair(server, "car0", "car1")
+        other.go_on()
+        fill(server, pair, lambda: not_whole(server), lambda: log_lines(server))
+        entries, lines = not_whole(server), log_lines(server)
+        status, written = server.finish()
+        assert status == 1
+        assert int(re.match(r"bus can0 entries (\d+)\n", written)[1]) > entries
+        check_cut(server.folder, entries, lines, most)
+        # The other bus's files are whole.
+        assert names_in(server.folder) == ["can0.log", "can0.rec.new", "car0.log", "car0.rec"]
+        assert server.audited("car0.rec") >= 3 and read(server.path("car0.log")).count("\n") == 1
+
+
+def log_lines(server):
+    """How many lines the server says that the log has which could not be written."""
+    found = re.search(r"^canbusd: log of can0: (\d+) whole lines$", server.said(), re.M)
+    return int(found[1]) if found else None
+
+
+def check_cut(folder, entries, lines, most):
+    """What is left of files that could grow no more: whole lines, as many as was said, and no record that looks whole."""
+    record, log = os.path.join(folder, "can0.rec.new"), os.path.join(folder, "can0.log")
+    for path in (record, log):
+        assert read(path).endswith("\n") and most - 300 <= os.path.getsize(path) <= most, path
+    assert cut_audit(record) == (entries, True)
+    assert not os.path.exists(os.path.join(folder, "can0.rec"))
+    assert read(log).count("\n") == lines
+
+
+def test_a_log_on_a_full_device():
+    """it is reported at once; the record is whole"""
+    with tempfile.TemporaryDirectory() as folder:
+        os.symlink("/dev/full", os.path.join(folder, "can0.log"))
+        with serving_alone(*LIVE, "--pace", "0", "can0,can1", out=folder) as server:
+            pair = Pair(server)
+            pair.go_on()
+            assert come_true(lambda: log_lines(server) == 0), server.said()
+            for _ in range(100):
+                pair.go_on()
+            status, written = server.finish()
+            assert status == 1, f"status {status}: {server.said()}"
+        said = run("audit", os.path.join(folder, "can0.rec"))
+        assert said == (0, written.replace("bus can0 entries ", "ok ").replace("\n", " entries\n"), "")
+        assert not os.path.exists(os.path.join(folder, "can0.rec.new"))
+
+
+class SmallDisk:
+    """A file system of this size in kilobytes, which the user may mount in a name space of the user's own."""
+
+    def __init__(self, kilobytes, folder):
+        script = 'mount -t tmpfs -o size="$1"k none "$2" && echo mounted && exec cat'
+        words = ["unshare", "--user", "--map-root-user", "--mount", "sh", "-c", script, "sh", str(kilobytes), folder]
+        self.holder = subprocess.Popen(words, stdin=subprocess.PIPE, stdout=subprocess.PIPE, stderr=subprocess.DEVNULL)
+        self.is_there = self.holder.stdout.readline() == b"mounted\n"
+        #: The folder, from outside.
+        self.folder = f"/proc/{self.holder.pid}/root{folder}"
+
+    def launcher(self, folder):
+        """A program that is canbusd in there."""
+        path = os.path.join(folder, "inside")
+        enter = f"nsenter --preserve-credentials --user --mount --target {self.holder.pid}"
+        with open(path, "w", encoding="utf-8") as file:
+            file.write(f'#!/bin/sh\nexec {enter} --wd="$PWD" {program()} "$@"\n')
+        os.chmod(path, 0o755)
+        return path
+
+    def close(self):
+        self.holder.communicate(timeout=WAIT)
+
+
+@pytest.fixture
+def disk():
+    """A file system of 128 kilobytes."""
+    with tempfile.TemporaryDirectory() as folder:
+        found = SmallDisk(128, folder) if shutil.which("unshare") and shutil.which("nsenter") else None
+        try:
+            if found is None or not found.is_there:
+                pytest.skip("no file system may be mounted in a name space of one's own")
+            yield found, folder
+        finally:
+            if found is not None:
+                found.close()
+
+
+def test_a_disk_that_is_full(disk, tmp_path):
+    """the same on a disk, which several files share"""
+    small, folder = disk
+    launcher, stdin = small.launcher(tmp_path), subprocess.PIPE
+    with serving(
+        "--until-eof", *LIVE, "--pace", "0", "can0,can1", launcher=launcher, out=folder, stdin=stdin
+    ) as server:
+        pair = Pair(server)
+        pair.go_on()
+        # Of what goes out at once the record may take all that there is.
+        assert come_true(lambda: read(os.path.join(small.folder, "can0.log")).count("\n") == 1), "no line of the log"
+        fill(server, pair, lambda: not_whole(server))
+        assert "No space left on device" in server.said()
+        entries = not_whole(server)
+        status, written = server.finish()
+        assert status == 1 and int(re.fullmatch(r"bus can0 entries (\d+)\n", written)[1]) > entries
+        path = os.path.join(small.folder, "can0.rec.new")
+        assert read(path).endswith("\n") and cut_audit(path) == (entries, True)
+        assert names_in(small.folder) == ["can0.log", "can0.rec.new"]
+        log = read(os.path.join(small.folder, "can0.log"))
+        assert compare_log(log, read(path).splitlines()[2:]) >= 1
+        if log_lines(server) is not None:
+            assert log.count("\n") == log_lines(server) and log.endswith("\n")
+
+
+class Pipe:
+    """A pipe in the place of a file, which is read only when a test wants that."""
+
+    def __init__(self, path):
+        os.mkfifo(path)
+        self.reader = os.open(path, os.O_RDONLY | os.O_NONBLOCK)
+        os.set_blocking(self.reader, True)
+
+    def pieces(self):
+        return iter(lambda: os.read(self.reader, 1 << 16), b"")
+
+    def close(self):
+        os.close(self.reader)
+
+
+@pytest.fixture
+def pipe():
+    """A folder with a pipe in the place of the log."""
+    with tempfile.TemporaryDirectory() as folder, contextlib.closing(Pipe(os.path.join(folder, "can0.log"))) as made:
+        yield made, folder
+
+
+def waited(path):
+    """What a server may say whose log was not read in time: that once in a minute."""
+    return rf"note: bus can0: waits for {re.escape(path)}(\n[^\n]+ waits for {re.escape(path)})*"
+
+
+def test_a_log_whose_reader_goes(pipe):
+    """it is reported at once, with as many lines as it took; the record is whole"""
+    log, folder = pipe
+    with serving_alone(*LIVE, "--flush", "0", "can0,can1", out=folder) as server:
+        pair = Pair(server)
+        for number in range(1, 4):
+            pair.go_on()
+            assert os.read(log.reader, 1 << 16).endswith(f" can0 00000000#{number:08X}\n".encode())
+        os.close(log.reader)
+        pair.go_on()
+        assert come_true(lambda: log_lines(server) == 3), server.said()
+        assert f"canbusd: log of can0: 3 whole lines\n  {folder}/can0.log: Broken pipe" in server.said()
+        for _ in range(10):
+            pair.go_on()
+        log.reader = os.open("/dev/null", os.O_RDONLY)
+        status, written = server.finish()
+        assert status == 1 and run("audit", f"{folder}/can0.rec")[0] == 0
+        assert int(written.split()[-1]) == int(run("audit", f"{folder}/can0.rec")[1].split()[1])
+
+
+def test_a_folder_that_is_moved():
+    """its files go on, and the record does not get its name, which is reported"""
+    with tempfile.TemporaryDirectory() as room:
+        folder, other = os.path.join(room, "one"), os.path.join(room, "other")
+        os.mkdir(folder)
+        with serving_alone(*LIVE, "can0,can1", out=folder) as server:
+            pair = Pair(server)
+            pair.go_on()
+            os.rename(folder, other)
+            for _ in range(10):
+                pair.go_on()
+            status, written = server.finish()
+            said = server.said()
+            assert status == 1 and said.startswith(f"canbusd: write fault\n  {folder}/can0.rec: "), said
+        assert names_in(other) == ["can0.log", "can0.rec.new"]
+        assert read(os.path.join(other, "can0.log")).count("\n") == pair.count
+        assert run("audit", os.path.join(other, "can0.rec.new"))[1] == f"ok {written.split()[-1]} entries\n"
+
+
+def test_what_is_there_in_the_place_of_a_file(tmp_path):
+    """a link where the record is written is removed; where a file can't be written it does not begin to listen"""
+    other = tmp_path / "other"
+    other.write_text("of another\n")
+    folder = tmp_path / "linked"
+    folder.mkdir()
+    os.symlink(other, folder / "can0.rec.new")
+    with serving_alone(*LIVE, "can0", out=folder) as server:
+        server.end()
+    assert names_in(folder) == ["can0.log", "can0.rec"] and other.read_text() == "of another\n"
+    assert not (folder / "can0.rec").is_symlink()
+    for number, (name, is_folder) in enumerate([("rec", False), ("rec", True), ("rec.new", True), ("log", True)]):
+        folder = tmp_path / str(number)
+        folder.mkdir()
+        path = folder / f"can0.{name}"
+        if is_folder:
+            path.mkdir()
+        else:
+            os.symlink("/dev/full", path)
+        status, said, errors = run("serve", "--listen", "127.0.0.1:0", *LIVE, "--out", folder, "can0")
+        assert (status, said) == (1, "") and errors.startswith(f"canbusd: cannot open {folder}\n  {path}: "), errors
+
+
+WRITE, SYNC, CUT = range(3)
+NO_END = 2**63
+
+
+class Disk:
+    """A disk whose calls fail when the test wants that, for a program that failing_disk.c is loaded into."""
+
+    def __init__(self, folder):
+        self.folder = folder
+        library = os.path.join(folder, "failing_disk.so")
+        source = os.path.join(ROOT, "tests", "helpers", "failing_disk.c")
+        subprocess.run(["cc", "-O2", "-Wall", "-Werror", "-fPIC", "-shared", "-o", library, source], check=True)
+        path = os.path.join(folder, "plan")
+        with open(path, "wb") as file:
+            file.write(struct.pack("=6Q", 0, NO_END, 0, NO_END, 0, NO_END))
+        self.environment = {**os.environ, "LD_PRELOAD": library, "DISK": path}
+        with open(path, "r+b") as file:
+            self.plan = mmap.mmap(file.fileno(), 48)
+
+    def made(self, call):
+        """How often the program has made this call."""
+        return struct.unpack_from("=Q", self.plan, 16 * call)[0]
+
+    def allow(self, call, more):
+        """Lets it make this call that many times more."""
+        struct.pack_into("=Q", self.plan, 16 * call + 8, self.made(call) + more)
+
+
+@pytest.fixture
+def failing(tmp_path):
+    if not shutil.which("cc"):
+        pytest.skip("no C compiler: cc")
+    disk = Disk(tmp_path)
+    yield disk
+    disk.plan.close()
+
+
+def test_when_the_disk_has_what_was_written(failing):
+    """with --sync before anything else is written, and else never"""
+    for more in ([], ["--sync"]):
+        before = failing.made(SYNC)
+        with serving_alone(*LIVE, "--flush", "0", *more, "can0,can1", env=failing.environment) as server:
+            pair = Pair(server)
+            for number in range(1, 6):
+                pair.go_on()
+                assert come_true(lambda: read(server.path("can0.log")).count("\n") == number), "no line of the log"
+                # The record's come before, and the log's may be to come.
+                assert not more or failing.made(SYNC) - before >= 2 * number - 1
+            server.end()
+        assert (failing.made(SYNC) - before >= 10) == bool(more), f"{more}: {failing.made(SYNC) - before}"
+
+
+@pytest.mark.parametrize("call", [WRITE, SYNC])
+@pytest.mark.parametrize("is_cut", [True, False])
+def test_a_disk_that_fails(failing, call, is_cut):
+    """both files are reported at once, with whole lines, as many as was said; the bus goes on"""
+    with serving_alone(*LIVE, "--sync", "--flush", "0", "can0,can1", env=failing.environment) as server:
+        pair = Pair(server)
+        for _ in range(5):
+            pair.go_on()
+        assert come_true(lambda: read(server.path("can0.log")).count("\n") == 5), "no line of the log"
+        if not is_cut:
+            failing.allow(CUT, 0)
+        failing.allow(call, 0)
+        pair.go_on()
+        assert come_true(lambda: None not in (not_whole(server), log_lines(server))), server.said()
+        assert server.said().count("Input/output error") == 2
+        pair.go_on("a disk that fails")
+        entries, lines = not_whole(server), log_lines(server)
+        status, written = server.finish()
+        assert status == 1 and int(written.split()[-1]) > entries
+        # Each once, whatever came after the fault.
+        faults = [line for line in server.said().splitlines() if line.startswith("canbusd: ")]
+        assert sorted(faults) == [f"canbusd: log of can0: {lines} whole lines", "canbusd: write fault"]
+        assert names_in(server.folder) == ["can0.log", "can0.rec.new"]
+        assert cut_audit(server.path("can0.rec.new")) == (entries, True)
+        log = read(server.path("can0.log"))
+        assert (log.count("\n"), log[-1]) == (lines, "\n") and lines >= 5
+
+
+def test_a_disk_that_is_slow(failing):
+    """that its files are waited for is noted once in a minute, though each write takes longer than a second"""
+    environment = {**failing.environment, "DISK_MILLIS": "1100"}
+    begun = time.monotonic()
+    with serving_alone(*LIVE, "--flush", "0", "can0,can1", env=environment) as server:
+        # Before the line of the log is written the record's are, and each of the two writes is late.
+        Pair(server).go_on()
+        assert come_true(lambda: read(server.path("can0.log")).count("\n") == 1), "no line of the log"
+        status, _ = server.finish(patience=3 * WAIT)
+        notes = server.said().splitlines()
+        minutes = (time.monotonic() - begun) // 60
+    assert status == 0 and notes[0] == "note: bus can0: waits for ./can0.rec.new", notes
+    assert len(notes) <= 1 + minutes and all(" waits for " in note for note in notes), notes
+
+
+@pytest.mark.slow
+def test_a_disk_that_stands_still(pipe):
+    """a log that nobody reads: calls wait and nothing is lost; once it is read all goes on, and it is reported"""
+    log, folder = pipe
+    with serving_alone("--record", "none", *FAST, "can0,can1", out=folder) as server:
+        load = Load(server, many=400)
+        count = wait_for_stall(load)
+        assert server.memory("VmRSS") < 64 * 1024
+        lines = []
+        thread = threading.Thread(target=lambda: lines.extend(log.pieces()), daemon=True)
+        thread.start()
+        assert come_true(lambda: load.sender.count > count + 1000, 6 * WAIT), "nothing goes on"
+        load.end()
+        status, written = server.finish(patience=6 * WAIT)
+        assert status == 0 and re.fullmatch(waited(f"{folder}/can0.log"), server.said()), server.said()
+        thread.join(WAIT)
+        assert not thread.is_alive()
+    numbers = [int(line.split("#")[1], 16) for line in b"".join(lines).decode().splitlines()]
+    assert numbers == list(range(len(numbers))) and len(numbers) >= count // 2
+    assert int(written.split()[-1]) >= 2 * len(numbers)
+
+
+def wait_for_stall(load):
+    """Waits until no client gets anything for a while, though there are sends; returns how many had their replies."""
+    before, looks = -1, 0
+    for _ in turns("it makes no more calls", 6 * WAIT):
+        count = load.sender.count + load.receiver.count
+        looks = looks + 1 if count == before and load.under_way() > load.many else 0
+        if looks == 3:
+            return load.sender.count
+        before = count
+        time.sleep(1)
+
+
+@pytest.mark.slow
+def test_memory_of_a_run_without_a_record(pipe):
+    """after 20 million entries it is what it was once both its blocks were full"""
+    log, folder = pipe
+    words = ["--record", "none", "--pace", "0", "--txqueue", "1024", "--rxqueue", "4096", "--write", "16384"]
+    with serving_alone(*words, "can0,can1", out=folder) as server:
+        load = Load(server, many=500)
+        # The bus fills the one block while the log waits with the other. The bus goes on once they are exchanged, and the log
+        # waits with what is full.
+        count = wait_for_stall(load)
+        for _ in log.pieces():
+            if load.sender.count > count:
+                break
+        wait_for_stall(load)
+        first = server.memory("VmRSS")
+        assert first < 30 * 1024, f"{first} kilobytes"
+        thread = threading.Thread(target=lambda: collections.deque(log.pieces(), maxlen=0), daemon=True)
+        thread.start()
+        for _ in turns("that many entries", 3600):
+            if load.sender.count + 2 * load.receiver.count >= 20_000_000:
+                break
+            time.sleep(0.05)
+        last = server.memory("VmRSS")
+        load.end()
+        status, written = server.finish(patience=6 * WAIT)
+        assert status == 0 and re.fullmatch(waited(f"{folder}/can0.log"), server.said()), server.said()
+        assert int(written.split()[-1]) >= 20_000_000
+        print(f"{written.strip()}, {first} and {last} kilobytes")
+        assert last <= first + 1024
+
+
+@pytest.mark.parametrize("record", ["live", "none"])
+def test_more_sessions_than_a_run_has_that_ends(record):
+    """4,000 are the most of a server that writes its record at the end"""
+    with serving_alone("--record", record, "--sessions", "4100", "can0,can1") as server:
+        come_and_go(server, 4099)
+        assert server.child.poll() is None
+        come_and_go(server, 1)
+        assert server.child.wait(WAIT) == 0
+        if record == "live":
+            assert server.audited("can0.rec") == 2 * 4100
+
+
+@pytest.mark.parametrize("record", ["live", "none"])
+def test_a_session_counts_once_it_is_raw(record):
+    """those that only look do not count; one that gets there after the last is closed, and the server ends with its sessions"""
+    with serving_alone("--record", record, "--sessions", "1", "can0,can1") as server:
+        for _ in range(3):
+            looks = Plain(server)
+            assert (looks.text(), looks.answer("< open can0 >")) == ("< hi >", "< ok >")
+            looks.close()
+        late = Plain(server)
+        assert (late.text(), late.answer("< open can1 >")) == ("< hi >", "< ok >")
+        only = plain(server, "can0")
+        late.write("< rawmode >")
+        assert [late.text() for _ in range(3)] == ["< ok >", "< error too many sessions >", ""]
+        late.close()
+        assert only.answer("< send 123 1 7 >< stats >").startswith("< stats ")
+        only.close()
+        assert server.child.wait(WAIT) == 0
+
+
+def come_and_go(server, count):
+    """That many sessions, each of which opens an interface and closes it. Its place is free once its client sees the end,
+    which takes some 20 milliseconds; meanwhile others come, of which no more are there than a server has at once."""
+    leaving = collections.deque()
+    for _ in range(count):
+        client = plain(server, "can0")
+        assert client.answer("< close >") == "< closed 0 0 >"
+        leaving.append(client)
+        if len(leaving) > AT_ONCE:
+            see_off(leaving.popleft())
+    for client in leaving:
+        see_off(client)
+
+
+def see_off(client):
+    """A client sees the end of its session."""
+    assert client.text() == ""
+    client.close()
+
+
+@pytest.mark.slow
+def test_what_many_sessions_leave():
+    """100,000 that have gone leave nothing: no memory, no threads, no open files"""
+    with serving_alone("--record", "none", "--sessions", "4294967295", "can0,can1") as server:
+        held = server.held()
+        come_and_go(server, 10_000)
+        before = server.memory("VmRSS")
+        come_and_go(server, 100_000)
+        after = server.memory("VmRSS")
+        print(f"{before} and {after} kilobytes after 10,000 and 110,000 sessions")
+        assert after - before < 1024
+        assert come_true(lambda: server.held() == held), f"{server.held()} in place of {held}"
+        assert server.end() == "bus can0 entries 220000\n"
+
+
+@pytest.mark.slow
+def test_a_steady_load(request):
+    """--entries a second for --minutes, and a record that is right"""
+    rate, seconds = request.config.getoption("entries"), 60 * request.config.getoption("minutes")
+    with serving_alone(*LIVE, *FAST, "can0,can1") as server:
+        # Each frame is a send, an attempt and a receive.
+        load = Load(server, many=100, rate=rate / 3)
+        time.sleep(seconds)
+        load.end()
+        written = server.end(patience=600)
+        said = run_long("audit", server.path("can0.rec"))
+        assert said == f"ok {written.split()[-1]} entries\n"
+        entries = int(written.split()[-1])
+        print(f"{entries} entries in {seconds:.0f} seconds, {server.path('can0.rec')}")
+        assert entries >= 0.9 * rate * seconds, "the load was not kept up"
+
+
+def run_long(*words):
+    """What the program writes, however long that takes."""
+    return subprocess.run([program(), *words], capture_output=True, text=True, check=True).stdout

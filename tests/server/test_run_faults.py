@@ -1,0 +1,747 @@
+"""The faults of a run that `serve --out` writes beside a record, NAME.rec.faults: who reads it knows each rule of the run.
+
+A run by hand, byte for byte; sessions that give and end rules while others send, where rule_model.py decides each attempt of the
+record by that file; servers that are killed; and what a folder has before and after. What the lines mean is tried in
+test_audit_rules.py.
+"""
+
+import contextlib
+import os
+import random
+import re
+import resource
+import shutil
+import signal
+import subprocess
+import threading
+import time
+
+import pytest
+
+from commands import call
+from live_records import FRONT, cut_audit, names_in
+from random_rules import FRAMES, RuleMaker
+from rule_model import MOST_RULES, Rule, RunFaults, rules_of, word_of
+from serving import ROOT, WAIT, Plain, come_true, join, plain, program, serving_alone
+
+WHEN = ("end", "live")
+LIVE = ("--record", "live", "--flush", "0")
+SCRIPT = "always id 7DF good\n"
+#: How many bytes of lines of a bus wait at most to be written.
+MOST_BYTES = 64 << 20
+
+
+def read(path):
+    """The text of a file, byte for byte."""
+    with open(path, encoding="utf-8", newline="") as file:
+        return file.read()
+
+
+def whole_lines(path):
+    """The lines of a file that may be torn at its end; none where there is no file."""
+    if not os.path.exists(path):
+        return ""
+    text = read(path)
+    return text[: text.rfind("\n") + 1]
+
+
+def start(folder, *words, **more):
+    """The status, the output and the errors of a server that ends at once."""
+    options = "--until-eof", "--listen", "127.0.0.1:0", "--out", str(folder)
+    return call(program(), "serve", *options, *words, **more)
+
+
+def give(client, rule):
+    """The answer to one who gives this rule."""
+    return client.answer(f"< fault {rule} >")
+
+
+class Written(RunFaults):
+    """The faults of a run as a server writes them. Each line says what was done: for each rule there was a place, and where rules
+    were ended some were left."""
+
+    def take(self, rule):
+        assert len(self.rules) < MOST_RULES, f"{rule} was not taken"
+        super().take(rule)
+
+    def end(self):
+        assert self.rules, "no rule was left"
+        super().end()
+
+
+def decided(record, faults, names):
+    """The rules that decide the attempts of a record by these faults, empty where none does. Each attempt has to have the verdict
+    that the model decides."""
+    model, found = Written(faults, names), []
+    for line in record.splitlines():
+        words = line.split(" ")
+        if words[0] == "attempt" and words[4] == "tried":
+            verdict, rule = model.decide(int(words[5]), word_of(words[7]))
+            assert words[2] == verdict, f"attempt {len(found)}: {line}: and not {verdict} of rule {rule}"
+            found.append(f"{rule or ''}")
+    model.catch_up(10**10)
+    return found
+
+
+def audited(record, faults, names):
+    """The rules that the audit says of these files."""
+    words = "--events", "--cut", "--faults", f"{','.join(names)}@{faults}"
+    status, events, errors = call(program(), "audit", *words, "--", str(record))
+    assert status == 0, errors
+    return rules_of(events)
+
+
+# A run by hand. Rules 1 and 2 are in the script, which has no LF at its end. Attempt 0 is that of rule 1, attempt 1 that of the line
+# by its number, and attempt 2 is good. Attempt 3 is that of rule 3, the first that was given, and attempt 4 is good. Then rules 2 and
+# 4 are ended, so attempt 5 is good. Attempt 6 is that of rule 5, and attempt 7 is good.
+BY_HAND = """# of a morning: \u00e9t\u00e9
+
+next 1 from ecu lastbit
+1 global bit
+always id 7DF good"""
+GIVEN = """at 3 next 1 id 123 global form
+at 3 next 1 from tester lastbit
+at 5 nofaults
+at 6 next 1 id 124 local crc ecu
+at 8 always good
+"""
+
+
+@pytest.mark.parametrize("when", WHEN)
+def test_a_run(when, tmp_path):
+    """with the bytes of its file, and with buses that have another one and none"""
+    (tmp_path / "my.script").write_text(BY_HAND, encoding="utf-8")
+    words = LIVE if when == "live" else ()
+    with serving_alone(*words, f"ecu,tester@{tmp_path}/my.script", "car0,car1", "body0") as server:
+
+        def grows(name, text):
+            """Whether this file has this text by now, where it is written while the server runs."""
+            path = server.path(f"{name}.rec.faults.new")
+            return when == "end" or come_true(lambda: whole_lines(path) == text)
+
+        assert grows("ecu", f"{BY_HAND}\n") and not any("car0.rec.faults" in name for name in names_in(server.folder))
+        ecu, tester, car = plain(server, "ecu"), plain(server, "tester"), plain(server, "car1")
+        ecu.write("< send 123 0 >")
+        assert [tester.frame(), tester.frame()] == [("123", b"")] * 2
+        assert [give(tester, "next 1 id 123 global form"), give(ecu, "next 1 from tester lastbit")] == ["< ok >"] * 2
+        assert grows("ecu", f"{BY_HAND}\n" + "".join(GIVEN.splitlines(True)[:2]))
+        ecu.write("< send 123 0 >")
+        assert tester.frame() == ("123", b"")
+        # There are none left to be ended again.
+        assert [ecu.answer("< nofaults >"), tester.answer("< nofaults >")] == ["< ok >"] * 2
+        assert give(ecu, "next 0 good") == "< error bad rule >"
+        assert give(ecu, "next 1 from car0 good") == "< error no such interface >"
+        tester.write("< send 124 0 >")
+        assert ecu.frame() == ("124", b"")
+        assert tester.answer("<  fault  next 1\tid 124 local   crc ecu>") == "< ok >"
+        tester.write("< send 124 1 1 >")
+        assert ecu.frame() == ("124", b"\1")
+        assert [give(tester, "always good"), give(car, "next 3 good")] == ["< ok >"] * 2
+        assert grows("ecu", f"{BY_HAND}\n{GIVEN}") and grows("car0", "at 0 next 3 good\n")
+        with contextlib.closing(plain(server, "body0")) as body:
+            assert [body.answer("< nofaults >"), give(body, "x")] == ["< ok >", "< error bad rule >"]
+        server.end()
+        ruled = [f"{bus}.{kind}" for bus in ("car0", "ecu") for kind in ("log", "rec", "rec.faults")]
+        assert names_in(server.folder) == ["body0.log", "body0.rec", *ruled]
+        assert read(server.path("car0.rec.faults")) == "at 0 next 3 good\n"
+        assert read(server.path("ecu.rec.faults")) == f"{BY_HAND}\n{GIVEN}"
+        record, names = server.path("ecu.rec"), ["ecu", "tester"]
+        wanted = ["1", "", "", "3", "", "", "5", ""]
+        assert audited(record, server.path("ecu.rec.faults"), names) == wanted
+        assert decided(read(record), f"{BY_HAND}\n{GIVEN}", names) == ["1", "", "", "3", "", "", "5", ""]
+
+
+@pytest.mark.parametrize("when", WHEN)
+@pytest.mark.parametrize(
+    "script, written",
+    [
+        ("always good", "always good\n"),
+        ("5 good\n", "5 good\n"),
+        ("\n", "\n"),
+        ("#", "#\n"),
+        ("\n\n# \U0001f697 next 1 good\n\n", "\n\n# \U0001f697 next 1 good\n\n"),
+    ],
+    ids=["rule", "line", "blank", "comment", "several"],
+)
+def test_the_script_of_the_start(when, script, written, tmp_path):
+    """is there as it was read, whatever becomes of its file, with an LF at its end"""
+    (tmp_path / "my.script").write_text(script, encoding="utf-8")
+    with serving_alone("--record", when, f"can0@{tmp_path}/my.script", out=tmp_path) as server:
+        (tmp_path / "my.script").write_text("1 global bit\n")
+        server.end()
+    assert read(tmp_path / "can0.rec.faults") == written
+
+
+@pytest.mark.parametrize("when", WHEN)
+def test_without_faults(when):
+    """rules that are refused, and rules that are ended where there are none, make no file"""
+    with serving_alone("--record", when, "can0,can1") as server:
+        one, other = plain(server, "can0"), plain(server, "can1")
+        one.write("< send 123 0 >")
+        assert other.frame() == ("123", b"")
+        answers = [
+            one.answer(f"< {words} >") for words in ("nofaults", "fault next 1", "fault", "faults", "nofaults 1")
+        ]
+        assert answers == ["< ok >", "< error bad rule >", "< error bad word count >", "< faults 0 >", answers[2]]
+        server.end()
+        assert names_in(server.folder) == ["can0.log", "can0.rec"]
+
+
+@pytest.mark.parametrize("when", WHEN)
+def test_rules_that_are_used_up(when):
+    """they are not left, so there is nothing to end; and of 64 rules and one more that is refused 64 are written"""
+    with serving_alone("--record", when, "can0,can1") as server:
+        one, other = plain(server, "can0"), plain(server, "can1")
+        assert give(one, "next 2 lastbit") == "< ok >"
+        one.write("< send 123 0 >")
+        assert [other.frame() for _ in range(3)] == [("123", b"")] * 3
+        assert [one.answer("< faults >"), one.answer("< nofaults >")] == ["< faults 0 >", "< ok >"]
+        rules = [f"next {number} good" for number in range(1, 65)]
+        assert [give(other, rule) for rule in rules] == ["< ok >"] * 64
+        assert give(one, "next 65 good") == "< error too many rules >"
+        one.write("< send 123 0 >")
+        assert other.frame() == ("123", b"")
+        # The first of the rules is used up.
+        assert [give(one, f"next {number} good") for number in (66, 67)] == ["< ok >", "< error too many rules >"]
+        server.end()
+        assert read(server.path("can0.rec.faults")) == "".join(
+            ["at 0 next 2 lastbit\n", *(f"at 3 {rule}\n" for rule in rules), "at 4 next 66 good\n"]
+        )
+
+
+@pytest.mark.parametrize("when", WHEN)
+def test_attempts_without_a_frame_are_not_counted(when, tmp_path):
+    """those in which an interface that is off waits for its restart"""
+    (tmp_path / "my.script").write_text("next 32 global bit")
+    words = ["--record", when, "--auto-restart", "5", f"can0,can1@{tmp_path}/my.script"]
+    with serving_alone(*words) as server:
+        one = plain(server, "can0")
+        one.write("< send 123 0 >")
+        assert come_true(lambda: one.answer("< faults >") == "< faults 0 >")
+        assert come_true(lambda: one.answer("< status >") == "< status active 0 0 >")
+        assert give(one, "next 1 good") == "< ok >"
+        server.end()
+        record = read(server.path("can0.rec"))
+        assert (record.count(" = tried "), record.count(" = idle")) == (32, 5)
+        assert read(server.path("can0.rec.faults")) == "next 32 global bit\nat 32 next 1 good\n"
+
+
+# Sessions that give and end rules while others send.
+
+BUSES = {"ecu": ["ecu", "tester", "gw"], "0": ["0", "next"]}
+#: Frames without a pause, with one, and with the time of their bits.
+PACES = [("--pace", "0"), ("--pace", "1"), ("--bitrate", "1000000"), ("--bitrate", "50000", "--dbitrate", "1000000")]
+
+
+class Crowd:
+    """Sessions on the buses of a server, each in a thread: two that send at each interface, and two at each bus that give and end
+    rules until these have sent all."""
+
+    def __init__(self, server, rng, rounds):
+        self.is_over, self.faults = threading.Event(), []
+        #: The rules that each bus took, and how often rules were ended there, by the first interface.
+        self.taken = {first: [] for first in BUSES}
+        self.ended = dict.fromkeys(BUSES, 0)
+        works = []
+        for first, names in BUSES.items():
+            works += [(self.send, plain(server, name), random.Random(rng.random()), rounds) for name in names * 2]
+            for name in rng.choices(names, k=2):
+                giver = Plain(server)
+                assert [giver.text(), giver.answer(f"< open {name} >")] == ["< hi >", "< ok >"]
+                works.append((self.give, giver, RuleMaker(rng.random()), first))
+        threads = [(threading.Thread(target=self.attend, args=work), work[0]) for work in works]
+        self.senders = [thread for thread, work in threads if work == self.send]
+        self.givers = [thread for thread, work in threads if work == self.give]
+        for thread, _ in threads:
+            thread.start()
+
+    def attend(self, work, client, *words):
+        """Does this with a client, as long as there is a server."""
+        try:
+            with contextlib.suppress(OSError), contextlib.closing(client):
+                work(client, *words)
+        except Exception as fault:
+            self.faults.append(fault)
+
+    def send(self, client, source, rounds):
+        client.write("< filter 0 >< fdframes 1 >")
+        for _ in range(rounds):
+            frames = source.choices(FRAMES, k=source.choice([1, 1, 1, 3, 8]))
+            client.write("".join(f"< {frame} >" for frame in frames) + "< echo >")
+            while (text := client.text()) != "< echo >":
+                if not text:
+                    return
+            time.sleep(source.choice([0, 0, 0, 0.001, 0.005]))
+
+    def give(self, client, maker, first):
+        while not self.is_over.is_set():
+            words = "nofaults" if maker.chance(0.15) else maker.message(BUSES[first])
+            answer = client.answer(f"<{maker.spaced(words)}>")
+            command, _, rule = " ".join(words.split()).partition(" ")
+            if answer == "< ok >" and command == "nofaults":
+                self.ended[first] += 1
+            elif answer == "< ok >":
+                self.taken[first].append(rule)
+            elif not answer:
+                return
+            time.sleep(maker.random.choice([0, 0, 0.001, 0.004]))
+
+    def end(self):
+        """Ends those that give rules once all frames were sent, or the server is gone."""
+        join(self.senders, 4 * WAIT)
+        self.is_over.set()
+        join(self.givers)
+        assert not self.faults, self.faults[0]
+
+
+def end_busy(server):
+    """Ends a server, which may have said that it was late."""
+    status, _ = server.finish(3 * WAIT)
+    assert status == 0, server.said()
+
+
+def scripts(maker, folder):
+    """A script for each bus or for none, as its text and as a word of the command line."""
+    texts = {first: maker.script(names, 100) if maker.chance(0.7) else "" for first, names in BUSES.items()}
+    for first, text in texts.items():
+        (folder / f"{first}.script").write_text(text, encoding="utf-8")
+    words = [",".join(names) + (f"@{folder}/{first}.script" if texts[first] else "") for first, names in BUSES.items()]
+    return texts, words
+
+
+def written(folder, first, ending=""):
+    """What a server left of a bus, or has so far: the record, and then the faults, as far as their lines are whole."""
+    path = f"{folder}/{first}.rec"
+    return whole_lines(path + ending), whole_lines(f"{path}.faults{ending}")
+
+
+def check(folder, first, script, record, faults):
+    """Checks that faults are those of the start and lines after them, by which each attempt has the verdict, and in the audit the
+    rule, that the model decides. Returns these rules, and the lines after the script without their numbers."""
+    names = BUSES[first]
+    front = script + "\n" * bool(script and not script.endswith("\n"))
+    assert faults.startswith(front)
+    lines = faults[len(front) :].splitlines()
+    later = [re.fullmatch(r"at (0|[1-9][0-9]*) (\S.*)", line) for line in lines]
+    assert all(later), lines
+    numbers = [int(line[1]) for line in later]
+    assert numbers == sorted(numbers)
+    rules = decided(record, faults, names)
+    for name, text in (("record", record), ("faults", faults)):
+        with open(f"{folder}/{name}", "w", encoding="utf-8") as file:
+            file.write(text)
+    assert audited(f"{folder}/record", f"{folder}/faults", names) == rules
+    return rules, [line[2] for line in later]
+
+
+def alike(rules, names):
+    """Rules, however they are spelled."""
+    return sorted(repr(vars(Rule(0, text, names))) for text in rules)
+
+
+@pytest.mark.parametrize("pace", PACES, ids=" ".join)
+@pytest.mark.parametrize("count", [1, pytest.param(20, marks=pytest.mark.slow)])
+@pytest.mark.parametrize("when", WHEN)
+def test_rules_that_come_while_others_send(when, count, pace, rng, tmp_path):
+    """each of them that a bus took, and none that it refused, where it counts"""
+    decisions = 0
+    for number in range(count):
+        folder = tmp_path / str(number)
+        folder.mkdir()
+        texts, buses = scripts(RuleMaker(rng.random()), folder)
+        words = [*(LIVE if when == "live" else ()), *pace, "--auto-restart", rng.choice(["1", "3", "20"]), *buses]
+        with serving_alone(*words, out=folder) as server:
+            crowd = Crowd(server, rng, 120)
+            crowd.end()
+            end_busy(server)
+        for first, names in BUSES.items():
+            rules, later = check(folder, first, texts[first], *written(folder, first))
+            given = [line for line in later if line != "nofaults"]
+            assert alike(given, names) == alike(crowd.taken[first], names)
+            assert later.count("nofaults") <= crowd.ended[first]
+            assert os.path.exists(folder / f"{first}.rec.faults") == bool(texts[first] or later)
+            decisions += sum(map(bool, rules))
+    assert decisions, "no rule decided"
+
+
+@pytest.mark.parametrize("pace", PACES, ids=" ".join)
+def test_faults_of_a_run_that_goes_on(pace, rng, tmp_path):
+    """at each moment they suffice for the entries that are there"""
+    texts, buses = scripts(RuleMaker(rng.random()), tmp_path)
+    seen = []
+    with serving_alone(*LIVE, *pace, "--auto-restart", "3", *buses, out=tmp_path) as server:
+        crowd = Crowd(server, rng, 120)
+        while any(thread.is_alive() for thread in crowd.senders):
+            # A line of the faults is there before each entry of the record for which it counts.
+            seen += [(first, *written(tmp_path, first, ".new")) for first in BUSES]
+            time.sleep(0.01)
+        crowd.end()
+        end_busy(server)
+    looks = rng.sample(seen, min(len(seen), 8))
+    attempts = [len(check(tmp_path, first, texts[first], *look)[0]) for first, *look in looks]
+    assert any(attempts), "no attempt was in a record before the end"
+
+
+@pytest.mark.parametrize("kills", [4, pytest.param(100, marks=pytest.mark.slow)])
+def test_servers_that_are_killed(kills, rng, tmp_path):
+    """what they leave suffices for the entries that are there, and the next server sets it aside with the record"""
+    attempts = 0
+    for number in range(kills):
+        folder = tmp_path / str(number)
+        folder.mkdir()
+        texts, buses = scripts(RuleMaker(rng.random()), folder)
+        flush = rng.choice(["0", "1", "50"])
+        words = ["--record", "live", "--flush", flush, *rng.choice(PACES), "--auto-restart", "3", *buses]
+        with serving_alone(*words, out=folder) as server:
+            crowd = Crowd(server, rng, 10_000)
+            # A moment, and not a wait for something.
+            time.sleep(rng.uniform(0.1, 1.5))
+            server.child.kill()
+            server.child.wait()
+            crowd.end()
+        files = {name: read(folder / name) for name in names_in(folder) if ".rec" in name}
+        assert {name for name in files if not name.endswith(".new")} == set()
+        for first, text in texts.items():
+            rules, later = check(folder, first, text, *written(folder, first, ".new"))
+            assert (f"{first}.rec.faults.new" in files) >= bool(text or later)
+            assert cut_audit(folder / f"{first}.rec.new", is_replayed=False)[1], "it has an end"
+            attempts += len(rules)
+        set_aside(folder, files)
+    assert attempts, "no server had made an attempt"
+
+
+def set_aside(folder, files):
+    """The next server keeps the record of each bus that has entries, and its faults."""
+    first = [name for name, text in files.items() if name.endswith(".rec.new") and text.count("\n") > 2]
+    status, said, errors = start(folder, "--record", "end", *(",".join(names) for names in BUSES.values()))
+    assert status == 0 and said.startswith("listening "), errors
+    for name in first:
+        kept = name.removesuffix(".new")
+        assert f"note: {folder}/{name} of a run that was cut off is {folder}/{kept}.cut now\n" in errors
+        assert read(folder / f"{kept}.cut") == files[name]
+        faults = f"{kept}.faults.new"
+        assert os.path.exists(folder / f"{kept}.faults.cut") == (faults in files)
+        if faults in files:
+            assert read(folder / f"{kept}.faults.cut") == files[faults]
+    assert not [name for name in names_in(folder) if name.endswith((".new", ".faults"))]
+
+
+# Folders, and what an earlier run left there.
+
+KILLED = FRONT + "attempt 0.000000 good = idle\n" * 10
+
+
+def leave(folder, **texts):
+    """Files of an earlier run, by what follows the name of their bus."""
+    for name, text in texts.items():
+        (folder / f"can0.{name.replace('_', '.')}").write_text(text)
+
+
+def left(folder):
+    """What a folder has of faults."""
+    return {name.removeprefix("can0."): read(folder / name) for name in names_in(folder) if ".rec.faults" in name}
+
+
+def bus_of(folder, script):
+    """The word for a bus with this script, or without one."""
+    (folder / "my.script").write_text(script)
+    return f"can0@{folder}/my.script" if script else "can0"
+
+
+def mine(script):
+    """What a run with this script leaves, or one without."""
+    return {"rec.faults": script} if script else {}
+
+
+@pytest.mark.parametrize("when", [*WHEN, "none"])
+@pytest.mark.parametrize("script", ["", SCRIPT], ids=["no script", "script"])
+def test_faults_of_an_earlier_run(when, script, tmp_path):
+    """stay with its record until there is another one"""
+    leave(tmp_path, rec="of the record\n", rec_faults="of its faults\n", rec_faults_cut="of a cut one\n")
+    before = left(tmp_path)
+    with serving_alone("--record", when, bus_of(tmp_path, script), out=tmp_path) as server:
+        assert left(tmp_path).items() >= before.items() and read(tmp_path / "can0.rec") == "of the record\n"
+        server.end()
+    assert left(tmp_path) == (before if when == "none" else {**mine(script), "rec.faults.cut": "of a cut one\n"})
+
+
+@pytest.mark.parametrize("when", WHEN)
+@pytest.mark.parametrize("script", ["", SCRIPT], ids=["no script", "script"])
+def test_what_is_set_aside(when, script, tmp_path):
+    """the record of a run that was killed with its faults, if it has some, and with those of no other"""
+    for faults in ({"rec_faults_new": "next 1 lastbit\nat 5"}, {}):
+        leave(tmp_path, rec_new=KILLED, rec_cut=FRONT, rec_faults_cut="of another one\n", **faults)
+        status, said, errors = start(tmp_path, "--record", when, bus_of(tmp_path, script))
+        assert status == 0 and said.startswith("listening "), errors
+        assert f"note: {tmp_path}/can0.rec.new of a run that was cut off is {tmp_path}/can0.rec.cut now\n" in errors
+        aside = {"rec.faults.cut": text for text in faults.values()}
+        assert read(tmp_path / "can0.rec.cut") == KILLED and left(tmp_path) == {**aside, **mine(script)}
+
+
+@pytest.mark.parametrize("when", WHEN)
+@pytest.mark.parametrize("kind", ["rec.cut", "rec.faults.cut"])
+def test_a_folder_where_something_is_set_aside(when, kind, tmp_path):
+    """the start is refused, and of all its buses nothing is set aside before there is room"""
+    killed = [tmp_path / f"{bus}.{end}" for bus in ("can0", "can2") for end in ("rec.new", "rec.faults.new")]
+    for path in killed:
+        path.write_text(KILLED if path.name.endswith("rec.new") else f"# of {path.name}\n")
+    before = {path.name: read(path) for path in killed}
+    (tmp_path / f"can2.{kind}").mkdir()
+    status, said, errors = start(tmp_path, "--record", when, "can0", "can2")
+    assert (status, said) == (1, "")
+    assert errors == f"canbusd: cannot open {tmp_path}\n  {tmp_path}/can2.{kind}: is a directory\n"
+    assert names_in(tmp_path) == sorted([*before, f"can2.{kind}"])
+    assert {path.name: read(path) for path in killed} == before
+    assert start(tmp_path, "--record", "none", "can2")[0] == 0
+    (tmp_path / f"can2.{kind}").rmdir()
+    assert start(tmp_path, "--record", when, "can0", "can2")[0] == 0
+    assert {name: read(tmp_path / name.replace(".new", ".cut")) for name in before} == before
+
+
+def start_beside_a_mount(place, folder, *words):
+    """The same as `start`, where no file can get the name of this one, as something is mounted there."""
+    script = 'mount --bind "$0" "$0" && exec "$@"'
+    mount = ["unshare", "--user", "--map-root-user", "--mount", "sh", "-c", script, place]
+    if not shutil.which("unshare") or call(*mount, "true")[0] != 0:
+        pytest.skip("nothing may be mounted in a name space of one's own")
+    options = "--until-eof", "--listen", "127.0.0.1:0", "--out", str(folder)
+    return call(*mount, program(), "serve", *options, *words)
+
+
+@pytest.mark.parametrize("when", WHEN)
+@pytest.mark.parametrize("kind", ["rec.cut", "rec.faults.cut"])
+def test_a_place_that_is_taken_meanwhile(when, kind, tmp_path):
+    """the start is refused, and neither the record nor its faults are lost: the next start sets both aside"""
+    leave(tmp_path, rec_new=KILLED, rec_faults_new="# of it\n", rec_cut=FRONT, rec_faults_cut="# of another one\n")
+    place = f"{tmp_path}/can0.{kind}"
+    status, said, errors = start_beside_a_mount(place, tmp_path, "--record", when, "can0")
+    assert (status, said) == (1, "")
+    assert errors == f"canbusd: cannot open {tmp_path}\n  {place}: Device or resource busy (os error 16)\n"
+    assert read(tmp_path / "can0.rec.new") == KILLED and read(tmp_path / "can0.rec.cut") == FRONT
+    assert left(tmp_path)["rec.faults.new"] == "# of it\n"
+    assert start(tmp_path, "--record", when, "can0")[0] == 0
+    assert read(tmp_path / "can0.rec.cut") == KILLED and left(tmp_path) == {"rec.faults.cut": "# of it\n"}
+
+
+@pytest.fixture
+def killed_before(tmp_path):
+    """The environments in which a program is killed before its first rename, its second and so on (killed_rename.c)."""
+    if not shutil.which("cc"):
+        pytest.skip("no C compiler: cc")
+    library, source = tmp_path / "killed_rename.so", os.path.join(ROOT, "tests", "helpers", "killed_rename.c")
+    subprocess.run(["cc", "-O2", "-Wall", "-Werror", "-fPIC", "-shared", "-o", library, source], check=True)
+    return ({**os.environ, "LD_PRELOAD": str(library), "RENAME": str(number)} for number in range(1, 20))
+
+
+def all_kills(folder, environments, leave_files, *words):
+    """Yields a folder with these files after each server that was killed before a rename, up to the first that was not."""
+    for number, environment in enumerate(environments):
+        place = folder / f"of-{number}"
+        place.mkdir()
+        status, _, errors = start(place, *words, *leave_files(place), env=environment)
+        yield place
+        if status != -signal.SIGKILL:
+            assert status == 0 and number, errors
+            return
+    raise AssertionError("each server was killed")
+
+
+@pytest.mark.parametrize("when", WHEN)
+def test_kills_at_the_end(when, tmp_path, killed_before):
+    """leave no record beside the faults of another run"""
+    later = "always id 7DE good\n"
+
+    def earlier_run(place):
+        assert start(place, "--record", when, bus_of(place, SCRIPT))[0] == 0
+        return ("--txqueue", "5", bus_of(place, later))
+
+    found = []
+    for place in all_kills(tmp_path, killed_before, earlier_run, "--record", when):
+        is_later = " 5 " in read(place / "can0.rec").splitlines()[1]
+        faults = left(place).get("rec.faults")
+        assert faults in (None, later if is_later else SCRIPT)
+        found.append((is_later, faults))
+    assert not found[0][0] and found[-1] == (True, later)
+
+
+@pytest.mark.parametrize("when", WHEN)
+def test_kills_while_something_is_set_aside(when, tmp_path, killed_before):
+    """leave no record beside the faults of another run"""
+
+    def killed_run(place):
+        leave(place, rec_new=KILLED, rec_faults_new="# of it\n", rec_cut=FRONT, rec_faults_cut="# of another one\n")
+        return ("can0",)
+
+    for place in all_kills(tmp_path, killed_before, killed_run, "--record", when):
+        is_aside = read(place / "can0.rec.cut") == KILLED
+        faults = left(place).get("rec.faults.cut")
+        assert faults in (None, "# of it\n" if is_aside else "# of another one\n")
+    assert is_aside and faults == "# of it\n"
+
+
+@pytest.mark.parametrize("when", WHEN)
+@pytest.mark.parametrize("script", ["", SCRIPT], ids=["no script", "script"])
+def test_what_a_start_that_failed_left(when, script, tmp_path):
+    """takes the place of nothing"""
+    leave(tmp_path, rec_new=FRONT, rec_cut=KILLED, rec_faults_new="next 1 lastbit\n" * 9, rec_faults_cut="of it\n")
+    status, said, errors = start(tmp_path, "--record", when, bus_of(tmp_path, script))
+    assert (status, errors) == (0, "") and said.startswith("listening ")
+    assert left(tmp_path) == {**mine(script), "rec.faults.cut": "of it\n"}
+    assert read(tmp_path / "can0.rec.cut") == KILLED
+
+
+def test_without_a_record(tmp_path):
+    """there are no faults; and those of a run that was killed are left to who writes records"""
+    leave(tmp_path, rec_new=KILLED, rec_faults_new="of it\n")
+    with serving_alone("--record", "none", bus_of(tmp_path, SCRIPT), out=tmp_path) as server:
+        assert give(plain(server, "can0"), "next 1 good") == "< ok >"
+        server.end()
+    assert left(tmp_path) == {"rec.faults.new": "of it\n"} and read(tmp_path / "can0.rec.new") == KILLED
+
+
+@pytest.mark.parametrize("when", ["end", "none"])
+def test_without_a_folder(when, tmp_path):
+    with serving_alone("--record", when, bus_of(tmp_path, SCRIPT), out=None) as server:
+        assert give(plain(server, "can0"), "next 1 good") == "< ok >"
+        server.end()
+        assert names_in(server.folder) == []
+
+
+@pytest.mark.parametrize("when", WHEN)
+@pytest.mark.parametrize("kind", ["rec.faults", "rec.faults.new"])
+def test_a_place_that_takes_no_file(when, kind, tmp_path):
+    """it is reported, and the bus that has no place for its faults leaves no record that looks whole"""
+    (tmp_path / f"can0.{kind}" / "full").mkdir(parents=True)
+    leave(tmp_path, rec="of an earlier run\n")
+    status, _, errors = start(tmp_path, "--record", when, bus_of(tmp_path, SCRIPT))
+    assert status == 1 and f"\n  {tmp_path}/can0.rec.faults" in errors, errors
+    assert errors.startswith((f"canbusd: cannot open {tmp_path}\n", "canbusd: write fault\n"))
+    assert (tmp_path / f"can0.{kind}" / "full").exists()
+
+
+@pytest.mark.parametrize("when", WHEN)
+@pytest.mark.parametrize("kind", ["rec.faults", "rec.faults.new"])
+def test_links(when, kind, tmp_path):
+    """they are not followed to a plain file, or to nothing: the new file takes their place"""
+    others = tmp_path / "others"
+    others.write_text("of others\n")
+    for target in (others, tmp_path / "nothing"):
+        (tmp_path / f"can0.{kind}").symlink_to(target)
+        assert start(tmp_path, "--record", when, bus_of(tmp_path, SCRIPT))[0] == 0
+        assert not (tmp_path / f"can0.{kind}").is_symlink() and left(tmp_path) == {"rec.faults": SCRIPT}
+        (tmp_path / "can0.rec.faults").unlink()
+    assert others.read_text() == "of others\n" and not (tmp_path / "nothing").exists()
+
+
+@pytest.mark.parametrize("when", WHEN)
+def test_a_fifo_where_faults_are_written_first(when, tmp_path):
+    """it is removed, as all is that is left there"""
+    os.mkfifo(tmp_path / "can0.rec.faults.new")
+    assert start(tmp_path, "--record", when, bus_of(tmp_path, SCRIPT))[0] == 0
+    assert left(tmp_path) == {"rec.faults": SCRIPT}
+
+
+@pytest.mark.parametrize("when", WHEN)
+def test_a_fifo_for_faults(when, tmp_path):
+    """nobody waits at the end for one who reads it: as for a record it is refused"""
+    os.mkfifo(tmp_path / "can0.rec.faults")
+    options = "--until-eof", "--listen", "127.0.0.1:0", "--out", tmp_path, "--record", when
+    words = [program(), "serve", *options, bus_of(tmp_path, SCRIPT)]
+    done = subprocess.run(words, stdin=subprocess.DEVNULL, capture_output=True, text=True, timeout=WAIT, check=False)
+    said = f"canbusd: cannot open {tmp_path}\n  {tmp_path}/can0.rec.faults: "
+    assert (done.returncode, done.stdout) == (1, "") and done.stderr.startswith(said), done.stderr
+
+
+def may_grow(most):
+    """Lets files grow to a number of bytes; then writes are refused."""
+
+    def begin():
+        signal.signal(signal.SIGXFSZ, signal.SIG_IGN)
+        resource.setrlimit(resource.RLIMIT_FSIZE, (most, most))
+
+    return begin
+
+
+def test_a_disk_that_is_full(tmp_path):
+    """the faults find no room, and it is reported; beside the new record are none of another one, and none that look whole"""
+    leave(tmp_path, rec="of an earlier run\n", rec_faults="of its faults\n")
+    script = "# a comment\n" * 1000
+    status, said, errors = start(tmp_path, "--record", "end", bus_of(tmp_path, script), preexec_fn=may_grow(5000))
+    assert (status, said.count("bus can0 entries 0\n")) == (1, 1), errors
+    assert errors.startswith(f"canbusd: write fault\n  {tmp_path}/can0.rec.faults.new: "), errors
+    assert call(program(), "audit", f"{tmp_path}/can0.rec")[1] == "ok 0 entries\n"
+    growing = left(tmp_path).pop("rec.faults.new", "")
+    assert script.startswith(growing) and "rec.faults" not in left(tmp_path)
+    # What is left of them takes the place of nothing.
+    assert start(tmp_path, "--record", "end", "can0")[::2] == (0, "") and left(tmp_path) == {}
+
+
+def test_a_disk_that_is_full_at_the_start(tmp_path):
+    """a server does not start whose script finds no room, and leaves the folder as it is"""
+    leave(tmp_path, rec="of an earlier run\n", rec_faults="of its faults\n")
+    bus = bus_of(tmp_path, "# a comment\n" * 1000)
+    status, said, errors = start(tmp_path, "--record", "live", bus, preexec_fn=may_grow(5000))
+    assert (status, said) == (1, "") and errors.startswith(f"canbusd: cannot open {tmp_path}\n"), errors
+    assert f"  {tmp_path}/can0.rec.faults.new: " in errors
+    assert left(tmp_path) == {"rec.faults": "of its faults\n"} and read(tmp_path / "can0.rec") == "of an earlier run\n"
+
+
+@pytest.mark.parametrize("when", WHEN)
+def test_rules_that_find_no_room(when):
+    """it is reported, the bus goes on, and no faults are left, since they would lack a rule"""
+    rule = "next 99999999 from can1 id 00000123:1FFFFFFF good"
+    words = [*(LIVE if when == "live" else ()), "can0,can1"]
+    with serving_alone(*words, preexec_fn=may_grow(5000)) as server:
+        one, other = plain(server, "can0"), plain(server, "can1")
+        for _ in range(100):
+            assert [give(one, rule), one.answer("< nofaults >")] == ["< ok >"] * 2
+        one.write("< send 123 0 >")
+        assert other.frame() == ("123", b"")
+        assert server.finish()[0] == 1
+        assert re.search(r"^canbusd: write fault\n  \S*can0\.rec\.faults\.new: File too large", server.said(), re.M)
+        assert server.audited("can0.rec") >= 3
+        assert names_in(server.folder) == ["can0.log", "can0.rec"]
+
+
+def test_a_kill_after_rules_that_find_no_room(tmp_path):
+    """the record is set aside without faults: those that are there lack rules of its entries"""
+    with serving_alone(*LIVE, "can0,can1", out=tmp_path, preexec_fn=may_grow(5000)) as server:
+        one, other = plain(server, "can0"), plain(server, "can1")
+        for _ in range(100):
+            assert give(one, "next 99999999 from can1 id 00000123:1FFFFFFF good") == "< ok >"
+            assert one.answer("< nofaults >") == "< ok >"
+        assert come_true(lambda: "canbusd: write fault\n" in server.said())
+        one.write("< send 123 0 >")
+        assert other.frame() == ("123", b"")
+        assert come_true(lambda: "attempt" in read(tmp_path / "can0.rec.new"))
+        assert read(tmp_path / "can0.rec.faults.new") == ""
+        server.child.kill()
+        server.child.wait()
+    assert start(tmp_path, "--record", "live", "can0,can1")[0] == 0
+    assert left(tmp_path) == {} and "attempt" in read(tmp_path / "can0.rec.cut")
+
+
+@pytest.mark.parametrize("when", [*WHEN, "none", "nowhere"])
+def test_the_most_lines_that_wait(when):
+    """64 MiB of a bus: then rules are refused, and frames go on. At the end they are written, if that is wanted; those that are
+    taken while the server runs do not wait"""
+    name = "longest-name.15"
+    rule = f"always from {','.join([name] * 60)} good"
+    words = ["--record", "end" if when == "nowhere" else when, f"{name},can1"]
+    with serving_alone(*words, out=None if when == "nowhere" else ".") as server:
+        one, other = plain(server, name), plain(server, "can1")
+        lines, refused = "", []
+        while not refused and len(lines) < MOST_BYTES + 1_000_000:
+            one.write(f"< fault {rule} >" * MOST_RULES)
+            answers = [one.text() for _ in range(MOST_RULES)]
+            taken = answers.count("< ok >")
+            refused = answers[taken:]
+            assert one.answer("< nofaults >") == "< ok >" and answers[:taken] == ["< ok >"] * taken
+            lines += f"at 0 {rule}\n" * taken + "at 0 nofaults\n" * bool(taken)
+        assert {*refused} == ({"< error no memory >"} if when in ("end", "nowhere") else set())
+        one.write("< send 123 0 >")
+        assert other.frame() == ("123", b"")
+        server.end(patience=3 * WAIT)
+        assert not refused or MOST_BYTES <= len(lines) < MOST_BYTES + 2000
+        if when in WHEN:
+            assert read(server.path(f"{name}.rec.faults")) == lines

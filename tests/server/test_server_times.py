@@ -1,0 +1,332 @@
+"""`canbusd serve --bitrate`: when frames are on the bus of a server, and when clients get them."""
+
+from __future__ import annotations
+
+import functools
+import itertools
+import os
+import pathlib
+import random
+import re
+import shutil
+import signal
+import subprocess
+import sys
+import time
+from collections.abc import Callable, Sequence
+
+import pytest
+
+from serving import ROOT, Plain, Server, come_true, plain, program, serving, serving_alone, turns
+from timed_benches import MICRO, bench, moment, random_frame, rate_options, send
+from wire_model import Frame
+from wire_times import IDLE, SECOND, Ending, Rates
+
+pytestmark = pytest.mark.quiet
+# By how much a client's clock may differ from the server's, in seconds: both are the system's at the start.
+CLOCKS = 0.001
+EIGHT_BYTES = Frame.read("123#1122334455667788")
+
+
+class TooBusy(Exception):
+    """The machine was too busy, and a server too late."""
+
+
+def patiently(test: Callable[..., None]) -> Callable[..., None]:
+    """The test, of which one of three tries may be on a machine that is not too busy."""
+
+    @functools.wraps(test)
+    def tried(**fixtures: object) -> None:
+        for _ in range(2):
+            try:
+                return test(**fixtures)
+            except TooBusy:
+                pass
+        return test(**fixtures)
+
+    return tried
+
+
+def end_in_time(server: Server) -> None:
+    """Ends a server, which has to have been in time."""
+    status, _ = server.finish()
+    said = server.said()
+    if said:
+        raise TooBusy(said)
+    assert status == 0
+
+
+def micros(text: str) -> int:
+    return int(text.replace(".", ""))
+
+
+def replayed(path: str, rates: Rates) -> str:
+    """What the replay says of the moments of a record, with whose bit rates it finds nothing."""
+    words = [sys.executable, "-m", "canbusd", "replay", "--quiet", *rate_options(rates), path]
+    done = subprocess.run(words, capture_output=True, text=True, timeout=120, check=False)
+    assert (done.returncode, done.stderr) == (0, ""), done.stderr
+    return done.stdout
+
+
+def attempts(server: Server) -> list[tuple[int, str]]:
+    """The moments of the attempts in the record of can0, in microseconds, and their lines."""
+    with open(server.path("can0.rec"), encoding="utf-8") as record:
+        lines = [line for line in record if line.startswith("attempt ")]
+    return [(micros(line.split(" ")[1]), line) for line in lines]
+
+
+def quiet(server: Server, name: str) -> Plain:
+    """A session that gets no frames, so that what it reads are replies."""
+    client = raw(server, name)
+    assert client.answer("< filter 0 >") == "< ok >"
+    return client
+
+
+def waiting(client: Plain) -> int:
+    """How many frames wait at its interface."""
+    return int(client.answer("< stats >").split(" ")[7])
+
+
+def raw(server: Server, name: str) -> Plain:
+    """A session that takes FD frames too."""
+    client = plain(server, name)
+    assert client.answer("< fdframes 1 >") == "< ok >"
+    return client
+
+
+def received(client: Plain) -> int:
+    """The moment of the next frame, in microseconds."""
+    return micros(re.search(r" (\d+\.\d{6}) ", client.text())[1])
+
+
+@patiently
+@pytest.mark.parametrize("nominal", [5_000, 125_000, 1_000_000])
+def test_moments_are_those_of_the_bench(nominal: int, rng: random.Random) -> None:
+    """Frames that wait go one right after another, as on a bench whose moment is set to when the first was sent."""
+    rates = Rates(nominal, rng.choice([None, nominal, 8 * nominal]))
+    frames = [random_frame(rng) for _ in range(12)]
+    with serving(*rate_options(rates), "--txqueue", "1024", "can0,can1") as server:
+        can0, can1 = raw(server, "can0"), raw(server, "can1")
+        can0.write("".join(map(send, frames)))
+        moments = [received(can1) for _ in frames]
+        end_in_time(server)
+        made = [when for when, _ in attempts(server)]
+        said = replayed(server.path("can0.rec"), rates)
+    began = moments[0] - rates.frame_nanos(frames[0]) // MICRO
+    lines = [f"at {moment(began * MICRO)}", *(f"feed 1 {send(frame)}" for frame in frames), *len(frames) * ["attempt"]]
+    options = [*rate_options(rates), "--txqueue", "1024"]
+    written = [line.split(" at ")[1] for line in bench(program(), options, ["can0", "can1"], lines)]
+    assert moments == made == [micros(text) for text in written]
+    # All of the time but the last intermission, and what the rounding of moments leaves open.
+    assert re.match(r"load (?:100\.0|99\.\d) %: ", said), said
+
+
+@patiently
+def test_random_frames_and_faults(rng: random.Random) -> None:
+    """Two nodes send with pauses, and some attempts fail: no attempt begins before the one before it is over."""
+    rates = Rates(500_000, 2_000_000)
+    with serving(*rate_options(rates), "--txqueue", "100", "--auto-restart", "128", "can0,can1") as server:
+        clients = [quiet(server, "can0"), quiet(server, "can1")]
+        kinds = ["lastbit", "global bit", "local crc can1", "global form", "local stuff can0"]
+        for number in range(300):
+            if number % 7 == 0:
+                assert clients[0].answer(f"< fault next 1 {rng.choice(kinds)} >") == "< ok >"
+            rng.choice(clients).write(send(random_frame(rng)))
+            time.sleep(rng.choice([0, 0, 0, 0.001]))
+        assert come_true(lambda: not any(map(waiting, clients))), "frames wait"
+        end_in_time(server)
+        server.audited("can0.rec")
+        moments = [when for when, _ in attempts(server)]
+        replayed(server.path("can0.rec"), rates)
+    assert moments == sorted(moments) and len(moments) > 300
+
+
+@patiently
+@pytest.mark.parametrize("nominal", [5_000, 500_000])
+def test_nobody_gets_a_frame_before_its_end(nominal: int) -> None:
+    """A client gets a frame when it is over, and so an answer begins after that."""
+    rates, frame = Rates(nominal), EIGHT_BYTES
+    lasts = rates.frame_nanos(frame) / SECOND
+    with serving(*rate_options(rates), "can0,can1") as server:
+        can0, can1 = plain(server, "can0"), plain(server, "can1")
+        for _ in range(20):
+            sent = time.monotonic()
+            can0.write(send(frame))
+            end = received(can1)
+            now, took = time.time(), time.monotonic() - sent
+            assert took >= lasts and now >= end / 1_000_000 - CLOCKS, (took, lasts, now, end)
+            can1.write(send(frame))
+            answered = received(can0)
+            assert answered >= end + (rates.attempt_nanos(frame) - rates.frame_nanos(frame) + lasts * SECOND) // MICRO
+        end_in_time(server)
+        replayed(server.path("can0.rec"), rates)
+
+
+@patiently
+def test_sender_gets_its_frame_at_its_end() -> None:
+    """Also what is looped back, and the reply to a send comes at once."""
+    rates, frame = Rates(5_000), Frame.read("123#11")
+    with serving("--bitrate", "5000", "can0") as server:
+        can0 = plain(server, "can0")
+        assert [can0.answer(text) for text in ("< ack 1 >", "< recvown 1 >")] == ["< ok >", "< ok >"]
+        sent = time.monotonic()
+        assert can0.answer(send(frame)) == "< ack 0 >"
+        assert time.monotonic() - sent < rates.frame_nanos(frame) / SECOND
+        received(can0)
+        assert time.monotonic() - sent >= rates.frame_nanos(frame) / SECOND
+        end_in_time(server)
+
+
+@patiently
+def test_recovery_takes_128_times_11_bits() -> None:
+    """An interface that went bus off on a bus on which nobody sends comes back 128 * 11 bits after its last attempt."""
+    rates, frame = Rates(20_000), Frame.read("123#11")
+    with serving("--bitrate", "20000", "--auto-restart", "128", "can0,can1") as server:
+        can0 = plain(server, "can0")
+        assert can0.answer("< fault next 32 global bit >") == "< ok >"
+        can0.write(send(frame))
+        assert come_true(lambda: "off" in can0.answer("< status >"))
+        assert come_true(lambda: can0.answer("< status >") == "< status active 0 0 >")
+        end_in_time(server)
+        tried = attempts(server)
+        replayed(server.path("can0.rec"), rates)
+    idle = [when for when, line in tried if " tried " not in line]
+    last = max(when for when, line in tried if " tried " in line)
+    over = last * MICRO - rates.frame_nanos(frame) + rates.attempt_nanos(frame, Ending.AFTER_DATA)
+    assert len(tried) - len(idle) == 32 and len(idle) == 128
+    assert abs(idle[-1] * MICRO - over - 128 * rates.idle_nanos()) <= MICRO
+    assert [b - a for a, b in itertools.pairwise(idle)] == 127 * [IDLE * 50]
+
+
+def test_late_server_leaves_out_what_it_missed() -> None:
+    """One that was stopped reports by how much it was late, once in a minute and by the bus, and goes on from then."""
+    rates = Rates(50_000)
+    usual = rates.attempt_nanos(EIGHT_BYTES) // MICRO
+    with serving_alone(*rate_options(rates), "--txqueue", "1024", "--verbose", "car0", "can0,can1") as server:
+        can0, can1 = plain(server, "can0"), plain(server, "can1")
+        # More than two seconds of frames, so that some wait at each stop.
+        can0.write(1000 * send(EIGHT_BYTES))
+        moments = [received(can1)]
+        for _ in range(2):
+            server.child.send_signal(signal.SIGSTOP)
+            time.sleep(0.4)
+            server.child.send_signal(signal.SIGCONT)
+            for _ in turns("a frame comes late"):
+                moments.append(received(can1))
+                if moments[-1] - moments[-2] > usual + 100_000:
+                    break
+        status, _ = server.finish()
+        lines = [line for line in server.said().splitlines() if line.endswith(" s behind its bit rate")]
+        assert status == 0 and len(lines) == 2, server.said()
+        late = re.fullmatch(r"note: bus can0: (\d\.\d s behind its bit rate)", lines[1])
+        assert late and re.fullmatch(rf"\d{{10}}\.\d{{6}} can0: {re.escape(late[1])}", lines[0]), lines
+        replayed(server.path("can0.rec"), rates)
+    steps = [b - a for a, b in itertools.pairwise(moments)]
+    assert min(steps) >= usual, steps
+
+
+@pytest.mark.skipif(not shutil.which("cc"), reason="no C compiler: cc")
+@pytest.mark.parametrize("words, later", [(["--bitrate", "500000"], 0), ([], 3600)])
+def test_a_clock_that_is_set(words: Sequence[str], later: int, tmp_path: pathlib.Path) -> None:
+    """By an hour (set_clock.c): moments with bit rates go on as before, and others are the clock's."""
+    library, changed = tmp_path / "set_clock.so", tmp_path / "changed"
+    source = os.path.join(ROOT, "tests", "helpers", "set_clock.c")
+    subprocess.run(["cc", "-O2", "-Wall", "-Werror", "-fPIC", "-shared", "-o", library, source], check=True)
+    environment = {**os.environ, "LD_PRELOAD": str(library), "CLOCK": str(changed)}
+    with serving_alone(*words, "can0,can1", env=environment) as server:
+        can0, can1 = plain(server, "can0"), plain(server, "can1")
+        sent, begun = time.time(), time.monotonic()
+        can0.write(send(EIGHT_BYTES))
+        first, had = received(can1) / 1_000_000, time.monotonic()
+        time.sleep(0.1)
+        changed.touch()
+        again = time.monotonic()
+        can0.write(send(EIGHT_BYTES))
+        passed, over = received(can1) / 1_000_000 - first, time.monotonic()
+        status, _ = server.finish()
+    assert status == 0 and sent - CLOCKS <= first <= sent + over - begun + CLOCKS, (sent, first)
+    assert again - had - CLOCKS <= passed - later <= over - begun + CLOCKS, (again - had, passed, over - begun)
+
+
+@patiently
+def test_end_waits_for_no_frame() -> None:
+    """What waits is tried at the end with the moments that it would have had, and the server ends at once."""
+    rates = Rates(5_000)
+    with serving(*rate_options(rates), "--txqueue", "1024", "can0,can1") as server:
+        can0 = quiet(server, "can0")
+        can0.write(500 * send(EIGHT_BYTES))
+        assert come_true(lambda: 0 < waiting(can0) < 500)
+        begun = time.monotonic()
+        end_in_time(server)
+        assert time.monotonic() - begun < 5 < 500 * rates.attempt_nanos(EIGHT_BYTES) / SECOND
+        moments = [when for when, _ in attempts(server)]
+        replayed(server.path("can0.rec"), rates)
+    assert len(moments) == 500
+    assert abs(moments[-1] - moments[0] - 499 * rates.attempt_nanos(EIGHT_BYTES) // MICRO) <= 1
+
+
+@patiently
+@pytest.mark.parametrize("words", [[], ["--record", "none"]])
+def test_nothing_spins(words: Sequence[str]) -> None:
+    """No thread runs where no frame waits, and few while one lasts."""
+    with serving_alone("--bitrate", "5000", *words, "can0,can1") as server:
+        can0 = plain(server, "can0")
+        can0.write(send(EIGHT_BYTES))
+        time.sleep(0.5)
+        before = server.ticks()
+        time.sleep(1)
+        assert server.ticks() - before <= 3, "it runs while nothing waits"
+        can0.write(30 * send(EIGHT_BYTES))
+        before = server.ticks()
+        time.sleep(0.5)
+        assert server.ticks() - before <= 10, "it runs while frames last"
+        end_in_time(server)
+
+
+class Filling:
+    """A client that keeps the queue of its interface full, and one that counts what arrives."""
+
+    def __init__(self, server: Server, frame: Frame) -> None:
+        self.sender, self.receiver = plain(server, "can0"), plain(server, "can1")
+        self.text, self.left = send(frame).encode(), b""
+        self.count = 0
+
+    def send(self, count: int) -> None:
+        self.sender.socket.sendall(count * self.text)
+
+    def take(self) -> None:
+        """Takes what is there, waits for it, and sends as much."""
+        piece = self.left + self.receiver.socket.recv(1 << 20)
+        whole = piece.rfind(b">") + 1
+        self.left = piece[whole:]
+        count = piece.count(b">", 0, whole)
+        self.count += count
+        self.send(count)
+
+    def run(self, seconds: float) -> tuple[int, float]:
+        """How many frames came in these seconds, once the bus is full, and how long that was, from frame to frame."""
+        self.send(600)
+        begun = time.monotonic() + 1
+        while time.monotonic() < begun:
+            self.take()
+        counted, begun = self.count, time.monotonic()
+        while time.monotonic() < begun + seconds:
+            self.take()
+        return self.count - counted, time.monotonic() - begun
+
+
+@patiently
+@pytest.mark.parametrize(
+    "nominal", [500_000, *(pytest.param(rate, marks=pytest.mark.slow) for rate in (125_000, 1_000_000))]
+)
+def test_mean_rate(nominal: int) -> None:
+    """A full bus has its bit rate, within 0.1 % over ten seconds."""
+    rates, sizes = Rates(nominal), ["--txqueue", "1024", "--rxqueue", "65536", "--write", "16384"]
+    with serving(*rate_options(rates), *sizes, "can0,can1") as server:
+        count, took = Filling(server, EIGHT_BYTES).run(10)
+        end_in_time(server)
+        replayed(server.path("can0.rec"), rates)
+    wanted = count * rates.attempt_nanos(EIGHT_BYTES) / SECOND
+    print(f"{nominal}: {count} frames in {took:.6f} s, {100 * (took / wanted - 1):+.4f} %")
+    if abs(took - wanted) > 0.001 * wanted:
+        raise TooBusy(f"{count} frames took {took} and not {wanted} seconds")
