@@ -16,7 +16,7 @@
 #include <sys/types.h>
 
 /* The bridge's end of the pair. */
-#define PROGRAM 3
+#define PROGRAM WIRE_PROGRAM
 /* How many numbers of frames a session looks back: a frame that it sent before has left every queue long ago. */
 #define NUMBERS_KEPT (1u << 24)
 /* Seconds that a server is given for a reply. */
@@ -28,8 +28,8 @@
 
 /* The protocol of the socket. */
 extern int protocol;
-/* The name of the program's end. */
-extern char program_name[WIRE_NAME_ROOM];
+/* The memory that it shares with the programs of the socket. */
+extern struct wire_memory *memory;
 
 /* Hands what a session has received to the protocol. */
 void item_received(const struct item *item, int index);

@@ -6,12 +6,13 @@
 #include <fcntl.h>
 #include <poll.h>
 #include <signal.h>
+#include <sys/mman.h>
 #include <sys/socket.h>
 #include <sys/un.h>
 #include <unistd.h>
 
 int protocol;
-char program_name[WIRE_NAME_ROOM];
+struct wire_memory *memory;
 const char *refusal = "";
 
 int refused(int error, const char *why) {
@@ -38,7 +39,7 @@ static void leave_program(void) {
             close(fd);
         }
     }
-    if (null > PROGRAM) {
+    if (null > WIRE_MEMORY) {
         close(null);
     }
     setsid();
@@ -104,8 +105,10 @@ int main(void) {
         return write(STDERR_FILENO, text, sizeof text - 1) < 0 ? 1 : 125;
     }
     protocol = name.sun_path[sizeof WIRE_NAME] - '0';
-    length -= (socklen_t)offsetof(struct sockaddr_un, sun_path) + 1;
-    memcpy(program_name, name.sun_path + 1, MIN(length, sizeof program_name - 1));
+    memory = mmap(NULL, sizeof *memory, PROT_READ | PROT_WRITE, MAP_SHARED, WIRE_MEMORY, 0);
+    if (memory == MAP_FAILED) {
+        return 125;
+    }
     leave_program();
     if (protocol == CAN_BCM) {
         raw_want(NULL, 0);

@@ -140,14 +140,43 @@ enum quick { QUICK_DONE, QUICK_REFUSED, QUICK_NO_ROOM, QUICK_NONE };
 enum quick ask_quickly(const struct socket *sock, const struct wire_request *request, const struct msghdr *message,
                        struct answer *answer);
 
-/* ---- loan.c: in virtual time, writes by a session that the bridge lends ---- */
+/* ---- share.c: the memory that a bridge shares with the programs of its socket ---- */
 
-/* A copy of its descriptor. */
 struct loaned {
     int fd; /* 0: none */
     uint32_t session;
     uint64_t inode;
 };
+struct shared {
+    uint32_t users;  /* how many threads use it */
+    uint32_t writes; /* of this process */
+    char name[WIRE_NAME_ROOM];
+    struct wire_memory *memory;
+    struct loaned copy;
+};
+
+/* That of a socket, until share_leave; NULL where it can't be had. */
+struct shared *share_enter(const struct socket *sock);
+void share_leave(struct shared *one);
+
+/* Asks for the descriptor of the session that is lent now. */
+void share_borrow(struct shared *one, int fd);
+
+/* Makes that of a socket that is being made; returns its descriptor, or -1 and errno. */
+int share_make(const char *name);
+
+/* ---- notes.c: what is known of a datagram besides its bytes ---- */
+
+/* Finds the note of a datagram that has just been read, or looked at (`is_peeked`), and that begins with these bytes.
+ * False where there is none. */
+bool note_of(struct wire_memory *memory, int fd, bool is_peeked, const void *head, size_t length,
+             struct wire_note *note);
+
+/* The moment of the datagram that was read last, by whomever; 0 before that. */
+uint64_t last_moment(const struct wire_memory *memory, int fd);
+
+/* ---- loan.c: in virtual time, writes by a session that the bridge lends ---- */
+
 void loan_keep(struct loaned *copy, int fd, uint32_t session);
 void loan_forget(struct loaned *copy);
 /* Whether a session is lent of which this is no copy. */
@@ -176,15 +205,11 @@ void __chk_fail(void) __attribute__((noreturn));
 /* Makes a CAN socket. */
 int can_socket(int type, int protocol);
 
-/* Starts the bridge of a socket whose other end is this. Returns 0, or an errno. */
-int start_bridge(int end);
+/* Starts the bridge of a socket whose other end is this, with the memory of this descriptor. Returns 0, or an errno. */
+int start_bridge(int end, int memory);
 
 /* The index of the interface of this name, or -1 and errno; the name of this index, or -1 and errno. */
 int index_of_name(const char *name);
 int name_of_index(int index, char name[IFNAMSIZ]);
-
-/* The moment of the frame that was received last by this descriptor, for SIOCGSTAMP; 0 before that. */
-void keep_stamp(int fd, uint64_t nanoseconds);
-uint64_t kept_stamp(int fd);
 
 #endif

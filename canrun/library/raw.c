@@ -45,7 +45,6 @@ const struct protocol raw_protocol = {
     .address_size = CAN_REQUIRED_SIZE(struct sockaddr_can, can_ifindex),
     .level = SOL_CAN_RAW,
     .uncut_option = CAN_RAW_FILTER,
-    .has_frames = true,
     .bind = can_bind,
     .connect = no_connect,
     .getname = can_getname,
