@@ -47,6 +47,7 @@ PLAIN = (
     "rows",
     "handles",
     "quick",
+    "passed_by",
 )
 
 
