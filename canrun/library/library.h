@@ -10,13 +10,17 @@
 
 #include <ifaddrs.h>
 #include <net/if.h>
+#include <fcntl.h>
 #include <poll.h>
 #include <spawn.h>
 #include <stdbool.h>
 #include <stddef.h>
+#include <stdio.h>
 #include <sys/epoll.h>
 #include <sys/ioctl.h>
+#include <sys/sendfile.h>
 #include <sys/socket.h>
+#include <sys/stat.h>
 #include <sys/uio.h>
 #include <unistd.h>
 
@@ -69,6 +73,13 @@
     X(send)               \
     X(sendto)             \
     X(sendmsg)            \
+    X(preadv2)            \
+    X(pwritev2)           \
+    X(splice)             \
+    X(sendfile)           \
+    X(fdopen)             \
+    X(fileno)             \
+    X(syscall)            \
     X(sendmmsg)
 
 struct real {
@@ -79,6 +90,9 @@ struct real {
 
 /* They are found when the library is loaded, or by the first call where another library calls before that. */
 const struct real *real(void);
+
+/* System calls of this library are not its own. */
+#define syscall(...) real()->syscall(__VA_ARGS__)
 
 /* dlsym of the C library, in place of that of this one. */
 void *(*real_dlsym(void))(void *restrict, const char *restrict);
@@ -190,6 +204,9 @@ enum talk loan_talk(struct wire_memory *memory, const struct loaned *copy, const
 
 /* Takes the error that a socket has by itself, as SO_ERROR does; 0 where it has none. It leaves errno as it was. */
 int take_error(int fd);
+
+/* Takes the error of a socket of which a read got no bytes: -1 and errno, or 0 where another call has taken it. */
+int take_shown(int fd);
 
 /* Notes that this is a socket that may have an error which poll shows. */
 void note_error_of(int fd);

@@ -7,9 +7,12 @@
 #include <sched.h>
 #include <string.h>
 #include <sys/syscall.h>
+#include <time.h>
 
-/* How often the bridge is waited for that is putting datagrams into the socket. */
-#define PATIENCE 1000
+/* How often the bridge is waited for that is putting datagrams into the socket: its processor may do other work. */
+#define PATIENCE 20000
+#define YIELDS 100
+#define PAUSE 100000 /* nanoseconds */
 /* Notes that the bridge may be writing. */
 #define BEING_WRITTEN 64
 
@@ -27,6 +30,18 @@ static struct span read_until_now(const struct wire_notes *received, int fd) {
     return (struct span){put - left, meant - left};
 }
 
+/* Waits for the bridge; false where that was in vain. */
+static bool wait_for_bridge(int turn) {
+    if (turn < YIELDS) {
+        sched_yield();
+    } else {
+        int before = errno;
+        syscall(SYS_nanosleep, &(struct timespec){0, PAUSE}, NULL);
+        errno = before;
+    }
+    return turn < PATIENCE;
+}
+
 /* The notes that there are: from this one on, to that before `end`. */
 struct range {
     uint64_t first, end;
@@ -37,14 +52,15 @@ static struct range range_of(const struct wire_notes *received) {
     return (struct range){end > most ? end - most : 0, end};
 }
 
-/* Looks for the note, from the last on. The best is one whose place fits, and of several the first that was not found
- * before: two that begin alike are told apart by that only while the bridge is putting the second. One that was read
- * by several at once, or that a filter of the socket has cut, is found by its bytes. */
+/* Looks for the note, from the last on; returns its number from 1 on, or 0. The best is one whose place fits, and of
+ * several the first that was not found before. One that was read by several at once, or that a filter of the socket has
+ * cut, is found by its bytes. `is_one` says whether no other could be it. */
 static uint64_t look(const struct wire_notes *received, struct span span, bool is_peeked, const void *head,
-                     size_t length) {
+                     size_t length, bool *is_one) {
     struct range range = range_of(received);
     uint64_t found = __atomic_load_n(&received->found, __ATOMIC_RELAXED), best = 0;
     bool is_fitting = false;
+    *is_one = true;
     for (uint64_t at = range.end; at > range.first; at--) {
         const struct wire_note *note = &received->notes[(at - 1) % WIRE_NOTES];
         int64_t place = (int64_t)(note->from + (is_peeked ? 0 : note->length));
@@ -54,10 +70,10 @@ static uint64_t look(const struct wire_notes *received, struct span span, bool i
         if (place > span.most || memcmp(note->head, head, MIN(length, note->head_length)) != 0) {
             continue;
         }
-        bool fits = place >= span.least;
-        if (!best || fits > is_fitting || at > found) {
+        if (!best || at > found) {
+            *is_one = !best;
             best = at;
-            is_fitting |= fits;
+            is_fitting |= place >= span.least;
         }
         if (at <= found) {
             break;
@@ -76,7 +92,13 @@ static void keep_found(struct wire_notes *received, uint64_t at) {
 bool note_of(struct wire_memory *memory, int fd, bool is_peeked, const void *head, size_t length,
              struct wire_note *note) {
     struct wire_notes *received = &memory->received;
-    uint64_t at = look(received, read_until_now(received, fd), is_peeked, head, length);
+    uint64_t at = 0;
+    bool is_one = false;
+    for (int i = 0; !is_one && (!i || wait_for_bridge(i)); i++) {
+        struct span span = read_until_now(received, fd);
+        at = look(received, span, is_peeked, head, length, &is_one);
+        is_one |= span.least == span.most;
+    }
     if (!at) {
         return false;
     }
@@ -90,8 +112,7 @@ bool note_of(struct wire_memory *memory, int fd, bool is_peeked, const void *hea
 uint64_t last_moment(const struct wire_memory *memory, int fd) {
     const struct wire_notes *received = &memory->received;
     struct span span = read_until_now(received, fd);
-    for (int i = 0; span.least != span.most && i < PATIENCE; i++) {
-        sched_yield();
+    for (int i = 0; span.least != span.most && wait_for_bridge(i); i++) {
         span = read_until_now(received, fd);
     }
     struct range range = range_of(received);

@@ -85,6 +85,11 @@ static ssize_t refuse_read(int error) {
                                                                  "canbusd-run and was refused");
 }
 
+int take_shown(int fd) {
+    int error = error_of(fd);
+    return error ? (int)refuse_read(error) : 0;
+}
+
 /* The next message; its length, or -1 and errno. A datagram without bytes says that the socket has an error; it is
  * followed by the next where another call has taken the error. */
 static ssize_t take(int fd, struct msghdr *message, int flags) {
@@ -98,9 +103,8 @@ static ssize_t take(int fd, struct msghdr *message, int flags) {
         if (flags & MSG_PEEK) {
             real()->recvmsg(fd, message, MSG_DONTWAIT);
         }
-        int error = error_of(fd);
-        if (error) {
-            return refuse_read(error);
+        if (take_shown(fd)) {
+            return -1;
         }
         errno = before;
         message->msg_controllen = control;

@@ -48,6 +48,7 @@ PLAIN = (
     "handles",
     "quick",
     "passed_by",
+    "wrote_past",
 )
 
 
