@@ -1,4 +1,4 @@
-// For the scripts of the pages, python/src/canbusd/page/: scripts/lint-pages lints those of a page in a row.
+// For the scripts of the pages, python/src/canbusd/_page/: scripts/lint-pages lints those of a page in a row.
 module.exports = {
   root: true,
   env: { browser: true, es6: true },

@@ -14,7 +14,7 @@ static int bcm_bind(const struct socket *sock, const struct sockaddr *address, s
 /* As in the kernel, the family of the address does not matter. */
 static int bcm_connect(const struct socket *sock, const struct sockaddr *address, socklen_t length) {
     struct sockaddr_can can;
-    return copy_address(sock, "connect", address, length, &can) ? -1 : ask_to_bind(sock, "connect", &can);
+    return copy_address(sock, "connect", address, length, &can) ? -1 : ask_to_bind(sock, "connect", WIRE_CONNECT, &can);
 }
 
 static int bcm_getname(const struct socket *sock, struct sockaddr *address, socklen_t *length, bool is_peer) {

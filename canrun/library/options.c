@@ -16,12 +16,10 @@ int copy_address(const struct socket *sock, const char *call, const struct socka
     return copy_from(can, address, MIN(length, sizeof *can)) ? 0 : fail(EFAULT);
 }
 
-int ask_to_bind(const struct socket *sock, const char *call, const struct sockaddr_can *can) {
-    struct wire_request request = {.kind = WIRE_BIND,
-                                   .ifindex = can->can_ifindex,
-                                   .rx_id = can->can_addr.tp.rx_id,
-                                   .tx_id = can->can_addr.tp.tx_id};
-    int result = ask(sock->fd, call, &request, NULL, 0, NULL);
+int ask_to_bind(const struct socket *sock, const char *call, enum wire_kind kind, const struct sockaddr_can *can) {
+    struct wire_request request = {.kind = kind, .length = sizeof *can};
+    struct iovec data = {(void *)can, sizeof *can};
+    int result = ask(sock->fd, call, &request, &data, 1, NULL);
     return result && errno == ENXIO ? fail(ENODEV) : result;
 }
 
@@ -30,7 +28,7 @@ int can_bind(const struct socket *sock, const struct sockaddr *address, socklen_
     if (copy_address(sock, "bind", address, length, &can)) {
         return -1;
     }
-    return can.can_family == AF_CAN ? ask_to_bind(sock, "bind", &can)
+    return can.can_family == AF_CAN ? ask_to_bind(sock, "bind", WIRE_BIND, &can)
                                     : refuse("bind", EINVAL, "the address is not of AF_CAN");
 }
 
@@ -70,17 +68,14 @@ static int copy_value(void *room, socklen_t *room_length, const void *value, soc
 }
 
 int can_getname(const struct socket *sock, struct sockaddr *address, socklen_t *length, bool is_peer) {
-    uint32_t identifiers[2] = {0, 0};
-    struct answer answer = {.data = identifiers, .room = sizeof identifiers};
+    struct sockaddr_can can = {0};
+    struct answer answer = {.data = &can, .room = sizeof can};
     if (is_peer) {
         return refuse("getpeername", EOPNOTSUPP, "a CAN socket has no such call");
     }
     if (ask(sock->fd, "getsockname", &(struct wire_request){.kind = WIRE_ADDRESS}, NULL, 0, &answer)) {
         return -1;
     }
-    struct sockaddr_can can = {.can_family = AF_CAN, .can_ifindex = answer.value};
-    can.can_addr.tp.rx_id = identifiers[0];
-    can.can_addr.tp.tx_id = identifiers[1];
     return copy_value(address, length, &can, sock->protocol->address_size, true);
 }
 

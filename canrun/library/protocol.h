@@ -62,8 +62,8 @@ int no_connect(const struct socket *sock, const struct sockaddr *address, sockle
 int copy_address(const struct socket *sock, const char *call, const struct sockaddr *address, socklen_t length,
                  struct sockaddr_can *can);
 
-/* Asks the bridge to bind the socket. Returns 0, or -1 and errno. */
-int ask_to_bind(const struct socket *sock, const char *call, const struct sockaddr_can *can);
+/* Asks the bridge to bind or connect the socket. Returns 0, or -1 and errno. */
+int ask_to_bind(const struct socket *sock, const char *call, enum wire_kind kind, const struct sockaddr_can *can);
 
 /* ---- send.c ---- */
 

@@ -9,7 +9,7 @@ from pathlib import Path
 import can
 import pytest
 
-from canbusd._program import find_program
+from canbusd._process.program import find_program
 from canbusd.server import Server
 
 PYTHON = Path(__file__).resolve().parents[1]

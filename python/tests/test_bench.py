@@ -472,7 +472,7 @@ def test_a_bench_that_says_nothing_is_given_up(monkeypatch, tmp_path):
     program.write_text("#!/bin/sh\necho working >&2\nsleep 1000\n")
     program.chmod(0o755)
     monkeypatch.setenv("CANBUSD", str(program))
-    monkeypatch.setattr("canbusd._dialogue.TIMEOUT", 0.5)
+    monkeypatch.setattr("canbusd._process.dialogue.TIMEOUT", 0.5)
     with pytest.raises(BenchError, match="said nothing for .* seconds\nworking"):
         Bench("can0")
 

@@ -6,8 +6,8 @@ from browser import PROGRAM
 from test_commands import call
 from test_page import CUT, WEAK, WIDE, browser, opened  # noqa: F401  fixtures
 
+from canbusd._run.comparison import Comparison
 from canbusd.bench import Bench
-from canbusd.comparison import Comparison
 from canbusd.faults import Faults
 from canbusd.record import read_record
 

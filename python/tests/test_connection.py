@@ -11,7 +11,7 @@ import can
 import pytest
 from conftest import WAIT, message, shape
 
-from canbusd._questions import MOST_PAGES, PAGE
+from canbusd._session.pending_questions import MOST_PAGES, PAGE
 from canbusd.bus import CanbusdBus, interfaces
 from canbusd.server import Server
 

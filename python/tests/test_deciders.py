@@ -6,8 +6,8 @@ import random
 
 import pytest
 
-from canbusd import _deciders
-from canbusd._deciders import FaultsFile, deciders, faults_beside, texts_of
+from canbusd._run import fault_rules_of_run
+from canbusd._run.fault_rules_of_run import FaultsFile, deciders, faults_beside, texts_of
 from canbusd.bench import Bench
 from canbusd.record import BadRecord, parse_record, read_record, read_run
 
@@ -225,7 +225,7 @@ def test_the_numbers_are_those_of_the_program(tmp_path):
 def test_only_the_rules_that_are_named_are_read(monkeypatch):
     """of a hundred thousand"""
     read = []
-    monkeypatch.setattr(_deciders, "parse_rule", lambda text: read.append(text) or text)
+    monkeypatch.setattr(fault_rules_of_run, "parse_rule", lambda text: read.append(text) or text)
     ended = itertools.repeat("at 0 next 1 good\nat 0 nofaults\n", 100_000)
     faults = f"{''.join(ended)}at 0 next 2 lastbit\n"
     assert texts_of(faults.encode(), [100_001, 0]) == {100_001: "next 2 lastbit"}

@@ -309,7 +309,7 @@ def test_bus_off_that_is_interrupted_leaves_no_rule(server, monkeypatch):
         assert predicate() is None and server.rules_left() == 1
         raise KeyboardInterrupt
 
-    monkeypatch.setattr("canbusd.expectations.wait_for", interrupted)
+    monkeypatch.setattr("canbusd._expect.expectations.wait_for", interrupted)
     with pytest.raises(KeyboardInterrupt):
         server.bus_off("can0")
     assert server.rules_left() == 0

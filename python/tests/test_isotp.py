@@ -7,7 +7,7 @@ import threading
 import pytest
 
 import canbusd.isotp
-from canbusd._program import ProgramNotFound, find_program
+from canbusd._process.program import ProgramNotFound, find_program
 from canbusd.faults import Faults
 from canbusd.isotp import IsoTpError
 from canbusd.server import Server

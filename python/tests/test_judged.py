@@ -2,9 +2,9 @@
 
 import pytest
 
-from canbusd._judged import first_change, follow, gap_words, gaps_of, wrong_gaps
-from canbusd._received import Received
-from canbusd._wanted import Wanted, wanted_of
+from canbusd._expect.cyclic_checks import first_change, follow, gap_words, gaps_of, wrong_gaps
+from canbusd._expect.frame_matcher import Wanted, wanted_of
+from canbusd._expect.received_frames import Received
 from canbusd.signals import DatabaseError, load_database
 from test_signals import CAR, DRIVES
 from canbusd.frames import Frame

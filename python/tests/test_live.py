@@ -9,9 +9,9 @@ import pytest
 from conftest import WAIT, message, needs_live, shape
 from test_record import LIVE, LIVE_RESTARTED
 
-from canbusd._live import GrowingFile, LiveLog, LiveRecord, left_by
+from canbusd._run.live import GrowingFile, LiveLog, LiveRecord, left_by
+from canbusd._run.log import read_log
 from canbusd.faults import Faults
-from canbusd.log import read_log
 from canbusd.record import BadRecord, audit, parse_record, read_record
 from canbusd.server import Server, ServerError
 

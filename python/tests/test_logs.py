@@ -8,9 +8,9 @@ from pathlib import Path
 import can
 import pytest
 
+from canbusd._run.logs import Entry, name_of, read_entries, write_entries
 from canbusd.bench import Bench
 from canbusd.frames import Frame
-from canbusd.logs import Entry, name_of, read_entries, write_entries
 
 TOOL = Path(__file__).resolve().parents[2] / "tools" / "candump2bench"
 # Moments, interfaces and frames, of each kind.

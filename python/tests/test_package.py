@@ -2,6 +2,7 @@
 
 import configparser
 import email
+import importlib
 import os
 import re
 import subprocess
@@ -11,7 +12,7 @@ from pathlib import Path
 import pytest
 
 import canbusd
-from canbusd._program import find_program
+from canbusd._process.program import find_program
 
 tomllib = pytest.importorskip("tomllib")
 CLONE = Path(__file__).resolve().parents[2]
@@ -47,6 +48,38 @@ def test_the_metadata_of_a_clone_is_that_of_the_wheel():
     assert found["Summary"] == wanted["description"]
     assert found["Requires-Python"] == wanted["requires-python"]
     assert [re.sub("[ ()]", "", one) for one in found.get_all("Requires-Dist")] == wanted["dependencies"]
+
+
+def public_names():
+    """What documents, entry points and launchers import, as modules and their names."""
+    texts = [*CLONE.glob("*.md"), *CLONE.glob("docs/*.md"), *CLONE.glob("examples/**/*.py"), *CLONE.glob("tools/*")]
+    for path in filter(Path.is_file, texts):
+        text = path.read_text(encoding="utf-8")
+        for module, names in re.findall(r"^ *from (canbusd[\w.]*) import ([\w, ]+)", text, re.M):
+            yield from ((module, name) for name in names.replace(" ", "").split(","))
+        yield from ((module, "") for module in re.findall(r"-m (canbusd[\w.]*)", text))
+    tables = [project()["scripts"], *project()["entry-points"].values()]
+    yield from (tuple(f"{place}:".split(":")[:2]) for table in tables for place in table.values())
+
+
+#: Modules that users import, whether or not the documents do it in a line that is found above.
+PUBLIC = """
+    bench bus candump2bench commands faults frames isotp programs pytest_plugin record replay rest_bus rules server signals
+    strategies virtual
+"""
+
+
+def test_public_paths_can_be_imported():
+    wanted = {*public_names(), *((f"canbusd.{module}", "") for module in PUBLIC.split())}
+    wanted |= {("canbusd", name) for name in canbusd.__all__}
+    assert {
+        ("canbusd.strategies", "fault_plans"),
+        ("canbusd.bus", "CanbusdBus"),
+        ("canbusd.__main__", "main"),
+    } <= wanted
+    for module, name in sorted(wanted):
+        found = importlib.import_module(module)
+        assert not name or hasattr(found, name), f"{module} has no {name}"
 
 
 @pytest.mark.parametrize("words", [[], ["-p", "canbusd.pytest_plugin"]])

@@ -6,8 +6,8 @@ import pytest
 from browser import PROGRAM, Browser
 from test_report import NAMES, bus_off, record_of
 
+from canbusd._page.report import page
 from canbusd.record import parse_record
-from canbusd.report import page
 
 pytestmark = pytest.mark.skipif(PROGRAM is None, reason="no chromium on the PATH")
 # A place in the lane of the first node, 300 pixels from its left.

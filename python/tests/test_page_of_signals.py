@@ -8,8 +8,8 @@ import pytest
 from browser import PROGRAM, Browser
 from test_page import CUT, WEAK, WIDE, WRITTEN
 
+from canbusd._page.report import page
 from canbusd.bench import Bench
-from canbusd.report import page
 from canbusd.signals import load_database
 
 pytest.importorskip("canmatrix", reason="not installed: canmatrix")

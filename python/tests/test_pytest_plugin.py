@@ -471,7 +471,7 @@ def test_a_pytest_that_is_killed(run, pytester, monkeypatch, fixture):
 
 
 def test_the_program_of_the_ini_file(run, pytester, monkeypatch):
-    program = os.path.realpath(canbusd._program.find_program())
+    program = os.path.realpath(canbusd._process.program.find_program())
     (pytester.path / "the program").symlink_to(program)
     monkeypatch.delenv("CANBUSD")
     monkeypatch.setenv("PATH", "/nowhere")

@@ -4,9 +4,9 @@ import itertools
 
 import pytest
 
-from canbusd import _received
-from canbusd._protocol import ErrorCounters
-from canbusd._received import Received, state_in
+from canbusd._expect import received_frames
+from canbusd._expect.received_frames import Received, state_in
+from canbusd._session.protocol import ErrorCounters
 
 # What the sessions on a and b receive of: 1 sent by a, 2 by b, 1 by a again, and 3 by a, which b misses.
 AT_A = [
@@ -135,9 +135,9 @@ def test_the_state_at_the_start_counts_only_while_it_lasts():
     assert received.expected_state("a", "passive").moment == 1_000_001
 
 
-def test_what_is_forgotten(monkeypatch):
-    monkeypatch.setattr(_received, "MOST_KEPT", 20)
-    monkeypatch.setattr(_received, "MOST_STATES", 20)
+def test_old_frames_and_states_are_forgotten(monkeypatch):
+    monkeypatch.setattr(received_frames, "MOST_KEPT", 20)
+    monkeypatch.setattr(received_frames, "MOST_STATES", 20)
     received = Received([["a", "b"]], ["a", "b"])
     received.begin("a", ErrorCounters("active", 0, 0))
     for number in range(50):

@@ -5,9 +5,9 @@ from pathlib import Path
 
 import pytest
 
-from canbusd._events import BLOCK, Events
-from canbusd._program import ProgramNotFound
-from canbusd._steps import FATES
+from canbusd._process.program import ProgramNotFound
+from canbusd._run.events import BLOCK, Events
+from canbusd._run.steps import FATES
 from canbusd.bench import Bench
 from canbusd.frames import Frame
 from canbusd.record import Attempt, BadRecord, Item, audit, attempts_of, parse_record, read_record
@@ -319,7 +319,7 @@ def test_who_took_part():
 @pytest.mark.parametrize("size", [1, 7, 100])
 def test_events_that_are_read_in_parts(monkeypatch, size):
     whole = parse_record(RESTARTED.encode())
-    monkeypatch.setattr("canbusd._events.BLOCK", size)
+    monkeypatch.setattr("canbusd._run.events.BLOCK", size)
     record = parse_record(RESTARTED.encode())
     assert record == whole and (record.attempts, record.items) == (whole.attempts, whole.items)
     # A byte that is none of a text goes before lines that are wrong.

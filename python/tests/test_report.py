@@ -10,9 +10,9 @@ from array import array
 import pytest
 
 from canbusd import Bench, Faults
+from canbusd._page.report import KINDS, page, part
+from canbusd._run.story import duration_words, events_of, facts_of, heading_of
 from canbusd.record import parse_record
-from canbusd.report import KINDS, page, part
-from canbusd.story import duration_words, events_of, facts_of, heading_of
 
 NAMES = ("can0", "can1")
 

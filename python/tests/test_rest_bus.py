@@ -11,8 +11,8 @@ import pytest
 from can.exceptions import CanOperationError
 from conftest import WAIT
 
-from canbusd._punctual import INTERVAL, Punctuality
-from canbusd._schedule import Schedule, phases
+from canbusd._restbus.punctuality import INTERVAL, Punctuality
+from canbusd._restbus.schedule import Schedule, phases
 from canbusd.bench import Bench, Refused
 from canbusd.faults import Faults
 from canbusd.rest_bus import Counts

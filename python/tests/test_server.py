@@ -19,8 +19,8 @@ from on_wire import nanos_of
 
 import canbusd
 from canbusd import Load
-from canbusd._program import find_program
-from canbusd._process import NUMBERS
+from canbusd._process.program import find_program
+from canbusd._process.program_run import NUMBERS
 from canbusd.commands import NOTHING
 from canbusd.faults import Faults
 from canbusd.server import Server, ServerError
@@ -188,13 +188,15 @@ def test_no_program(monkeypatch):
 
 def test_the_program_of_the_clone(monkeypatch):
     monkeypatch.delenv("CANBUSD")
-    monkeypatch.setattr("canbusd._program.__file__", str(CLONE / "python" / "src" / "canbusd" / "_program.py"))
+    monkeypatch.setattr(
+        "canbusd._process.program.__file__", str(CLONE / "python" / "src" / "canbusd" / "_process" / "program.py")
+    )
     assert find_program() == str(CLONE / "canbusd")
 
 
 def test_the_program_of_the_package(installed, tmp_path):
     environment = {name: value for name, value in installed.items() if name != "CANBUSD"}
-    program = "from canbusd._program import find_program; print(find_program())"
+    program = "from canbusd._process.program import find_program; print(find_program())"
     found = subprocess.check_output([sys.executable, "-c", program], env=environment, cwd=tmp_path, text=True)
     assert found.endswith("/target/canbusd/program/canbusd\n")
 
@@ -468,7 +470,7 @@ def test_the_launcher(launcher, monkeypatch, found_by):
     else:
         monkeypatch.delenv("CANBUSD")
         monkeypatch.setenv("PATH", str(launcher), prepend=os.pathsep)
-        monkeypatch.setattr("canbusd._program.__file__", "/canbusd/_program.py")
+        monkeypatch.setattr("canbusd._process.program.__file__", "/canbusd/_process/program.py")
     assert find_program() == str(launcher / "canbusd")
     with Server("can0,can1") as server:
         send_one(server)

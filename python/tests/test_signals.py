@@ -6,10 +6,10 @@ from pathlib import Path
 
 import pytest
 
+from canbusd._page.report import page
 from canbusd.bench import Bench
 from canbusd.commands.watch import Watcher
 from canbusd.frames import Frame
-from canbusd.report import page
 from canbusd.signals import HOW_TO_GET, DatabaseError, load_database
 from test_commands import call, dumped, dumping
 from test_report import data_of

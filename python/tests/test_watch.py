@@ -19,14 +19,14 @@ from browser import PROGRAM, Browser
 from on_wire import nanos_of
 
 import canbusd
-from canbusd._frame_times import FrameTimes
-from canbusd._program import ProgramNotFound
-from canbusd._rates import Rates
+from canbusd._process.program import ProgramNotFound
+from canbusd._process.rates import Rates
+from canbusd._run.frame_times import FrameTimes
+from canbusd.commands.watch import MOST_FRAMES, MOST_TICKS, Board, Watcher, fault_of, times_of
 from canbusd.faults import Faults
 from canbusd.frames import Frame
 from canbusd.server import Server
 from canbusd.signals import load_database
-from canbusd.commands.watch import MOST_FRAMES, MOST_TICKS, Board, Watcher, fault_of, times_of
 
 WAIT = 30
 
@@ -105,7 +105,7 @@ def test_how_long_frames_of_each_kind_take():
 
 
 def test_no_more_times_are_kept_than_there_is_room_for(monkeypatch):
-    monkeypatch.setattr("canbusd._frame_times.MOST_KEPT", 3)
+    monkeypatch.setattr("canbusd._run.frame_times.MOST_KEPT", 3)
     times = FrameTimes(Rates(5_000))
     for texts in (
         ["001#", "002#"],

@@ -64,7 +64,7 @@ def test_what_is_in_the_wheel(wheel):
         f"canbusd/{path.relative_to(PYTHON / 'src' / 'canbusd')}" for path in PYTHON.rglob("src/canbusd/**/*.py")
     ]
     assert set(modules) == {name for name in names if name.endswith(".py")}
-    assert {"canbusd/py.typed", "canbusd/page/page.js"} <= set(names)
+    assert {"canbusd/py.typed", "canbusd/_page/page.js"} <= set(names)
 
 
 def test_its_commands_are_those_of_make_install(wheel, tmp_path):
@@ -93,7 +93,7 @@ def tries_the_package(environment, folder):
     (text,) = re.findall(r"^```python\n(.*?)^```$", (CLONE / "README.md").read_text(), re.M | re.S)
     (folder / "test_bus_off.py").write_text(text)
     assert "1 passed" in environment("-m", "pytest", "-q", "test_bus_off.py").stdout
-    place = environment("-c", "from canbusd._program import find_program; print(find_program())").stdout
+    place = environment("-c", "from canbusd._process.program import find_program; print(find_program())").stdout
     assert place.startswith(str(folder / "venv"))
     (folder / "run.bench").write_text("session 1\nfeed 1 < open can0 >\n")
     with open(folder / "run.bench") as lines:

@@ -3,7 +3,7 @@
 from collections import deque
 from typing import Optional
 
-from canbusd._steps import WireFrame
+from canbusd._run.steps import WireFrame
 from canbusd.frames import passes_filters
 
 #: The least counts of an interface that is bus off, error passive, and warned.

@@ -9,7 +9,7 @@ import collections
 from collections.abc import Iterator, Sequence
 from typing import Optional
 
-from canbusd._steps import Counts, Step, WireFrame
+from canbusd._run.steps import Counts, Step, WireFrame
 from canbusd.frames import error_frame
 from record_bus import Interface, Pending, Socket, severity
 from record_text import BadRecord, RecordText, parse_text

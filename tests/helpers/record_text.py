@@ -6,7 +6,7 @@ from collections.abc import Iterable, Iterator
 from dataclasses import dataclass
 from typing import Optional
 
-from canbusd._replayed import Bus
+from canbusd._run.run_parts import Bus
 from canbusd._text import shown
 from canbusd.frames import ERROR_FRAME, FD_FRAME, FLAGGED_FRAME, FRAME, flags_in, is_fd
 

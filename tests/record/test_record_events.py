@@ -8,7 +8,7 @@ model has.
 import subprocess
 
 import record_events
-from canbusd._steps import DROPPED, RESTART
+from canbusd._run.steps import DROPPED, RESTART
 from canbusd.replay import Replay
 from random_benches import Maker
 from record_events import events_of

@@ -123,7 +123,7 @@ static void notes_are_right(void) {
         struct can_frame frame;
         socklen_t length = sizeof from;
         int own = i % 3 == 0;
-        put(own ? reader : writer, 0x200, i / 7);
+        send_numbered(own ? reader : writer, 0x200, i / 7);
         CHECK(comes(reader, PATIENCE));
         if (i % 2) {
             CHECK(by_instruction(data, sizeof data) == sizeof frame);
@@ -157,7 +157,7 @@ int main(void) {
     for (unsigned i = 0; i < 100; i++) {
         char data[16];
         struct can_frame frame = frame_of(0x123, i);
-        put(writer, 0x123, i);
+        send_numbered(writer, 0x123, i);
         CHECK(by_stdio(data, sizeof data) == sizeof data && !memcmp(data, &frame, sizeof data));
     }
     return 0;

@@ -84,8 +84,8 @@ int main(int count, char **words) {
     writer = mmap(NULL, sizeof *writer, PROT_READ | PROT_WRITE, MAP_SHARED | MAP_ANONYMOUS, -1, 0);
     CHECK(writer != MAP_FAILED);
     int fd = bound("can0");
-    put(fd, 0x123, 1);
-    put(fd, 0x123, 2);
+    send_numbered(fd, 0x123, 1);
+    send_numbered(fd, 0x123, 2);
     for (int i = 0; i < atoi(words[2]); i++) {
         try(i % 4 == 3, i % 4 == 1 ? 0 : SA_RESTART);
     }

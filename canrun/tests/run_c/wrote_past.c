@@ -123,7 +123,7 @@ static void unseen(void) {
     FAILS(recv(writer, data, sizeof data, MSG_DONTWAIT), EAGAIN);
     CHECK(by_instruction(writer, &frame, 15) == 15 && comes(writer, PATIENCE));
     CHECK(error_of(writer) == EINVAL && error_of(writer) == 0);
-    put(writer, 0x123, 8);
+    send_numbered(writer, 0x123, 8);
     get(reader, 0x123, 8);
 }
 

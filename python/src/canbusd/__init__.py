@@ -18,8 +18,8 @@ if sys.version_info < (3, 9):
     raise ImportError("canbusd needs Python 3.9 or later, and this is %d.%d" % sys.version_info[:2])
 
 if TYPE_CHECKING:
-    from canbusd._program import ProgramNotFound
-    from canbusd._protocol import ErrorCounters, Load, Stats
+    from canbusd._process.program import ProgramNotFound
+    from canbusd._session.protocol import ErrorCounters, Load, Stats
     from canbusd.bench import Bench, BenchError, Refused, Session
     from canbusd.bus import CanbusdBus
     from canbusd.faults import Faults
@@ -67,8 +67,8 @@ __all__ = [
 ]
 
 _HOMES = {
-    "_program": ["ProgramNotFound"],
-    "_protocol": ["ErrorCounters", "Load", "Stats"],
+    "_process.program": ["ProgramNotFound"],
+    "_session.protocol": ["ErrorCounters", "Load", "Stats"],
     "bench": ["Bench", "BenchError", "Refused", "Session"],
     "bus": ["CanbusdBus"],
     "faults": ["Faults"],

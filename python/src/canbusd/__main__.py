@@ -8,8 +8,8 @@ from collections.abc import Callable, Sequence
 from typing import NoReturn, Optional
 
 from canbusd import __version__
-from canbusd._command import run_command
-from canbusd._program import run_program
+from canbusd._process.program import run_program
+from canbusd.commands._command import run_command
 
 # Each command is a module, which is imported only where it is called: reports need no python-can.
 COMMANDS = {

@@ -17,17 +17,17 @@ from collections.abc import Mapping, Sequence
 from pathlib import Path
 from typing import TYPE_CHECKING, Optional, Union
 
-from canbusd._bench_session import Session as Session
-from canbusd._dialogue import MOST_INPUT as MOST_INPUT, BenchError as BenchError, Dialogue, moment_text
-from canbusd._injection import Refused as Refused
-from canbusd._nodes import HasRestBus
-from canbusd._process import bus_of, option_words, rate_words, rates_of
-from canbusd._program import audited
-from canbusd._protocol import Filters, options
-from canbusd._summary import write_page
+from canbusd._process.dialogue import MOST_INPUT as MOST_INPUT, BenchError as BenchError, Dialogue, moment_text
+from canbusd._process.program import audited
+from canbusd._process.program_run import bus_of, option_words, rate_words, rates_of
+from canbusd._restbus.simulated_nodes import HasRestBus
+from canbusd._run.log import read_log
+from canbusd._run.summary import write_page
+from canbusd._session.bench_session import Session as Session
+from canbusd._session.injection import Refused as Refused
+from canbusd._session.protocol import Filters, options
 from canbusd.faults import Script, rules_in, rules_of, script_bytes
 from canbusd.frames import Frame
-from canbusd.log import read_log
 from canbusd.record import Attempt, Record, read_record
 from canbusd.rules import MOST_RULES, GivenRules, check_rules, parse_rule
 from canbusd.signals import Database
@@ -35,7 +35,7 @@ from canbusd.signals import Database
 if TYPE_CHECKING:
     from can.message import Message
 
-    from canbusd._rest_bench import BenchRestBus
+    from canbusd._restbus.bench_rest_bus import BenchRestBus
 
 MOST_SESSIONS = 64
 TRIED = re.compile(
@@ -139,7 +139,7 @@ class Bench(Dialogue, HasRestBus["BenchRestBus"]):
         return list(self.names)
 
     def _make_rest_bus(self, database: Database, interfaces: Mapping[str, str]) -> "BenchRestBus":
-        from canbusd._rest_bench import BenchRestBus
+        from canbusd._restbus.bench_rest_bus import BenchRestBus
 
         return BenchRestBus(database, interfaces, self)
 

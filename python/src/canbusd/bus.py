@@ -21,11 +21,11 @@ from can.bus import BusABC, BusState
 from can.exceptions import CanInitializationError, CanOperationError
 from can.message import Message
 
-from canbusd._address import reason_of, server_address
-from canbusd._arguments import bit_rates, interface_name, mask_or_truth, seconds, truth
-from canbusd._connection import Connection, SessionRefused
-from canbusd._injection import InjectsFaults
-from canbusd._protocol import (
+from canbusd._session.address import reason_of, server_address
+from canbusd._session.arguments import bit_rates, interface_name, mask_or_truth, seconds, truth
+from canbusd._session.connection import Connection, SessionRefused
+from canbusd._session.injection import InjectsFaults
+from canbusd._session.protocol import (
     ErrorCounters,
     Filters,
     Load,
@@ -36,7 +36,7 @@ from canbusd._protocol import (
     load_of,
     options,
 )
-from canbusd._raw_session import ERROR_CODES, RawSession, refusal
+from canbusd._session.raw_session import ERROR_CODES, RawSession, refusal
 from canbusd.frames import command_of, identifier_word, passes_filters, received, without_origin
 
 if TYPE_CHECKING:

@@ -6,10 +6,10 @@ import sys
 from collections import Counter
 from collections.abc import Iterable, Sequence
 
-from canbusd._command import run_command
+from canbusd._run.logs import LINE, RECORD, is_candump, read_entries
 from canbusd._text import NAME, shown, times
+from canbusd.commands._command import run_command
 from canbusd.frames import BadFrame, Frame, command_of, log_line
-from canbusd.logs import LINE, RECORD, is_candump, read_entries
 
 EPILOG = """\
 Each line of the log, `(MOMENT) INTERFACE FRAME`, becomes a frame that a session on that interface sends, and an attempt

@@ -20,8 +20,8 @@ from collections.abc import Callable
 from types import TracebackType
 from typing import TYPE_CHECKING, Any, Optional
 
-from canbusd._observing_session import ObservingSession
-from canbusd._program import ProgramNotFound, find_program
+from canbusd._process.program import ProgramNotFound, find_program
+from canbusd._session.observing_session import ObservingSession
 from canbusd._text import seconds_words
 
 if TYPE_CHECKING:
@@ -31,7 +31,7 @@ HOW_TO_GET = "`pip install can-isotp`, or canbusd-run beside the program"
 #: Seconds in which a transfer has to be over that goes on: 4,095 bytes at 10 kbit/s take less.
 LONGEST_TRANSFER = 60.0
 #: What canbusd-run runs.
-SOCKET_PROGRAM = os.path.join(os.path.dirname(__file__), "_isotp_socket.py")
+SOCKET_PROGRAM = os.path.join(os.path.dirname(__file__), "_process", "isotp_socket.py")
 #: Seconds in which the process of a socket has to start, and to end.
 START, END = 20.0, 5.0
 #: The most that one message has.

@@ -11,9 +11,9 @@ from collections.abc import Mapping, Sequence
 from pathlib import Path
 from typing import Any, Optional, Union
 
-from canbusd._arguments import check_within
-from canbusd._connection import LONGEST_POLL, POLL
-from canbusd._program import ServerError, find_program
+from canbusd._process.program import ServerError, find_program
+from canbusd._session.arguments import check_within
+from canbusd._session.connection import LONGEST_POLL, POLL
 from canbusd._text import seconds_words
 
 #: What a program is called by: its words, or one text that is split as a shell splits it.

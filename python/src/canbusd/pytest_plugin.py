@@ -18,13 +18,13 @@ from typing import TYPE_CHECKING, Any, Generator, Protocol, Union
 
 import pytest
 
-from canbusd import _summary
-from canbusd._deciders import faults_beside, unused_rules
-from canbusd._live import left_by
-from canbusd._program import SET_BY, ProgramNotFound, audited
-from canbusd._process import FOLDERS, RUNNING
+from canbusd._expect.expectations import Expectations
+from canbusd._process.program import SET_BY, ProgramNotFound, audited
+from canbusd._process.program_run import FOLDERS, RUNNING
+from canbusd._run import summary
+from canbusd._run.fault_rules_of_run import faults_beside, unused_rules
+from canbusd._run.live import left_by
 from canbusd.bench import Bench
-from canbusd.expectations import Expectations
 from canbusd.record import BadRecord, read_record
 from canbusd.rules import Rule
 from canbusd.virtual import is_virtual, python_words, repeated_by, virtual_words
@@ -289,16 +289,16 @@ class Runs:
     def _facts(self, path: Path, run: Union["Server", Bench], names: list[str]) -> dict[str, list[str]]:
         """Makes the page of a bus; returns its story, the end of its log, states and counts, and the path of the page."""
         log, left = path.with_suffix(".log"), left_by(path, record_when(run))
-        facts: dict[str, list[str]] = {"story": [], "log": _summary.end_of_log(log) if log.exists() else []}
+        facts: dict[str, list[str]] = {"story": [], "log": summary.end_of_log(log) if log.exists() else []}
         if not left.exists():
             return facts
         try:
             record = read_record(left, names, cut=left != path, rates=run._rates)
-            facts["story"] = _summary.story(record)
+            facts["story"] = summary.story(record)
             if record.is_cut:
                 cut = f"{left} is cut off after {record.replay.entries} entries: `--cut` of the tools reads it"
                 facts["record"] = [cut]
-            facts["states"] = _summary.table(_summary.interfaces(record))
+            facts["states"] = summary.table(summary.interfaces(record))
             if self._keep != "none":
                 facts["page"] = [str(run._page(record, path.with_suffix(".html")))]
         except BadRecord as fault:

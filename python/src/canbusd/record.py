@@ -12,13 +12,13 @@ from collections.abc import Iterable, Sequence
 from dataclasses import dataclass, field
 from typing import Optional, Union
 
-from canbusd._events import BadRecord, Events
-from canbusd._rates import Rates
-from canbusd._replayed import Bus
-from canbusd._steps import FATES, KINDS, RESTART, moment_of, numbers_in
+from canbusd._process.rates import Rates
+from canbusd._run.events import BadRecord, Events
+from canbusd._run.log import log_beside, names_in_log
+from canbusd._run.run_parts import Bus
+from canbusd._run.steps import FATES, KINDS, RESTART, moment_of, numbers_in
 from canbusd._text import NAME, times
 from canbusd.frames import Frame
-from canbusd.log import log_beside, names_in_log
 from canbusd.replay import UNKNOWN, Replay
 
 __all__ = ["Attempt", "BadRecord", "Item", "Record", "audit", "fault_named", "parse_record", "read_record"]

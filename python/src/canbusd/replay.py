@@ -12,12 +12,12 @@ from collections import deque
 from collections.abc import Callable, Iterable, Sequence
 from typing import Optional
 
-from canbusd._event_lines import OTHER, RECEIVE, SEND, STEP, WORDS, Lines, receivers_of, senders_of
-from canbusd._outcomes import Outcomes, Parts
-from canbusd._program import ProgramNotFound
-from canbusd._rates import Rates
-from canbusd._replayed import OFF, Bus, Interface, Socket, bus_of, frame_in
-from canbusd._steps import DONE, Items, Places, Rows, Steps
+from canbusd._process.program import ProgramNotFound
+from canbusd._process.rates import Rates
+from canbusd._run.event_lines import OTHER, RECEIVE, SEND, STEP, WORDS, Lines, receivers_of, senders_of
+from canbusd._run.event_parts import Outcomes, Parts
+from canbusd._run.run_parts import OFF, Bus, Interface, Socket, bus_of, frame_in
+from canbusd._run.steps import DONE, Items, Places, Rows, Steps
 
 FIRST_LINE = "canbus events 1"
 #: In place of the text of an item that found no room, where no line says what it was.

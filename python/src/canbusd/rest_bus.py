@@ -15,9 +15,9 @@ from collections.abc import Callable, Iterable, Iterator, Mapping, Sequence
 from types import TracebackType
 from typing import NamedTuple, Optional, TypeVar, Union
 
-from canbusd._rest_nodes import has, is_sendable, phases_of, sender
-from canbusd._schedule import MICROS, Schedule, micros
-from canbusd.formats import DatabaseError, MessageFormat, Value
+from canbusd._database.formats import DatabaseError, MessageFormat, Value
+from canbusd._restbus.nodes import has, is_sendable, phases_of, sender
+from canbusd._restbus.schedule import MICROS, Schedule, micros
 from canbusd.frames import Frame
 from canbusd.signals import Database, frame_of
 
@@ -297,7 +297,7 @@ class RestBus:
         They go by the interfaces of their senders, and these messages are no more sent by their cycle times. Returns how
         many seconds it takes; ValueError where the log has none of them.
         """
-        from canbusd.logs import read_entries
+        from canbusd._run.logs import read_entries
 
         rows: list[tuple[int, RestMessage, Frame]] = []
         for _, frame in read_entries(path):

@@ -17,19 +17,19 @@ from collections.abc import Mapping, Sequence
 from pathlib import Path
 from typing import TYPE_CHECKING, Any, NamedTuple, Optional, Union
 
-from canbusd._address import parse_address, reason_of
-from canbusd._connection import SessionRefused
-from canbusd._injection import RuleSession
-from canbusd._live import LiveLog, LiveRecord, left_by
-from canbusd._nodes import SimulatesNodes
-from canbusd._observer import Observer, observed_by_default
-from canbusd._program import ServerError as ServerError, audited
-from canbusd._process import RUNNING, ProgramRun, option_words, rate_words, rates_of
-from canbusd._raw_session import CURES, RECORD_FULL
-from canbusd._serve_words import bus_words, record_options
-from canbusd.expectations import Expectations
+from canbusd._expect.expectations import Expectations
+from canbusd._expect.observer import Observer, observed_by_default
+from canbusd._process.program import ServerError as ServerError, audited
+from canbusd._process.program_run import RUNNING, ProgramRun, option_words, rate_words, rates_of
+from canbusd._process.serve_words import bus_words, record_options
+from canbusd._restbus.simulated_nodes import SimulatesNodes
+from canbusd._run.live import LiveLog, LiveRecord, left_by
+from canbusd._run.log import read_log
+from canbusd._session.address import parse_address, reason_of
+from canbusd._session.connection import SessionRefused
+from canbusd._session.injection import RuleSession
+from canbusd._session.raw_session import CURES, RECORD_FULL
 from canbusd.faults import Script, rules_of
-from canbusd.log import read_log
 from canbusd.programs import Program, RunsPrograms
 from canbusd.record import Attempt, Record, read_record
 from canbusd.rules import check_rules
@@ -278,8 +278,8 @@ class Server(Expectations, SimulatesNodes, RunsPrograms, ProgramRun):
 
     def _page(self, record: Record, path: Path) -> Path:
         """Writes the page of the bus with this record there."""
-        from canbusd._deciders import deciders, faults_beside
-        from canbusd._summary import write_page
+        from canbusd._run.fault_rules_of_run import deciders, faults_beside
+        from canbusd._run.summary import write_page
 
         faults = faults_beside(left_by(path.with_suffix(".rec"), self._record_when))
         rules = deciders(record, faults) if faults else []
@@ -309,7 +309,7 @@ class Server(Expectations, SimulatesNodes, RunsPrograms, ProgramRun):
     def _shown(self, signals: Sequence[str] = ()) -> str:
         if self._record_when == "end":
             return super()._shown(signals)
-        from canbusd._summary import end_of_log
+        from canbusd._run.summary import end_of_log
 
         logs = [line for name in self._by_bus for line in end_of_log(self._out / f"{name}.log")]
         return "\n".join([super()._shown(signals), *logs])

@@ -14,14 +14,14 @@ import os
 from collections.abc import Callable, Iterable, Iterator, Mapping
 from typing import Any, NamedTuple, Optional, Union
 
+from canbusd._database.formats import DatabaseError as DatabaseError
+from canbusd._database.formats import MessageFormat, Signal, Value as Value
 from canbusd._text import times
-from canbusd.formats import DatabaseError as DatabaseError
-from canbusd.formats import MessageFormat, Signal, Value as Value
 from canbusd.frames import FD_LENGTHS, BadFrame, Frame, MessageLike
 
 HOW_TO_GET = "pip install cantools, or apt-get install python3-canmatrix"
 #: The libraries that read files, in the order in which they are looked for, and the modules that know how.
-READERS = {"cantools": "canbusd._cantools", "canmatrix": "canbusd._canmatrix"}
+READERS = {"cantools": "canbusd._database.from_cantools", "canmatrix": "canbusd._database.from_canmatrix"}
 
 
 class Decoded(NamedTuple):

@@ -8,7 +8,7 @@ import warnings
 from collections.abc import Sequence
 from typing import Optional
 
-from canbusd._program import find_program
+from canbusd._process.program import find_program
 
 #: What canbusd-run sets for programs in virtual time: where its memory is, and the options that repeat the run.
 SETTING, OPTIONS = "CANBUSD_RUN_VIRTUAL", "CANBUSD_RUN_OPTIONS"

@@ -3,9 +3,9 @@
 import argparse
 from typing import Optional
 
-from canbusd._address import parse_address
-from canbusd._command import BadWords
-from canbusd._rates import LEAST_BITRATE, MOST_BITRATE, MOST_DBITRATE, Rates
+from canbusd._process.rates import LEAST_BITRATE, MOST_BITRATE, MOST_DBITRATE, Rates
+from canbusd._session.address import parse_address
+from canbusd.commands._command import BadWords
 from canbusd.signals import Database, load_database
 
 

@@ -4,8 +4,8 @@ import argparse
 import sys
 from collections.abc import Sequence
 
+from canbusd._run.logs import is_candump, read_entries, write_entries
 from canbusd._text import times
-from canbusd.logs import is_candump, read_entries, write_entries
 
 EPILOG = """\
 The ending of a file says what it is; one with another ending is read as a log of candump. ASC and BLF have numbers of

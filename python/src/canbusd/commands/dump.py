@@ -8,10 +8,10 @@ import time
 from collections.abc import Callable
 from typing import Any, Optional
 
-from canbusd._command import BadWords
-from canbusd._protocol import ALL_CLASSES
+from canbusd._session.protocol import ALL_CLASSES
 from canbusd.bus import CanbusdBus
 from canbusd.commands import add_address, add_database, database_of, digits, least_zero
+from canbusd.commands._command import BadWords
 from canbusd.frames import ERROR, EXTENDED, INVERTED, Frame, frame_like, log_line
 from canbusd.signals import Database
 

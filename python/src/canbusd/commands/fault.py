@@ -2,11 +2,11 @@
 
 import argparse
 
-from canbusd._address import reason_of, server_address
-from canbusd._command import BadWords
-from canbusd._connection import SessionRefused
-from canbusd._injection import Refused, RuleSession
+from canbusd._session.address import reason_of, server_address
+from canbusd._session.connection import SessionRefused
+from canbusd._session.injection import Refused, RuleSession
 from canbusd.commands import add_address
+from canbusd.commands._command import BadWords
 
 EPILOG = """\
 rules, whose words come in this order:

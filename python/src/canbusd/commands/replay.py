@@ -6,10 +6,10 @@ import json
 import sys
 from collections.abc import Iterator, Sequence
 
-from canbusd._command import add_record, note_of_names, replayed
-from canbusd._slots import Load, load_of, load_words, overlaps_of, slots_of
-from canbusd._steps import RESTART, moment_of
+from canbusd._run.slots import Load, load_of, load_words, overlaps_of, slots_of
+from canbusd._run.steps import RESTART, moment_of
 from canbusd.commands import add_rates, rates_of
+from canbusd.commands._command import add_record, note_of_names, replayed
 from canbusd.record import Attempt, Record, attempt_at, verdict_of
 
 EPILOG = """\

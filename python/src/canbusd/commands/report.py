@@ -7,14 +7,14 @@ import sys
 from collections.abc import Iterable
 from typing import Optional
 
-from canbusd import _summary, drawings
-from canbusd._command import BadWords, add_record, note_of_names, replayed
-from canbusd._deciders import FaultsFile, deciders, faults_beside, with_names
-from canbusd._rates import Rates
-from canbusd._slots import load_of, load_words, slots_of
+from canbusd._process.rates import Rates
+from canbusd._run import drawings, summary
+from canbusd._run.comparison import Comparison
+from canbusd._run.fault_rules_of_run import FaultsFile, deciders, faults_beside, with_names
+from canbusd._run.slots import load_of, load_words, slots_of
 from canbusd._text import shown
 from canbusd.commands import add_database, add_rates, database_of, digits, rates_of
-from canbusd.comparison import Comparison
+from canbusd.commands._command import BadWords, add_record, note_of_names, replayed
 from canbusd.record import BadRecord, Record, is_named
 
 EPILOG = """\
@@ -107,7 +107,7 @@ def write_drawings(
     first = options.first or 0
     last = record.replay.attempts if options.last is None else options.last
     if options.text:
-        write(_summary.story(record, MOST_EVENTS) if comparison is None else comparison.beside())
+        write(summary.story(record, MOST_EVENTS) if comparison is None else comparison.beside())
         write([load_words(load_of(slots_of(record.replay)))] if rates else [])
     if options.text or options.arbitration:
         write(drawings.arbitration(record, first, last))
@@ -123,7 +123,7 @@ def write_page(
     rates: Optional[Rates],
 ) -> None:
     """Writes the page, with the rule of each attempt."""
-    from canbusd.report import page
+    from canbusd._page.report import page
 
     title = os.path.basename(options.record)
     if isinstance(sys.stdout, io.TextIOWrapper):

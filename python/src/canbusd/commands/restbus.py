@@ -8,12 +8,12 @@ import time
 from collections.abc import Iterator, Mapping, Sequence
 from typing import Optional
 
-from canbusd._command import BadWords
-from canbusd._rest_live import LiveRestBus
-from canbusd._rest_nodes import NoInterface, interfaces_of, sender
+from canbusd._restbus.live_rest_bus import LiveRestBus
+from canbusd._restbus.nodes import NoInterface, interfaces_of, sender
 from canbusd._text import times
 from canbusd.bus import CanbusdBus, interfaces
 from canbusd.commands import above_zero, add_address
+from canbusd.commands._command import BadWords
 from canbusd.rest_bus import RestBus
 from canbusd.signals import Database, load_database
 

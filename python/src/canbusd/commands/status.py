@@ -5,8 +5,8 @@ import sys
 import time
 from collections.abc import Sequence
 
-from canbusd._protocol import Load
-from canbusd._summary import HEADINGS, Row, load_words, table
+from canbusd._run.summary import HEADINGS, Row, load_words, table
+from canbusd._session.protocol import Load
 from canbusd.bus import CanbusdBus, interfaces
 from canbusd.commands import NOTHING, above_zero, add_address
 

@@ -19,14 +19,14 @@ import canbusd._python_can  # noqa: F401  it says what is missing, so it comes f
 
 from can.exceptions import CanOperationError
 
-from canbusd._command import BadWords
-from canbusd._frame_times import FrameTimes
-from canbusd._program import ProgramNotFound
-from canbusd._rates import Rates
+from canbusd._page.report import filled
+from canbusd._process.program import ProgramNotFound
+from canbusd._process.rates import Rates
+from canbusd._run.frame_times import FrameTimes
 from canbusd.bus import CanbusdBus, interfaces
 from canbusd.commands import above_zero, add_address, add_database, database_of, digits
+from canbusd.commands._command import BadWords
 from canbusd.frames import SENDING, Frame, frame_like
-from canbusd.report import filled
 from canbusd.signals import Database, Decoded
 
 EPILOG = """\

@@ -1,0 +1,1 @@
+"""The messages and signals of databases, as cantools and canmatrix read them."""

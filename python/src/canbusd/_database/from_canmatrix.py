@@ -1,0 +1,97 @@
+"""Files of databases, read by canmatrix."""
+
+import contextlib
+import importlib
+import importlib.util
+import io
+import re
+from collections.abc import Iterator
+from decimal import Decimal
+from typing import Any
+
+from canbusd._database.formats import DatabaseError, MessageFormat, Raw, SignalFormat, bits_of, limits, named
+from canbusd._text import shown
+
+# What canmatrix prints where it leaves a line of a DBC file out.
+LEFT_OUT = re.compile(r"error with line no: ([0-9]+)\nb['\"]?(.*?)(?:\\r)?(?:\\n)?['\"]?$", re.M)
+
+# The files that canmatrix reads by lxml, without which it knows nothing of them.
+OF_LXML = (".arxml", ".kcd", ".xml")
+
+
+def messages_in(path: str) -> Iterator[MessageFormat]:
+    """Yields the messages of a file."""
+    formats: Any = importlib.import_module("canmatrix.formats")
+    printed = io.StringIO()
+    with contextlib.redirect_stdout(printed):
+        matrices = formats.loadp(path)
+    line = LEFT_OUT.search(printed.getvalue())
+    if line:
+        raise DatabaseError(f"line {line[1]}: {shown(line[2].strip())}")
+    if not matrices:
+        needs_lxml = path.lower().endswith(OF_LXML) and importlib.util.find_spec("lxml") is None
+        raise DatabaseError(f"no such format{'; it needs lxml (apt-get install python3-lxml)' if needs_lxml else ''}")
+    for matrix in matrices.values():
+        for frame in matrix.frames:
+            yield message_of(frame, matrix, path)
+
+
+def message_of(frame: Any, matrix: Any, path: str) -> MessageFormat:
+    """The message that a frame of canmatrix is."""
+    # Those of a container are in PDUs, at places that each frame says anew.
+    signals = [] if frame.is_pdu_container else frame.signals
+    multiplexers = [signal.name for signal in signals if signal.is_multiplexer]
+
+    def unpack(data: bytes) -> dict[str, Raw]:
+        return {name: one.raw_value for name, one in frame.unpack(data).items()} if signals else {}
+
+    return MessageFormat(
+        name=frame.name,
+        identifier=frame.arbitration_id.id,
+        is_extended=bool(frame.arbitration_id.extended),
+        size=frame.size,
+        signals=tuple(signal_of(signal, multiplexers, matrix) for signal in signals),
+        unpack=unpack,
+        is_fd=bool(frame.is_fd) or frame.size > 8,
+        senders=named(frame.transmitters),
+        cycle_time=seconds(frame.cycle_time or frame.attribute("GenMsgCycleTime", db=matrix)),
+        start_delay=seconds(frame.attributes.get("GenMsgStartDelayTime")),
+        send_type=str(frame.attribute("GenMsgSendType", db=matrix, default="") or ""),
+        path=path,
+    )
+
+
+def signal_of(signal: Any, multiplexers: list[str], matrix: Any) -> SignalFormat:
+    """A signal of a frame in which these are the multiplexers."""
+    above, ranges = signal.muxer_for_signal or "", tuple((int(first), int(last)) for first, last in signal.mux_val_grp)
+    if not above and signal.mux_val is not None and multiplexers:
+        above = multiplexers[0]
+    if above and not ranges:
+        ranges = ((int(signal.mux_val), int(signal.mux_val)),)
+    start = signal.attribute("GenSigStartValue", db=matrix)
+    if start is None and signal.initial_value and signal.factor:
+        start = (signal.initial_value - signal.offset) / signal.factor
+    least, most = limits(signal.min, signal.max)
+    return SignalFormat(
+        name=signal.name,
+        unit=signal.unit or "",
+        receivers=named(signal.receivers),
+        factor=Decimal(signal.factor),
+        offset=Decimal(signal.offset),
+        minimum=least,
+        maximum=most,
+        choices={int(raw): str(name) for raw, name in signal.values.items()},
+        raw_start=Decimal(str(start or 0)),
+        is_signed=bool(signal.is_signed),
+        is_float=bool(signal.is_float),
+        # That of a big-endian signal counts from the highest bit of byte 0.
+        bits=bits_of(signal.get_startbit(bit_numbering=1), signal.size, signal.is_little_endian),
+        is_multiplexer=bool(signal.is_multiplexer),
+        multiplexer=above,
+        multiplexer_values=ranges if above else (),
+    )
+
+
+def seconds(milliseconds: Any) -> float:
+    """A time that the file has in milliseconds."""
+    return float(milliseconds or 0) / 1000

@@ -1,0 +1,248 @@
+"""A running server seen from inside a test: the states of its interfaces, and the frames that they see.
+
+    with Server("ecu,tester") as server:
+        ...
+        server.expect(id=0x123, within=1.0)
+        server.expect_state("ecu", "off")
+
+Only what sessions get is seen here: what they received since the last expectation, and nothing that is looked up now and
+then. What an attempt was, and why it failed, is in the record: `Server.attempts`.
+"""
+
+import time
+from collections.abc import Callable, Sequence
+from typing import TYPE_CHECKING, Any, Optional, TypeVar, Union
+
+from canbusd._expect.frame_matcher import Wanted
+from canbusd._expect.supervision import Supervision
+from canbusd._session.arguments import check_within
+from canbusd._session.connection import LONGEST_POLL, POLL
+from canbusd._session.protocol import STATES, ErrorCounters, Stats, in_words
+from canbusd._text import seconds_words
+from canbusd.faults import Faults, Script
+from canbusd.signals import Value
+
+if TYPE_CHECKING:
+    from can.message import Message
+
+    from canbusd._expect.observer import Observer
+    from canbusd._session.observing_session import ObservingSession
+
+#: The transmit error count from which an interface is bus off, and what a destroyed frame adds to it.
+OFF, DESTROYED = 256, 8
+
+T = TypeVar("T")
+
+
+def wait_for(predicate: Callable[[], T], timeout: float) -> Optional[T]:
+    """Returns what the predicate returns once that is true; None if it is not within these seconds."""
+    deadline, pause = time.monotonic() + timeout, POLL
+    while True:
+        found = predicate()
+        if found:
+            return found
+        left = deadline - time.monotonic()
+        if left <= 0:
+            return None
+        time.sleep(min(pause, left))
+        pause = min(2 * pause, LONGEST_POLL)
+
+
+class Expectations(Supervision):
+    """What a test expects of a running server; the mixin of Server."""
+
+    def _observing(self) -> "Observer":
+        """The observer of the server."""
+        raise NotImplementedError
+
+    def inject(self, faults: Script, interface: Optional[str] = None) -> None:
+        """Gives the bus of an interface rules of faults."""
+        raise NotImplementedError
+
+    def _shown(self, signals: Sequence[str] = ()) -> str:
+        """What was seen last, for the end of a failure."""
+        return self._observing().shown(self.database, signals)
+
+    def error_counters(self, name: str) -> ErrorCounters:
+        """Returns the state of an interface and its error counts, while the server runs."""
+        return self._observing().session(name).error_counters()
+
+    def state(self, name: str) -> str:
+        """Returns the state of an interface while the server runs: `active`, `warning`, `passive` or `off`."""
+        return self.error_counters(name).state
+
+    def bus_off(self, name: str, timeout: float = 5.0) -> ErrorCounters:
+        """Drives an interface bus off, whatever the others send; returns once it is.
+
+        The next attempts in which it sends are destroyed, 32 where it had no errors, so it has to send: a rule for them is
+        injected. AssertionError where it is not off after these seconds; its text says where it sent nothing. The rule is
+        ended then, unless the bus has others, which would end with it: it is left, as the text says.
+        """
+        __tracebackhide__ = True
+        observer = self._observing()
+        drive = Drive(observer.session(name), name, self.inject)
+        try:
+            counters = wait_for(drive.off, timeout)
+            if counters is None:
+                raise AssertionError(f"{drive.failure(timeout)}{self._shown()}")
+            # Where it restarts by itself it may be back.
+            was = observer.skip_to_state(name, "off")
+            return was.counters if was is not None and counters.state != "off" else counters
+        finally:
+            drive.end_rule()
+
+    def wait_for(self, predicate: Callable[[], T], timeout: float = 1.0) -> T:
+        """Calls the predicate until it returns something true, and returns that; TimeoutError after these seconds."""
+        __tracebackhide__ = True
+        found = wait_for(predicate, timeout)
+        if found is None:
+            raise TimeoutError(f"the condition was not true within {seconds_words(timeout)}{self._shown()}")
+        return found
+
+    def expect_from_now(self) -> None:
+        """Expectations look only at what comes from now on. The pytest plugin calls it at the start of each test."""
+        self._observing().forget()
+
+    def expect(
+        self,
+        id: Union[int, str, None] = None,
+        data: Optional[bytes] = None,
+        *,
+        signal: Optional[str] = None,
+        above: Optional[float] = None,
+        below: Optional[float] = None,
+        equals: Optional[Value] = None,
+        between: Optional[Sequence[float]] = None,
+        within: float = 1.0,
+        channel: Optional[str] = None,
+        is_extended_id: Optional[bool] = None,
+        is_error_frame: bool = False,
+    ) -> "Message":
+        """Returns the first frame that was seen, or is within these seconds, and that has this identifier and data.
+
+        `id` may be the name of a message of the server's database. A `signal`, `EngineSpeed` or `Engine.EngineSpeed`, has
+        to be there, and `above`, `below` or `equals` this value, or `between` these two. Frames that were seen before
+        count, from the one after that which the last expectation returned; with a `channel` only those that this interface
+        received. A frame that several interfaces received is one. AssertionError after these seconds; its text ends with
+        what was seen. An identifier above 7FF has 29 bits unless `is_extended_id` says otherwise.
+        """
+        __tracebackhide__ = True
+        wanted = self._wanted(
+            id, data, signal=signal, above=above, below=below, equals=equals, between=between,
+            is_extended_id=is_extended_id, is_error_frame=is_error_frame, within=within, channel=channel,
+        )  # fmt: skip
+        observer = self._observing()
+        found = observer.find(wanted.matches, channel, within)
+        if found is None:
+            was = observer.said_instead(wanted, channel)
+            text = f"no {wanted} within {seconds_words(within)}{was}{observer.missed(channel)}"
+            raise AssertionError(f"{text}{observer.hint(wanted, channel)}{self._shown(wanted.signals)}")
+        return found.frame.message(channel or observer.channel(found))
+
+    def expect_no_frame(
+        self,
+        id: Union[int, str, None] = None,
+        data: Optional[bytes] = None,
+        *,
+        signal: Optional[str] = None,
+        above: Optional[float] = None,
+        below: Optional[float] = None,
+        equals: Optional[Value] = None,
+        between: Optional[Sequence[float]] = None,
+        within: float = 1.0,
+        channel: Optional[str] = None,
+        is_extended_id: Optional[bool] = None,
+        is_error_frame: bool = False,
+    ) -> None:
+        """Fails if such a frame was seen since the last expectation, or is within these seconds.
+
+        It fails, too, where frames were lost since then, so that this can't be known.
+        """
+        __tracebackhide__ = True
+        wanted = self._wanted(
+            id, data, signal=signal, above=above, below=below, equals=equals, between=between,
+            is_extended_id=is_extended_id, is_error_frame=is_error_frame, within=within, channel=channel,
+        )  # fmt: skip
+        observer = self._observing()
+        found = observer.find(wanted.matches, channel, within)
+        if found is not None:
+            shown = self._shown(wanted.signals)
+            raise AssertionError(f"{wanted} was not expected: {observer.line(found, channel)}{shown}")
+        missed = observer.missed(channel)
+        if missed:
+            raise AssertionError(f"whether there was no {wanted} is not known{missed}{self._shown(wanted.signals)}")
+
+    def _wanted(self, id: Union[int, str, None], data: Optional[bytes], *, within: float, **more: Any) -> Wanted:
+        check_within(within)
+        return Wanted(id, data, database=self.database, **more)
+
+    def expect_state(self, name: str, state: str, *, within: float = 1.0) -> ErrorCounters:
+        """Returns once an interface is in this state, or was since the last state of it that was expected, however shortly.
+
+        That is known by the error message frames that its interface received. AssertionError if it does not come into it
+        within these seconds; its text says in which states it was. Returns its error counts: as they are, where it still
+        is in this state, else those when it came into it, of which the receive count at bus off is not known, and 0.
+        """
+        __tracebackhide__ = True
+        if state not in STATES:
+            raise ValueError(f"state is one of {', '.join(STATES)}, not {state!r}")
+        check_within(within)
+        observer = self._observing()
+        found = observer.find_state(name, state, within)
+        now = self.error_counters(name)
+        if found is None:
+            was = observer.states_since(name)
+            since = f": it was {', then '.join(was)}" if was else ""
+            text = f"{in_words(name, now)}, and was not {state} within {seconds_words(within)}{since}"
+            raise AssertionError(f"{text}{self._shown()}")
+        return now if now.state == state else found.counters
+
+
+class Drive:
+    """Destroys the next frames of an interface until it is bus off, and no frame after that."""
+
+    def __init__(self, bus: "ObservingSession", name: str, inject: Callable[[Faults, str], None]) -> None:
+        self._bus, self._name, self._inject = bus, name, inject
+        self._counters, self._stats = bus.error_counters(), bus.stats()
+        # When the last rule was injected: how many others there were, and how many frames the interface had done.
+        self._injected: Optional[tuple[int, int]] = None
+
+    def off(self) -> Optional[ErrorCounters]:
+        """Returns the counts of the interface once it is off, or was, where it restarts by itself."""
+        left = self._bus.rules_left()
+        counters, stats = self._bus.error_counters(), self._bus.stats()
+        if counters.state == "off":
+            return counters
+        if stats.lost > self._stats.lost:
+            # It went off since it was asked for its counts.
+            return self._bus.error_counters()
+        if self._injected is None or (left <= self._injected[0] and stats.done > self._injected[1]):
+            # The first rule, or one for what frames have taken off the count that went through before it.
+            missing = -(-(OFF - counters.tec) // DESTROYED)
+            self._inject(Faults().next(missing, sender=self._name).destroyed(), self._name)
+            self._injected = left, stats.done
+        return None
+
+    def failure(self, timeout: float) -> str:
+        """Returns why the interface is not off after these seconds."""
+        counters, stats = self._bus.error_counters(), self._bus.stats()
+        now, left = in_words(self._name, counters), self._bus.rules_left()
+        is_kept = left and not self._is_only(left)
+        others = "; end_rules() ends what is left of its rule, with the bus's others" if is_kept else ""
+        return f"{now}, and did not go bus off within {seconds_words(timeout)}: {self._reason(counters, stats)}{others}"
+
+    def end_rule(self) -> None:
+        """Ends what is left of its rule where the bus has no other: a bus ends all its rules or none."""
+        if self._is_only(self._bus.rules_left()):
+            self._bus.end_rules()
+
+    def _is_only(self, left: int) -> bool:
+        """Whether its own is the only rule, where the bus has so many left."""
+        return left == 1 and self._injected is not None and self._injected[0] == 0
+
+    def _reason(self, counters: ErrorCounters, stats: Stats) -> str:
+        if counters.tec > self._counters.tec:
+            return "fewer frames of it were tried than that takes"
+        if stats.done > self._stats.done:
+            return "its frames went through, by an earlier rule or a line of the script"
+        return "its frames wait, and none was tried" if stats.waiting else "it sent nothing in that time"

@@ -1,0 +1,282 @@
+"""What the sessions of a server's own have received: the frames of each bus in their order, each once, and states.
+
+Sessions on several interfaces of a bus receive the same frame, one sooner than another. Here it is one: it is known by
+its moment, its text and its number at its sender, and stands at its moment. So the order is that of the bus, whichever
+session was read first.
+"""
+
+from bisect import bisect_left, bisect_right
+from collections import deque
+from collections.abc import Iterator, Sequence
+from itertools import islice
+from typing import NamedTuple, Optional
+
+from canbusd._session.protocol import ErrorCounters
+from canbusd.frames import Frame, received
+
+# How many frames of a bus are kept, and how many changes of state of an interface.
+MOST_KEPT, MOST_STATES = 200_000, 20_000
+# How many of the frames that were seen a failure shows.
+MOST_SHOWN = 10
+# Classes of error message frames, and the bits of byte 1 in one of class 004 (linux/can/error.h).
+CONTROLLER, BUS_OFF, RESTARTED = 0x004, 0x040, 0x100
+PASSIVE_BITS, WARNING_BITS = 0x30, 0x0C
+# The transmit error count from which an interface is bus off. Its error message frame has no counts.
+OFF = 256
+
+
+class Seen:
+    """A frame or an error message frame that was on a bus, and the interfaces at which it was seen."""
+
+    __slots__ = ("moment", "key", "words", "channels", "_frame")
+
+    def __init__(self, moment: int, key: tuple[object, ...], words: list[str]) -> None:
+        #: In microseconds.
+        self.moment = moment
+        self.key, self.words = key, words
+        #: By the name of each interface that received it, whether that has sent it too.
+        self.channels: dict[str, bool] = {}
+        self._frame: Optional[Frame] = None
+
+    @property
+    def frame(self) -> Frame:
+        """The frame itself."""
+        if self._frame is None:
+            self._frame = received(Frame, *self.words)
+        return self._frame
+
+    def channel(self, names: Sequence[str]) -> str:
+        """The first of these interfaces that received it from another, else the one that sent it."""
+        seen = [name for name in names if name in self.channels]
+        return next((name for name in seen if not self.channels[name]), seen[0])
+
+
+class StateSeen(NamedTuple):
+    """A state of an interface, and its error counts when it came into it."""
+
+    #: In microseconds; None of the state in which it was found first.
+    moment: Optional[int]
+    counters: ErrorCounters
+
+
+def micros(moment: str) -> int:
+    """Returns the moment of a message, `1.000002`, in microseconds."""
+    return int(moment.replace(".", ""))
+
+
+def state_in(words: Sequence[str]) -> Optional[ErrorCounters]:
+    """Returns the state that an error message frame reports; None for one that reports none."""
+    if words[0] != "error" or len(words) < 4:
+        return None
+    number, data = int(words[1], 16), bytes.fromhex(words[3]).ljust(8, b"\0")
+    if number & BUS_OFF:
+        return ErrorCounters("off", OFF, 0)
+    if number & RESTARTED:
+        return ErrorCounters("active", 0, 0)
+    if number & CONTROLLER:
+        state = "passive" if data[1] & PASSIVE_BITS else "warning" if data[1] & WARNING_BITS else "active"
+        return ErrorCounters(state, data[6], data[7])
+    return None
+
+
+class SeenBus:
+    """The frames that were seen on a bus, oldest first."""
+
+    def __init__(self, names: Sequence[str]) -> None:
+        self.names = tuple(names)
+        self.frames: list[Seen] = []
+        self._moments: list[int] = []
+        #: How many frames were forgotten, which were before the first.
+        self.forgotten = 0
+        # By each session, what it received last, and how often one after another.
+        self._last: dict[str, tuple[tuple[object, ...], int]] = {}
+
+    def add(self, name: str, moment: int, words: list[str], number: str, is_own: bool) -> Optional[Seen]:
+        """Adds what a session on this interface received; returns it if it was not seen elsewhere."""
+        owner = name if words[0] == "error" else ""
+        key = moment, owner, number, *words
+        last, times = self._last.get(name, (None, 0))
+        # The same frame again, in the same microsecond.
+        times = times + 1 if last == key else 0
+        self._last[name] = key, times
+        seen = self._known((*key, times), moment)
+        is_new = seen is None
+        if seen is None:
+            seen = self._insert(Seen(moment, (*key, times), words))
+        seen.channels[name] = is_own
+        return seen if is_new else None
+
+    def place(self, after: int) -> int:
+        """The place in `frames` of the frame with this number, from 0 since the start, or of the first that is kept."""
+        return max(0, after - self.forgotten)
+
+    def _known(self, key: tuple[object, ...], moment: int) -> Optional[Seen]:
+        for place in range(bisect_left(self._moments, moment), len(self.frames)):
+            if self.frames[place].moment != moment:
+                return None
+            if self.frames[place].key == key:
+                return self.frames[place]
+        return None
+
+    def _insert(self, seen: Seen) -> Seen:
+        place = bisect_right(self._moments, seen.moment)
+        self.frames.insert(place, seen)
+        self._moments.insert(place, seen.moment)
+        if len(self.frames) > MOST_KEPT:
+            # Some at once: each takes the rest along.
+            some = MOST_KEPT // 10
+            del self.frames[:some], self._moments[:some]
+            self.forgotten += some
+        return seen
+
+
+class Received:
+    """What was received on the buses of a server, and how far expectations have come.
+
+    `observed` are the interfaces whose frames count; of others there are error message frames only, which say their states.
+    """
+
+    def __init__(self, buses: Sequence[Sequence[str]], observed: Sequence[str]) -> None:
+        self.observed = tuple(observed)
+        self.buses = [SeenBus(names) for names in buses]
+        self._bus_of = {name: bus for bus in self.buses for name in bus.names}
+        #: What came, as it came, and how much of that is forgotten.
+        self.arrivals: deque[Seen] = deque(maxlen=MOST_KEPT)
+        self.arrived = 0
+        #: By the name of an interface the states that it was in, oldest first.
+        self.states: dict[str, list[StateSeen]] = {}
+        # By the name of an interface, and by its bus for all of them, the number of the first frame that was not taken.
+        self._untaken: dict[str, int] = {}
+        self._untaken_of_bus = [0 for _ in self.buses]
+        # By the name of an interface the place of the state that was expected last.
+        self._expected: dict[str, int] = {}
+
+    # What comes.
+
+    def add(self, name: str, text: str) -> None:
+        """Adds a message that hands over a frame, `< frame 123 1.000002 11 other 17`, to a session on this interface."""
+        words = text.split()[1:]
+        number, is_own = "", False
+        if words[-2] in ("same", "other"):
+            is_own, number = words[-2] == "same", words[-1]
+            del words[-2:]
+        moment = micros(words[3] if words[0] == "fdframex" else words[2])
+        counters = state_in(words)
+        if counters is not None:
+            self._note(name, StateSeen(moment, counters))
+        if name in self.observed or counters is not None:
+            seen = self._bus_of[name].add(name, moment, words, number, is_own)
+            if seen is not None:
+                self.arrivals.append(seen)
+                self.arrived += 1
+
+    def begin(self, name: str, counters: ErrorCounters) -> None:
+        """Notes in which state an interface is found first, if nothing came of it yet."""
+        self.states.setdefault(name, []).insert(0, StateSeen(None, counters))
+
+    def _note(self, name: str, state: StateSeen) -> None:
+        states = self.states.setdefault(name, [])
+        states.append(state)
+        if len(states) > MOST_STATES:
+            some = MOST_STATES // 10
+            del states[:some]
+            self._expected[name] = max(0, self._expected.get(name, 0) - some)
+
+    def arrived_since(self, number: int) -> Iterator[Seen]:
+        """Yields what arrived after as much as this."""
+        return islice(self.arrivals, max(0, len(self.arrivals) - (self.arrived - number)), None)
+
+    # Frames.
+
+    def channels(self, channel: Optional[str]) -> Sequence[str]:
+        """The observed interfaces at which a frame may be; ValueError where there is none, or this is none of them."""
+        if not self.observed:
+            raise ValueError("no interface of the server is observed: it was given observe=()")
+        if channel is not None and channel not in self.observed:
+            raise ValueError(f"channel is one of the observed, {', '.join(self.observed)}, not {channel!r}")
+        return self.observed if channel is None else (channel,)
+
+    def untaken(self, channel: Optional[str] = None) -> Iterator[Seen]:
+        """Yields the frames that were not taken yet, at this interface or at any, in the order of their moments."""
+        names = self.channels(channel)
+        found: list[Seen] = []
+        for number, bus in self._buses_of(channel):
+            frames = bus.frames[bus.place(self._first(number, channel)) :]
+            found += [seen for seen in frames if any(name in seen.channels for name in names)]
+        # Those of a bus are in order, and of two buses neither is first.
+        return iter(sorted(found, key=lambda seen: seen.moment) if len(self.buses) > 1 else found)
+
+    def taken(self, channel: Optional[str] = None) -> Iterator[Seen]:
+        """Yields the frames that were taken, at this interface or at any, the last first."""
+        names = self.channels(channel)
+        found: list[Seen] = []
+        for number, bus in self._buses_of(channel):
+            frames = bus.frames[: bus.place(self._first(number, channel))]
+            found += [seen for seen in frames if any(name in seen.channels for name in names)]
+        return iter(sorted(found, key=lambda seen: -seen.moment) if len(self.buses) > 1 else found[::-1])
+
+    def _buses_of(self, channel: Optional[str]) -> list[tuple[int, SeenBus]]:
+        """The buses with this interface, or all, by their numbers."""
+        return [(number, bus) for number, bus in enumerate(self.buses) if channel is None or channel in bus.names]
+
+    def _first(self, number: int, channel: Optional[str]) -> int:
+        """The number of the first frame of a bus that was not taken, of those at this interface or at any."""
+        return self._untaken_of_bus[number] if channel is None else self._untaken.get(channel, 0)
+
+    def take(self, seen: Seen, channel: Optional[str] = None) -> None:
+        """Takes a frame, and those before it: of its bus, or of this interface."""
+        for number, bus in enumerate(self.buses):
+            if not any(name in bus.names for name in seen.channels):
+                continue
+            place = bus.forgotten + bus.frames.index(seen, bisect_left(bus._moments, seen.moment)) + 1
+            self._untaken_of_bus[number] = max(self._untaken_of_bus[number], place)
+            for name in bus.names if channel is None else (channel,):
+                self._untaken[name] = max(self._untaken.get(name, 0), place)
+
+    def take_all(self) -> None:
+        """Takes all that came, and the states up to the last."""
+        for number, bus in enumerate(self.buses):
+            self._untaken_of_bus[number] = bus.forgotten + len(bus.frames)
+            for name in bus.names:
+                self._untaken[name] = self._untaken_of_bus[number]
+        for name, states in self.states.items():
+            self._expected[name] = len(states) - 1
+
+    def missed(self, channel: Optional[str]) -> int:
+        """How many frames were forgotten that were not taken."""
+        return sum(max(0, bus.forgotten - self._first(number, channel)) for number, bus in self._buses_of(channel))
+
+    def last(self) -> list[Seen]:
+        """Returns the last frames that were seen, in their order."""
+        return sorted((seen for bus in self.buses for seen in bus.frames[-MOST_SHOWN:]), key=lambda seen: seen.moment)[
+            -MOST_SHOWN:
+        ]
+
+    def names_of(self, seen: Seen) -> Sequence[str]:
+        """The interfaces of the bus on which a frame was."""
+        return self._bus_of[next(iter(seen.channels))].names
+
+    # States.
+
+    def expected_state(self, name: str, state: str) -> Optional[StateSeen]:
+        """Returns the first time since the state that was expected last that an interface came into this one; else the
+        present one, where it is that. The next is looked for from there."""
+        states = self.states[name]
+        last = len(states) - 1
+        for place in [*range(self._expected.get(name, 0) + 1, last), last]:
+            seen: StateSeen = states[place]
+            if seen.counters.state == state:
+                self._expected[name] = place
+                return seen
+        return None
+
+    def later_state(self, name: str, state: str) -> bool:
+        """Whether an interface came into this state after the one that was expected last."""
+        return any(seen.counters.state == state for seen in self.states[name][self._expected.get(name, 0) + 1 :])
+
+    def states_since(self, name: str) -> list[str]:
+        """Returns the states in which an interface was since the one that was expected last, the last of many; none if it is
+        in that."""
+        was = [seen.counters.state for seen in self.states[name][self._expected.get(name, 0) :]]
+        shown = [".."] * (len(was) > MOST_SHOWN) + was[-MOST_SHOWN:]
+        return shown if len(was) > 1 else []

@@ -1,0 +1,192 @@
+"""What a test expects of several frames of a running server: that they are cyclic, in order, and stay the same.
+
+    server.expect_cyclic(0x100, period=0.1, tolerance=0.01, count=10)
+    server.expect_sequence("Request", "Response", within=0.5)
+    server.expect_no_change(signal="Gear", within=1.0)
+"""
+
+from collections.abc import Sequence
+from typing import TYPE_CHECKING, Optional, Union
+
+from canbusd._expect.cyclic_checks import Change, Followed, first_change, follow, gap_words, gaps_of, wrong_gaps
+from canbusd._expect.frame_matcher import Step, Wanted, wanted_of
+from canbusd._expect.received_frames import Seen
+from canbusd._session.arguments import check_within
+from canbusd._text import seconds_words
+from canbusd.signals import Database
+
+if TYPE_CHECKING:
+    from can.message import Message
+
+    from canbusd._expect.observer import Observer
+
+#: Seconds more than the periods take, in which cyclic frames may come that begin late or are late.
+SLACK = 1.0
+# How many wrong gaps a failure shows.
+MOST_GAPS = 100
+
+
+class Supervision:
+    """What a test expects of several frames; a part of Expectations."""
+
+    #: Where names of messages and signals are from.
+    database: Optional[Database] = None
+
+    def _observing(self) -> "Observer":
+        """The observer of the server."""
+        raise NotImplementedError
+
+    def _shown(self, signals: Sequence[str] = ()) -> str:
+        """What was seen last, for the end of a failure."""
+        raise NotImplementedError
+
+    def expect_cyclic(
+        self,
+        id: Union[int, str],
+        period: float,
+        tolerance: Optional[float] = None,
+        count: int = 10,
+        *,
+        within: Optional[float] = None,
+        channel: Optional[str] = None,
+        is_extended_id: Optional[bool] = None,
+    ) -> list[float]:
+        """Returns the times between so many frames of this identifier, or of the message with this name, in seconds.
+
+        `count` is the number of these gaps, each of which has to be a `period` long, give or take the `tolerance`, by
+        default a tenth of it. They are those of the frames since the last expectation, by the moments at which these were
+        on the bus, however late this is called. AssertionError shows each gap that is wrong; so it is where fewer frames
+        come `within` seconds, by default those of the periods and one more.
+        """
+        __tracebackhide__ = True
+        if not period > 0:
+            raise ValueError(f"period is a number of seconds above 0, not {period!r}")
+        allowed = period / 10 if tolerance is None else tolerance
+        if not allowed >= 0:
+            raise ValueError(f"tolerance is a number of seconds, not {tolerance!r}")
+        if isinstance(count, bool) or not isinstance(count, int) or count < 1:
+            raise ValueError(f"count is a number of gaps, 1 or more, not {count!r}")
+        seconds = (count + 1) * (period + allowed) + SLACK if within is None else within
+        check_within(seconds)
+        wanted = Wanted(id, is_extended_id=is_extended_id, database=self.database, channel=channel)
+        observer = self._observing()
+        frames = observer.collect(wanted.matches, channel, count + 1, seconds)
+        gaps = gaps_of([seen.moment for seen in frames])
+        wrong = wrong_gaps(gaps, round(period * 1e6), round(allowed * 1e6))
+        lines = [f"  {gap_words(gap, round(period * 1e6))}" for gap in wrong[:MOST_GAPS]]
+        lines += [f"  .. {len(wrong) - MOST_GAPS} more"] if len(wrong) > MOST_GAPS else []
+        fault = f"{len(wrong)} of {len(gaps)} gaps {'is' if len(wrong) == 1 else 'are'} wrong" if wrong else ""
+        if len(gaps) < count:
+            came = f"came {len(frames)} of {count + 1} times within {seconds_words(seconds)}"
+            fault = f"{came}, and {fault}" if fault else came
+        if fault:
+            every = f"{wanted} every {seconds_words(period)}, give or take {allowed:g}"
+            hint = observer.hint(wanted, channel) if len(gaps) < count else ""
+            text = f"no {every}: {fault}{observer.missed(channel)}{hint}"
+            raise AssertionError("\n".join([text, *lines]) + self._shown())
+        observer.take(frames[-1], channel)
+        return [gap.length / 1e6 for gap in gaps]
+
+    def expect_sequence(
+        self,
+        *steps: Step,
+        within: float = 1.0,
+        between: Optional[Sequence[Step]] = None,
+        channel: Optional[str] = None,
+    ) -> "list[Message]":
+        """Returns the first frames that are these, one after another, of those since the last expectation and within seconds.
+
+        A step is an identifier, the name of a message, or a dict of the arguments of `expect`, such as ``{"id": 0x123,
+        "data": b"\\\\x01"}``. Between the first and the last any other frame may come, or with `between` only these; error
+        message frames may always. AssertionError says which step is missing, or what came between.
+        """
+        __tracebackhide__ = True
+        if not steps:
+            raise ValueError("a sequence has steps, such as 0x100, 0x101")
+        check_within(within)
+        wanted = [wanted_of(step, self.database) for step in steps]
+        allowed = None if between is None else [wanted_of(step, self.database) for step in between]
+        observer = self._observing()
+
+        def look() -> Optional[Followed]:
+            followed = follow(observer.received.untaken(channel), wanted, allowed)
+            return followed if followed.intruder or len(followed.found) == len(wanted) else None
+
+        def may_be(seen: Seen) -> bool:
+            return allowed is not None or any(one.matches(seen.frame) for one in wanted)
+
+        observer.received.channels(channel)
+        followed = observer.wait(look, may_be, within)
+        if followed is None or followed.intruder:
+            signals = [name for one in wanted for name in one.signals]
+            raise AssertionError(f"{self._missing(wanted, followed, within, channel)}{self._shown(signals)}")
+        observer.take(followed.found[-1], channel)
+        return [seen.frame.message(channel or observer.channel(seen)) for seen in followed.found]
+
+    def _missing(
+        self, wanted: Sequence[Wanted], followed: Optional[Followed], within: float, channel: Optional[str]
+    ) -> str:
+        """Says why there was no such sequence, and what of it there was."""
+        observer = self._observing()
+        frames = observer.untaken(channel)
+        found, intruder = followed or follow(frames, wanted, None)
+        step = wanted[len(found)]
+        if intruder is not None:
+            text = f"{observer.line(intruder, channel)} came between {wanted[len(found) - 1]} and {step}"
+        else:
+            after = f" after {wanted[len(found) - 1]}" if found else ""
+            at = "" if channel is None else f" at {channel}"
+            text = f"no {step}{after}{at} within {seconds_words(within)}{observer.missed(channel)}"
+            # It may be there, in another order.
+            early = next((seen for seen in frames if found and step.matches(seen.frame)), None)
+            text += f": it came before, {observer.line(early, channel)}" if early else observer.hint(step, channel)
+        lines = [f"  {observer.line(seen, channel)}" for seen in found]
+        return "\n".join([text, *(["of the sequence came:", *lines] if found else [])])
+
+    def expect_no_change(
+        self,
+        id: Union[int, str, None] = None,
+        *,
+        signal: Optional[str] = None,
+        within: float = 1.0,
+        channel: Optional[str] = None,
+        is_extended_id: Optional[bool] = None,
+    ) -> None:
+        """Fails if the data of frames with this identifier, or the value of this signal, changes within these seconds.
+
+        It must stay what it was at the last expectation, or first after it. It fails, too, where no such frame was ever
+        seen, or frames were lost, so that this can't be known.
+        """
+        __tracebackhide__ = True
+        if id is None and signal is None:
+            raise ValueError("expect_no_change needs an id or a signal")
+        check_within(within)
+        wanted = Wanted(id, is_extended_id=is_extended_id, signal=signal, database=self.database, channel=channel)
+        observer = self._observing()
+        observer.received.channels(channel)
+        before = observer.last_content(wanted, channel)
+
+        def look() -> Optional[Change]:
+            return first_change(before, observer.received.untaken(channel), content)
+
+        def content(seen: Seen) -> Optional[object]:
+            return wanted.content(seen.frame)
+
+        said = [] if before is None else [before]
+
+        def may_be(seen: Seen) -> bool:
+            now = content(seen)
+            if now is None or said:
+                return now is not None and now != said[0]
+            said.append(now)
+            return False
+
+        change = observer.wait(look, may_be, within)
+        if change is not None:
+            text = f"{wanted} changed from {change.before} to {change.after}"
+            raise AssertionError(f"{text}: {observer.line(change.seen, channel)}{self._shown(wanted.signals)}")
+        missed = observer.missed(channel)
+        if not missed and before is None and not observer.contents(wanted, channel):
+            missed = f": there was none{observer.hint(wanted, channel)}"
+        if missed:
+            raise AssertionError(f"whether {wanted} changed is not known{missed}{self._shown(wanted.signals)}")

@@ -1,0 +1,71 @@
+"""What the page of a run has of time on the wire: columns beside those of its steps, where its bus has bit rates."""
+
+import itertools
+import operator
+from array import array
+from collections.abc import Callable, Iterable, Sequence
+from typing import TYPE_CHECKING, Any
+
+from canbusd._process.rates import Rates
+from canbusd._run.slots import Slot, slots_of
+from canbusd._run.steps import DONE, RESTART
+from canbusd.record import timed
+from canbusd.replay import Replay
+
+if TYPE_CHECKING:
+    from canbusd._page.report import Timeline
+
+Column = list[Any]
+
+
+def wire_of(
+    run: Replay, timeline: "Timeline", rates: Rates, column: Callable[[str, Iterable[float]], Column]
+) -> dict[str, Any]:
+    """Returns the bit rates, and columns by the rows of the time line, which `column` makes."""
+    run = timed(run, rates)
+    slots, steps = slots_of(run), run.steps
+    over = max((slot.over for slot in slots), default=0)
+    begins = begins_of(run, timeline, slots, over)
+    start, end = (begins[0], max(begins[-1], over)) if begins else (0, 0)
+    return {
+        "bitrate": rates.bitrate,
+        "dbitrate": rates.dbitrate,
+        # In nanoseconds: how long after the one before, which is shorter than since the first.
+        "begin": [*column("d", map(operator.sub, begins, itertools.chain([start], begins))), "rising"],
+        "end": end - start,
+        # How many bits the frame has at each bit rate, and how long it and the attempt take, in nanoseconds.
+        "nominal": column("H", timeline.rows(steps.nominal_bits)),
+        "fast": column("H", timeline.rows(steps.fast_bits)),
+        "frame": column("I", timeline.rows(steps.frame_nanos)),
+        "busy": column("I", timeline.rows(steps.busy_nanos)),
+        "since": column("I", timeline.rows(since_of(run, timeline.places))),
+    }
+
+
+def begins_of(run: Replay, timeline: "Timeline", slots: Sequence[Slot], over: int) -> list[int]:
+    """When each row begins, and none before the one before it: idle attempts where the step after them does.
+
+    Those after the last step begin when all attempts are over.
+    """
+    by_step = [1000 * micros for micros in run.steps.moments]
+    for slot in slots:
+        by_step[slot.step] = slot.begin
+    # After the last step.
+    by_step.append(over)
+    return list(itertools.accumulate(map(by_step.__getitem__, timeline.own), max))
+
+
+def since_of(run: Replay, places: Sequence[int]) -> "array[int]":
+    """How many rows before each attempt its frame first took part in arbitration."""
+    steps, since = run.steps, array("I")
+    firsts: dict[int, int] = {}
+    for step, (place, kind, iface, off) in enumerate(zip(places, steps.kinds, steps.ifaces, steps.off)):
+        if kind == RESTART:
+            since.append(0)
+            continue
+        for one in steps.met(step):
+            firsts.setdefault(one, place)
+        since.append(place - firsts[iface])
+        if kind == DONE or off:
+            del firsts[iface]
+    return since

@@ -1,0 +1,196 @@
+"""What Server and Bench share: the options of the program, a folder of its own, and an end."""
+
+import _thread
+import os
+import shutil
+import signal
+import subprocess
+import tempfile
+import weakref
+from collections.abc import Sequence
+from contextvars import ContextVar
+from pathlib import Path
+from types import TracebackType
+from typing import Optional, TypeVar, Union
+
+from canbusd._process.program import find_program
+from canbusd._process.rates import LEAST_BITRATE, MOST_BITRATE, MOST_DBITRATE, Rates
+from canbusd._text import NAME
+from canbusd.faults import Script
+
+Self = TypeVar("Self", bound="ProgramRun")
+
+#: Where runs have their folders; None is the system's place for temporary files.
+FOLDERS: "ContextVar[Optional[Path]]" = ContextVar("FOLDERS", default=None)
+#: How many interfaces a bus has at most.
+MOST_NAMES = 16
+#: The options of the program that are numbers, by the names of their arguments: the least and the most of each.
+NUMBERS: dict[str, tuple[str, int, int]] = {
+    "auto_restart": ("--auto-restart", 0, 1_000_000),
+    "pace_ms": ("--pace", 0, 60_000),
+    "write_bytes": ("--write", 256, 65_536),
+    "txqueue": ("--txqueue", 1, 1024),
+    "rxqueue": ("--rxqueue", 1, 65_536),
+    "limit": ("--limit", 1, 1 << 24),
+    "flush": ("--flush", 0, 60_000),
+    "bitrate": ("--bitrate", LEAST_BITRATE, MOST_BITRATE),
+    "dbitrate": ("--dbitrate", LEAST_BITRATE, MOST_DBITRATE),
+}
+
+
+def option_words(ack: str, report: bool, **numbers: int) -> list[str]:
+    """Returns the words of the command line that give these options; ValueError names one that is wrong."""
+    if ack not in ("always", "peers"):
+        raise ValueError(f"ack is 'always' or 'peers', not {ack!r}")
+    return ["--ack", ack, *(["--report"] if report else []), *number_words(**numbers)]
+
+
+def number_words(**numbers: int) -> list[str]:
+    """Returns the words of the command line that give these options; ValueError names one that is wrong."""
+    words: list[str] = []
+    for name, number in numbers.items():
+        option, least, most = NUMBERS[name]
+        if isinstance(number, bool) or not isinstance(number, int) or not least <= number <= most:
+            raise ValueError(f"{name} is a whole number from {least} to {most}, not {number!r}")
+        words += [option, str(number)]
+    return words
+
+
+def rate_words(bitrate: Optional[int], dbitrate: Optional[int]) -> list[str]:
+    """Returns the words of the command line that give these bit rates, if there are any."""
+    rates = {"bitrate": bitrate, "dbitrate": dbitrate}
+    words = number_words(**{name: rate for name, rate in rates.items() if rate is not None})
+    if dbitrate is not None and (bitrate is None or dbitrate < bitrate):
+        raise ValueError(f"dbitrate needs a bitrate, which is no faster, not {bitrate!r} and {dbitrate!r}")
+    return words
+
+
+def rates_of(bitrate: Optional[int], dbitrate: Optional[int]) -> Optional[Rates]:
+    """Returns these bit rates, if there are any."""
+    return None if bitrate is None else Rates(bitrate, dbitrate)
+
+
+def check_names(names: Sequence[str]) -> Sequence[str]:
+    """Returns the names of a bus's interfaces; ValueError where spaces were written between them, or one is wrong."""
+    spaced = next((name for name in names if name != name.strip()), None)
+    if spaced is not None:
+        right = ",".join(name.strip() for name in names)
+        raise ValueError(f"names of interfaces are joined by commas without spaces, {right!r}, not {','.join(names)!r}")
+    if len(names) > MOST_NAMES or len({*names}) < len(names) or not all(map(NAME.fullmatch, names)):
+        known = f"1 to {MOST_NAMES} different ones of 1 to 15 ASCII letters, digits, _, - and ."
+        raise ValueError(f"names of a bus's interfaces are {known}, not {','.join(names)!r}")
+    return names
+
+
+def bus_of(names: Union[str, Sequence[str]], faults: Optional[Script]) -> tuple[tuple[str, ...], Optional[Script]]:
+    """Returns the names of a bus and its faults, which may be a file after the names, as for the program: can0,can1@FILE."""
+    if isinstance(names, str):
+        names, given, script_path = names.partition("@")
+        if given and faults is not None:
+            raise ValueError("faults are given twice, as a file after the names too")
+        faults = Path(script_path) if given else faults
+    parts = tuple(names.split(",") if isinstance(names, str) else names)
+    if not parts or not all(isinstance(name, str) for name in parts):
+        raise ValueError(f"names are those of the interfaces, such as 'can0,can1', not {names!r}")
+    check_names(parts)
+    return parts, faults
+
+
+def remove(folder: Path, process: int) -> None:
+    """Removes the folder of a run, in the process that started it; one that was forked leaves it there.
+
+    Python prints an exception of a finalizer and forgets it. So a Ctrl-C that comes meanwhile is sent again by another
+    thread, which gets its turn once the finalizer is over.
+    """
+    if os.getpid() == process:
+        try:
+            shutil.rmtree(folder, ignore_errors=True)
+        except (KeyboardInterrupt, OSError):
+            # An OSError hides one, by which a descriptor was closed twice: others are ignored.
+            try:
+                shutil.rmtree(folder, ignore_errors=True)
+            finally:
+                _thread.start_new_thread(os.kill, (process, signal.SIGINT))
+
+
+class ProgramRun:
+    """A run of the program. Its logs and records are in `out`, else in a folder that is kept as long as it is."""
+
+    _child: "subprocess.Popen[bytes]"
+
+    def __init__(self, out: Union[str, "os.PathLike[str]", None]) -> None:
+        if out is not None and not os.path.isdir(out):
+            raise ValueError(f"out is a folder that exists, not {os.fspath(out)!r}")
+        self._process = os.getpid()
+        self._folder = Path(tempfile.mkdtemp(prefix="canbusd-", dir=FOLDERS.get()))
+        self._remove = weakref.finalize(self, remove, self._folder, self._process)
+        self._out = Path(out) if out is not None else self._folder
+
+    @property
+    def said(self) -> str:
+        """What the program has written to standard error so far, such as `note: bus can0: record full`."""
+        return (self._folder / "stderr").read_text(errors="replace").strip()
+
+    def _start(self, *words: str) -> None:
+        """Starts the program with these words; its input and its output are pipes."""
+        with open(self._folder / "stderr", "wb") as errors:
+            # Not in the terminal's foreground: Ctrl-C is this process's, which then ends the program as it should be.
+            self._child = subprocess.Popen(
+                [find_program(), *words],
+                stdin=subprocess.PIPE,
+                stdout=subprocess.PIPE,
+                stderr=errors,
+                bufsize=0,
+                start_new_session=True,
+            )
+        RUNNING.add(self)
+
+    def stop(self) -> object:
+        """Ends the run; logs and records are written."""
+        raise NotImplementedError
+
+    def _check_process(self) -> None:
+        """Raises RuntimeError in a process that was forked: only the one that started the program may end it."""
+        if os.getpid() != self._process:
+            raise RuntimeError(f"this {type(self).__name__} belongs to process {self._process}, which was forked")
+
+    def _close_input(self) -> None:
+        """The end of its input ends the program."""
+        if self._child.stdin is not None:
+            self._child.stdin.close()
+            self._child.stdin = None
+
+    def _signal(self) -> None:
+        """Kills the program, and its launcher where it has one; both are in a session of their own."""
+        try:
+            os.killpg(self._child.pid, signal.SIGKILL)
+        except ProcessLookupError:
+            pass
+
+    def __enter__(self: Self) -> Self:
+        return self
+
+    def __exit__(
+        self, kind: Optional[type[BaseException]], fault: Optional[BaseException], _: Optional[TracebackType]
+    ) -> None:
+        if os.getpid() != self._process:
+            return
+        try:
+            self.stop()
+        except RuntimeError:
+            # What went wrong first is what is raised.
+            if kind is None:
+                raise
+
+
+RUNNING: "weakref.WeakSet[ProgramRun]" = weakref.WeakSet()
+
+
+def forget_runs() -> None:
+    """A process that was forked holds no input of a program open, which would keep it from its end."""
+    for run in list(RUNNING):
+        run._close_input()
+    RUNNING.clear()
+
+
+os.register_at_fork(after_in_child=forget_runs)

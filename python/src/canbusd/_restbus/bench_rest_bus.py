@@ -1,0 +1,85 @@
+"""The rest bus of a bench: frames are due at exact moments, and `run` goes from one to the next."""
+
+from collections.abc import Mapping
+from typing import TYPE_CHECKING
+
+from canbusd._restbus.schedule import MICROS, micros
+from canbusd._session.injection import Refused
+from canbusd.frames import Frame
+from canbusd.record import Attempt
+from canbusd.rest_bus import PASSING, RestBus, RestMessage
+from canbusd.signals import Database
+
+if TYPE_CHECKING:
+    from canbusd.bench import Bench
+
+# What no frame passes: everything, inverted.
+NOTHING = [{"can_id": 0x20000000, "can_mask": 0}]
+
+
+class BenchRestBus(RestBus):
+    """A rest bus whose frames go to the sessions of a bench."""
+
+    def __init__(self, database: Database, interfaces: Mapping[str, str], bench: "Bench") -> None:
+        super().__init__(database, interfaces)
+        self._bench, self._now = bench, micros(float(bench._moment))
+        has_fd = any(message.format.is_fd for message in self.messages)
+        self._sessions = {
+            name: bench.open(name, NOTHING, fd=has_fd, error_frames=False)
+            for name in dict.fromkeys(interfaces.values())
+        }
+
+    def run(self, until: float) -> list[Attempt]:
+        """Sends what is due before this moment, each frame at its own, and returns the attempts that are made meanwhile.
+
+        On a bench with a bit rate these are the attempts that begin before it, without one those in which all frames that
+        wait are tried, at the moment at which something is due.
+        """
+        attempts: list[Attempt] = []
+        end = micros(until)
+        with self.changing():
+            while (due := self._schedule.first()) is not None and due < end:
+                attempts += self._go_to(max(due, micros(float(self._bench._moment))))
+                for message, frame in self._due(self._now):
+                    answer = self._answer(message, frame)
+                    if answer and answer not in PASSING:
+                        raise Refused(answer)
+                    message.count(answer)
+                attempts += self._tried()
+            return attempts + self._go_to(end)
+
+    def close(self) -> None:
+        """Ends it: its sessions are closed, if the bench still runs."""
+        self._is_closed = True
+        if self._bench._child.stdin is not None:
+            for session in self._sessions.values():
+                session.close()
+
+    def now(self) -> int:
+        return self._now
+
+    def send_now(self, message: RestMessage, frame: Frame) -> None:
+        answer = self._answer(message, frame)
+        message.count(answer)
+        if answer:
+            raise Refused(answer)
+
+    def _answer(self, message: RestMessage, frame: Frame) -> str:
+        """Sends a frame; the text of a refusal."""
+        try:
+            self._sessions[message.interface].send(frame)
+            return ""
+        except Refused as fault:
+            return str(fault)
+
+    def _go_to(self, moment: int) -> list[Attempt]:
+        """Makes the attempts that begin before a moment, on a bench with a bit rate, and goes there."""
+        self._now = moment
+        return self._bench.run(until=moment / MICROS) if self._bench._rates else []
+
+    def _tried(self) -> list[Attempt]:
+        """Makes attempts at this moment, on a bench without a bit rate, until no frame waits."""
+        if self._bench._rates:
+            return []
+        first = self._bench.attempt(at=self._now / MICROS)
+        return [first, *self._bench.run()] if first else []

@@ -1,0 +1,76 @@
+"""Which node of a database sends what in a rest bus, by which interface and from when on."""
+
+import os
+from collections.abc import Mapping, Sequence
+from typing import Optional, Union
+
+from canbusd._database.formats import MessageFormat
+from canbusd._restbus.schedule import micros, phases
+from canbusd.frames import FD_LENGTHS
+from canbusd.signals import Database, load_database
+
+Source = Union[Database, str, "os.PathLike[str]"]
+
+
+class NoInterface(ValueError):
+    """A node that sends something has no interface, or one that there is not. The text has the cure in words of Python."""
+
+    def __init__(self, node: str, interface: str, known: Sequence[str]) -> None:
+        self.node, self.known = node, known
+        #: What is wrong, without a cure.
+        self.fault = f"node {node} has no interface{f' {interface!r}' if interface else ''}"
+        cure = f"give nodes={{{node!r}: ..}} or interface=.., one of {', '.join(known)}, or without=[{node!r}]"
+        super().__init__(f"{self.fault}: {cure}")
+
+
+def database_of(source: Source) -> Database:
+    """Returns a database, which may be given as the path of its file."""
+    return source if isinstance(source, Database) else load_database(source)
+
+
+def sender(message: MessageFormat) -> str:
+    """Returns the node that sends a message; the empty text for none."""
+    return message.senders[0] if message.senders else ""
+
+
+def is_sendable(message: MessageFormat) -> bool:
+    """Whether one frame has room for the message."""
+    return bool(message.size <= FD_LENGTHS[-1])
+
+
+def has(message: MessageFormat, name: str) -> bool:
+    """Whether a message has a signal of this name."""
+    return any(signal.name == name for signal in message.signals)
+
+
+def phases_of(messages: Sequence[MessageFormat]) -> list[int]:
+    """When the first frame of each message is due, from the start: as the file says, else so that few are due together."""
+    cyclic = [message for message in messages if message.is_cyclic]
+    spread = dict(zip((one.name for one in cyclic), phases([micros(message.cycle_time) for message in cyclic])))
+    return [micros(one.start_delay) if one.start_delay else spread.get(one.name, 0) for one in messages]
+
+
+def interfaces_of(
+    database: Database,
+    without: Union[str, Sequence[str]],
+    nodes: Mapping[str, str],
+    interface: Optional[str],
+    known: Sequence[str],
+) -> dict[str, str]:
+    """Returns the interface of each node that sends something, but for those that are left out.
+
+    It is the one given for the node, else `interface`, else the one that has the node's name. NoInterface where there is
+    none, and ValueError where the name of a node is wrong.
+    """
+    senders = list(dict.fromkeys(sender(message) for message in database.messages if message.senders))
+    left_out = [without] if isinstance(without, str) else list(without)
+    for name in [*left_out, *nodes]:
+        if name not in database.nodes:
+            raise ValueError(f"no node {name} in the database; there are {', '.join(database.nodes) or 'none'}")
+    found: dict[str, str] = {}
+    for name in senders:
+        if name not in left_out:
+            found[name] = nodes.get(name) or interface or (name if name in known else "")
+            if found[name] not in known:
+                raise NoInterface(name, found[name], known)
+    return found

@@ -1,0 +1,71 @@
+"""Nodes that a bench or a server simulates: its mixins."""
+
+from collections.abc import Mapping, Sequence
+from typing import TYPE_CHECKING, Any, Generic, Optional, TypeVar, Union
+
+if TYPE_CHECKING:
+    from canbusd._restbus.nodes import Source
+    from canbusd.bus import CanbusdBus
+    from canbusd.isotp import IsoTp
+    from canbusd.rest_bus import RestBus
+    from canbusd.signals import Database
+
+R = TypeVar("R", bound="RestBus")
+
+
+class HasRestBus(Generic[R]):
+    """What a bench and a server have of a rest bus."""
+
+    @property
+    def interfaces(self) -> list[str]:
+        """The names of all interfaces."""
+        raise NotImplementedError
+
+    def _make_rest_bus(self, database: "Database", interfaces: Mapping[str, str]) -> R:
+        """The rest bus of a database, whose nodes send by these interfaces."""
+        raise NotImplementedError
+
+    def rest_bus(
+        self,
+        database: "Source",
+        without: Union[str, Sequence[str]] = (),
+        nodes: Optional[Mapping[str, str]] = None,
+        interface: Optional[str] = None,
+    ) -> R:
+        """Returns the rest bus of a database, or of its file: all nodes but those `without`.
+
+        They send in its `with` block, those of a bench in `rest.run(until=..)`. A node sends by the interface that `nodes` has
+        for it, else by `interface`, else by the one with its name.
+        """
+        from canbusd._restbus.nodes import database_of, interfaces_of
+
+        known = database_of(database)
+        return self._make_rest_bus(known, interfaces_of(known, without, nodes or {}, interface, self.interfaces))
+
+
+class SimulatesNodes(HasRestBus["RestBus"]):
+    """What a server has of simulated nodes."""
+
+    address: str
+    _result: Any
+
+    def bus(self, channel: str, **kwargs: Any) -> "CanbusdBus":
+        """Returns a bus of python-can."""
+        raise NotImplementedError
+
+    def _make_rest_bus(self, database: "Database", interfaces: Mapping[str, str]) -> "RestBus":
+        from canbusd._restbus.live_rest_bus import LiveRestBus
+
+        return LiveRestBus(database, interfaces, self.bus, lambda: self._result is not None)
+
+    def isotp(self, channel: str, *, tx: int, rx: int, **options: Any) -> "IsoTp":
+        """Returns an end of ISO-TP on an interface: it sends with the identifier `tx`, and receives what has `rx`.
+
+        Identifiers above 7FF have 29 bits. can-isotp does it where it is installed, else a socket of canbusd-run; ImportError
+        where there is neither.
+        """
+        from canbusd.isotp import open_isotp
+
+        if channel not in self.interfaces:
+            raise ValueError(f"channel is one of {', '.join(self.interfaces)}, not {channel!r}")
+        return open_isotp(self.bus, self.address, channel, tx, rx, **options)

@@ -1,0 +1,154 @@
+"""The lines of the events of a run, those of a kind together: of a few kinds there are millions."""
+
+import itertools
+import operator
+from collections.abc import Iterable, Iterator, Sequence
+
+from canbusd._run.steps import numbers_in
+
+#: Kinds of lines by their third letters, as of `attempt`: frames that came into a queue, items that were taken, steps, and
+#: restarts, whose lines become those of steps; all others are read one by one.
+SEND, RECEIVE, STEP, RESTART = b"ncts"
+OTHER = ord("o")
+#: By which bytes of kinds are translated: of each kind to 1 for it and 0 for others, and without what is in no queue.
+IS = {kind: bytes(kind == other for other in range(256)) for kind in (SEND, RECEIVE, STEP)}
+FREQUENT = bytes(IS)
+IS[OTHER] = bytes(other not in IS for other in range(256))
+NO_QUEUE = bytes(other for other in range(256) if other not in (SEND, STEP))
+#: The replies to sends and attempts that most of their lines have.
+USUAL = {SEND: " = number ", STEP: " = tried "}
+#: How many words the line of a step has before what became of it.
+WORDS = 8
+#: A restart as the line of a step, which has no verdict and no frame.
+RESTART_LINE = "attempt {}  = tried {} 0  restart 0000 0000{}"
+#: What an attempt says after its frame, before the set of the interfaces that it restarts.
+RESTARTED = " restarted "
+#: Before parts of which only those of some interfaces are meant.
+ONLY = "; only {:04X}"
+#: In place of the number of a socket, where a receive handed out no item: the last place of a list.
+NOBODY = -1
+
+third_letter = operator.itemgetter(2)
+
+
+class Senders(dict[str, int]):
+    """The numbers with which texts begin, and which a space may follow."""
+
+    def __missing__(self, text: str) -> int:
+        number = self[text] = int(text.partition(" ")[0])
+        return number
+
+
+class Receivers(dict[str, int]):
+    """The sockets that were handed an item, by what their lines have after `receive`, such as `1 = d`; else NOBODY."""
+
+    def __missing__(self, text: str) -> int:
+        socket, _, reply = text.partition(" = ")
+        number = self[text] = int(socket) if reply.startswith(("d", "e")) else NOBODY
+        return number
+
+
+SENDERS, RECEIVERS = Senders(), Receivers()
+
+
+class Lines:
+    """Lines that follow each other. A step is one line: an attempt that restarts interfaces has a line more for each."""
+
+    def __init__(self, text: str, first: int, may_restart: bool) -> None:
+        """`first` is the number of the first entry; attempts may restart interfaces, or no one does."""
+        self.all = text.split("\n")
+        self.kinds = bytearray("".join(map(third_letter, self.all)).encode())
+        #: The entry of each line.
+        self.entries: Sequence[int] = range(first, first + len(self.all))
+        if RESTART in self.kinds or may_restart and RESTARTED in text:
+            for place in reversed(range(len(self.all))):
+                if self.kinds[place] == RESTART or RESTARTED in self.all[place]:
+                    self._spread(place)
+        # No other reply to a send is without a hyphen.
+        if "-" in text and self.kinds.count(SEND) != text.count(USUAL[SEND]):
+            self._sort_out(SEND)
+        #: The words of the lines of steps, WORDS and what became of the step, one line after the other.
+        self.words = self._words_of_steps()
+        # An attempt that tried no frame has fewer, as has what else is called so.
+        if len(self.words) != (WORDS + 1) * self.kinds.count(STEP):
+            self._sort_out(STEP)
+            self.words = self._words_of_steps()
+
+    def _words_of_steps(self) -> list[str]:
+        split = map(str.split, self.of(STEP), itertools.repeat(" "), itertools.repeat(WORDS))
+        return [*itertools.chain.from_iterable(split)]
+
+    def _sort_out(self, kind: int) -> None:
+        """Lets lines of this kind that have another reply be read one by one."""
+        places = itertools.compress(itertools.count(), self.kinds.translate(IS[kind]))
+        for place, line in zip(places, self.of(kind)):
+            if USUAL[kind] not in line:
+                self.kinds[place] = OTHER
+
+    def _spread(self, place: int) -> None:
+        """Gives each step of the entry in a line its line."""
+        found = [*lines_of(self.all[place])]
+        if len(found) != 1:
+            entries = self.entries = [*self.entries]
+            entries[place : place + 1] = entries[place : place + 1] * len(found)
+        self.all[place : place + 1] = found
+        self.kinds[place : place + 1] = bytes(STEP if USUAL[STEP] in line else OTHER for line in found)
+
+    @property
+    def has_others(self) -> bool:
+        """Whether some lines are of no frequent kind."""
+        return bool(self.kinds.translate(None, FREQUENT))
+
+    def of(self, kind: int) -> list[str]:
+        """The lines of a kind."""
+        return list(itertools.compress(self.all, self.kinds.translate(IS[kind])))
+
+    def entries_of(self, kind: int) -> Iterator[int]:
+        """The entries of the lines of a kind."""
+        return itertools.compress(self.entries, self.kinds.translate(IS[kind]))
+
+    def steps_before(self, kind: int, first: int) -> Iterator[int]:
+        """How many steps there were before each line of a kind, with those before the first line."""
+        steps = itertools.accumulate(self.kinds.translate(IS[STEP]), initial=first)
+        return itertools.compress(steps, self.kinds.translate(IS[kind]))
+
+    def in_queues(self, units: Sequence[int], left: Iterable[int], first: int) -> list[int]:
+        """How many frames wait in queues before each step and after the last line, by what each send and step changes."""
+        kinds = self.kinds.translate(None, NO_QUEUE)
+        came = [*itertools.accumulate(units, initial=first)]
+        gone = [*itertools.accumulate(left, initial=0)]
+        # Before each step, how many sends there were: as many as lines that are no steps.
+        sends = map(operator.sub, itertools.compress(itertools.count(), kinds.translate(IS[STEP])), itertools.count())
+        return [*map(operator.add, map(came.__getitem__, sends), gone), came[-1] + gone[-1]]
+
+
+def senders_of(sends: Iterable[str], sockets: int) -> Iterator[int]:
+    """The numbers of the sockets in the lines of sends; there are so many sockets."""
+    return map(SENDERS.__getitem__, map(words_after("send", len(str(sockets))), sends))
+
+
+def receivers_of(receives: Iterable[str], sockets: int) -> Iterator[int]:
+    """The numbers of the sockets in the lines of receives, NOBODY where one has no item; there are so many sockets."""
+    return map(RECEIVERS.__getitem__, map(words_after("receive", len(f"{sockets} = d")), receives))
+
+
+def words_after(name: str, size: int) -> "operator.itemgetter[slice]":
+    """What of a line is after the name of its call, and of this size."""
+    place = len(name) + 1
+    return operator.itemgetter(slice(place, place + size))
+
+
+def lines_of(line: str) -> Iterator[str]:
+    """Yields the lines of the steps of an entry, or the line as it is."""
+    event, semicolon, parts = line.partition("; ")
+    words = event.split(" ")
+    if words[0] == "restart" and words[-1] == "ok":
+        yield RESTART_LINE.format(words[2], words[1], semicolon + parts)
+    elif words[0] == "attempt":
+        members = int(words[-1], 16) if words[-2] == "restarted" else 0
+        is_tried = words[4] == "tried"
+        yield f"{' '.join(words[:-2])}{ONLY.format(0xFFFF & ~members)}{semicolon}{parts}" if is_tried else line
+        for number in numbers_in(members):
+            yield RESTART_LINE.format(words[1], number, ONLY.format(1 << number) + semicolon + parts)
+    else:
+        yield line

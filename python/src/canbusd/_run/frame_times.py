@@ -1,0 +1,40 @@
+"""How long frames take the wire of a bus that has bit rates: the program says it of a run in which they are sent."""
+
+from collections.abc import Iterable
+
+from canbusd._process.rates import Rates
+from canbusd.record import parse_record
+
+# How many frames are kept.
+MOST_KEPT = 1 << 16
+# What a run begins with in which each frame is done: version 4 has frames of every kind, and room for all.
+FRONT = ["canbus record 4", "bus 1 always 0000 1 4294967294 0", "open 0 1 = socket 0", "option 0 fd 1 = ok"]
+
+
+class FrameTimes:
+    """How many nanoseconds frames take the wire, with the bits that follow them; what is known of a frame is kept."""
+
+    def __init__(self, rates: Rates) -> None:
+        self.rates = rates
+        self._kept: dict[str, int] = {}
+        # Where there is no program it shows at once.
+        self.of(["000#"])
+
+    def of(self, texts: Iterable[str]) -> list[int]:
+        """Returns those of these frames, in their order; the program is asked once for all that are new."""
+        wanted = list(texts)
+        new = [text for text in dict.fromkeys(wanted) if text not in self._kept]
+        if len(self._kept) + len(new) > MOST_KEPT:
+            self._kept.clear()
+            new = list(dict.fromkeys(wanted))
+        if new:
+            self._kept.update(zip(new, self._asked(new)))
+        return [self._kept[text] for text in wanted]
+
+    def _asked(self, texts: list[str]) -> Iterable[int]:
+        entries = FRONT[2:]
+        for number, text in enumerate(texts):
+            entries.append(f"send 0 {text} = number {number}")
+            entries.append(f"attempt 0.000000 good = tried 0 {number} {text} done 0000 0000")
+        lines = [*FRONT[:2], *entries, f"end {len(entries)}", ""]
+        return parse_record("\n".join(lines).encode(), rates=self.rates).replay.steps.busy_nanos

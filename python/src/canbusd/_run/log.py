@@ -1,0 +1,62 @@
+"""Logs in candump's format, as a server and a bench write them beside their records."""
+
+import os
+import re
+from typing import TYPE_CHECKING, Optional, Union
+
+from canbusd._run.steps import RESTART, Steps, moment_of
+from canbusd._text import shown
+from canbusd.frames import Frame
+
+if TYPE_CHECKING:
+    from can.message import Message
+
+Path = Union[str, "os.PathLike[str]"]
+
+LOG_LINE = re.compile(r"\(([0-9]+\.[0-9]{6})\) (\S+) (\S+)")
+
+
+def read_log(path: Path) -> "list[Message]":
+    """Returns the messages of a log in candump's format; the channel of each is the interface that sent it.
+
+    Unlike python-can's reader it keeps the classes of error message frames.
+    """
+    with open(path, encoding="ascii") as file:
+        return [message_of(line.rstrip("\n"), path, number) for number, line in enumerate(file, 1)]
+
+
+def message_of(line: str, path: Path, number: int) -> "Message":
+    """Returns the message of a line, without its LF, of a log; a fault says which log and which line."""
+    import canbusd._python_can  # noqa: F401  it says what is missing
+
+    words = LOG_LINE.fullmatch(line)
+    if not words:
+        raise ValueError(f"{os.fspath(path)}: line {number} is no frame: {shown(line)}")
+    return Frame.parse(words[3], float(words[1])).message(words[2])
+
+
+def log_beside(path: Path) -> Optional[str]:
+    """The log that `canbusd serve` writes beside this record, or None: can0.log beside can0.rec and can0.rec.new."""
+    record = os.fspath(path).removesuffix(".new").removesuffix(".cut")
+    folder, name = os.path.split(record)
+    # For os.path.splitext the record `....rec` of the bus `...` has no ending.
+    log = os.path.join(folder, f"{name.rpartition('.')[0] or name}.log")
+    return log if log != os.fspath(path) and os.path.isfile(log) else None
+
+
+def names_in_log(steps: Steps, log: Path) -> dict[int, str]:
+    """The names of the interfaces that won an attempt; none where the log is of another run.
+
+    A log has a line for each tried attempt: `(MOMENT) NAME FRAME`, with the winner's name.
+    """
+    columns = zip(steps.kinds, steps.moments, steps.ifaces)
+    tried = ((moment_of(moment), winner) for kind, moment, winner in columns if kind != RESTART)
+    names: dict[int, str] = {}
+    with open(log, encoding="ascii", errors="replace") as file:
+        # A line of a run that was killed may be torn.
+        whole = (line for line in file if line.endswith("\n"))
+        for line, (moment, winner) in zip(whole, tried):
+            words = line.split()
+            if len(words) != 3 or words[0] != f"({moment:0>17})" or names.setdefault(winner, words[1]) != words[1]:
+                return {}
+    return names

@@ -1,0 +1,429 @@
+"""The steps of a run and the items of its sockets, in columns of numbers: a run may have a million of each."""
+
+import bisect
+import functools
+import itertools
+import operator
+import sys
+from array import array
+from collections import Counter, defaultdict
+from collections.abc import Iterable, Iterator, Sequence
+from dataclasses import dataclass, field
+from typing import Optional, TypeVar, Union, overload
+
+from canbusd._run.run_parts import WAITING_BITS, Interface, Socket
+from canbusd.frames import EXTENDED, REMOTE, is_fd
+
+#: What a step is, by its number in the column and on a page; the last is only on pages.
+KINDS = ("done", "lastbit", "destroyed", "noack", "restart", "idle")
+DONE, LASTBIT, DESTROYED, NOACK, RESTART, IDLE = range(6)
+#: What became of an item, by its number; `waiting` is at the end of the run, `unread` at the close of its socket.
+FATES = ("taken", "waiting", "unread", "dropped")
+TAKEN, WAITING, UNREAD, DROPPED = range(4)
+
+KIND_NUMBERS = {kind: number for number, kind in enumerate(KINDS)}
+
+T = TypeVar("T")
+#: The transmit and receive error count of an interface.
+Counts = tuple[int, int]
+
+
+class Places(defaultdict[T, int]):
+    """Each value once, with its place; one that is not there yet gets the next."""
+
+    def __init__(self, *values: T) -> None:
+        super().__init__(itertools.count(len(values)).__next__, zip(values, range(len(values))))
+        self._all: list[T] = []
+
+    @property
+    def all(self) -> list[T]:
+        """The values by their places."""
+        fresh = itertools.islice(reversed(self), len(self) - len(self._all))
+        self._all += [*fresh][::-1]
+        return self._all
+
+    def places_of(self, values: Iterable[T]) -> list[int]:
+        """Returns the places of values."""
+        return [*map(self.__getitem__, values)]
+
+
+class WireFrame:
+    """A data, remote or FD frame as the record spells it, with what arbitration and filters look at."""
+
+    __slots__ = ("text", "word", "bits", "is_fd")
+
+    def __init__(self, text: str) -> None:
+        identifier, payload = text.split("#", 1)
+        remote = payload.startswith("R")
+        self.text = text
+        self.is_fd = is_fd(text)
+        self.word = int(identifier, 16) | (EXTENDED if len(identifier) == 8 else 0) | (REMOTE if remote else 0)
+        self.bits = arbitration_bits(identifier, "1" if remote else "0")
+
+
+@functools.lru_cache(maxsize=4096)
+def arbitration_bits(identifier: str, rtr: str) -> str:
+    """The bits that arbitration compares (Bosch CAN 2.0), with blanks between fields, at the same places in all frames.
+
+    An FD frame has those of a data frame.
+    """
+    number = int(identifier, 16)
+    if len(identifier) == 3:
+        return f"{number:011b} {rtr}0"
+    bits = f"{number:029b}"
+    return f"{bits[:11]} 11 {bits[11:]} {rtr}"
+
+
+@dataclass
+class Step:
+    """A tried attempt or a restart. Interfaces are numbers here.
+
+    An attempt that restarts interfaces is followed by a step for each, with the same entry.
+    """
+
+    __slots__ = (
+        "kind",
+        "entry",
+        "moment",
+        "iface",
+        "attempt",
+        "number",
+        "text",
+        "verdict",
+        "accepted",
+        "off",
+        "hit",
+        "contenders",
+        "counts",
+        "waiting",
+        "idle",
+    )
+    #: done, lastbit, destroyed, noack or restart.
+    kind: str
+    entry: int
+    moment: str
+    #: The winner, or who was restarted.
+    iface: int
+    #: Its number among the attempts; of a restart that of the next attempt.
+    attempt: int
+    number: int
+    text: str
+    verdict: str
+    accepted: Sequence[int]
+    off: Sequence[int]
+    hit: Sequence[int]
+    #: The frame of each interface that takes part.
+    contenders: list[tuple[int, WireFrame]]
+    #: After the step: transmit and receive count of each interface.
+    counts: Sequence[Counts]
+    #: Before the step: how many frames wait at each interface.
+    waiting: Sequence[int]
+    #: How many attempts were idle since the step before. One that restarts interfaces counts for the first of them.
+    idle: int
+
+
+@dataclass
+class Rows:
+    """Steps that are not in their columns yet. What few of them have is by their numbers among these."""
+
+    kinds: Sequence[int]
+    #: As bytes of the columns.
+    accepted: Sequence[bytes]
+    off: Sequence[bytes]
+    entries: list[int]
+    #: As lines have them.
+    moments: Sequence[str]
+    verdicts: Sequence[str]
+    ifaces: Sequence[int]
+    numbers: Sequence[str]
+    frames: Sequence[str]
+    #: Times on the wire, where lines have them.
+    wires: Sequence[Optional[tuple[int, ...]]]
+    #: How many frames waited.
+    waiting: Sequence[int]
+    #: The error message frames that it brought about, in the order of the steps.
+    errors: dict[int, list[str]] = field(default_factory=dict)
+    #: Who was hit.
+    hit: dict[int, int] = field(default_factory=dict)
+    #: The error counts after it, where they changed, as bytes of the column.
+    counts: dict[int, bytes] = field(default_factory=dict)
+
+
+class Steps(Sequence[Step]):
+    """The steps of a run. A column has a number for each; a step is made of them when it is asked for."""
+
+    def __init__(self, texts: Places[str], ifaces: Sequence[Interface]) -> None:
+        # Frames and verdicts have their places in the columns.
+        self.texts = texts
+        self.verdict_texts: Places[str] = Places()
+        self._all_ifaces = ifaces
+        self.kinds, self.ifaces, self.entries = array("B"), array("B"), array("I")
+        #: In microseconds.
+        self.moments = array("Q")
+        self.attempts, self.numbers, self.idle = array("I"), array("I"), array("I")
+        self.frames, self.verdicts = array("I"), array("I")
+        #: Of each step, for one interface after the other, how many frames wait before it, and its two counts after it.
+        self.waiting, self.counts = array("H"), array("H")
+        #: The steps that changed counts.
+        self.changed = array("I")
+        #: Sets of interfaces, bit i for interface i.
+        self.accepted, self.off, self.hit = array("H"), array("H"), array("H")
+        #: How many nanoseconds the frame takes the wire, and the attempt until the next one may begin; how many bits of the
+        #: frame go at the nominal bit rate, and at the one for data. All are 0 where the line does not say it.
+        self.frame_nanos, self.busy_nanos = array("I"), array("I")
+        self.nominal_bits, self.fast_bits = array("H"), array("H")
+        #: How many attempts there were.
+        self.tried = 0
+        # Of each interface the steps in which it tried a frame, among so many steps.
+        self._tries: "list[array[int]]" = []
+        self._sorted = 0
+
+    def __len__(self) -> int:
+        return len(self.kinds)
+
+    def extend(self, rows: Rows, idle: dict[int, int]) -> None:
+        """Adds these steps, with how many attempts were idle before some of them, or after the last one."""
+        first = len(self)
+        # Numbers of one or two bytes are quick as bytes, and others as lists.
+        self.kinds.frombytes(bytes(rows.kinds))
+        self.ifaces.frombytes(bytes(rows.ifaces))
+        self.accepted.frombytes(b"".join(rows.accepted))
+        self.off.frombytes(b"".join(rows.off))
+        self.entries.fromlist(rows.entries)
+        self.moments.fromlist([*map(int, " ".join(rows.moments).replace(".", "").split(" "))])
+        self.attempts.extend(self._numbered(self.kinds[first:]))
+        self.numbers.fromlist([*map(int, rows.numbers)])
+        self.frames.fromlist(self._places_of_frames(rows))
+        self.verdicts.fromlist(self.verdict_texts.places_of(rows.verdicts))
+        self.waiting.extend(by_iface(rows.waiting, len(self._all_ifaces)))
+        self._count(rows.counts, first)
+        self._note(self.hit, rows.hit, first)
+        self._note(self.idle, {step: count for step, count in idle.items() if step < len(self)})
+        wires = {row: wire for row, wire in enumerate(rows.wires) if wire} if any(rows.wires) else {}
+        for place, column in enumerate((self.frame_nanos, self.busy_nanos, self.nominal_bits, self.fast_bits)):
+            self._note(column, {row: wire[place] for row, wire in wires.items()}, first)
+
+    def _places_of_frames(self, rows: Rows) -> list[int]:
+        """The places of the frames; the error message frames that a step brings about get theirs after its frame."""
+        places, first = [], 0
+        for row, errors in rows.errors.items():
+            places += self.texts.places_of(rows.frames[first : row + 1])
+            self.texts.places_of(errors)
+            first = row + 1
+        return places + self.texts.places_of(rows.frames[first:])
+
+    def _numbered(self, kinds: "array[int]") -> Iterable[int]:
+        """The numbers of these attempts; a restart has that of the next one."""
+        first = self.tried
+        self.tried += len(kinds) - kinds.count(RESTART)
+        if self.tried - first == len(kinds):
+            return range(first, self.tried)
+        return itertools.accumulate(map(RESTART.__ne__, kinds[:-1]), initial=first)
+
+    def _note(self, column: "array[int]", numbers: dict[int, int], first: int = 0) -> None:
+        """Makes a column as long as the others: with these numbers, by the steps from this one on, else with 0."""
+        column.frombytes(bytes(column.itemsize * (len(self) - len(column))))
+        for row, number in numbers.items():
+            column[first + row] = number
+
+    def _count(self, counts: dict[int, bytes], first: int) -> None:
+        """Makes the column of the counts as long as the others: from these steps on they are these."""
+        lengths = map(operator.sub, [*counts, len(self) - first], [0, *counts])
+        wide = 2 * len(self._all_ifaces)
+        before = (self.counts[-wide:] or array("H", [0]) * wide).tobytes()
+        self.counts.frombytes(b"".join(map(operator.mul, [before, *counts.values()], lengths)))
+        self.changed.extend(map(first.__add__, counts))
+
+    @overload
+    def __getitem__(self, place: int) -> Step:
+        ...
+
+    @overload
+    def __getitem__(self, place: slice) -> list[Step]:
+        ...
+
+    def __getitem__(self, place: Union[int, slice]) -> Union[Step, list[Step]]:
+        chosen = range(len(self))[place]
+        return self._step(chosen) if isinstance(chosen, int) else list(map(self._step, chosen))
+
+    def _step(self, place: int) -> Step:
+        return Step(
+            KINDS[self.kinds[place]],
+            self.entries[place],
+            moment_of(self.moments[place]),
+            self.ifaces[place],
+            self.attempts[place],
+            self.numbers[place],
+            self.text(place),
+            self.verdict(place),
+            numbers_in(self.accepted[place]),
+            numbers_in(self.off[place]),
+            numbers_in(self.hit[place]),
+            self.contenders(place),
+            self.counts_after(place),
+            self.waiting_before(place),
+            self.idle[place],
+        )
+
+    def place_of(self, attempt: Optional[int]) -> Optional[int]:
+        """Returns where the attempt of this number is among the steps, if it is there."""
+        if attempt is None:
+            return None
+        # A restart has the number of the attempt after it.
+        place = bisect.bisect_right(self.attempts, attempt) - 1
+        return place if place >= 0 and self.attempts[place] == attempt and self.kinds[place] != RESTART else None
+
+    def places_of(self, kind: int, first: int = 0) -> list[int]:
+        """Returns which of the steps from the first one on are of this kind."""
+        if not self.count_of(kind):
+            return []
+        return [place for place in range(first, len(self)) if self.kinds[place] == kind]
+
+    def count_of(self, kind: int) -> int:
+        """Returns how many steps are of this kind."""
+        return self.kinds.tobytes().count(kind)
+
+    def text(self, place: int) -> str:
+        """Returns the frame of a step; the empty text of a restart."""
+        return self.texts.all[self.frames[place]]
+
+    def verdict(self, place: int) -> str:
+        """Returns the verdict of a step; the empty text of a restart."""
+        return self.verdict_texts.all[self.verdicts[place]]
+
+    def counts_row(self, place: int) -> "array[int]":
+        """Returns the counts after a step, two of each interface."""
+        wide = 2 * len(self._all_ifaces)
+        return self.counts[wide * place : wide * (place + 1)]
+
+    def counts_before(self, place: int) -> "array[int]":
+        """Returns the counts before a step, two of each interface."""
+        return self.counts_row(place - 1) if place else array("H", [0, 0]) * len(self._all_ifaces)
+
+    def counts_after(self, place: int) -> tuple[Counts, ...]:
+        """Returns the counts of each interface after a step."""
+        row = self.counts_row(place)
+        return tuple(zip(row[::2], row[1::2]))
+
+    def waiting_before(self, place: int) -> tuple[int, ...]:
+        """Returns how many frames wait at each interface before a step."""
+        wide = len(self._all_ifaces)
+        return tuple(self.waiting[wide * place : wide * (place + 1)])
+
+    def met(self, place: int) -> list[int]:
+        """Returns who took part in a step: each interface at which a frame waits."""
+        if self.kinds[place] == RESTART:
+            return []
+        return [iface for iface, count in enumerate(self.waiting_before(place)) if count]
+
+    def contenders(self, place: int) -> list[tuple[int, WireFrame]]:
+        """Returns who took part in a step, with their frames."""
+        return [(iface, WireFrame(self._next(iface, place))) for iface in self.met(place)]
+
+    def _next(self, iface: int, place: int) -> str:
+        """The frame that an interface tries next, from a step on; one that it never tries waits first in the end."""
+        if self.ifaces[place] == iface:
+            return self.text(place)
+        self._sort_tries()
+        tries = self._tries[iface]
+        later = bisect.bisect_left(tries, place)
+        return self.text(tries[later]) if later < len(tries) else self._all_ifaces[iface].waiting[0]
+
+    def _sort_tries(self) -> None:
+        """Makes the lists of who tried frames as long as the run is."""
+        self._tries = self._tries or [array("I") for _ in self._all_ifaces]
+        for place in range(self._sorted, len(self)):
+            if self.kinds[place] != RESTART:
+                self._tries[self.ifaces[place]].append(place)
+        self._sorted = len(self)
+
+
+class Items:
+    """What interfaces handed to sockets, in this order, in columns."""
+
+    def __init__(self, sockets: Sequence[Socket]) -> None:
+        #: The number of the socket, and the step in which it got the item.
+        self.sockets, self.steps = array("I"), array("I")
+        #: The place of an error message frame among the texts; 0 where the item is the frame of its step.
+        self.errors = array("I")
+        self._all_sockets = sockets
+        # From where on items were dropped, and to where, one after the other: there may be a million.
+        self._dropped = array("I")
+
+    def __len__(self) -> int:
+        return len(self.sockets)
+
+    def extend(self, sockets: Sequence[bytes], counts: Iterable[int], first: int) -> None:
+        """Adds what each step from the first one on handed to sockets, and how many that are."""
+        for members, count in Counter(sockets).items():
+            for number in array("I", members):
+                self._all_sockets[number].handed += count
+        self.sockets.frombytes(b"".join(sockets))
+        steps: Iterator[Iterable[int]] = map(itertools.repeat, itertools.count(first), counts)
+        self.steps.fromlist([*itertools.chain.from_iterable(steps)])
+        self.errors.frombytes(bytes(self.errors.itemsize * (len(self.sockets) - len(self.errors))))
+
+    def drop(self, first: int, count: int) -> None:
+        """Items found no room: so many from this one on."""
+        self._dropped.extend((first, first + count))
+
+    def drops(self) -> Iterator[range]:
+        """Yields the places of the items that found no room, those in a row together."""
+        return map(range, self._dropped[::2], self._dropped[1::2])
+
+    def fates(self) -> "array[int]":
+        """Returns what became of each item."""
+        fates, queues = array("B", [TAKEN]) * len(self), self._queues()
+        for places in self.drops():
+            fates[places.start : places.stop] = array("B", [DROPPED]) * len(places)
+        # What a socket has not given are the last ones that it got.
+        left = Counter({socket.number: socket.queued - socket.taken for socket in self._all_sockets})
+        place, many = len(self), sum(left.values())
+        while many:
+            place -= 1
+            number = queues[place]
+            if left[number]:
+                fates[place] = WAITING if self._all_sockets[number].closed_after is None else UNREAD
+                left[number] -= 1
+                many -= 1
+        return fates
+
+    def ends(self) -> "array[int]":
+        """Returns the number of steps before each was taken or its socket closed; 0 where it was neither."""
+        # What a socket got first it gives first.
+        ends = [*map(ends_at, self._all_sockets), itertools.repeat(0)]
+        found: Iterator[int] = map(next, map(ends.__getitem__, self._queues()), itertools.repeat(0))
+        return array("I", found)
+
+    def _queues(self) -> "array[int]":
+        """The number of the socket in whose queue each item was; of one that found no room how many sockets there are."""
+        queues, none = array("I", self.sockets), array("I", [len(self._all_sockets)])
+        for places in self.drops():
+            queues[places.start : places.stop] = none * len(places)
+        return queues
+
+
+def ends_at(socket: Socket) -> Iterator[int]:
+    """After how many steps each item that comes to a socket leaves it, without an end."""
+    last = 0 if socket.closed_after is None else socket.closed_after + 1
+    return itertools.chain(socket.taken_after, itertools.repeat(last))
+
+
+def by_iface(waiting: Sequence[int], ifaces: int) -> "array[int]":
+    """How many frames wait at each of the interfaces, one after the other, by these numbers for all."""
+    each = operator.methodcaller("to_bytes", ifaces * WAITING_BITS // 8, "little")
+    found = array("H", b"".join(map(each, waiting)))
+    if sys.byteorder == "big":
+        found.byteswap()
+    return found
+
+
+def moment_of(micros: int) -> str:
+    """Returns the moment as a record spells it."""
+    return f"{micros // 1000000}.{micros % 1000000:06}"
+
+
+@functools.lru_cache(maxsize=1024)
+def numbers_in(members: int) -> tuple[int, ...]:
+    """Returns the interfaces of a set."""
+    return tuple(number for number in range(16) if members >> number & 1)

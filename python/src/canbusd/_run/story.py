@@ -1,0 +1,260 @@
+"""A run in words: its heading, its facts, and the events that a reader looks for."""
+
+import bisect
+import itertools
+import operator
+import re
+from collections import Counter
+from collections.abc import Iterable, Iterator, Sequence
+from typing import NamedTuple
+
+from canbusd._run.run_parts import WARNING, severity
+from canbusd._run.steps import DONE, KINDS, LASTBIT, NOACK, RESTART, Steps, numbers_in
+from canbusd._session.protocol import STATES
+from canbusd._text import times
+from canbusd.record import members_of
+from canbusd.replay import Replay
+
+OUTCOMES = {"done": "done", "lastbit": "failed in the last bit", "destroyed": "destroyed", "noack": "not acknowledged"}
+# Refusals and drops of one place are one event where no more steps than these are between them.
+GAP = 8
+# Steps in a row in which a count is as bad.
+SAME_LEVEL = re.compile(rb"\x00+|\x01+|\x02+|\x03+")
+REASONS = {"no-buffers": "its transmit queue was full", "bus-off": "it was bus off"}
+
+
+class Event(NamedTuple):
+    """Something that a reader looks for, at a step of the run; -1 before the first."""
+
+    step: int
+    kind: str
+    iface: int
+    words: str
+
+
+def joined(words: Sequence[str]) -> str:
+    """`a`, `a and b`, `a, b and c`."""
+    return " and ".join([", ".join(words[:-1]), words[-1]] if len(words) > 1 else words)
+
+
+def events_of(run: Replay, names: Sequence[str]) -> list[Event]:
+    """The events of a run, by their steps."""
+    found = [*changes_of(run, names), *second_copies(run, names), *refusals_of(run, names), *drops_of(run, names)]
+    return sorted(found, key=lambda event: event.step)
+
+
+def changes_of(run: Replay, names: Sequence[str]) -> Iterator[Event]:
+    """Changes of state, frames lost by bus off, and restarts."""
+    steps = run.steps
+    # The step in which each interface last went bus off.
+    went: dict[int, int] = {}
+    for number in sorted({*steps.places_of(RESTART), *level_changes(steps, len(names))}):
+        iface, now = steps.ifaces[number], steps.counts_row(number)
+        if steps.kinds[number] == RESTART:
+            back = f"{names[iface]} is back on the bus, with both counts 0"
+            yield Event(number, "restart", iface, back + outage_of(steps, went[iface], number))
+            continue
+        before = states_of(steps.counts_before(number))
+        for i in itertools.compress(itertools.count(), map(operator.ne, before, states_of(now))):
+            went[i] = number
+            yield from change_of(steps, number, i, names)
+
+
+def level_changes(steps: Steps, ifaces: int) -> Iterator[int]:
+    """The steps in which a count of an interface becomes as bad as it was not before, or no longer is, and maybe the first."""
+    for place in range(2 * ifaces if steps.changed else 0):
+        column = steps.counts[place :: 2 * ifaces]
+        if max(column, default=0) >= WARNING:
+            level = {count: severity(count) for count in set(column)}
+            levels = bytes(map(level.__getitem__, column))
+            yield from (found.start() for found in SAME_LEVEL.finditer(levels))
+
+
+def states_of(counts: Sequence[int]) -> list[int]:
+    """How bad the two counts of each interface are."""
+    return [severity(max(both)) for both in zip(counts[::2], counts[1::2])]
+
+
+def outage_of(steps: Steps, went: int, back: int) -> str:
+    """How long an interface was off, from one step to another: `; it was off for 203.1 ms, attempts 836 to 1,012`."""
+    micros = steps.moments[back] - steps.moments[went]
+    duration = f" for {duration_words(micros)}" if micros > 0 else ""
+    first, last = steps.attempts[went], steps.attempts[back] - 1
+    attempts = f"attempts {first:,} to {last:,}" if last > first else "and no frame was tried"
+    return f"; it was off{duration}, {attempts}"
+
+
+def duration_words(micros: int) -> str:
+    """A duration in the unit that fits: `40 µs`, `203.1 ms`, `1.3 s`, `2 min 5.0 s`."""
+    if micros < 1_000:
+        return f"{micros} µs"
+    if micros < 1_000_000:
+        return f"{micros / 1_000:.1f} ms"
+    minutes, rest = divmod(micros / 1_000_000, 60)
+    return f"{minutes:,.0f} min {rest:.1f} s" if minutes else f"{rest:.1f} s"
+
+
+class Climb(NamedTuple):
+    """What raised the transmit count of an interface since it was last 0."""
+
+    #: The number of its first attempt, and how many there were that changed a count.
+    first: int
+    attempts: int
+    #: How many attempts failed, by their verdicts or `noack`.
+    faults: Counter[str]
+
+    def words(self, names: Sequence[str]) -> str:
+        """`32 of its 33 attempts from attempt 1,000 on failed (31 x global bit, 1 x last bit)`, or `all its 32 attempts ..`."""
+        each = ", ".join(f"{count:,} x {fault_words(fault, names)}" for fault, count in self.faults.most_common())
+        failed, attempts = sum(self.faults.values()), times(self.attempts, "attempt")
+        which = f"all its {attempts}" if 1 < failed == self.attempts else f"{failed:,} of its {attempts}"
+        return f"{which} from attempt {self.first:,} on failed ({each})"
+
+
+def climb_to(steps: Steps, last: int, iface: int) -> Climb:
+    """What raised the transmit count of an interface up to this step of its own."""
+    found: list[int] = []
+    for place in reversed(range(bisect.bisect_right(steps.changed, last))):
+        number = steps.changed[place]
+        if steps.ifaces[number] == iface and steps.kinds[number] != RESTART:
+            found.append(number)
+            if not steps.counts_before(number)[2 * iface]:
+                break
+    failed = [number for number in reversed(found) if steps.kinds[number] != DONE]
+    faults = Counter(KINDS[NOACK] if steps.kinds[one] == NOACK else steps.verdict(one) for one in failed)
+    return Climb(steps.attempts[found[-1]], len(found), faults)
+
+
+def fault_words(fault: str, names: Sequence[str]) -> str:
+    """A verdict in words, or a missing acknowledgement."""
+    short = {"noack": "no acknowledgement", "lastbit": "last bit"}
+    return short.get(fault) or verdict_words(fault, names)
+
+
+def change_of(steps: Steps, number: int, i: int, names: Sequence[str]) -> Iterator[Event]:
+    """The change of the state of an interface in a step."""
+    tec, rec = steps.counts_after(number)[i]
+    name, state = names[i], severity(max(tec, rec))
+    if state == 3:
+        why = climb_to(steps, number, i).words(names)
+        yield Event(number, "bus off", i, f"{name} went bus off at transmit count {tec}: {why}")
+        lost = times(steps.waiting_before(number)[i], "frame")
+        yield Event(number, "lost", i, f"{name} lost {lost}: bus off empties its transmit queue")
+    else:
+        side = f"transmit count {tec}" if severity(tec) == state and state else f"receive count {rec}"
+        reason = side if state else "both counts below 96"
+        yield Event(number, STATES[state], i, f"{name} is error {STATES[state]}: {reason}")
+
+
+def second_copies(run: Replay, names: Sequence[str]) -> Iterator[Event]:
+    """Attempts by which a receiver accepted a frame that it had already: after a fault in the last bit."""
+    steps = run.steps
+    if not steps.count_of(LASTBIT):
+        return
+    # Of each interface the last frame that has to be sent again, and how many copies receivers have.
+    had: dict[int, tuple[int, Counter[int]]] = {}
+    for number, (kind, iface, accepted) in enumerate(zip(steps.kinds, steps.ifaces, steps.accepted)):
+        if not accepted or (iface not in had and kind != LASTBIT):
+            continue
+        frame, copies = had.get(iface, (-1, Counter()))
+        if frame != steps.numbers[number]:
+            copies = Counter()
+        again = [i for i in numbers_in(accepted) if copies[i]]
+        copies.update(numbers_in(accepted))
+        if again:
+            most = max(copies[i] for i in again)
+            who = joined([names[i] for i in again])
+            yield Event(number, "second copy", iface, f"{who} accepted {steps.text(number)} again: copy {most}")
+        if kind == LASTBIT:
+            had[iface] = steps.numbers[number], copies
+        else:
+            del had[iface]
+
+
+def refusals_of(run: Replay, names: Sequence[str]) -> Iterator[Event]:
+    """Sends that were refused because a queue was full or an interface off."""
+    for (iface, reason), steps in run.refused.items():
+        for first, count in groups(steps):
+            yield Event(first, "refused", iface, f"{names[iface]} refused {times(count, 'send')}: {REASONS[reason]}")
+
+
+def drops_of(run: Replay, names: Sequence[str]) -> Iterator[Event]:
+    """Items that found no room in the receive queue of a socket."""
+    items = run.items
+    found: dict[int, list[int]] = {}
+    for place in itertools.chain.from_iterable(items.drops()):
+        found.setdefault(items.sockets[place], []).append(items.steps[place])
+    for number, steps in found.items():
+        iface = run.sockets[number].iface
+        for first, count in groups(steps):
+            words = f"socket {number} on {names[iface]} dropped {times(count, 'item')}: its receive queue was full"
+            yield Event(first, "dropped", iface, words)
+
+
+def groups(steps: Iterable[int]) -> Iterator[tuple[int, int]]:
+    """The first of each run of steps that are close together, and how many there are."""
+    first = last = count = 0
+    for step in steps:
+        if count and step - last > GAP:
+            yield first, count
+            count = 0
+        first = first if count else step
+        last, count = step, count + 1
+    if count:
+        yield first, count
+
+
+def verdict_words(verdict: str, names: Sequence[str]) -> str:
+    """A verdict of the record in words: `local crc at can1` for `local-crc:0002`."""
+    kind, colon, _ = verdict.partition(":")
+    if not colon:
+        return {"good": "none", "lastbit": "last bit, at the sender only"}.get(kind, kind.replace("-", " "))
+    return f"{kind.replace('-', ' ')} at {', '.join(members_of(verdict, names)) or 'nobody'}"
+
+
+def counts_by_kind(run: Replay) -> dict[str, int]:
+    """How many steps of each kind there are."""
+    return {kind: run.steps.count_of(number) for number, kind in enumerate(KINDS)}
+
+
+def facts_of(run: Replay) -> str:
+    """What there is in the run, in numbers."""
+    counts = counts_by_kind(run)
+    outcomes = [f"{counts[kind]:,} {words}" for kind, words in OUTCOMES.items() if counts[kind]]
+    facts = [f"{times(run.attempts, 'attempt')}: {joined(outcomes)}"] if outcomes else []
+    facts += [times(run.idle, "idle attempt")] if run.idle else []
+    facts += [times(counts["restart"], "restart")] if counts["restart"] else []
+    end = ", which is cut off" if not run.is_whole else ""
+    return ". ".join([*facts, f"{times(run.entries, 'entry', 'entries')} in the record{end}."])
+
+
+def heading_of(run: Replay, names: Sequence[str], events: Sequence[Event]) -> tuple[str, int]:
+    """The run in one line: how large it is, and the worst that happened; and the step in which it did."""
+    size = f"{times(len(names), 'node')}, {times(run.attempts, 'attempt')}"
+    if not run.attempts:
+        return f"{size}: no frame was tried", 0
+    words, step = worst_of(run, names, events)
+    return f"{size}: {words}", step
+
+
+def worst_of(run: Replay, names: Sequence[str], events: Sequence[Event]) -> tuple[str, int]:
+    """The worst that happened, and the first step in which it did."""
+    firsts = {event.kind: event for event in reversed(events)}
+    if "bus off" in firsts:
+        offs = [(names[event.iface], run.steps.attempts[event.step]) for event in events if event.kind == "bus off"]
+        each = [f"{name} went bus off in attempt {attempt:,}" for name, attempt in offs]
+        many = "{:,} times bus off, first {} in attempt {:,}".format(len(offs), *offs[0])
+        return joined(each) if len(offs) <= 3 else many, firsts["bus off"].step
+    if "passive" in firsts:
+        first = firsts["passive"]
+        attempt = f"{run.steps.attempts[first.step]:,}"
+        return f"{names[first.iface]} became error passive in attempt {attempt}", first.step
+    if "dropped" in firsts:
+        dropped = sum(socket.dropped for socket in run.sockets)
+        return f"{times(dropped, 'item')} dropped, since receive queues were full", firsts["dropped"].step
+    kinds = run.steps.kinds
+    failed = len(kinds) - run.steps.count_of(DONE) - run.steps.count_of(RESTART)
+    if failed:
+        return f"{failed:,} failed", next(k for k, kind in enumerate(kinds) if kind not in (DONE, RESTART))
+    refused = sum(iface.refused for iface in run.ifaces)
+    return f"all done, {times(refused, 'send')} refused" if refused else "all done", 0

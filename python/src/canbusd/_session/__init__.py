@@ -1,0 +1,1 @@
+"""Sessions with a server or a bench: addresses, the words of the protocol, and what a bus of python-can builds on."""

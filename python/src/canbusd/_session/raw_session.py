@@ -1,0 +1,200 @@
+"""A session with a raw socket on an interface of a server: what it sends and receives, and how its interface is.
+
+The interface of python-can is made of it, and what a server sees by itself. Nothing here needs python-can; where it is
+installed, faults are its exceptions.
+"""
+
+import errno
+import time
+from collections.abc import Sequence
+from typing import Optional
+
+from canbusd._session.connection import LONGEST_POLL, POLL, Connection, NoAnswer, SessionRefused
+from canbusd._session.injection import NO_INTERFACE, InjectsFaults, no_interface
+from canbusd._session.protocol import ErrorCounters, Load, Stats, counters_of, load_of, refusal_in, stats_of
+from canbusd._text import times
+
+NO_BUFFERS, BUS_OFF, NOT_BUS_OFF, RECORD_FULL = "no buffers", "bus off", "not bus off", "record full"
+# What the system's own CAN sockets report.
+ERROR_CODES = {NO_BUFFERS: errno.ENOBUFS, BUS_OFF: errno.ENETDOWN}
+# What to do, where it can be said in a few words.
+CURES = {
+    NO_BUFFERS: ": the transmit queue is full; send(msg, timeout=1) waits for room, and a server's txqueue= makes more",
+    BUS_OFF: ": restart() brings the interface back, as the server's auto_restart= does",
+    RECORD_FULL: ": start the server again with a higher limit= (--limit), or with record='live' (--record live)",
+}
+
+
+def fault(kind: str, text: str, code: Optional[int] = None) -> Exception:
+    """The exception of python-can of this kind, if there is python-can, else a RuntimeError."""
+    try:
+        from can import exceptions
+    except ImportError:
+        return RuntimeError(text)
+    found: Exception = getattr(exceptions, kind)(text, code)
+    return found
+
+
+def refusal(text: str, after: str = "") -> Exception:
+    """The exception for what the server refused; its `error_code` is that of the system's own CAN sockets."""
+    return fault("CanOperationError", f"{text}{after}{CURES.get(text, '')}", ERROR_CODES.get(text))
+
+
+def with_cure(text: str) -> str:
+    """Returns a text with what to do, where it ends as a full record's does."""
+    return f"{text}{CURES[RECORD_FULL]}" if text.endswith(RECORD_FULL) else text
+
+
+class RawSession(InjectsFaults):
+    """A session in raw mode, whose socket has the options that these messages set.
+
+    Unless `notes_own` is None, each send is answered by the number of its frame, and these are noted for `is_own` if it is
+    true; an older server can do neither. OSError where there is no server, SessionRefused where it does not take the
+    session, the interface or an option.
+    """
+
+    # What is asked in the same write as the session is opened, so that nothing comes between.
+    _queries: Sequence[str] = ()
+
+    def __init__(
+        self, address: str, channel: str, messages: Sequence[str], timeout: float, notes_own: Optional[bool] = None
+    ) -> None:
+        #: The interface.
+        self.channel = channel
+        self._timeout = timeout
+        self._connection = Connection(address, timeout)
+        try:
+            opening = [f"open {channel}", "rawmode", *messages]
+            answers = self._connection.ask([*opening, *self._queries])
+            refused = next(filter(None, map(refusal_in, answers[: len(opening)])), "")
+            if refused == NO_INTERFACE:
+                refused = no_interface(self._connection)
+            if refused:
+                raise SessionRefused(f"{refused}{CURES.get(refused, '')}")
+            self._queried = answers[len(opening) :]
+            if notes_own is not None:
+                self._connection.ask_acks(notes_own)
+            if notes_own:
+                self._connection.ask(["origin 1"])
+        except BaseException:
+            self._connection.close()
+            raise
+
+    def is_own(self, number: int) -> bool:
+        """Whether a frame that this interface has sent, with this number there, is one's own."""
+        return self._connection.is_own(number)
+
+    def answers(self, messages: Sequence[str]) -> list[str]:
+        """Gives these messages at once, and returns what each gets: nothing for `ok`, the text of a refusal, or an answer."""
+        try:
+            return [refusal_in(answer) for answer in self._connection.ask(messages)]
+        except NoAnswer as reason:
+            raise self._failed("CanTimeoutError", str(reason)) from None
+        except ConnectionError as reason:
+            raise self._failed("CanOperationError", str(reason)) from None
+
+    def answer(self, message: str) -> str:
+        """Gives one message, as `answers` does."""
+        return self.answers([message])[0]
+
+    def frame(self, timeout: Optional[float]) -> Optional[str]:
+        """Returns the next message that hands over a frame, from `<` on; None where none came in this time, in seconds."""
+        try:
+            return self._connection.frame(timeout)
+        except ConnectionError as reason:
+            raise self._failed("CanOperationError", str(reason)) from None
+
+    def frames_at_hand(self) -> int:
+        """Returns how many frames were read already, and wait to be taken."""
+        return self._connection.frames_at_hand()
+
+    def fileno(self) -> int:
+        """Returns a file descriptor that is readable where `frame` would return at once, or raise."""
+        try:
+            return self._connection.fileno()
+        except ConnectionError as reason:
+            raise self._failed("CanOperationError", str(reason)) from None
+
+    def send(self, command: str, timeout: Optional[float] = None) -> None:
+        """Puts a frame into the transmit queue by this message; a full queue may make room within these seconds."""
+        answer = self.answer(command)
+        if answer == NO_BUFFERS and timeout is not None and timeout > 0:
+            deadline = time.monotonic() + timeout
+            before: Optional[Stats] = None
+            while answer == NO_BUFFERS:
+                before = self._departure(before, deadline)
+                answer = self.answer(command)
+        if answer:
+            raise refusal(answer)
+
+    def send_many(self, commands: Sequence[str], most: int, timeout: Optional[float] = None) -> None:
+        """Puts frames into the transmit queue in their order, of which `most` wait there at once, or as many as have room.
+
+        Without a timeout some have to be accepted within that of the session.
+        """
+        rest = [*commands]
+        total, window = len(rest), most
+        stats = self.stats()
+        deadline = time.monotonic() + (self._timeout if timeout is None else timeout)
+        while rest:
+            room = window - stats.waiting
+            if room < 1:
+                stats = self._departure(stats, deadline, f" after {total - len(rest)} of {times(total, 'message')}")
+                room = max(1, window - stats.waiting)
+            answers = self.answers([*rest[:room], "stats"])
+            stats = self._parsed(answers.pop(), stats_of)
+            refused = [command for command, answer in zip(rest, answers) if answer]
+            rest[: len(answers)] = refused
+            reason = next((answer for answer in answers if answer not in ("", NO_BUFFERS)), None)
+            if reason is not None:
+                raise refusal(reason, f" after {total - len(rest)} of {times(total, 'message')}")
+            if len(refused) < len(answers) and timeout is None:
+                deadline = time.monotonic() + self._timeout
+            window = max(1, stats.waiting) if refused else min(most, window + 1)
+
+    def restart(self, is_needed: bool = True) -> None:
+        """Brings the interface back from bus off; that it is not bus off is a fault unless it is not `is_needed`."""
+        answer = self.answer("restart")
+        if answer and (is_needed or answer != NOT_BUS_OFF):
+            raise refusal(answer)
+
+    def error_counters(self) -> ErrorCounters:
+        """Returns the state of the interface and its error counts."""
+        return self._parsed(self.answer("status"), counters_of)
+
+    def stats(self) -> Stats:
+        """Returns the counts of this socket and of its interface."""
+        return self._parsed(self.answer("stats"), stats_of)
+
+    def load(self) -> Load:
+        """Returns how busy the bus was, and its bit rates; without them `Load(0, 0, 0, 0)`."""
+        return self._parsed(self.answer("load"), load_of)
+
+    def close(self) -> None:
+        """Ends the session, and all that wait for it. It may be called again."""
+        self._connection.close()
+
+    def _answer(self, message: str) -> str:
+        return self.answer(message)
+
+    def _refusal(self, text: str) -> Exception:
+        return refusal(text)
+
+    def _failed(self, kind: str, text: str) -> Exception:
+        """The exception of python-can of this kind."""
+        return fault(kind, with_cure(text))
+
+    def _departure(self, before: Optional[Stats], deadline: float, after: str = "") -> Stats:
+        """Waits until a frame has left the transmit queue since these counts, and returns the counts then.
+
+        A refused send is an entry of the record; looking at the counts is none.
+        """
+        pause = POLL
+        while True:
+            now = self.stats()
+            if time.monotonic() >= deadline:
+                raise fault("CanTimeoutError", f"{NO_BUFFERS}{after}: the transmit queue stayed full", errno.ENOBUFS)
+            if before is None or now.done + now.lost != before.done + before.lost:
+                return now
+            time.sleep(min(pause, max(0.0, deadline - time.monotonic())))
+            pause = min(2 * pause, LONGEST_POLL)

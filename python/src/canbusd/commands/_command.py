@@ -1,0 +1,99 @@
+"""What the commands share: how a fault is reported, and the words that name a record and its interfaces."""
+
+import argparse
+import gc
+import os
+import signal
+import sys
+from collections.abc import Callable
+from typing import NoReturn, Optional
+
+from canbusd._process.rates import Rates
+from canbusd.record import BadRecord, Record, is_named, read_run
+
+
+class BadWords(ValueError):
+    """Why the words of a command are refused: the exit status is 2 then, as with those that argparse refuses."""
+
+
+def run_command(work: Callable[[], Optional[int]], name: str) -> NoReturn:
+    """Calls a command's work, and exits. A fault is reported in one line on standard error, with status 1.
+
+    Where the reader of standard output goes, as `head` does, and at Ctrl-C the command ends silently, as others do.
+    """
+    signal.signal(signal.SIGINT, signal.SIG_DFL)
+    # A long run is many objects and no cycles.
+    gc.disable()
+    try:
+        status = status_of(work)
+        sys.stdout.flush()
+    except BrokenPipeError:
+        forget_output()
+        sys.exit(128 + signal.SIGPIPE)
+    except OSError as fault:
+        forget_output()
+        sys.exit(f"{name}: {f'{fault.filename}: ' if fault.filename else ''}{fault.strerror or fault}")
+    except BadWords as fault:
+        print(f"{name}: {fault}", file=sys.stderr)
+        sys.exit(2)
+    except ValueError as fault:
+        sys.exit(f"{name}: {fault}")
+    except Exception as fault:
+        if not is_can_error(fault):
+            raise
+        sys.exit(f"{name}: {str(fault).removeprefix('canbusd: ')}")
+    sys.exit(status)
+
+
+def status_of(work: Callable[[], Optional[int]]) -> Optional[int]:
+    """The status of a command's work, also where the parser of its words ends it, which may have written help."""
+    try:
+        return work()
+    except SystemExit as end:
+        if isinstance(end.code, str):
+            raise
+        return end.code
+
+
+def forget_output() -> None:
+    """What could not be written is not tried again."""
+    os.dup2(os.open(os.devnull, os.O_WRONLY), sys.stdout.fileno())
+
+
+def is_can_error(fault: Exception) -> bool:
+    """Whether this is a fault of python-can, which is imported only where a command needs it."""
+    can = sys.modules.get("can")
+    return can is not None and isinstance(fault, can.CanError)
+
+
+def add_record(parser: argparse.ArgumentParser) -> None:
+    """Adds the words that name a record and its interfaces."""
+    parser.add_argument("record", metavar="RECORD", help="what `canbusd bench --record` or `canbusd serve --out` wrote")
+    parser.add_argument(
+        "--names",
+        metavar="NAME,..",
+        help="the names of the interfaces; without them those in the log beside the "
+        "record (can0.log beside can0.rec), if there is one",
+    )
+    parser.add_argument(
+        "--cut", action="store_true", help="the record may end before its last line, as that of a run that was killed"
+    )
+
+
+def replayed(path: str, names: Optional[str], cut: bool = False, rates: Optional[Rates] = None) -> Record:
+    """The record in this file, without its text, with what happened in its run."""
+    try:
+        return read_run(path, names, cut, rates)
+    except BadRecord as fault:
+        raise BadRecord(f"{path}: {fault}") from None
+
+
+def note_of_names(command: str, *runs: tuple[str, Record]) -> None:
+    """Says on standard error which interfaces have no name, in the first record in which some have none, and what helps."""
+    for path, record in runs:
+        nameless = [name for name in record.names if not is_named(name)]
+        if nameless:
+            names = ",".join(name if is_named(name) else "NAME" for name in record.names)
+            said = f"no log names {', '.join(nameless)}: name all interfaces with --names {names}"
+            print(f"{command}: note: {path}: {said}", file=sys.stderr)
+            return
