@@ -276,8 +276,19 @@ static int want_all(void) {
     return raw_want(filters, count);
 }
 
-static int copy_frames(struct task *task, const struct bcm_head *head, const char *data) {
+/* What follows the head of a message. */
+struct rest {
+    const char *data;
+    size_t length;
+};
+
+/* Frames that are missing are as memory that can't be read. */
+static int copy_frames(struct task *task, const struct bcm_head *head, struct rest rest) {
+    const char *data = rest.data;
     size_t each = frame_size(head->flags);
+    if (head->nframes > rest.length / each) {
+        return refused(EFAULT, "frames are missing");
+    }
     for (uint32_t i = 0; i < head->nframes; i++, data += each) {
         memcpy(&task->frames[i], data, each);
         if (task->frames[i].len > (is_fd(task) ? CANFD_MAX_DLEN : CAN_MAX_DLEN)) {
@@ -341,7 +352,7 @@ static bool is_bad(struct bcm_timeval time) {
 }
 
 /* Makes the task of this message, with its frames; one that there is already is changed. */
-static int set_up(const struct bcm_head *head, const char *data, int index, bool is_rx, struct task **made) {
+static int set_up(const struct bcm_head *head, struct rest rest, int index, bool is_rx, struct task **made) {
     struct task **place = find(head, index, is_rx), *fresh = NULL;
     if (head->flags & SETTIMER && (is_bad(head->ival1) || is_bad(head->ival2))) {
         return refused(EINVAL, "a time is below 0, above 400 days, or has a million microseconds");
@@ -353,7 +364,7 @@ static int set_up(const struct bcm_head *head, const char *data, int index, bool
         return refused(ENOMEM, "no memory for a task");
     }
     struct task *task = fresh ? fresh : *place;
-    int error = copy_frames(task, head, data);
+    int error = copy_frames(task, head, rest);
     if (error) {
         free_task(fresh);
         return error;
@@ -363,7 +374,7 @@ static int set_up(const struct bcm_head *head, const char *data, int index, bool
     return 0;
 }
 
-static int set_up_tx(const struct bcm_head *head, const char *data, int index) {
+static int set_up_tx(const struct bcm_head *head, struct rest rest, int index) {
     struct task *task;
     if (!index) {
         return refused(ENODEV, "to send, a task needs an interface");
@@ -371,7 +382,7 @@ static int set_up_tx(const struct bcm_head *head, const char *data, int index) {
     if (head->nframes < 1 || head->nframes > MOST_FRAMES) {
         return refused(EINVAL, "a task has 1 to 256 frames");
     }
-    int error = set_up(head, data, index, false, &task);
+    int error = set_up(head, rest, index, false, &task);
     if (error) {
         return error;
     }
@@ -388,7 +399,7 @@ static int set_up_tx(const struct bcm_head *head, const char *data, int index) {
     return 0;
 }
 
-static int set_up_rx(struct bcm_head *head, const char *data, int index) {
+static int set_up_rx(struct bcm_head *head, struct rest rest, int index) {
     struct task *task;
     if (head->flags & RX_FILTER_ID || !head->nframes) {
         head->flags |= RX_FILTER_ID;
@@ -400,7 +411,7 @@ static int set_up_rx(struct bcm_head *head, const char *data, int index) {
     if (head->flags & RX_RTR_FRAME && (head->nframes != 1 || !(head->can_id & CAN_RTR_FLAG))) {
         return refused(EINVAL, "RX_RTR_FRAME needs one frame, and CAN_RTR_FLAG");
     }
-    int error = set_up(head, data, index, true, &task);
+    int error = set_up(head, rest, index, true, &task);
     if (error) {
         return error;
     }
@@ -438,15 +449,14 @@ static int read_task(const struct bcm_head *head, int index, bool is_rx) {
     return 0;
 }
 
-static int send_once(const struct bcm_head *head, const char *data, size_t length, int index,
-                     const struct later *later) {
+static int send_once(const struct bcm_head *head, struct rest rest, int index, const struct later *later) {
     struct canfd_frame frame = {0};
-    if (head->nframes != 1 || length != frame_size(head->flags)) {
+    if (head->nframes != 1 || rest.length != frame_size(head->flags)) {
         return refused(EINVAL, "TX_SEND sends one frame");
     }
-    memcpy(&frame, data, length);
+    memcpy(&frame, rest.data, rest.length);
     struct session *to = index ? sessions_for(index) : NULL;
-    return to ? raw_send(to, &frame, head->flags & CAN_FD_FRAME, raw_waits() ? later : NULL)
+    return to ? raw_send(to, &frame, head->flags & CAN_FD_FRAME, later)
               : refused(ENODEV, "to send, a task needs an interface");
 }
 
@@ -461,24 +471,23 @@ static int bcm_sendmsg(const struct wire_request *request, const char *data, siz
         return refused(EINVAL, "the message has no head");
     }
     memcpy(&head, data, HEAD);
-    data += HEAD;
-    length -= HEAD;
+    struct rest rest = {data + HEAD, length - HEAD};
     int index = bound_index ? bound_index : request->ifindex == WIRE_BOUND ? 0 : request->ifindex;
     bool has_frames = head.opcode == TX_SETUP || (head.opcode == RX_SETUP && !(head.flags & RX_FILTER_ID));
-    if (length % frame_size(head.flags) || (has_frames && head.nframes > length / frame_size(head.flags))) {
-        return refused(EINVAL, "frames are missing, or of the wrong size");
+    if (rest.length % frame_size(head.flags)) {
+        return refused(EINVAL, "frames are of the wrong size");
     }
     reply->value = (int32_t)(HEAD + (has_frames               ? head.nframes * frame_size(head.flags)
-                                     : head.opcode == TX_SEND ? length
+                                     : head.opcode == TX_SEND ? rest.length
                                                               : 0));
     switch (head.opcode) {
-    case TX_SETUP: return set_up_tx(&head, data, index);
-    case RX_SETUP: return set_up_rx(&head, data, index);
+    case TX_SETUP: return set_up_tx(&head, rest, index);
+    case RX_SETUP: return set_up_rx(&head, rest, index);
     case TX_DELETE: return delete_task(&head, index, false);
     case RX_DELETE: return delete_task(&head, index, true);
     case TX_READ: return read_task(&head, index, false);
     case RX_READ: return read_task(&head, index, true);
-    case TX_SEND: return send_once(&head, data, length, index, &later);
+    case TX_SEND: return send_once(&head, rest, index, request_waits(request, reply_to) ? &later : NULL);
     default: return refused(EINVAL, "the broadcast manager has no such message");
     }
 }

@@ -6,6 +6,7 @@
 #include <fcntl.h>
 #include <poll.h>
 #include <signal.h>
+#include <sys/mman.h>
 #include <sys/socket.h>
 #include <sys/un.h>
 #include <unistd.h>
@@ -17,7 +18,7 @@ static const struct protocol *const protocols[CAN_NPROTO] = {
     [CAN_ISOTP] = &isotp_protocol,
 };
 const struct protocol *protocol;
-char program_name[WIRE_NAME_ROOM];
+struct wire_memory *memory;
 const char *refusal = "";
 
 int refused(int error, const char *why) {
@@ -40,7 +41,7 @@ static void leave_program(void) {
             close(fd);
         }
     }
-    if (null > PROGRAM) {
+    if (null > WIRE_MEMORY) {
         close(null);
     }
     setsid();
@@ -117,8 +118,10 @@ int main(void) {
             "canbusd-bridge: this is started by programs under canbusd-run, see canbusd-run(1)\n";
         return write(STDERR_FILENO, text, sizeof text - 1) < 0 ? 1 : 125;
     }
-    length -= (socklen_t)offsetof(struct sockaddr_un, sun_path) + 1;
-    memcpy(program_name, name.sun_path + 1, MIN(length, sizeof program_name - 1));
+    memory = mmap(NULL, sizeof *memory, PROT_READ | PROT_WRITE, MAP_SHARED, WIRE_MEMORY, 0);
+    if (memory == MAP_FAILED) {
+        return 125;
+    }
     leave_program();
     if (protocol->open) {
         protocol->open();

@@ -9,7 +9,6 @@
 #include <stddef.h>
 
 struct protocol {
-    bool has_frames;     /* what the program receives are frames: see shared/wire.h */
     bool keeps_requests; /* the request of a message stays in the socket while that is being sent, so that the program
                           * finds no room */
 
@@ -29,8 +28,8 @@ struct protocol {
     /* A signal ends the wait of the write whose reply comes by this pipe. */
     void (*cancel)(int asks);
 
-    /* Data that came without a request. */
-    void (*write)(const char *data, size_t length);
+    /* Takes data that came without a request, where they are no message. */
+    bool (*takes)(const char *data, size_t length);
     /* A session has brought a frame. Nothing can be sent now. */
     void (*receive)(const struct item *item, int index);
 

@@ -247,14 +247,7 @@ static int raw_sendmsg(const struct wire_request *request, const char *data, siz
     struct later later = request_later(request, reply_to, (int)length);
     /* A byte of data has the library say that this frame goes nowhere. */
     reply->length = length >= CAN_MTU && raw_is_error(data);
-    return raw_write(request->ifindex, data, length, raw_waits() ? &later : NULL);
-}
-
-/* A quick write, or the frame of a write that did not go through the library. */
-static void raw_take(const char *data, size_t length) {
-    if (!quick_serve(data, length)) {
-        raw_write(WIRE_BOUND, data, length, &(struct later){.reply_to = NOBODY});
-    }
+    return raw_write(request->ifindex, data, length, request_waits(request, reply_to) ? &later : NULL);
 }
 
 static int raw_bind(const struct sockaddr_can *address) {
@@ -284,12 +277,11 @@ static void raw_receive(const struct item *item, int index) {
 }
 
 const struct protocol raw_protocol = {
-    .has_frames = true,
     .bind = raw_bind,
     .setsockopt = raw_setsockopt,
     .getsockopt = raw_getsockopt,
     .sendmsg = raw_sendmsg,
-    .write = raw_take,
+    .takes = quick_serve,
     .receive = raw_receive,
     .due = raw_due,
 };

@@ -34,6 +34,13 @@ static ssize_t bcm_sendmsg(const struct socket *sock, const struct msghdr *messa
                : answer.value;
 }
 
+/* As in the kernel, nothing says that there was no room for all of a message. */
+static ssize_t bcm_recvmsg(const struct socket *sock, struct msghdr *message, int flags) {
+    ssize_t done = can_recvmsg(sock, message, flags);
+    message->msg_flags &= ~MSG_TRUNC;
+    return done;
+}
+
 const struct protocol bcm_protocol = {
     .family = PF_CAN,
     .type = SOCK_DGRAM,
@@ -44,5 +51,5 @@ const struct protocol bcm_protocol = {
     .setsockopt = can_setsockopt,
     .getsockopt = can_getsockopt,
     .sendmsg = bcm_sendmsg,
-    .recvmsg = can_recvmsg,
+    .recvmsg = bcm_recvmsg,
 };

@@ -23,7 +23,6 @@ struct protocol {
     socklen_t address_size; /* the least length of an address */
     int level;              /* of its own options; 0: it has none */
     int uncut_option;       /* that whose value is returned whole, or not at all; 0: there is none */
-    bool has_frames;  /* what it receives are frames, with a trailer after each; else a trailer before each message */
     bool lingers;     /* close waits until what was accepted has been sent */
     bool shows_error; /* a socket may have an error of its own, which poll shows */
 

@@ -3,6 +3,7 @@
 import os
 import re
 import shutil
+import signal
 import subprocess
 import tempfile
 
@@ -46,6 +47,8 @@ PLAIN = (
     "rows",
     "handles",
     "quick",
+    "passed_by",
+    "wrote_past",
 )
 
 
@@ -155,6 +158,16 @@ def test_waiting_signal():
     """a signal ends a write that waits for room: EINTR without SA_RESTART; a program that is killed has not sent it"""
     with serving("--pace", "60000", "--txqueue", "1", "can0,can1") as server, tempfile.TemporaryDirectory() as folder:
         assert passes(server, compiled("waiting", folder), options=["--wait"]) == "2 accepted\n"
+        server.end()
+
+
+@pytest.mark.parametrize("number", [signal.SIGINT, signal.SIGTERM, signal.SIGHUP])
+@pytest.mark.parametrize("tries", [40, pytest.param(1000, marks=pytest.mark.slow)])
+def test_stopped(number, tries, tmp_path):
+    """with --wait a signal that ends programs ends a write that waits, also where its handler has SA_RESTART"""
+    with serving("--pace", "60000", "--txqueue", "1", "can0,can1") as server:
+        path = compiled("stopped", str(tmp_path))
+        passes(server, path, str(int(number)), str(tries), options=["--wait"], patience=280)
         server.end()
 
 

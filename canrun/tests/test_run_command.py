@@ -403,6 +403,20 @@ def test_nested():
         server.end()
 
 
+#: Two binds that the server refuses.
+TWICE = """
+import errno, socket
+with socket.socket(29, 3, 1) as s:
+    for _ in range(2):
+        try:
+            s.bind(("can0",))
+        except OSError as fault:
+            assert fault.errno == errno.ENOSPC, fault
+        else:
+            raise AssertionError("bound")
+"""
+
+
 def test_debug():
     """CANBUSD_RUN_DEBUG=1 writes each refusal and the server's reason"""
     text = SEND.replace("s.send(", "s.send(b'x' * 15) if 0 else s.send(")
@@ -412,10 +426,11 @@ def test_debug():
         ended = run(server, "/usr/bin/python3", "-c", text, env=environment(server, CANBUSD_RUN_DEBUG="1"))
         assert (
             ended.returncode == 1
-            and "canbusd-run: bind: Network is down: the server says: record full\n" in ended.stderr
+            and "canbusd-run: bind: No space left on device: the server says: record full\n" in ended.stderr
         ), ended
-        quiet = run(server, "/usr/bin/python3", "-c", text)
-        assert "canbusd-run" not in quiet.stderr
+        # A full record is told apart from bus off, and a line says so in any case, once.
+        again = run(server, "/usr/bin/python3", "-c", TWICE)
+        assert again.stderr == "canbusd-run: bind: No space left on device: the server says: record full\n", again
         client.close()
         server.finish()
     with serving("can0,can1") as server:
@@ -463,6 +478,15 @@ def test_obstacles(tmp_path):
             started = run(server, *(word.format(built["static"]) for word in words))
             assert started.stderr == static.stderr, words
         assert run(server, "sh", "-c", built["dynamic"]).stderr == ""
+        # Programs that are linked statically, but have no such sockets, or run others that have the library.
+        assert run(server, "/usr/bin/python3", "-c", "import ctypes.util; ctypes.util.find_library('c')").stderr == ""
+        loader = os.path.realpath("/lib64/ld-linux-x86-64.so.2")
+        if os.path.exists(loader):
+            assert run(server, "sh", "-c", f"{loader} {built['dynamic']}").stderr == ""
+            assert run(server, loader, built["dynamic"]).stderr == ""
+        (tmp_path / "valgrind").mkdir()
+        shutil.copy(built["static"], tmp_path / "valgrind" / "memcheck-amd64-linux")
+        assert run(server, "sh", "-c", str(tmp_path / "valgrind" / "memcheck-amd64-linux")).stderr == ""
         small = run(server, str(tmp_path / "small"))
         assert small.stderr.startswith(note.format(tmp_path / "small", "is a 32-bit program"))
         if os.geteuid() == 0:
@@ -510,7 +534,8 @@ def test_unprivileged(tmp_path):
 
 
 def test_64_sockets():
-    """as many as the server has room for; one more is EUSERS (87), and again fine once one is closed"""
+    """as many as the server has room for; one more is EUSERS (87), which a line explains, and again fine once one is closed
+    """
     text = """
 import errno, socket
 def one():
@@ -536,8 +561,12 @@ else:
     raise AssertionError("no room")
 """
     with serving("can0,can1") as server:
-        passes(server, "/usr/bin/python3", "-c", text)
-        assert none_left(server)
+        ended = run(server, "/usr/bin/python3", "-c", text)
+        address = environment(server)["CANBUSD_ADDRESS"]
+        why = f"can0: the server at {address} has 64 sessions, as many as it can"
+        each = "each CAN socket takes one for each interface"
+        assert ended.stderr == f"canbusd-run: bind: Too many users: {why}; {each}\n", ended
+        assert ended.returncode == 0 and none_left(server)
         server.end()
 
 
@@ -587,7 +616,8 @@ with socket.socket(29, 3, 1) as s:
         ended = subprocess.run(words, env=env, capture_output=True, text=True, timeout=60, check=False)
         assert (ended.stdout, ended.stderr) == (
             "EUSERS\n",
-            "canbusd-run: bind: Too many users: the server says: too many sessions\n",
+            f"canbusd-run: bind: Too many users: can0: the server at {address} has 64 sessions, as many as it can; "
+            "each CAN socket takes one for each interface\n",
         )
 
 
