@@ -225,6 +225,9 @@ int can_socket(int type, int protocol);
 /* Starts the bridge of a socket whose other end is this, with the memory of this descriptor. Returns 0, or an errno. */
 int start_bridge(int end, int memory);
 
+/* The length of the server's transmit queues, as far as it can be seen. */
+int queue_length(void);
+
 /* The index of the interface of this name, or -1 and errno; the name of this index, or -1 and errno. */
 int index_of_name(const char *name);
 int name_of_index(int index, char name[IFNAMSIZ]);

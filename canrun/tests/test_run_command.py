@@ -570,6 +570,21 @@ else:
         server.end()
 
 
+@pytest.mark.parametrize("address", ["127.0.0.1:0", "[::1]:0", "./run.socket"])
+@pytest.mark.parametrize("words, length", [((), 10), (("--txqueue", "77"), 77), (("--txqueue=1024",), 1024)])
+def test_length_of_queue(address, words, length):
+    """SIOCGIFTXQLEN is that of the server"""
+    text = """
+import fcntl, socket, struct
+with socket.socket() as any:
+    asked = struct.pack("16sI12x", b"can0", 0)
+    print(struct.unpack("16sI12x", fcntl.ioctl(any, 0x8942, asked))[1])
+"""
+    with serving(*words, "can0,can1", address=address) as server:
+        assert passes(server, "/usr/bin/python3", "-c", text) == f"{length}\n"
+        server.end()
+
+
 #: In a bridge that is linked with this, connect returns once the server has closed, where it closes soon.
 LATE_CONNECT = """
 #include <poll.h>
