@@ -84,8 +84,8 @@ static uint64_t look(const struct wire_notes *received, struct span span, bool i
 
 static void keep_found(struct wire_notes *received, uint64_t at) {
     uint64_t before = __atomic_load_n(&received->found, __ATOMIC_RELAXED);
-    while (before < at && !__atomic_compare_exchange_n(&received->found, &before, at, true, __ATOMIC_RELAXED,
-                                                       __ATOMIC_RELAXED)) {
+    while (before < at &&
+           !__atomic_compare_exchange_n(&received->found, &before, at, true, __ATOMIC_RELAXED, __ATOMIC_RELAXED)) {
     }
 }
 

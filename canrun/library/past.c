@@ -184,8 +184,7 @@ static long call_file(long number, const long of[6]) {
     /* The offset is two words. */
     case SYS_preadv2: return preadv2(FD, AT(1, struct iovec *), AT(2, int), AT(3, off_t), AT(5, int));
     case SYS_pwritev2: return pwritev2(FD, AT(1, struct iovec *), AT(2, int), AT(3, off_t), AT(5, int));
-    case SYS_splice:
-        return splice(FD, AT(1, off64_t *), AT(2, int), AT(3, off64_t *), AT(4, size_t), AT(5, unsigned));
+    case SYS_splice: return splice(FD, AT(1, off64_t *), AT(2, int), AT(3, off64_t *), AT(4, size_t), AT(5, unsigned));
     case SYS_sendfile: return sendfile(FD, AT(1, int), AT(2, off_t *), AT(3, size_t));
     case SYS_ioctl: return ioctl(FD, AT(1, unsigned long), AT(2, void *));
     default: return close(FD);

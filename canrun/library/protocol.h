@@ -23,8 +23,8 @@ struct protocol {
     socklen_t address_size; /* the least length of an address */
     int level;              /* of its own options; 0: it has none */
     int uncut_option;       /* that whose value is returned whole, or not at all; 0: there is none */
-    bool lingers;     /* close waits until what was accepted has been sent */
-    bool shows_error; /* a socket may have an error of its own, which poll shows */
+    bool lingers;           /* close waits until what was accepted has been sent */
+    bool shows_error;       /* a socket may have an error of its own, which poll shows */
 
     /* The calls. NULL: the kernel's own. Memory that they name is the program's, but for that of a message itself and
      * of the list of its pieces. */

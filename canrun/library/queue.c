@@ -1,5 +1,5 @@
-/* The length of a transmit queue, for SIOCGIFTXQLEN. No message of the server has it, so it is taken from the command line
- * of the process that listens at the server's address, where that can be seen. */
+/* The length of a transmit queue, for SIOCGIFTXQLEN. No message of the server has it, so it is taken from the command
+ * line of the process that listens at the server's address, where that can be seen. */
 #define _GNU_SOURCE
 #include "library.h"
 
@@ -130,9 +130,9 @@ int queue_length(void) {
     int before = errno;
     const char *text = getenv("CANBUSD_ADDRESS");
     int found = !text || !address_read(text, &address) ? 0
-                : address.is_path       ? process_at_path(&address)
-                : is_here(address.host) ? process_at_port(address.port)
-                                        : 0;
+                : address.is_path                      ? process_at_path(&address)
+                : is_here(address.host)                ? process_at_port(address.port)
+                                                       : 0;
     snprintf(process, sizeof process, "%d", found);
     int length = found > 0 ? length_of_process(process) : USUAL;
     errno = before;

@@ -64,8 +64,8 @@ static ssize_t refuse_control(const struct socket *sock, int index) {
     char name[IFNAMSIZ];
     struct answer answer = {0};
     if (index == WIRE_BOUND) {
-        index = ask(sock->fd, "sendmsg", &(struct wire_request){.kind = WIRE_ADDRESS}, NULL, 0, &answer) ? 0
-                                                                                                        : answer.value;
+        index =
+            ask(sock->fd, "sendmsg", &(struct wire_request){.kind = WIRE_ADDRESS}, NULL, 0, &answer) ? 0 : answer.value;
     }
     return fail(index && !name_of_index(index, name) ? error : ENXIO);
 }

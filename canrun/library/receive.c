@@ -81,8 +81,10 @@ static int error_of(int fd) {
 }
 
 static ssize_t refuse_read(int error) {
-    return error == ENODEV ? no_device() : refuse("read", error, "a message has not come whole, or a write went past "
-                                                                 "canbusd-run and was refused");
+    return error == ENODEV ? no_device()
+                           : refuse("read", error,
+                                    "a message has not come whole, or a write went past "
+                                    "canbusd-run and was refused");
 }
 
 int take_shown(int fd) {

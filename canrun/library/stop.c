@@ -63,8 +63,7 @@ static bool is_ours(const struct sigaction *action) {
 static void replace(size_t at) {
     struct sigaction action;
     bool has_handler = !sigaction(numbers[at], NULL, &action) &&
-                       (action.sa_flags & SA_SIGINFO ||
-                        (action.sa_handler != SIG_DFL && action.sa_handler != SIG_IGN));
+                       (action.sa_flags & SA_SIGINFO || (action.sa_handler != SIG_DFL && action.sa_handler != SIG_IGN));
     if (has_handler && !is_ours(&action)) {
         programs[at] = action;
         action.sa_flags |= SA_SIGINFO;

@@ -100,7 +100,7 @@ struct wire_loan {
 
 /* What is known of a datagram besides its bytes. */
 struct wire_note {
-    uint64_t from; /* how many bytes the datagrams before it have, since the socket was made */
+    uint64_t from;        /* how many bytes the datagrams before it have, since the socket was made */
     uint64_t nanoseconds; /* the server's moment, since 1970 */
     int32_t ifindex;
     uint32_t dropped;       /* frames lost before this one, where SO_RXQ_OVFL asks for it */
@@ -110,8 +110,8 @@ struct wire_note {
     uint32_t length;
     uint8_t head[20]; /* its first bytes */
 };
-/* More than a socket has room for: the bridge gives it no more than WIRE_ROOM, and the kernel counts more than 512 bytes
- * for each datagram. */
+/* More than a socket has room for: the bridge gives it no more than WIRE_ROOM, and the kernel counts more than 512
+ * bytes for each datagram. */
 #define WIRE_NOTES 2048
 #define WIRE_ROOM (WIRE_NOTES * 512)
 

@@ -534,8 +534,7 @@ def test_unprivileged(tmp_path):
 
 
 def test_64_sockets():
-    """as many as the server has room for; one more is EUSERS (87), which a line explains, and again fine once one is closed
-    """
+    """as many as the server has room for; one more is EUSERS (87), which a line explains, and again fine once one is closed"""
     text = """
 import errno, socket
 def one():

@@ -23,7 +23,8 @@ static void is_whole(ssize_t (*get)(char *room, size_t length), size_t room) {
     struct can_frame frame = frame_of(0x123, ++number);
     struct canfd_frame longer = fd_frame(++number);
     longer.flags = CANFD_FDF;
-    CHECK(write(writer, &frame, sizeof frame) == sizeof frame && write(writer, &longer, sizeof longer) == sizeof longer);
+    CHECK(write(writer, &frame, sizeof frame) == sizeof frame &&
+          write(writer, &longer, sizeof longer) == sizeof longer);
     memset(data, 0x55, sizeof data);
     CHECK(comes(reader, PATIENCE));
     CHECK(get(data, room) == (ssize_t)(room < sizeof frame ? room : sizeof frame));
@@ -90,8 +91,8 @@ static bool start_uring(void) {
     }
     size_t size = params.cq_off.cqes + params.cq_entries * sizeof *uring.ends;
     char *ring = mmap(NULL, size, PROT_READ | PROT_WRITE, MAP_SHARED, uring.fd, IORING_OFF_SQ_RING);
-    uring.requests = mmap(NULL, params.sq_entries * sizeof *uring.requests, PROT_READ | PROT_WRITE, MAP_SHARED, uring.fd,
-                          IORING_OFF_SQES);
+    uring.requests = mmap(NULL, params.sq_entries * sizeof *uring.requests, PROT_READ | PROT_WRITE, MAP_SHARED,
+                          uring.fd, IORING_OFF_SQES);
     CHECK(ring != MAP_FAILED && (void *)uring.requests != MAP_FAILED);
     uring.tail = (unsigned *)(void *)(ring + params.sq_off.tail);
     uring.mask = (unsigned *)(void *)(ring + params.sq_off.ring_mask);
