@@ -182,9 +182,13 @@ int share_make(const char *name);
 /* ---- notes.c: what is known of a datagram besides its bytes ---- */
 
 /* Finds the note of a datagram that has just been read, or looked at (`is_peeked`), and that begins with these bytes.
- * False where there is none. */
+ * False where there are no notes. */
 bool note_of(struct wire_memory *memory, int fd, bool is_peeked, const void *head, size_t length,
              struct wire_note *note);
+
+/* Whether this process looks for notes, and that one was read from this socket without. */
+bool notes_are_looked_for(void);
+void note_plain_read(struct wire_notes *received);
 
 /* The moment of the datagram that was read last, by whomever; 0 before that. */
 uint64_t last_moment(const struct wire_memory *memory, int fd);

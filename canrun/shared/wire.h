@@ -112,16 +112,17 @@ struct wire_note {
 };
 /* More than a socket has room for: the bridge gives it no more than WIRE_ROOM, and the kernel counts more than 512
  * bytes for each datagram. */
-#define WIRE_NOTES 2048
-#define WIRE_ROOM (WIRE_NOTES * 512)
+#define WIRE_NOTES 8192
+#define WIRE_ROOM (WIRE_NOTES / 4 * 512)
 
 /* The notes of the last datagrams. Which one is that of a datagram that was read is seen by how much is left in the
  * socket; so it does not matter who has read the others, or how. */
 struct wire_notes {
-    uint64_t put;   /* bytes of all datagrams that are in the socket, or were read */
-    uint64_t meant; /* the same, with those that are being put there */
-    uint64_t count; /* of datagrams that have notes */
-    uint64_t found; /* of these, up to the last whose note was found */
+    uint64_t put;      /* bytes of all datagrams that are in the socket, or were read */
+    uint64_t meant;    /* the same, with those that are being put there */
+    uint64_t count;    /* of datagrams that have notes */
+    uint64_t found;    /* of these, up to the last whose note was found */
+    uint32_t is_mixed; /* some are read without a look for their notes */
     struct wire_note notes[WIRE_NOTES];
 };
 

@@ -124,7 +124,8 @@ static void notes_are_right(void) {
         struct can_frame frame;
         socklen_t length = sizeof from;
         int own = i % 3 == 0;
-        send_numbered(own ? reader : writer, 0x200, i / 7);
+        /* Of equal frames the bridge may still be handing over the last, which is waited for once one was passed by. */
+        send_numbered(own ? reader : writer, 0x200, i < 7 ? i : i / 7);
         CHECK(comes(reader, PATIENCE));
         if (i % 2) {
             CHECK(by_instruction(data, sizeof data) == sizeof frame);
