@@ -139,6 +139,18 @@ static void notes_are_right(void) {
     }
 }
 
+/* Streams that are no sockets are as they were. */
+static void other_streams(void) {
+    char *text = NULL;
+    size_t size;
+    FILE *memory = open_memstream(&text, &size), *file = tmpfile(), *copy = fdopen(dup(fileno(file)), "w+");
+    FAILS(fileno(memory), EBADF);
+    CHECK(fprintf(memory, "text") == 4 && fclose(memory) == 0 && !strcmp(text, "text"));
+    CHECK(copy && fwrite("text", 1, 4, copy) == 4 && fclose(copy) == 0);
+    CHECK(fseek(file, 0, SEEK_END) == 0 && ftell(file) == 4 && fclose(file) == 0);
+    free(text);
+}
+
 int main(void) {
     static const size_t rooms[] = {16, 72, 100, 40, 8, 17, 300};
     writer = bound("can0");
@@ -156,6 +168,7 @@ int main(void) {
         }
     }
     notes_are_right();
+    other_streams();
     for (unsigned i = 0; i < 100; i++) {
         char data[16];
         struct can_frame frame = frame_of(0x123, i);
