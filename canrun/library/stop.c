@@ -34,7 +34,8 @@ static void end_waits(void) {
     const struct wire_request request = {.kind = WIRE_CANCEL};
     for (struct wait *wait = waits; wait < waits + WAITS; wait++) {
         if (!change(wait, BEGUN, ENDED) && change(wait, ASKED, ENDING)) {
-            put_request(wait->fd, wait->reply_from, &request, NULL, 0);
+            while (put_request(wait->fd, wait->reply_from, &request, NULL, 0) == EINTR) {
+            }
             __atomic_store_n(&wait->state, ENDED, __ATOMIC_RELEASE);
         }
     }
