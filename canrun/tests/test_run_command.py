@@ -596,6 +596,15 @@ print(*seen)
         server.end()
 
 
+def test_limit_of_files():
+    """a program that may write no file has sockets all the same, and its limit stays"""
+    text = f"import resource; resource.setrlimit(resource.RLIMIT_FSIZE, (0, 1 << 30)); {SEND}"
+    text += "; assert resource.getrlimit(resource.RLIMIT_FSIZE) == (0, 1 << 30)"
+    with serving("can0,can1") as server:
+        passes(server, "/usr/bin/python3", "-c", text)
+        server.end()
+
+
 @pytest.mark.skipif(os.geteuid() != 0, reason="another user has to be this one's")
 def test_limit_of_processes():
     """a socket for which no process can be started is EAGAIN, as the process itself would be"""
