@@ -7,6 +7,7 @@
 #include <poll.h>
 #include <signal.h>
 #include <sys/mman.h>
+#include <sys/resource.h>
 #include <sys/socket.h>
 #include <sys/un.h>
 #include <unistd.h>
@@ -33,6 +34,7 @@ bool protocol_is_busy(void) {
 /* Nobody waits for a bridge: not who reads the program's output, nor who waits for its children, nor the terminal. */
 static void leave_program(void) {
     sigset_t none;
+    struct rlimit limit;
     int null = open("/dev/null", O_RDWR);
     for (int fd = 0; fd < PROGRAM; fd++) {
         if (null >= 0) {
@@ -43,6 +45,11 @@ static void leave_program(void) {
     }
     if (null > WIRE_MEMORY) {
         close(null);
+    }
+    /* The program's limit is for its own descriptors. */
+    if (!getrlimit(RLIMIT_NOFILE, &limit)) {
+        limit.rlim_cur = limit.rlim_max;
+        setrlimit(RLIMIT_NOFILE, &limit);
     }
     setsid();
     if (chdir("/")) {

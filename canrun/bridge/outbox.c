@@ -8,7 +8,7 @@
 #include <string.h>
 #include <sys/socket.h>
 
-#define RING 524288
+#define RING 1048576
 /* Messages that wait for a program which has not said how many should: as many again wait in its socket, or fewer. */
 #define USUAL_ROOM 4096
 /* From here on the server keeps what comes; the rest of the room is for what comes with the replies to commands. */

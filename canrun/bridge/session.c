@@ -308,7 +308,9 @@ struct session *session_start(int *error) {
     if (!address_read(text && *text ? text : ADDRESS_DEFAULT, &address)) {
         *error = refused(ENODEV, "CANBUSD_ADDRESS is no address");
     } else if ((session->fd = address_connect(&address)) < 0) {
-        *error = refused(ENODEV, "there is no server at CANBUSD_ADDRESS");
+        bool is_limit = errno == EMFILE || errno == ENFILE || errno == ENOMEM;
+        *error = is_limit ? refused(errno, "the bridge of the socket has no descriptor, or memory, for the server")
+                          : refused(ENODEV, "there is no server at CANBUSD_ADDRESS");
     } else {
         static uint32_t count;
         int domain = 0;

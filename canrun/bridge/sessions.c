@@ -19,9 +19,10 @@ static int explain(int error, const char *name) {
     if (error != EUSERS) {
         return error;
     }
-    snprintf(why, sizeof why,
-             "%s: the server at %.108s has 64 sessions, as many as it can; each CAN socket takes one for each interface",
-             name, address ? address : "CANBUSD_ADDRESS");
+    snprintf(
+        why, sizeof why,
+        "%s: the server at %.108s has 64 sessions, as many as it can; each CAN socket takes one for each interface",
+        name, address ? address : "CANBUSD_ADDRESS");
     return refused(error, why);
 }
 

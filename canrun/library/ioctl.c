@@ -9,8 +9,6 @@
 #include <stdarg.h>
 #include <string.h>
 
-/* The length of a transmit queue, as canbusd has it by default. */
-#define TXQUEUE 10
 #define SECOND 1000000000u
 
 static bool is_of_interface(unsigned long request) {
@@ -42,7 +40,7 @@ static int fact_of_interface(unsigned long request, struct ifreq *interface) {
     case SIOCGIFINDEX: interface->ifr_ifindex = index; break;
     case SIOCGIFMTU: interface->ifr_mtu = CANFD_MTU; break;
     case SIOCGIFFLAGS: interface->ifr_flags = IFF_UP | IFF_RUNNING | IFF_NOARP; break;
-    case SIOCGIFTXQLEN: interface->ifr_qlen = TXQUEUE; break;
+    case SIOCGIFTXQLEN: interface->ifr_qlen = queue_length(); break;
     case SIOCGIFMETRIC: interface->ifr_metric = 0; break;
     case SIOCGIFMAP: memset(&interface->ifr_map, 0, sizeof interface->ifr_map); break;
     case SIOCSIFFLAGS: return interface->ifr_flags & IFF_UP ? 0 : refuse("ioctl", EPERM, "interfaces are always up");

@@ -182,9 +182,13 @@ int share_make(const char *name);
 /* ---- notes.c: what is known of a datagram besides its bytes ---- */
 
 /* Finds the note of a datagram that has just been read, or looked at (`is_peeked`), and that begins with these bytes.
- * False where there is none. */
+ * False where there are no notes. */
 bool note_of(struct wire_memory *memory, int fd, bool is_peeked, const void *head, size_t length,
              struct wire_note *note);
+
+/* Whether this process looks for notes, and that one was read from this socket without. */
+bool notes_are_looked_for(void);
+void note_plain_read(struct wire_notes *received);
 
 /* The moment of the datagram that was read last, by whomever; 0 before that. */
 uint64_t last_moment(const struct wire_memory *memory, int fd);
@@ -224,6 +228,9 @@ int can_socket(int type, int protocol);
 
 /* Starts the bridge of a socket whose other end is this, with the memory of this descriptor. Returns 0, or an errno. */
 int start_bridge(int end, int memory);
+
+/* The length of the server's transmit queues, as far as it can be seen. */
+int queue_length(void);
 
 /* The index of the interface of this name, or -1 and errno; the name of this index, or -1 and errno. */
 int index_of_name(const char *name);

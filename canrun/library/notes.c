@@ -52,15 +52,20 @@ static struct range range_of(const struct wire_notes *received) {
     return (struct range){end > most ? end - most : 0, end};
 }
 
-/* Looks for the note, from the last on; returns its number from 1 on, or 0. The best is one whose place fits, and of
- * several the first that was not found before. One that was read by several at once, or that a filter of the socket has
- * cut, is found by its bytes. `is_one` says whether no other could be it. */
-static uint64_t look(const struct wire_notes *received, struct span span, bool is_peeked, const void *head,
-                     size_t length, bool *is_one) {
+/* What was found: the number of the note, from 1 on, or 0; whether no other could be it. */
+struct match {
+    uint64_t at;
+    bool is_one;
+};
+
+/* Looks for the note, from the last on. The best is one whose place fits, and of several the first after those that
+ * were found before. One that was read by several at once, or that a filter of the socket has cut, is found by its
+ * bytes. */
+static struct match look(const struct wire_notes *received, uint64_t found, struct span span, bool is_peeked,
+                         const void *head, size_t length) {
     struct range range = range_of(received);
-    uint64_t found = __atomic_load_n(&received->found, __ATOMIC_RELAXED), best = 0;
+    struct match best = {0, true};
     bool is_fitting = false;
-    *is_one = true;
     for (uint64_t at = range.end; at > range.first; at--) {
         const struct wire_note *note = &received->notes[(at - 1) % WIRE_NOTES];
         int64_t place = (int64_t)(note->from + (is_peeked ? 0 : note->length));
@@ -70,9 +75,8 @@ static uint64_t look(const struct wire_notes *received, struct span span, bool i
         if (place > span.most || memcmp(note->head, head, MIN(length, note->head_length)) != 0) {
             continue;
         }
-        if (!best || at > found) {
-            *is_one = !best;
-            best = at;
+        if (!best.at || at > found) {
+            best = (struct match){at, !best.at};
             is_fitting |= place >= span.least;
         }
         if (at <= found) {
@@ -82,31 +86,58 @@ static uint64_t look(const struct wire_notes *received, struct span span, bool i
     return best;
 }
 
-static void keep_found(struct wire_notes *received, uint64_t at) {
-    uint64_t before = __atomic_load_n(&received->found, __ATOMIC_RELAXED);
-    while (before < at && !__atomic_compare_exchange_n(&received->found, &before, at, true, __ATOMIC_RELAXED,
-                                                       __ATOMIC_RELAXED)) {
+/* The same, where several fit as the bridge is putting more into the socket. The next one after those that were found
+ * is it, if nothing is read without a look for its note; else the bridge is waited for. */
+static uint64_t find(const struct wire_notes *received, uint64_t found, int fd, bool is_peeked, const void *head,
+                     size_t length) {
+    bool are_all_found = found && !__atomic_load_n(&received->is_mixed, __ATOMIC_RELAXED);
+    for (int i = 0;; i++) {
+        struct span span = read_until_now(received, fd);
+        struct match match = look(received, found, span, is_peeked, head, length);
+        if (match.is_one || span.least == span.most || (are_all_found && match.at == found + 1) ||
+            !wait_for_bridge(i)) {
+            return match.at;
+        }
     }
 }
+
+static void keep_found(struct wire_notes *received, uint64_t before, uint64_t at) {
+    if (before && at > before + 1) {
+        note_plain_read(received);
+    }
+    while (before < at &&
+           !__atomic_compare_exchange_n(&received->found, &before, at, true, __ATOMIC_RELAXED, __ATOMIC_RELAXED)) {
+    }
+}
+
+/* Whether this process looks for notes. */
+static bool is_looking;
 
 bool note_of(struct wire_memory *memory, int fd, bool is_peeked, const void *head, size_t length,
              struct wire_note *note) {
     struct wire_notes *received = &memory->received;
-    uint64_t at = 0;
-    bool is_one = false;
-    for (int i = 0; !is_one && (!i || wait_for_bridge(i)); i++) {
-        struct span span = read_until_now(received, fd);
-        at = look(received, span, is_peeked, head, length, &is_one);
-        is_one |= span.least == span.most;
+    uint64_t found = __atomic_load_n(&received->found, __ATOMIC_RELAXED);
+    uint64_t at = find(received, found, fd, is_peeked, head, length);
+    __atomic_store_n(&is_looking, true, __ATOMIC_RELAXED);
+    if (at && !is_peeked) {
+        keep_found(received, found, at);
     }
-    if (!at) {
-        return false;
+    /* Who was so late that the note is gone gets the last one. */
+    at = at ? at : range_of(received).end;
+    if (at) {
+        *note = received->notes[(at - 1) % WIRE_NOTES];
     }
-    *note = received->notes[(at - 1) % WIRE_NOTES];
-    if (!is_peeked) {
-        keep_found(received, at);
+    return at;
+}
+
+bool notes_are_looked_for(void) {
+    return __atomic_load_n(&is_looking, __ATOMIC_RELAXED);
+}
+
+void note_plain_read(struct wire_notes *received) {
+    if (!__atomic_load_n(&received->is_mixed, __ATOMIC_RELAXED)) {
+        __atomic_store_n(&received->is_mixed, 1, __ATOMIC_RELAXED);
     }
-    return true;
 }
 
 uint64_t last_moment(const struct wire_memory *memory, int fd) {

@@ -141,10 +141,11 @@ EXPORT FILE *fdopen(int fd, const char *mode) {
     return stream;
 }
 
-/* The C library does not look at the number of such a stream. */
+/* The C library does not look at the number of such a stream; that of others that are no files is arbitrary. */
 #define IS_OF_FILE 0x2000
 EXPORT int fileno(FILE *stream) {
-    return stream && !(stream->_flags & IS_OF_FILE) && stream->_fileno >= 0 ? stream->_fileno : real()->fileno(stream);
+    bool is_ours = stream && !(stream->_flags & IS_OF_FILE) && stream->_fileno >= 0 && is_can_socket(stream->_fileno);
+    return is_ours ? stream->_fileno : real()->fileno(stream);
 }
 
 EXPORT int fileno_unlocked(FILE *stream) {
@@ -161,6 +162,8 @@ static long call_socket(long number, const long of[6]) {
     case SYS_bind: return bind(FD, AT(1, struct sockaddr *), AT(2, socklen_t));
     case SYS_connect: return connect(FD, AT(1, struct sockaddr *), AT(2, socklen_t));
     case SYS_getsockname: return getsockname(FD, AT(1, struct sockaddr *), AT(2, socklen_t *));
+    case SYS_getpeername: return getpeername(FD, AT(1, struct sockaddr *), AT(2, socklen_t *));
+    case SYS_shutdown: return shutdown(FD, AT(1, int));
     case SYS_setsockopt: return setsockopt(FD, AT(1, int), AT(2, int), AT(3, void *), AT(4, socklen_t));
     case SYS_getsockopt: return getsockopt(FD, AT(1, int), AT(2, int), AT(3, void *), AT(4, socklen_t *));
     case SYS_recvfrom:
@@ -184,8 +187,7 @@ static long call_file(long number, const long of[6]) {
     /* The offset is two words. */
     case SYS_preadv2: return preadv2(FD, AT(1, struct iovec *), AT(2, int), AT(3, off_t), AT(5, int));
     case SYS_pwritev2: return pwritev2(FD, AT(1, struct iovec *), AT(2, int), AT(3, off_t), AT(5, int));
-    case SYS_splice:
-        return splice(FD, AT(1, off64_t *), AT(2, int), AT(3, off64_t *), AT(4, size_t), AT(5, unsigned));
+    case SYS_splice: return splice(FD, AT(1, off64_t *), AT(2, int), AT(3, off64_t *), AT(4, size_t), AT(5, unsigned));
     case SYS_sendfile: return sendfile(FD, AT(1, int), AT(2, off_t *), AT(3, size_t));
     case SYS_ioctl: return ioctl(FD, AT(1, unsigned long), AT(2, void *));
     default: return close(FD);
@@ -205,6 +207,8 @@ EXPORT long(syscall)(long number, ...) {
     case SYS_bind:
     case SYS_connect:
     case SYS_getsockname:
+    case SYS_getpeername:
+    case SYS_shutdown:
     case SYS_setsockopt:
     case SYS_getsockopt:
     case SYS_recvfrom:

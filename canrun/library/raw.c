@@ -58,6 +58,18 @@ static int check_control(const struct msghdr *message) {
     return 0;
 }
 
+/* The kernel looks for the interface before it looks at control messages. */
+static ssize_t refuse_control(const struct socket *sock, int index) {
+    int error = errno;
+    char name[IFNAMSIZ];
+    struct answer answer = {0};
+    if (index == WIRE_BOUND) {
+        index =
+            ask(sock->fd, "sendmsg", &(struct wire_request){.kind = WIRE_ADDRESS}, NULL, 0, &answer) ? 0 : answer.value;
+    }
+    return fail(index && !name_of_index(index, name) ? error : ENXIO);
+}
+
 static ssize_t raw_sendmsg(const struct socket *sock, const struct msghdr *message, int flags) {
     struct wire_request request;
     struct answer answer = {0};
@@ -66,7 +78,7 @@ static ssize_t raw_sendmsg(const struct socket *sock, const struct msghdr *messa
         return -1;
     }
     if (message->msg_controllen && check_control(message)) {
-        return -1;
+        return refuse_control(sock, request.ifindex);
     }
     enum quick quick = ask_quickly(sock, &request, message, &answer);
     if (quick == QUICK_NONE || quick == QUICK_NO_ROOM) {

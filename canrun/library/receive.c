@@ -81,8 +81,10 @@ static int error_of(int fd) {
 }
 
 static ssize_t refuse_read(int error) {
-    return error == ENODEV ? no_device() : refuse("read", error, "a message has not come whole, or a write went past "
-                                                                 "canbusd-run and was refused");
+    return error == ENODEV ? no_device()
+                           : refuse("read", error,
+                                    "a message has not come whole, or a write went past "
+                                    "canbusd-run and was refused");
 }
 
 int take_shown(int fd) {
@@ -160,11 +162,23 @@ static ssize_t receive_noted(const struct socket *sock, struct msghdr *message, 
     return describe(sock, message, control, &note) ? -1 : length;
 }
 
+/* Notes that a message is read whose note nobody looks for. */
+static void note_plain(const struct socket *sock) {
+    struct shared *one = share_enter(sock);
+    if (one) {
+        note_plain_read(&one->memory->received);
+        share_leave(one);
+    }
+}
+
 ssize_t receive_message(const struct socket *sock, struct msghdr *message, int flags, ssize_t *length) {
     if (flags & MSG_ERRQUEUE) {
         return fail(EAGAIN);
     }
     if (message->msg_flags == BYTES_ONLY) {
+        if (notes_are_looked_for()) {
+            note_plain(sock);
+        }
         *length = take(sock->fd, message, flags);
     } else {
         struct shared *one = share_enter(sock);

@@ -12,6 +12,7 @@
 #include <string.h>
 #include <sys/mman.h>
 #include <sys/random.h>
+#include <sys/resource.h>
 #include <sys/syscall.h>
 
 /* A socket has one of these: one of the few from the hash of its name on. */
@@ -169,9 +170,25 @@ void share_borrow(struct shared *one, int fd) {
 
 /* ---- making it ---- */
 
+/* Gives the memory its size. It is no file of the program's, so the limit for these (ulimit -f) is not for it. */
+static bool set_size(int fd) {
+    struct rlimit before;
+    const rlim_t size = sizeof(struct wire_memory);
+    bool is_small = !getrlimit(RLIMIT_FSIZE, &before) && before.rlim_cur < size;
+    if (is_small && (before.rlim_max < size || setrlimit(RLIMIT_FSIZE, &(struct rlimit){size, before.rlim_max}))) {
+        errno = ENOMEM;
+        return false;
+    }
+    bool is_set = !ftruncate(fd, (off_t)size);
+    if (is_small) {
+        setrlimit(RLIMIT_FSIZE, &before);
+    }
+    return is_set;
+}
+
 int share_make(const char *name) {
     int fd = (int)syscall(SYS_memfd_create, "canbusd-socket", 1L); /* MFD_CLOEXEC */
-    struct wire_memory *memory = fd >= 0 && !ftruncate(fd, sizeof *memory) ? map(fd) : NULL;
+    struct wire_memory *memory = fd >= 0 && set_size(fd) ? map(fd) : NULL;
     if (!memory) {
         int error = errno;
         if (fd >= 0) {

@@ -34,7 +34,8 @@ static void end_waits(void) {
     const struct wire_request request = {.kind = WIRE_CANCEL};
     for (struct wait *wait = waits; wait < waits + WAITS; wait++) {
         if (!change(wait, BEGUN, ENDED) && change(wait, ASKED, ENDING)) {
-            put_request(wait->fd, wait->reply_from, &request, NULL, 0);
+            while (put_request(wait->fd, wait->reply_from, &request, NULL, 0) == EINTR) {
+            }
             __atomic_store_n(&wait->state, ENDED, __ATOMIC_RELEASE);
         }
     }
@@ -63,8 +64,7 @@ static bool is_ours(const struct sigaction *action) {
 static void replace(size_t at) {
     struct sigaction action;
     bool has_handler = !sigaction(numbers[at], NULL, &action) &&
-                       (action.sa_flags & SA_SIGINFO ||
-                        (action.sa_handler != SIG_DFL && action.sa_handler != SIG_IGN));
+                       (action.sa_flags & SA_SIGINFO || (action.sa_handler != SIG_DFL && action.sa_handler != SIG_IGN));
     if (has_handler && !is_ours(&action)) {
         programs[at] = action;
         action.sa_flags |= SA_SIGINFO;

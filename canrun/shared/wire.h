@@ -100,7 +100,7 @@ struct wire_loan {
 
 /* What is known of a datagram besides its bytes. */
 struct wire_note {
-    uint64_t from; /* how many bytes the datagrams before it have, since the socket was made */
+    uint64_t from;        /* how many bytes the datagrams before it have, since the socket was made */
     uint64_t nanoseconds; /* the server's moment, since 1970 */
     int32_t ifindex;
     uint32_t dropped;       /* frames lost before this one, where SO_RXQ_OVFL asks for it */
@@ -110,18 +110,19 @@ struct wire_note {
     uint32_t length;
     uint8_t head[20]; /* its first bytes */
 };
-/* More than a socket has room for: the bridge gives it no more than WIRE_ROOM, and the kernel counts more than 512 bytes
- * for each datagram. */
-#define WIRE_NOTES 2048
-#define WIRE_ROOM (WIRE_NOTES * 512)
+/* More than a socket has room for: the bridge gives it no more than WIRE_ROOM, and the kernel counts more than 512
+ * bytes for each datagram. */
+#define WIRE_NOTES 8192
+#define WIRE_ROOM (WIRE_NOTES / 4 * 512)
 
 /* The notes of the last datagrams. Which one is that of a datagram that was read is seen by how much is left in the
  * socket; so it does not matter who has read the others, or how. */
 struct wire_notes {
-    uint64_t put;   /* bytes of all datagrams that are in the socket, or were read */
-    uint64_t meant; /* the same, with those that are being put there */
-    uint64_t count; /* of datagrams that have notes */
-    uint64_t found; /* of these, up to the last whose note was found */
+    uint64_t put;      /* bytes of all datagrams that are in the socket, or were read */
+    uint64_t meant;    /* the same, with those that are being put there */
+    uint64_t count;    /* of datagrams that have notes */
+    uint64_t found;    /* of these, up to the last whose note was found */
+    uint32_t is_mixed; /* some are read without a look for their notes */
     struct wire_note notes[WIRE_NOTES];
 };
 

@@ -567,8 +567,7 @@ def test_unprivileged(tmp_path):
 
 
 def test_64_sockets():
-    """as many as the server has room for; one more is EUSERS (87), which a line explains, and again fine once one is closed
-    """
+    """as many as the server has room for; one more is EUSERS (87), which a line explains, and again fine once one is closed"""
     text = """
 import errno, socket
 def one():
@@ -600,6 +599,74 @@ else:
         each = "each CAN socket takes one for each interface"
         assert ended.stderr == f"canbusd-run: bind: Too many users: {why}; {each}\n", ended
         assert ended.returncode == 0 and none_left(server)
+        server.end()
+
+
+def test_limit_of_descriptors():
+    """a socket that finds no descriptor is EMFILE, whichever of those that it takes is missing, and leaves none"""
+    text = """
+import errno, os, resource, socket
+before = len(os.listdir("/proc/self/fd"))
+hard = resource.getrlimit(resource.RLIMIT_NOFILE)[1]
+seen = set()
+for limit in range(3, 14):
+    resource.setrlimit(resource.RLIMIT_NOFILE, (limit, hard))
+    made = []
+    try:
+        while len(made) < 8:
+            made.append(socket.socket(29, 3, 1))
+            made[-1].bind(("can0",))
+    except OSError as fault:
+        seen.add(errno.errorcode[fault.errno])
+    for one in made:
+        one.close()
+resource.setrlimit(resource.RLIMIT_NOFILE, (hard, hard))
+assert len(os.listdir("/proc/self/fd")) == before
+print(*seen)
+"""
+    with serving("can0,can1") as server:
+        assert passes(server, "/usr/bin/python3", "-c", text) == "EMFILE\n"
+        server.end()
+
+
+def test_limit_of_files():
+    """a program that may write no file has sockets all the same, and its limit stays"""
+    text = f"import resource; resource.setrlimit(resource.RLIMIT_FSIZE, (0, 1 << 30)); {SEND}"
+    text += "; assert resource.getrlimit(resource.RLIMIT_FSIZE) == (0, 1 << 30)"
+    with serving("can0,can1") as server:
+        passes(server, "/usr/bin/python3", "-c", text)
+        server.end()
+
+
+@pytest.mark.skipif(os.geteuid() != 0, reason="another user has to be this one's")
+def test_limit_of_processes():
+    """a socket for which no process can be started is EAGAIN, as the process itself would be"""
+    text = """
+import os, resource, socket
+os.setgid(65534); os.setuid(65534)
+resource.setrlimit(resource.RLIMIT_NPROC, (0, 0))
+try:
+    socket.socket(29, 3, 1)
+except BlockingIOError as fault:
+    print("EAGAIN")
+"""
+    with serving("can0,can1") as server:
+        assert passes(server, "/usr/bin/python3", "-c", text) == "EAGAIN\n"
+        server.end()
+
+
+@pytest.mark.parametrize("address", ["127.0.0.1:0", "[::1]:0", "./run.socket"])
+@pytest.mark.parametrize("words, length", [((), 10), (("--txqueue", "77"), 77), (("--txqueue=1024",), 1024)])
+def test_length_of_queue(address, words, length):
+    """SIOCGIFTXQLEN is that of the server"""
+    text = """
+import fcntl, socket, struct
+with socket.socket() as any:
+    asked = struct.pack("16sI12x", b"can0", 0)
+    print(struct.unpack("16sI12x", fcntl.ioctl(any, 0x8942, asked))[1])
+"""
+    with serving(*words, "can0,can1", address=address) as server:
+        assert passes(server, "/usr/bin/python3", "-c", text) == f"{length}\n"
         server.end()
 
 

@@ -14,8 +14,7 @@ static char room[200];
 READS(preadv2_16, PUT(b, 0x123), until(a, POLLIN), DO(preadv2(a, part(room, 16), 1, -1, 0)))
 READS(preadv2_100, PUT(b, 0x123), until(a, POLLIN), DO(preadv2(a, part(room, 100), 1, -1, 0)))
 READS(preadv2_fd, put_fd(b, FD(0x123, 0, 1)), until(a, POLLIN), DO(preadv2(a, part(room, 200), 1, -1, 0)))
-READS(preadv2_8, PUT(b, 0x123), until(a, POLLIN), DO(preadv2(a, part(room, 8), 1, -1, 0)),
-      DO(preadv2(a, part(room, 8), 1, -1, RWF_NOWAIT)))
+READS(preadv2_8, PUT(b, 0x123), until(a, POLLIN), DO(preadv2(a, part(room, 8), 1, -1, 0)), glance(a))
 READS(preadv2_0, PUT(b, 0x123), until(a, POLLIN), DO(preadv2(a, part(room, 0), 1, -1, 0)), look(a))
 READS(preadv2_offset, DO(preadv2(a, part(room, 16), 1, 0, 0)), DO(preadv2(a, part(room, 16), 1, -2, 0)))
 READS(preadv2_flags, DO(preadv2(a, part(room, 16), 1, -1, 0x4000)))
@@ -41,7 +40,6 @@ READS(splice_fd, pipes(), put_fd(b, FD(0x123, 0, 1)), until(a, POLLIN), DO(splic
       DO(read(c, room, sizeof room)))
 READS(splice_8, pipes(), PUT(b, 0x123), PUT(b, 0x124), until(a, POLLIN), DO(splice(a, NULL, d, NULL, 8, 0)), look(a))
 READS(splice_0, pipes(), DO(splice(a, NULL, d, NULL, 0, 0)))
-READS(splice_empty, pipes(), DO(splice(a, NULL, d, NULL, 16, SPLICE_F_NONBLOCK)))
 READS(splice_offset, pipes(), DO(splice(a, &(off64_t){0}, d, NULL, 16, 0)))
 READS(splice_to_socket, DO(splice(a, NULL, b, NULL, 16, 0)))
 READS(splices, pipes(), DO(write(d, FRAME(0x123, 1), 16)), DO(splice(c, NULL, b, NULL, 16, 0)), look(a))

@@ -23,7 +23,8 @@ static void is_whole(ssize_t (*get)(char *room, size_t length), size_t room) {
     struct can_frame frame = frame_of(0x123, ++number);
     struct canfd_frame longer = fd_frame(++number);
     longer.flags = CANFD_FDF;
-    CHECK(write(writer, &frame, sizeof frame) == sizeof frame && write(writer, &longer, sizeof longer) == sizeof longer);
+    CHECK(write(writer, &frame, sizeof frame) == sizeof frame &&
+          write(writer, &longer, sizeof longer) == sizeof longer);
     memset(data, 0x55, sizeof data);
     CHECK(comes(reader, PATIENCE));
     CHECK(get(data, room) == (ssize_t)(room < sizeof frame ? room : sizeof frame));
@@ -90,8 +91,8 @@ static bool start_uring(void) {
     }
     size_t size = params.cq_off.cqes + params.cq_entries * sizeof *uring.ends;
     char *ring = mmap(NULL, size, PROT_READ | PROT_WRITE, MAP_SHARED, uring.fd, IORING_OFF_SQ_RING);
-    uring.requests = mmap(NULL, params.sq_entries * sizeof *uring.requests, PROT_READ | PROT_WRITE, MAP_SHARED, uring.fd,
-                          IORING_OFF_SQES);
+    uring.requests = mmap(NULL, params.sq_entries * sizeof *uring.requests, PROT_READ | PROT_WRITE, MAP_SHARED,
+                          uring.fd, IORING_OFF_SQES);
     CHECK(ring != MAP_FAILED && (void *)uring.requests != MAP_FAILED);
     uring.tail = (unsigned *)(void *)(ring + params.sq_off.tail);
     uring.mask = (unsigned *)(void *)(ring + params.sq_off.ring_mask);
@@ -123,7 +124,8 @@ static void notes_are_right(void) {
         struct can_frame frame;
         socklen_t length = sizeof from;
         int own = i % 3 == 0;
-        send_numbered(own ? reader : writer, 0x200, i / 7);
+        /* Of equal frames the bridge may still be handing over the last, which is waited for once one was passed by. */
+        send_numbered(own ? reader : writer, 0x200, i < 7 ? i : i / 7);
         CHECK(comes(reader, PATIENCE));
         if (i % 2) {
             CHECK(by_instruction(data, sizeof data) == sizeof frame);
@@ -135,6 +137,18 @@ static void notes_are_right(void) {
         CHECK(from.can_ifindex == (int)if_nametoindex("can1"));
         CHECK((message.msg_flags & MSG_CONFIRM) == (own ? MSG_CONFIRM : 0));
     }
+}
+
+/* Streams that are no sockets are as they were. */
+static void other_streams(void) {
+    char *text = NULL;
+    size_t size;
+    FILE *memory = open_memstream(&text, &size), *file = tmpfile(), *copy = fdopen(dup(fileno(file)), "w+");
+    FAILS(fileno(memory), EBADF);
+    CHECK(fprintf(memory, "text") == 4 && fclose(memory) == 0 && !strcmp(text, "text"));
+    CHECK(copy && fwrite("text", 1, 4, copy) == 4 && fclose(copy) == 0);
+    CHECK(fseek(file, 0, SEEK_END) == 0 && ftell(file) == 4 && fclose(file) == 0);
+    free(text);
 }
 
 int main(void) {
@@ -154,6 +168,7 @@ int main(void) {
         }
     }
     notes_are_right();
+    other_streams();
     for (unsigned i = 0; i < 100; i++) {
         char data[16];
         struct can_frame frame = frame_of(0x123, i);

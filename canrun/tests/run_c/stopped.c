@@ -48,7 +48,8 @@ static int child(bool has_thread, int flags) {
         write_in_vain(&error);
         CHECK(ticks > 0);
     }
-    CHECK(sigaction(number, NULL, &after) == 0 && after.sa_handler == on_end && (after.sa_flags & (SA_RESTART | SA_SIGINFO)) == flags);
+    CHECK(sigaction(number, NULL, &after) == 0 && after.sa_handler == on_end &&
+          (after.sa_flags & (SA_RESTART | SA_SIGINFO)) == flags);
     return 0;
 }
 
