@@ -5,6 +5,7 @@
 #include "tell.h"
 
 #include <arpa/inet.h>
+#include <fcntl.h>
 #include <netinet/in.h>
 #include <netinet/tcp.h>
 #include <stdio.h>
@@ -106,12 +107,40 @@ static void check_peer(int fd, const struct sockaddr *to) {
     }
 }
 
+struct connection {
+    int fd;
+    const struct sockaddr *to;
+    socklen_t length;
+};
+
+/* For this call alone it does not block. */
+static long try_connect(void *given) {
+    struct connection *it = given;
+    int flags = (int)RAW(SYS_fcntl, it->fd, F_GETFL);
+    RAW(SYS_fcntl, it->fd, F_SETFL, flags | O_NONBLOCK);
+    long result = RAW(SYS_connect, it->fd, it->to, it->length);
+    RAW(SYS_fcntl, it->fd, F_SETFL, flags);
+    return result;
+}
+
+/* A listener may have no room for one more. */
+static long connect_unix(int fd, const struct sockaddr *to, socklen_t length) {
+    struct connection it = {fd, to, length};
+    if (RAW(SYS_fcntl, fd, F_GETFL) & O_NONBLOCK) {
+        return RAW(SYS_connect, fd, to, length);
+    }
+    uint64_t deadline = timeout_of(fd, POLLOUT);
+    long result = try_until(try_connect, &it, EAGAIN, deadline, deadline == NEVER);
+    return result == -ETIMEDOUT ? -EAGAIN : result;
+}
+
 EXPORT int connect(int fd, const struct sockaddr *to, socklen_t length) {
     my.has_talked = true;
+    cancel_point();
     if (run && port_of(to)) {
         send_at_once(fd);
     }
-    long result = RAW(SYS_connect, fd, to, length);
+    long result = run && to->sa_family == AF_UNIX ? connect_unix(fd, to, length) : RAW(SYS_connect, fd, to, length);
     if (run && (!result || result == -EINPROGRESS)) {
         check_peer(fd, to);
     }

@@ -128,5 +128,7 @@ __attribute__((constructor(103))) static void start(void) {
     begin_slot(index);
 #ifndef FOR_BRIDGE
     start_random();
+    begin_first_thread();
+    timers_find();
 #endif
 }

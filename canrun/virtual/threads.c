@@ -94,6 +94,8 @@ EXPORT int pthread_create(pthread_t *restrict thread, const pthread_attr_t *rest
     if (error) {
         free_slot(&run->slots[slot]);
         free(it);
+    } else {
+        run->slots[slot].thread = *thread; /* It waits for its turn, and may not have come to say so. */
     }
     return error;
 }
@@ -184,6 +186,11 @@ EXPORT int thrd_join(thrd_t thread, int *result) {
         *result = (int)(intptr_t)returned;
     }
     return thrd_success;
+}
+
+void begin_first_thread(void) {
+    my_slot()->thread = pthread_self();
+    pthread_setspecific(at_end, (void *)(uintptr_t)(PTHREAD_DESTRUCTOR_ITERATIONS - 1));
 }
 
 __attribute__((constructor(101))) static void make_key(void) {
