@@ -8,6 +8,7 @@
 #include "turns.h"
 
 #include <dirent.h>
+#include <errno.h>
 #include <stdio.h>
 #include <stdlib.h>
 #include <string.h>
@@ -28,39 +29,58 @@
 
 /* ---- programs that do not load the library ---- */
 
-/* Whether a process has what is ours, and whether the C library. Of one that ends the list may be cut; the stack comes
- * after the libraries. */
-static void find_libraries(uint32_t pid, bool *has_ours, bool *has_c) {
+/* What a process has mapped. */
+struct mapped {
+    bool library, memory, c_library, is_hidden;
+};
+
+/* Of one that ends the list may be cut; the stack comes after the libraries. */
+static struct mapped find_mapped(uint32_t pid) {
     char path[32], line[PATH_MAX + 200];
+    struct mapped mapped = {false, false, false, false};
     bool is_whole = false;
-    *has_ours = *has_c = false;
     snprintf(path, sizeof path, "/proc/%u/maps", pid);
     FILE *maps = fopen(path, "re");
+    mapped.is_hidden = !maps && errno == EACCES;
     while (maps && fgets(line, sizeof line, maps)) {
-        *has_ours |= strstr(line, LIBRARY) || strstr(line, MEMORY);
-        *has_c |= strstr(line, C_LIBRARY) != NULL;
+        mapped.library |= strstr(line, LIBRARY) != NULL;
+        mapped.memory |= strstr(line, MEMORY) != NULL;
+        mapped.c_library |= strstr(line, C_LIBRARY) != NULL;
         is_whole |= strstr(line, "[stack]") != NULL;
     }
-    *has_c &= is_whole;
+    mapped.c_library &= is_whole;
     if (maps) {
         fclose(maps);
     }
+    return mapped;
+}
+
+/* Whether a process has other rights than the run, for which the loader loads nothing, or that may not open its memory.
+ */
+static bool has_other_rights(uint32_t pid, const struct mapped *mapped) {
+    return mapped->is_hidden || (!mapped->memory && !proc_is_of_user(pid, geteuid()));
 }
 
 /* Why a process is not in virtual time, NULL where it is, or has not begun. */
 static const char *obstacle_of(uint32_t pid) {
     char path[32], name[PATH_MAX];
-    bool has_ours, has_c;
     snprintf(path, sizeof path, "/proc/%u/exe", pid);
     ssize_t length = readlink(path, name, sizeof name - 1);
     name[length > 0 ? length : 0] = 0;
     const char *slash = strrchr(name, '/');
-    find_libraries(pid, &has_ours, &has_c);
-    if (length <= 0 || (slash && !strcmp(slash, "/canbusd-bridge")) || has_ours) {
+    struct mapped mapped = find_mapped(pid);
+    if (has_other_rights(pid, &mapped)) {
+        fail("%s has other rights than the run (another user, setuid, setgid or capabilities), so it can't be in "
+             "virtual "
+             "time",
+             who(pid, 0));
+        return NULL;
+    }
+    if (length <= 0 || (slash && !strcmp(slash, "/canbusd-bridge")) || mapped.library || mapped.memory) {
         return NULL;
     }
     const char *obstacle = program_obstacle(path);
-    return obstacle ? obstacle : has_c ? "has lost LD_PRELOAD, as by env -i" : NULL;
+    return obstacle ? obstacle : mapped.c_library ? "has lost LD_PRELOAD, as by env -i" : NULL;
 }
 
 static bool find_foreign(struct slot *slot, int looks) {
@@ -137,12 +157,23 @@ static bool waits_for_turn(uint32_t pid, uint32_t tid, const struct called *call
     return false;
 }
 
+/* A tracer stops it at its calls, and waits for turns itself. */
+static bool is_traced(uint32_t pid, uint32_t tid, char state) {
+    if (state == 't') {
+        fail("%s is traced, as by strace or gdb, so it can't be in virtual time", who(pid, tid));
+    }
+    return state == 't';
+}
+
 /* Whether a thread sleeps until another one does something. */
 static bool sleeps(uint32_t pid, uint32_t tid) {
     char state = proc_state(pid, tid);
-    if (state == 'T' || state == 't') {
+    if (state == 'T') {
         say_once(pid, "%s is stopped; the run goes on without it", who(pid, 0));
         return true;
+    }
+    if (is_traced(pid, tid, state)) {
+        return false;
     }
     if (state == 'Z' || state == 'X') {
         return true;
@@ -273,7 +304,7 @@ bool outside_watch(uint64_t turn, int looks, bool (*is_asked)(void)) {
         if ((pid != tid || state == 'Z') && !process_runs(pid) && turn_change(turn, NOBODY)) {
             free_slot(slot);
         }
-    } else if (find_foreign(slot, looks)) {
+    } else if (!is_traced(pid, tid, state) && find_foreign(slot, looks)) {
         take_back(turn, false);
     } else if (is_asleep_for_long(index, state, times_run(pid, tid)) && !is_asked() && !outside_any_runs()) {
         outside_strangers();
@@ -332,7 +363,7 @@ void outside_births(int looks) {
         char state = proc_state(slot->pid, 0);
         if (state == 'X' || state == 'Z' || (slot->parent == STRANGER && has_begun(slot->pid))) {
             free_slot(slot);
-        } else if (state == 'T' || find_foreign(slot, looks)) {
+        } else if (!is_traced(slot->pid, 0, state) && (state == 'T' || find_foreign(slot, looks))) {
             slot->tid = slot->pid;
             slot->state = SLOT_OUTSIDE;
         }

@@ -1,15 +1,18 @@
 /* A program, or a bridge, becomes part of the run. */
 #define _GNU_SOURCE
 #include "calls.h"
+#include "proc.h"
 #include "random.h"
 #include "rights.h"
 #include "tell.h"
 
 #include <fcntl.h>
 #include <limits.h>
+#include <link.h>
 #include <stdio.h>
 #include <stdlib.h>
 #include <string.h>
+#include <sys/auxv.h>
 #include <sys/mman.h>
 #include <sys/socket.h>
 #include <sys/un.h>
@@ -55,8 +58,21 @@ bool register_process(void) {
     return epoll >= 0;
 }
 
+/* A program of another user may not take part: the coordinator sees it, and ends the run, which ends this one. */
+static void await_end_of_run(const char *path) {
+    const struct timespec second = {1, 0};
+    int coordinator = atoi(path + sizeof "/proc/" - 1);
+    while (coordinator > 0 && RAW(SYS_kill, coordinator, 0) != -ESRCH) {
+        RAW(SYS_nanosleep, &second, NULL);
+    }
+    RAW(SYS_exit_group, 125);
+}
+
 static struct run *map_run(const char *path) {
     int fd = (int)RAW(SYS_openat, AT_FDCWD, path, O_RDWR | O_CLOEXEC);
+    if (fd == -EACCES || fd == -EPERM) {
+        await_end_of_run(path);
+    }
     if (fd < 0) {
         return NULL;
     }
@@ -106,6 +122,36 @@ static void recognize(void) {
 #endif
 }
 
+#ifndef FOR_BRIDGE
+/* The linker of Go marks its programs by a note of this owner. */
+static bool is_of_go(void) {
+    const ElfW(Phdr) *segments = (const ElfW(Phdr) *)getauxval(AT_PHDR);
+    size_t count = getauxval(AT_PHNUM);
+    uintptr_t base = 0;
+    for (size_t i = 0; i < count; i++) {
+        base = segments[i].p_type == PT_PHDR ? (uintptr_t)segments - segments[i].p_vaddr : base;
+    }
+    for (size_t i = 0; i < count; i++) {
+        const ElfW(Nhdr) *note = (const ElfW(Nhdr) *)(base + segments[i].p_vaddr);
+        if (segments[i].p_type == PT_NOTE && note->n_namesz == 4 && !memcmp(note + 1, "Go\0", 4)) {
+            return true;
+        }
+    }
+    return false;
+}
+
+/* What can't be in virtual time though it has the library ends the run. */
+static void refuse_obstacles(void) {
+    uint32_t pid = (uint32_t)RAW(SYS_getpid, 0), tracer = proc_tracer(pid);
+    if (tracer || is_of_go()) {
+        char test[TEST_ROOM];
+        tell(true, "%.60s (process %u) %s, so it can't be in virtual time%s", program_invocation_short_name, pid,
+             tracer ? "is traced, as by strace or gdb" : "is a program of Go, which calls the kernel itself",
+             tell_test(test));
+    }
+}
+#endif
+
 __attribute__((constructor(103))) static void start(void) {
     const char *path = getenv(RUN_SETTING);
     struct run *at = path && *path ? map_run(path) : NULL;
@@ -114,6 +160,9 @@ __attribute__((constructor(103))) static void start(void) {
     }
     run = at;
     recognize();
+#ifndef FOR_BRIDGE
+    refuse_obstacles();
+#endif
     if (!register_process()) {
         char test[TEST_ROOM];
         tell(false, "the coordinator does not reply to %.60s (process %ld)%s", program_invocation_short_name,

@@ -9,7 +9,9 @@ proc fileevent_pipe {} {
     set pipe [open {|sh -c "sleep 0.03; echo hi"}]
     fileevent $pipe readable {set ::come yes}
     vwait ::come
-    return [gets $pipe]
+    set line [gets $pipe]
+    close $pipe
+    return $line
 }
 proc socket_server {} {
     set server [socket -server {apply {{channel host port} {fconfigure $channel -buffering line; after 30 [list puts $channel hello]}}} -myaddr 127.0.0.1 0]
