@@ -208,7 +208,7 @@ static bool is_from(struct task *task, int index) {
     return task->detected == index;
 }
 
-void bcm_receive(const struct item *item, int index) {
+static void bcm_receive(const struct item *item, int index) {
     for (struct task *task = tasks; task; task = task->next) {
         if (task->is_rx && task->head.can_id == item->frame.can_id && is_fd(task) == item->is_fd &&
             is_from(task, index)) {
@@ -242,7 +242,7 @@ static void do_due(struct task *task, uint64_t now) {
     }
 }
 
-int64_t bcm_due(void) {
+static int64_t bcm_due(void) {
     uint64_t now = clock_now(), next = 0;
     for (struct task *task = tasks; task; task = task->next) {
         if (task->due && task->due <= now) {
@@ -450,7 +450,8 @@ static int send_once(const struct bcm_head *head, const char *data, size_t lengt
               : refused(ENODEV, "to send, a task needs an interface");
 }
 
-int bcm_write(const struct wire_request *request, const char *data, size_t length, int reply_to, int *taken) {
+static int bcm_sendmsg(const struct wire_request *request, const char *data, size_t length, int reply_to,
+                       struct wire_reply *reply) {
     struct bcm_head head;
     struct later later = request_later(request, reply_to, (int)length);
     if (!is_bound) {
@@ -467,7 +468,9 @@ int bcm_write(const struct wire_request *request, const char *data, size_t lengt
     if (length % frame_size(head.flags) || (has_frames && head.nframes > length / frame_size(head.flags))) {
         return refused(EINVAL, "frames are missing, or of the wrong size");
     }
-    *taken = (int)(HEAD + (has_frames ? head.nframes * frame_size(head.flags) : head.opcode == TX_SEND ? length : 0));
+    reply->value = (int32_t)(HEAD + (has_frames               ? head.nframes * frame_size(head.flags)
+                                     : head.opcode == TX_SEND ? length
+                                                              : 0));
     switch (head.opcode) {
     case TX_SETUP: return set_up_tx(&head, data, index);
     case RX_SETUP: return set_up_rx(&head, data, index);
@@ -479,3 +482,21 @@ int bcm_write(const struct wire_request *request, const char *data, size_t lengt
     default: return refused(EINVAL, "the broadcast manager has no such message");
     }
 }
+
+static void bcm_open(void) {
+    raw_want(NULL, 0);
+    raw_want_fd(true);
+    raw_want_own();
+}
+
+static int bcm_connect(const struct sockaddr_can *address) {
+    return is_bound ? refused(EISCONN, "the socket is connected already") : sessions_bind(address->can_ifindex);
+}
+
+const struct protocol bcm_protocol = {
+    .open = bcm_open,
+    .connect = bcm_connect,
+    .sendmsg = bcm_sendmsg,
+    .receive = bcm_receive,
+    .due = bcm_due,
+};

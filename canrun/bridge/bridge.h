@@ -5,7 +5,9 @@
 #define BRIDGE_H
 
 #include "../shared/interfaces.h"
+#include "../shared/messages.h"
 #include "../shared/wire.h"
+#include "protocol.h"
 
 #include <linux/can.h>
 #include <net/if.h>
@@ -20,47 +22,17 @@
 #define NUMBERS_KEPT (1u << 24)
 /* Seconds that a server is given for a reply. */
 #define PATIENCE 5
-#define SECOND 1000000000ull
 #define MIN(a, b) ((a) < (b) ? (a) : (b))
 #define MAX(a, b) ((a) > (b) ? (a) : (b))
 
-/* A frame, as it comes and goes: of 16 bytes or, an FD frame, of 72. */
-struct item {
-    struct canfd_frame frame;
-    bool is_fd;
-    uint64_t moment; /* nanoseconds since 1970 */
-    enum { ORIGIN_NONE, ORIGIN_SAME, ORIGIN_OTHER } origin;
-    uint64_t number;        /* of the frame at its sender's interface, where it has an origin */
-    uint32_t message_flags; /* of recvmsg: MSG_DONTROUTE, MSG_CONFIRM */
-};
-
 /* ---- main.c ---- */
 
-/* The protocol of the socket. */
-extern enum wire_protocol protocol;
 /* The name of the program's end. */
 extern char program_name[WIRE_NAME_ROOM];
-
-/* Hands what a session has received to the protocol. */
-void item_received(const struct item *item, int index);
 
 /* Keeps the text of a refusal for the program's debugging, and returns the error. */
 int refused(int error, const char *why);
 extern const char *refusal;
-
-/* ---- messages.c: frames as texts of the server's raw mode ---- */
-
-/* The longest command for a frame. */
-#define COMMAND 320
-
-/* Writes the command that sends a frame. */
-void message_of_frame(char text[COMMAND], const struct canfd_frame *frame, bool is_fd);
-
-/* Reads the text of a message, without < and >, that hands over a frame; false where it is another. */
-bool message_to_item(const char *text, struct item *item);
-
-/* Reads decimal digits, and goes past them; false where there are none. */
-bool message_number(const char **at, uint64_t *number);
 
 /* ---- session.c: a session of the server, on one interface ---- */
 
@@ -236,6 +208,9 @@ int64_t order_due(void);
 /* Hands on all of it. */
 void order_flush(void);
 
+/* Whether something came after the last question, so that order_due has to be called before a wait. */
+bool order_has_news(void);
+
 /* ---- outbox.c: what is on its way to the program ---- */
 
 /* Puts a message after the others. Where there is no room it is lost, and counted. */
@@ -277,9 +252,6 @@ int error_take(void);
 
 /* ---- raw.c: CAN_RAW, and the options of the other protocols' sessions ---- */
 
-int raw_set(int option, const void *value, size_t length);
-int raw_get(int option, void *room, uint32_t *length);
-
 /* Sends the frame that a program has written, as room_send does. */
 int raw_write(int index, const void *data, size_t length, const struct later *later);
 
@@ -291,12 +263,6 @@ int raw_send(struct session *to, const struct canfd_frame *frame, bool is_fd, co
 
 /* Whether writes wait for room. */
 bool raw_waits(void);
-
-/* In virtual time, has the server queue nothing for a program that would lose it, so that nobody takes a turn for it.
- */
-void raw_note_room(void);
-
-void raw_receive(const struct item *item, int index);
 
 /* Writes the commands that change what the session has into what the socket has, and notes it as given. */
 void raw_setup(struct session *session, char *text, size_t size);
@@ -330,33 +296,6 @@ bool quick_serve(const char *data, size_t length);
 bool quick_lend(void);
 void quick_take_back(void);
 
-/* ---- bcm.c: CAN_BCM ---- */
-
-/* Carries out what a program writes; `taken` is what its write returns. Returns an errno, 0, or SENT_LATER where the
- * reply is given later, by this pipe. */
-int bcm_write(const struct wire_request *request, const char *data, size_t length, int reply_to, int *taken);
-void bcm_receive(const struct item *item, int index);
-/* Does what is due; returns how many nanoseconds there are until the next is, or -1. */
-int64_t bcm_due(void);
-
-/* ---- isotp.c: CAN_ISOTP ---- */
-
-int isotp_bind(int index, canid_t rx_id, canid_t tx_id);
-int isotp_set(int option, const void *value, size_t length);
-int isotp_get(int option, void *room, uint32_t *length);
-void isotp_address(uint32_t identifiers[2]);
-
-/* Sends a message. Returns SENT_LATER where the reply is given later, by this pipe; else an errno, or 0. */
-int isotp_write(const char *data, size_t length, bool is_nonblocking, int reply_to);
-void isotp_receive(const struct item *item);
-/* Does what is due; returns how many nanoseconds there are until the next is, or -1. */
-int64_t isotp_due(void);
-bool isotp_takes_requests(void);
-/* A signal ends the wait of the write whose reply comes by this pipe. */
-void isotp_cancel(int asks);
-/* A message that was accepted is sent to its end, also where the socket has been closed. */
-bool isotp_is_busy(void);
-
 /* ---- requests.c: what the program asks for ---- */
 
 /* Gives the reply to a request whose error, or value, is this. */
@@ -372,14 +311,15 @@ bool is_same_pipe(int one, int other);
 /* Carries out one request. Returns false where the last copy of the socket is closed. */
 bool request_serve(void);
 
-/* Of ISO-TP: a descriptor that is ready to be read when a request comes; and whether one is there that was not read. */
+/* For a protocol that keeps requests: a descriptor that is ready to be read when a request comes; and whether one is
+ * there that was not read. */
 int request_news(void);
 bool request_is_kept(void);
 
-/* Where no message of ISO-TP is being sent, or waits to be, the socket can be written. */
+/* Where no message is being sent, or waits to be, the socket can be written. */
 void request_release(void);
 
 /* The end of a pair by which a close waits for the end of this bridge, or -1. */
-int request_closer(void);
+int close_waiter_fd(void);
 
 #endif

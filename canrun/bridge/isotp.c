@@ -121,7 +121,7 @@ static int set_options(struct can_isotp_options *options) {
     return 0;
 }
 
-int isotp_set(int option, const void *value, size_t length) {
+static int isotp_setsockopt(int option, const void *value, size_t length) {
     size_t size = 0;
     void *place = place_of(option, &size);
     struct can_isotp_ll_options link;
@@ -144,7 +144,7 @@ int isotp_set(int option, const void *value, size_t length) {
     return option == CAN_ISOTP_OPTS ? set_options(&isotp.options) : 0;
 }
 
-int isotp_get(int option, void *room, uint32_t *length) {
+static int isotp_getsockopt(int option, void *room, uint32_t *length) {
     size_t size = 0;
     const void *place = place_of(option, &size);
     if (!place) {
@@ -166,12 +166,13 @@ static struct can_filter only(canid_t id) {
     return (struct can_filter){id, mask};
 }
 
-int isotp_bind(int index, canid_t rx_id, canid_t tx_id) {
+static int isotp_bind(const struct sockaddr_can *address) {
+    canid_t rx_id = address->can_addr.tp.rx_id, tx_id = address->can_addr.tp.tx_id;
     bool is_to_all = isotp_broadcast();
     if (!is_identifier(tx_id) || (!is_to_all && !is_identifier(rx_id))) {
         return refused(EINVAL, "an identifier has too many bits");
     }
-    if (!index) {
+    if (!address->can_ifindex) {
         return refused(ENODEV, "CAN_ISOTP is bound to one interface");
     }
     if (is_bound) {
@@ -187,17 +188,18 @@ int isotp_bind(int index, canid_t rx_id, canid_t tx_id) {
     int error = raw_want(wanted, is_to_all ? 1 : 2);
     raw_want_fd(isotp.link.mtu == CANFD_MTU);
     raw_want_own();
-    return error ? error : sessions_bind(index);
+    return error ? error : sessions_bind(address->can_ifindex);
 }
 
-void isotp_address(uint32_t identifiers[2]) {
-    identifiers[0] = isotp.rx_id;
-    identifiers[1] = isotp.tx_id;
+static void isotp_getname(struct sockaddr_can *address) {
+    address->can_addr.tp.rx_id = isotp.rx_id;
+    address->can_addr.tp.tx_id = isotp.tx_id;
 }
 
 /* ---- messages ---- */
 
-void isotp_receive(const struct item *item) {
+static void isotp_receive(const struct item *item, int index) {
+    (void)index;
     if (item->is_fd == (isotp.link.mtu == CANFD_MTU) && end_waiting - first_waiting < WAITING) {
         waiting[end_waiting++ % WAITING] = *item;
     }
@@ -231,14 +233,20 @@ static int queue(const char *data, size_t length, int reply_to) {
     return SENT_LATER;
 }
 
-int isotp_write(const char *data, size_t length, bool is_nonblocking, int reply_to) {
+static bool isotp_is_busy(void) {
+    return isotp_is_sending() || turns;
+}
+
+static int isotp_sendmsg(const struct wire_request *request, const char *data, size_t length, int reply_to,
+                         struct wire_reply *reply) {
+    (void)reply;
     if (!is_bound) {
         return refused(EADDRNOTAVAIL, "bind comes first");
     }
     if (!isotp_is_busy()) {
         return start(data, length, reply_to);
     }
-    return is_nonblocking ? refused(EAGAIN, "a message is being sent") : queue(data, length, reply_to);
+    return request->number == WIRE_NO_WAIT ? refused(EAGAIN, "a message is being sent") : queue(data, length, reply_to);
 }
 
 void isotp_send_done(int error) {
@@ -259,7 +267,7 @@ static void leave(struct turn **place, int error) {
     free(turn);
 }
 
-void isotp_cancel(int asks) {
+static void isotp_cancel(int asks) {
     static const char why[] = "a signal came while it waited";
     if (waits_for_end != NOBODY && is_same_pipe(waits_for_end, asks)) {
         isotp_send_abort();
@@ -273,12 +281,8 @@ void isotp_cancel(int asks) {
     }
 }
 
-bool isotp_takes_requests(void) {
+static bool isotp_takes_requests(void) {
     return turn_count < TURNS;
-}
-
-bool isotp_is_busy(void) {
-    return isotp_is_sending() || turns;
 }
 
 /* The writes that have waited for their turn. */
@@ -304,7 +308,7 @@ static void take_item(const struct item *item) {
     }
 }
 
-int64_t isotp_due(void) {
+static int64_t isotp_due(void) {
     while (first_waiting != end_waiting) {
         struct item item = waiting[first_waiting++ % WAITING];
         take_item(&item);
@@ -320,3 +324,17 @@ int64_t isotp_due(void) {
     uint64_t now = clock_now();
     return !next ? -1 : next > now ? (int64_t)(next - now) : 0;
 }
+
+const struct protocol isotp_protocol = {
+    .keeps_requests = true,
+    .bind = isotp_bind,
+    .getname = isotp_getname,
+    .setsockopt = isotp_setsockopt,
+    .getsockopt = isotp_getsockopt,
+    .sendmsg = isotp_sendmsg,
+    .cancel = isotp_cancel,
+    .receive = isotp_receive,
+    .due = isotp_due,
+    .is_busy = isotp_is_busy,
+    .takes_requests = isotp_takes_requests,
+};

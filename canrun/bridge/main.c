@@ -10,7 +10,13 @@
 #include <sys/un.h>
 #include <unistd.h>
 
-enum wire_protocol protocol;
+/* By their numbers of linux/can.h. */
+static const struct protocol *const protocols[CAN_NPROTO] = {
+    [CAN_RAW] = &raw_protocol,
+    [CAN_BCM] = &bcm_protocol,
+    [CAN_ISOTP] = &isotp_protocol,
+};
+const struct protocol *protocol;
 char program_name[WIRE_NAME_ROOM];
 const char *refusal = "";
 
@@ -19,12 +25,8 @@ int refused(int error, const char *why) {
     return error;
 }
 
-void item_received(const struct item *item, int index) {
-    switch (protocol) {
-    case WIRE_BCM: bcm_receive(item, index); break;
-    case WIRE_ISOTP: isotp_receive(item); break;
-    default: raw_receive(item, index);
-    }
+bool protocol_is_busy(void) {
+    return protocol->is_busy && protocol->is_busy();
 }
 
 /* Nobody waits for a bridge: not who reads the program's output, nor who waits for its children, nor the terminal. */
@@ -57,20 +59,24 @@ static int64_t sooner(int64_t one, int64_t other) {
     return one < 0 ? other : other < 0 ? one : MIN(one, other);
 }
 
+/* Who sends something may be brought items, which are asked about before the wait. */
 static int64_t do_due(void) {
-    int64_t order = order_due();
-    int64_t due = protocol == WIRE_BCM ? bcm_due() : protocol == WIRE_ISOTP ? isotp_due() : -1;
-    return sooner(sooner(sooner(order, due), room_due()), outbox_counts_due());
+    int64_t due;
+    do {
+        due = sooner(order_due(), protocol->due());
+        due = sooner(due, room_due());
+    } while (order_has_news());
+    return sooner(due, outbox_counts_due());
 }
 
 /* Whether something that was accepted is still to be sent; frames that wait for room are given up after a while. */
 static bool is_busy(uint64_t closed) {
-    return isotp_is_busy() || (room_has_unasked() && clock_now() - closed < PATIENCE * SECOND);
+    return protocol_is_busy() || (room_has_unasked() && clock_now() - closed < PATIENCE * SECOND);
 }
 
 /* Whether a signal has ended the close that waited: as in the kernel, the message is given up. */
 static bool close_is_over(void) {
-    struct pollfd polled = {request_closer(), POLLIN, 0};
+    struct pollfd polled = {close_waiter_fd(), POLLIN, 0};
     return polled.fd >= 0 && poll(&polled, 1, 0) > 0;
 }
 
@@ -79,7 +85,6 @@ static bool close_is_over(void) {
 static void serve(void) {
     uint64_t closed = 0;
     for (;;) {
-        raw_note_room();
         int64_t due = do_due();
         request_release();
         if (closed && (!is_busy(closed) || close_is_over())) {
@@ -88,29 +93,35 @@ static void serve(void) {
         if (sessions_ended() && sessions_leave()) {
             error_set(ENODEV);
         }
-        if (wait_for_input(due, !closed && isotp_takes_requests() && room_takes_requests()) && !request_serve()) {
+        bool takes_requests =
+            !closed && room_takes_requests() && (!protocol->takes_requests || protocol->takes_requests());
+        if (wait_for_input(due, takes_requests) && !request_serve()) {
             closed = clock_now();
         }
     }
+}
+
+/* That of this digit of the name; false where there is none. */
+static bool find_protocol(char digit) {
+    protocol = digit >= '0' && digit < '0' + CAN_NPROTO ? protocols[digit - '0'] : NULL;
+    return protocol;
 }
 
 int main(void) {
     struct sockaddr_un name;
     socklen_t length = sizeof name;
     if (getpeername(PROGRAM, (struct sockaddr *)&name, &length) ||
-        length <= offsetof(struct sockaddr_un, sun_path) + sizeof WIRE_NAME) {
+        length <= offsetof(struct sockaddr_un, sun_path) + sizeof WIRE_NAME ||
+        !find_protocol(name.sun_path[sizeof WIRE_NAME])) {
         static const char text[] =
             "canbusd-bridge: this is started by programs under canbusd-run, see canbusd-run(1)\n";
         return write(STDERR_FILENO, text, sizeof text - 1) < 0 ? 1 : 125;
     }
-    protocol = (enum wire_protocol)name.sun_path[sizeof WIRE_NAME];
     length -= (socklen_t)offsetof(struct sockaddr_un, sun_path) + 1;
     memcpy(program_name, name.sun_path + 1, MIN(length, sizeof program_name - 1));
     leave_program();
-    if (protocol == WIRE_BCM) {
-        raw_want(NULL, 0);
-        raw_want_fd(true);
-        raw_want_own();
+    if (protocol->open) {
+        protocol->open();
     }
     serve();
     sessions_leave();

@@ -33,7 +33,7 @@ static void release(uint64_t moment) {
     unsigned done = 0;
     qsort(held, count, sizeof *held, compare);
     for (; done < count && held[done].item.moment <= moment; done++) {
-        item_received(&held[done].item, held[done].index);
+        protocol->receive(&held[done].item, held[done].index);
     }
     for (unsigned i = done; i < count; i++) {
         held[i - done] = held[i];
@@ -45,7 +45,7 @@ static void release(uint64_t moment) {
 
 void order_put(const struct item *item, int index) {
     if (!is_bound || bound_index || session_count < 2) {
-        item_received(item, index);
+        protocol->receive(item, index);
         return;
     }
     if (count == HELD) {
@@ -75,6 +75,10 @@ static void ask_all(void) {
         session_ask_all(sessions[i]);
     }
     is_open = true;
+}
+
+bool order_has_news(void) {
+    return count && !is_open;
 }
 
 int64_t order_due(void) {

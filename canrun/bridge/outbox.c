@@ -77,7 +77,7 @@ static void put(const void *data, size_t length, const struct wire_trailer *trai
         dropped++;
         return;
     }
-    size_t front = protocol == WIRE_RAW ? 0 : sizeof *trailer;
+    size_t front = protocol->has_frames ? 0 : sizeof *trailer;
     memcpy(place + front, data, length);
     memcpy(place + (front ? 0 : length), trailer, sizeof *trailer);
 }

@@ -146,7 +146,7 @@ static int set_filters(const void *value, size_t length) {
     return 0;
 }
 
-int raw_set(int option, const void *value, size_t length) {
+static int raw_setsockopt(int option, const void *value, size_t length) {
     uint32_t number;
     if (option == CAN_RAW_FILTER) {
         int error = set_filters(value, length);
@@ -166,7 +166,7 @@ int raw_set(int option, const void *value, size_t length) {
     return sessions_apply();
 }
 
-int raw_get(int option, void *room, uint32_t *length) {
+static int raw_getsockopt(int option, void *room, uint32_t *length) {
     const void *place = option == CAN_RAW_FILTER ? filters : place_of(option);
     if (!place) {
         return refused(ENOPROTOOPT, "linux/can/raw.h has no such option, or canbusd has it not");
@@ -212,11 +212,14 @@ bool raw_is_error(const void *data) {
     return identifier & CAN_ERR_FLAG;
 }
 
-void raw_note_room(void) {
-    if (is_virtual() && protocol == WIRE_RAW && outbox_is_full() != is_full) {
+/* In virtual time, has the server queue nothing for a program that would lose it, so that nobody takes a turn for it.
+ */
+static int64_t raw_due(void) {
+    if (is_virtual() && outbox_is_full() != is_full) {
         is_full = !is_full;
         sessions_apply();
     }
+    return -1;
 }
 
 int raw_write(int index, const void *data, size_t length, const struct later *later) {
@@ -231,6 +234,25 @@ int raw_write(int index, const void *data, size_t length, const struct later *la
     }
     memcpy(&frame, data, length);
     return raw_send(to, &frame, is_fd, later);
+}
+
+static int raw_sendmsg(const struct wire_request *request, const char *data, size_t length, int reply_to,
+                       struct wire_reply *reply) {
+    struct later later = request_later(request, reply_to, (int)length);
+    /* A byte of data has the library say that this frame goes nowhere. */
+    reply->length = length >= CAN_MTU && raw_is_error(data);
+    return raw_write(request->ifindex, data, length, raw_waits() ? &later : NULL);
+}
+
+/* A quick write, or the frame of a write that did not go through the library. */
+static void raw_take(const char *data, size_t length) {
+    if (!quick_serve(data, length)) {
+        raw_write(WIRE_BOUND, data, length, &(struct later){.reply_to = NOBODY});
+    }
+}
+
+static int raw_bind(const struct sockaddr_can *address) {
+    return sessions_bind(address->can_ifindex);
 }
 
 /* The rule of linux/can.h, for filters that the server has no room for. */
@@ -248,9 +270,20 @@ static bool passes(canid_t identifier) {
     return options.join ? all : any;
 }
 
-void raw_receive(const struct item *item, int index) {
+static void raw_receive(const struct item *item, int index) {
     if (filters_here && !(item->frame.can_id & CAN_ERR_FLAG) && !passes(item->frame.can_id)) {
         return;
     }
     outbox_put(&item->frame, item->is_fd ? CANFD_MTU : CAN_MTU, item->moment, index, item->message_flags);
 }
+
+const struct protocol raw_protocol = {
+    .has_frames = true,
+    .bind = raw_bind,
+    .setsockopt = raw_setsockopt,
+    .getsockopt = raw_getsockopt,
+    .sendmsg = raw_sendmsg,
+    .write = raw_take,
+    .receive = raw_receive,
+    .due = raw_due,
+};

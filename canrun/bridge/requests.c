@@ -18,13 +18,14 @@ struct reply {
     char data[WIRE_REPLY];
 };
 
-/* While a message of ISO-TP is being sent its request stays in the socket, so that the program's end has no room, and
- * is not ready to be written. So do those that come after it, which are read all the same. */
+/* While a message is being sent, of a protocol that keeps requests, its request stays in the socket, so that the
+ * program's end has no room, and is not ready to be written. So do those that come after it, which are read all the
+ * same. */
 static int kept_length;
 static unsigned kept_count;
 
 void request_release(void) {
-    while (kept_count && !isotp_is_busy()) {
+    while (kept_count && !protocol_is_busy()) {
         if (recv(PROGRAM, &(char){0}, 1, MSG_DONTWAIT) >= 0) {
             kept_count--;
         } else if (errno != ECONNRESET) {
@@ -74,71 +75,60 @@ bool is_same_pipe(int one, int other) {
 
 /* The write whose reply comes by this pipe waits no longer; it may have had its reply. */
 static int cancel(int asks) {
-    if (protocol == WIRE_ISOTP) {
-        isotp_cancel(asks);
+    if (protocol->cancel) {
+        protocol->cancel(asks);
     }
     room_cancel(asks);
     close(asks);
     return SENT_LATER;
 }
 
-static int send_message(const struct wire_request *request, const char *data, size_t length, int to,
-                        struct reply *reply) {
-    struct later later = request_later(request, to, (int)length);
-    reply->head.value = (int)length;
-    switch (protocol) {
-    case WIRE_BCM: return bcm_write(request, data, length, to, &reply->head.value);
-    case WIRE_ISOTP: return isotp_write(data, length, request->number == WIRE_NO_WAIT, to);
-    default:
-        /* A byte of data has the library say that this frame goes nowhere. */
-        reply->head.length = length >= CAN_MTU && raw_is_error(data);
-        return raw_write(request->ifindex, data, length, raw_waits() ? &later : NULL);
-    }
-}
-
 /* The other end of the pair by which a close waits, once the socket is closed. */
-static int closer = -1;
+static int close_waiter = -1;
 
-int request_closer(void) {
-    return closer;
+int close_waiter_fd(void) {
+    return close_waiter;
 }
 
 /* The program closes a copy of the socket. Where it was the last, and a message is being sent, the close waits for the
  * end of this bridge. */
 static int begin_close(int pair) {
     struct pollfd polled = {pair, POLLIN, 0};
-    if (isotp_is_busy() && poll(&polled, 1, PATIENCE * 1000) > 0 && program_is_gone() && closer < 0) {
+    if (protocol_is_busy() && poll(&polled, 1, PATIENCE * 1000) > 0 && program_is_gone() && close_waiter < 0) {
         recv(pair, &(char){0}, 1, MSG_DONTWAIT);
-        closer = pair;
+        close_waiter = pair;
     } else {
         close(pair);
     }
     return SENT_LATER;
 }
 
-static int bind_to(const struct wire_request *request) {
-    if (protocol == WIRE_BCM && is_bound) {
-        return refused(EISCONN, "the socket is connected already");
-    }
-    return protocol == WIRE_ISOTP ? isotp_bind(request->ifindex, request->rx_id, request->tx_id)
-                                  : sessions_bind(request->ifindex);
+static int no_call(void) {
+    return refused(EOPNOTSUPP, "the protocol has no such call");
+}
+
+static int take_address(int (*call)(const struct sockaddr_can *address), const char *data, size_t length) {
+    struct sockaddr_can address = {0};
+    memcpy(&address, data, MIN(length, sizeof address));
+    return call ? call(&address) : no_call();
 }
 
 static int set_option(int option, const char *data, size_t length) {
-    return protocol == WIRE_ISOTP ? isotp_set(option, data, length) : raw_set(option, data, length);
+    return protocol->setsockopt ? protocol->setsockopt(option, data, length) : no_call();
 }
 
 static int get_option(int option, struct reply *reply) {
-    return protocol == WIRE_ISOTP ? isotp_get(option, reply->data, &reply->head.length)
-                                  : raw_get(option, reply->data, &reply->head.length);
+    return protocol->getsockopt ? protocol->getsockopt(option, reply->data, &reply->head.length) : no_call();
 }
 
 static int get_address(struct reply *reply) {
-    uint32_t identifiers[2];
-    isotp_address(identifiers);
-    memcpy(reply->data, identifiers, sizeof identifiers);
+    struct sockaddr_can address = {.can_family = AF_CAN, .can_ifindex = bound_index};
+    if (protocol->getname) {
+        protocol->getname(&address);
+    }
+    memcpy(reply->data, &address, sizeof address);
     reply->head.value = bound_index;
-    reply->head.length = protocol == WIRE_ISOTP ? sizeof identifiers : 0;
+    reply->head.length = sizeof address;
     return 0;
 }
 
@@ -148,8 +138,9 @@ static int device;
 /* Carries out a request whose data are these, and whose reply goes there; returns an errno, 0, or SENT_LATER. */
 static int carry_out(const struct wire_request *request, const char *data, size_t length, int to, struct reply *reply) {
     switch (request->kind) {
-    case WIRE_SEND: return send_message(request, data, length, to, reply);
-    case WIRE_BIND: return bind_to(request);
+    case WIRE_SEND: return protocol->sendmsg(request, data, length, to, &reply->head);
+    case WIRE_BIND: return take_address(protocol->bind, data, length);
+    case WIRE_CONNECT: return take_address(protocol->connect, data, length);
     case WIRE_SET: return set_option(request->option, data, length);
     case WIRE_GET: return get_option(request->option, reply);
     case WIRE_SOCKET_SET: outbox_set(request->option, request->number); return 0;
@@ -165,7 +156,7 @@ static int carry_out(const struct wire_request *request, const char *data, size_
 }
 
 static ssize_t next_request(struct msghdr *message) {
-    if (protocol != WIRE_ISOTP) {
+    if (!protocol->keeps_requests) {
         return recvmsg(PROGRAM, message, MSG_DONTWAIT | MSG_CMSG_CLOEXEC);
     }
     setsockopt(PROGRAM, SOL_SOCKET, SO_PEEK_OFF, &kept_length, sizeof kept_length);
@@ -186,7 +177,7 @@ int request_news(void) {
 }
 
 bool request_is_kept(void) {
-    if (protocol != WIRE_ISOTP) {
+    if (!protocol->keeps_requests) {
         return false;
     }
     setsockopt(PROGRAM, SOL_SOCKET, SO_PEEK_OFF, &kept_length, sizeof kept_length);
@@ -213,8 +204,8 @@ bool request_serve(void) {
     length = MIN(length, (ssize_t)sizeof data);
     struct cmsghdr *rights = CMSG_FIRSTHDR(&message);
     if (!rights) {
-        if (protocol == WIRE_RAW && !quick_serve(data, (size_t)length)) {
-            raw_write(WIRE_BOUND, data, (size_t)length, &(struct later){.reply_to = NOBODY});
+        if (protocol->write) {
+            protocol->write(data, (size_t)length);
         }
         return true;
     }
@@ -224,7 +215,7 @@ bool request_serve(void) {
         close(to);
         return true;
     }
-    reply.head = (struct wire_reply){0};
+    reply.head = (struct wire_reply){.value = request.kind == WIRE_SEND ? (int)request.length : 0};
     int error = carry_out(&request, data + sizeof request, request.length, to, &reply);
     if (error != SENT_LATER) {
         put_reply(to, error, &reply);

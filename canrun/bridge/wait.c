@@ -20,11 +20,11 @@ bool wait_for_input(int64_t nanoseconds, bool takes_requests) {
     static struct pollfd polled[2 + INTERFACE_MOST];
     short events = (short)((takes_requests ? POLLIN : 0) | (outbox_is_empty() ? 0 : POLLOUT));
     /* A socket that keeps its requests is ready to be read as long as it does. */
-    int news = takes_requests && protocol == WIRE_ISOTP ? request_news() : -1;
+    int news = takes_requests && protocol->keeps_requests ? request_news() : -1;
     bool is_kept = news >= 0 && request_is_kept();
     /* A socket whose other end is closed is ready for ever, though nobody asks. */
     bool is_closing = !takes_requests && program_is_gone();
-    polled[0] = (struct pollfd){is_closing ? request_closer() : PROGRAM, is_closing ? POLLIN : events, 0};
+    polled[0] = (struct pollfd){is_closing ? close_waiter_fd() : PROGRAM, is_closing ? POLLIN : events, 0};
     polled[0].events &= (short)(news >= 0 ? ~POLLIN : ~0);
     polled[1] = (struct pollfd){news, POLLIN, 0};
     /* Who has borrowed the session reads its replies; only its end is for this bridge. */

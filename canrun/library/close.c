@@ -1,5 +1,5 @@
-/* close, dup2 and dup3: whoever closes a socket of ISO-TP waits for the end of the message that is being sent, as in
- * the kernel. */
+/* close, dup2 and dup3: who closes a socket whose protocol lingers waits for the end of what is being sent, as in the
+ * kernel. */
 #define _GNU_SOURCE
 #include "library.h"
 
@@ -42,17 +42,18 @@ static int close_patiently(int fd) {
     return result;
 }
 
-static bool is_patient(int fd) {
-    return fd >= 0 && protocol_of(fd) == WIRE_ISOTP;
+static bool lingers(int fd) {
+    struct socket sock = socket_of(fd);
+    return HAS(sock, lingers);
 }
 
 EXPORT int close(int fd) {
-    return is_patient(fd) ? close_patiently(fd) : real()->close(fd);
+    return lingers(fd) ? close_patiently(fd) : real()->close(fd);
 }
 
 /* A copy of the socket that a call takes the place of; it is closed after the call. -1 for none. */
 static int copy_of_replaced(int from, int to) {
-    return from != to && is_patient(to) ? fcntl(to, F_DUPFD_CLOEXEC, 0) : -1;
+    return from != to && lingers(to) ? fcntl(to, F_DUPFD_CLOEXEC, 0) : -1;
 }
 
 static int replaced(int copy, int result) {

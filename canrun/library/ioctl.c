@@ -93,16 +93,16 @@ EXPORT int ioctl(int fd, unsigned long request, ...) {
     va_end(list);
     bool is_ours = is_of_interface(request) || is_of_stamp(request) || request == FIONREAD || request == TIOCOUTQ ||
                    request == SIOCATMARK;
-    enum wire_protocol protocol = is_ours ? protocol_of(fd) : 0;
-    if (protocol && is_of_stamp(request)) {
+    bool is_can = is_ours && is_can_socket(fd);
+    if (is_can && is_of_stamp(request)) {
         return stamp_ioctl(fd, request, argument);
     }
-    if (protocol && !is_of_interface(request)) {
+    if (is_can && !is_of_interface(request)) {
         return refuse("ioctl", ENOTTY, "a CAN socket does not count bytes");
     }
     int result = real()->ioctl(fd, request, argument);
     /* Interfaces can be looked up by any socket. */
-    if (result && is_ours && is_of_interface(request) && (errno == ENODEV || protocol)) {
+    if (result && is_ours && is_of_interface(request) && (errno == ENODEV || is_can)) {
         result = interface_ioctl(request, argument);
     }
     return result;

@@ -6,6 +6,7 @@
 #define LIBRARY_H
 
 #include "../shared/wire.h"
+#include "protocol.h"
 
 #include <ifaddrs.h>
 #include <net/if.h>
@@ -82,18 +83,6 @@ const struct real *real(void);
 /* dlsym of the C library, in place of that of this one. */
 void *(*real_dlsym(void))(void *restrict, const char *restrict);
 
-/* What a descriptor is: the protocol of a CAN socket and its name, which no other one has; or 0, and whether it is a
- * socket of netlink. */
-struct kind {
-    enum wire_protocol protocol;
-    bool is_netlink;
-    char name[WIRE_NAME_ROOM];
-};
-
-/* They leave errno as it was. */
-struct kind kind_of(int fd);
-enum wire_protocol protocol_of(int fd);
-
 /* Sets errno, and returns -1. */
 int fail(int error);
 
@@ -122,17 +111,21 @@ struct answer {
 int ask(int fd, const char *what, const struct wire_request *request, const struct iovec *data, size_t pieces,
         struct answer *answer);
 
+/* Asks for a write that may wait for room. */
+int ask_patiently(const struct socket *sock, struct wire_request *request, const struct msghdr *message,
+                  struct answer *answer);
+
 /* Sends a request with a descriptor, and waits for no reply. Returns an errno, or 0. */
 int put_request(int fd, int with, const struct wire_request *request, const struct iovec *data, size_t pieces);
 
-/* What a call is that had this errno when it sent a request: -1, and errno. */
+/* The result of a call whose request failed with this errno: -1, and errno. */
 int refuse_unsent(const char *what, int error);
 
 /* Asks the bridge of a socket of CAN_RAW for a quick write, and returns what became of it: it was done; it was refused,
  * and errno says why; it is to wait for room; or none can be had, and it is to be asked for by a pipe, too. */
 enum quick { QUICK_DONE, QUICK_REFUSED, QUICK_NO_ROOM, QUICK_NONE };
-enum quick ask_quickly(int fd, const struct kind *kind, const struct wire_request *request, const struct iovec *data,
-                       size_t pieces, struct answer *answer);
+enum quick ask_quickly(const struct socket *sock, const struct wire_request *request, const struct msghdr *message,
+                       struct answer *answer);
 
 /* ---- loan.c: in virtual time, writes by a session that the bridge lends ---- */
 
@@ -156,8 +149,8 @@ enum talk loan_talk(struct wire_memory *memory, const struct loaned *copy, const
 /* Takes the error that a socket has by itself, as SO_ERROR does; 0 where it has none. It leaves errno as it was. */
 int take_error(int fd);
 
-/* Notes that this is a socket of ISO-TP. */
-void note_isotp(int fd);
+/* Notes that this is a socket that may have an error which poll shows. */
+void note_error_of(int fd);
 
 /* Whether the next message of a socket says that it has an error, as far as that has not been taken; it is taken out.
  */
@@ -166,10 +159,6 @@ void drop_error(int fd);
 
 /* The C library's end of a program whose buffer is too small. */
 void __chk_fail(void) __attribute__((noreturn));
-
-/* Whether a message of netlink asks for an interface of the server, and its refusal. */
-bool asks_for_interface(const void *data, size_t length);
-ssize_t refuse_question(void);
 
 /* Makes a CAN socket. */
 int can_socket(int type, int protocol);

@@ -4,7 +4,7 @@
 #define _GNU_SOURCE
 #include "library.h"
 
-#include "../bridge/bridge.h"
+#include "../shared/messages.h"
 
 #include <errno.h>
 #include <fcntl.h>

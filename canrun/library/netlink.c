@@ -9,7 +9,7 @@
 #include <linux/rtnetlink.h>
 #include <string.h>
 
-bool asks_for_interface(const void *data, size_t length) {
+static bool asks_for_interface(const void *data, size_t length) {
     struct {
         struct nlmsghdr head;
         struct ifinfomsg interface;
@@ -20,6 +20,10 @@ bool asks_for_interface(const void *data, size_t length) {
            interface_name(question.interface.ifi_index, name);
 }
 
-ssize_t refuse_question(void) {
-    return refuse("send", ENODEV, "interfaces of the server are not found by netlink");
+static ssize_t netlink_sendmsg(const struct socket *sock, const struct msghdr *message, int flags) {
+    return message->msg_iovlen && asks_for_interface(message->msg_iov->iov_base, message->msg_iov->iov_len)
+               ? refuse("send", ENODEV, "interfaces of the server are not found by netlink")
+               : real()->sendmsg(sock->fd, message, flags);
 }
+
+const struct protocol netlink_protocol = {.family = PF_NETLINK, .sendmsg = netlink_sendmsg};

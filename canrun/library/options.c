@@ -1,63 +1,56 @@
-/* Addresses and options of CAN sockets: bind, connect, getsockname, setsockopt, getsockopt. */
+/* Addresses and options of CAN sockets: bind, connect, getsockname, getpeername, setsockopt, getsockopt. */
 #define _GNU_SOURCE
 #include "library.h"
 
 #include <errno.h>
 #include <linux/can.h>
-#include <linux/can/isotp.h>
-#include <linux/can/raw.h>
 #include <stdint.h>
 #include <string.h>
 
-/* The least lengths of an address, as CAN_REQUIRED_SIZE of the kernel gives them. */
-#define SHORT_ADDRESS (offsetof(struct sockaddr_can, can_ifindex) + sizeof(int))
-#define ISOTP_ADDRESS (offsetof(struct sockaddr_can, can_addr) + 2 * sizeof(canid_t))
-
-static int bind_can(const char *call, int fd, enum wire_protocol protocol, const struct sockaddr *address,
-                    socklen_t length) {
-    struct sockaddr_can can = {0};
-    if (length > sizeof(struct sockaddr_storage) || length < (protocol == WIRE_ISOTP ? ISOTP_ADDRESS : SHORT_ADDRESS)) {
+int copy_address(const struct socket *sock, const char *call, const struct sockaddr *address, socklen_t length,
+                 struct sockaddr_can *can) {
+    *can = (struct sockaddr_can){0};
+    if (length > sizeof(struct sockaddr_storage) || length < sock->protocol->address_size) {
         return refuse(call, EINVAL, "the address is too short");
     }
-    if (!copy_from(&can, address, MIN(length, sizeof can))) {
-        return fail(EFAULT);
-    }
-    if (can.can_family != AF_CAN && protocol != WIRE_BCM) {
-        return refuse(call, EINVAL, "the address is not of AF_CAN");
-    }
-    struct wire_request request = {.kind = WIRE_BIND, .ifindex = can.can_ifindex};
-    if (protocol == WIRE_ISOTP) {
-        request.rx_id = can.can_addr.tp.rx_id;
-        request.tx_id = can.can_addr.tp.tx_id;
-    }
-    int result = ask(fd, call, &request, NULL, 0, NULL);
+    return copy_from(can, address, MIN(length, sizeof *can)) ? 0 : fail(EFAULT);
+}
+
+int ask_to_bind(const struct socket *sock, const char *call, enum wire_kind kind, const struct sockaddr_can *can) {
+    struct wire_request request = {.kind = kind, .length = sizeof *can};
+    struct iovec data = {(void *)can, sizeof *can};
+    int result = ask(sock->fd, call, &request, &data, 1, NULL);
     return result && errno == ENXIO ? fail(ENODEV) : result;
 }
 
-EXPORT int bind(int fd, const struct sockaddr *address, socklen_t length) {
-    enum wire_protocol protocol = protocol_of(fd);
-    if (!protocol) {
-        return real()->bind(fd, address, length);
+int can_bind(const struct socket *sock, const struct sockaddr *address, socklen_t length) {
+    struct sockaddr_can can;
+    if (copy_address(sock, "bind", address, length, &can)) {
+        return -1;
     }
-    return protocol == WIRE_BCM ? refuse("bind", EOPNOTSUPP, "CAN_BCM has connect in its place")
-                                : bind_can("bind", fd, protocol, address, length);
+    return can.can_family == AF_CAN ? ask_to_bind(sock, "bind", WIRE_BIND, &can)
+                                    : refuse("bind", EINVAL, "the address is not of AF_CAN");
 }
 
-EXPORT int connect(int fd, const struct sockaddr *address, socklen_t length) {
-    enum wire_protocol protocol = protocol_of(fd);
-    if (!protocol) {
-        return real()->connect(fd, address, length);
-    }
-    if (protocol == WIRE_BCM) {
-        return bind_can("connect", fd, protocol, address, length);
-    }
+int no_connect(const struct socket *sock, const struct sockaddr *address, socklen_t length) {
     struct sockaddr_storage copy;
+    (void)sock;
     if (length > sizeof copy) {
         return fail(EINVAL);
     }
     return copy_from(&copy, address, length)
                ? refuse("connect", EOPNOTSUPP, "CAN_RAW and CAN_ISOTP have bind in its place")
                : fail(EFAULT);
+}
+
+EXPORT int bind(int fd, const struct sockaddr *address, socklen_t length) {
+    struct socket sock = socket_of(fd);
+    return HAS(sock, bind) ? sock.protocol->bind(&sock, address, length) : real()->bind(fd, address, length);
+}
+
+EXPORT int connect(int fd, const struct sockaddr *address, socklen_t length) {
+    struct socket sock = socket_of(fd);
+    return HAS(sock, connect) ? sock.protocol->connect(&sock, address, length) : real()->connect(fd, address, length);
 }
 
 /* Copies a value into the room that the program gives, and says how long it is: as it is, or as much as was copied. */
@@ -74,33 +67,33 @@ static int copy_value(void *room, socklen_t *room_length, const void *value, soc
     return copy_to(room, value, has) && copy_to(room_length, &shown, sizeof shown) ? 0 : fail(EFAULT);
 }
 
-EXPORT int getsockname(int fd, struct sockaddr *restrict address, socklen_t *restrict length) {
-    enum wire_protocol protocol = protocol_of(fd);
-    uint32_t identifiers[2] = {0, 0};
-    struct answer answer = {.data = identifiers, .room = sizeof identifiers};
-    if (!protocol) {
-        return real()->getsockname(fd, address, length);
+int can_getname(const struct socket *sock, struct sockaddr *address, socklen_t *length, bool is_peer) {
+    struct sockaddr_can can = {0};
+    struct answer answer = {.data = &can, .room = sizeof can};
+    if (is_peer) {
+        return refuse("getpeername", EOPNOTSUPP, "a CAN socket has no such call");
     }
-    if (protocol == WIRE_BCM) {
-        return refuse("getsockname", EOPNOTSUPP, "CAN_BCM has no such call");
-    }
-    if (ask(fd, "getsockname", &(struct wire_request){.kind = WIRE_ADDRESS}, NULL, 0, &answer)) {
+    if (ask(sock->fd, "getsockname", &(struct wire_request){.kind = WIRE_ADDRESS}, NULL, 0, &answer)) {
         return -1;
     }
-    struct sockaddr_can can = {.can_family = AF_CAN, .can_ifindex = answer.value};
-    can.can_addr.tp.rx_id = identifiers[0];
-    can.can_addr.tp.tx_id = identifiers[1];
-    socklen_t whole = protocol == WIRE_ISOTP ? ISOTP_ADDRESS : SHORT_ADDRESS;
-    return copy_value(address, length, &can, whole, true);
+    return copy_value(address, length, &can, sock->protocol->address_size, true);
 }
 
-/* The level of a protocol's own options; the broadcast manager has none. */
-static int level_of(enum wire_protocol protocol) {
-    return protocol == WIRE_RAW ? SOL_CAN_RAW : protocol == WIRE_ISOTP ? SOL_CAN_ISOTP : SOL_SOCKET;
+EXPORT int getsockname(int fd, struct sockaddr *restrict address, socklen_t *restrict length) {
+    struct socket sock = socket_of(fd);
+    return HAS(sock, getname) ? sock.protocol->getname(&sock, address, length, false)
+                              : real()->getsockname(fd, address, length);
 }
 
-static int refuse_level(const char *call, enum wire_protocol protocol) {
-    return refuse(call, protocol == WIRE_BCM ? EOPNOTSUPP : EINVAL, "this protocol has no options of this level");
+EXPORT int getpeername(int fd, struct sockaddr *restrict address, socklen_t *restrict length) {
+    struct socket sock = socket_of(fd);
+    return HAS(sock, getname) ? sock.protocol->getname(&sock, address, length, true)
+                              : real()->getpeername(fd, address, length);
+}
+
+/* The level is not that of the protocol's options; the broadcast manager has none. */
+static int refuse_level(const struct socket *sock, const char *call) {
+    return refuse(call, sock->protocol->level ? EINVAL : EOPNOTSUPP, "this protocol has no options of this level");
 }
 
 static bool is_of_device(int option) {
@@ -159,32 +152,34 @@ static int set_socket_option(int fd, int option, const void *value, socklen_t le
     return result;
 }
 
-EXPORT int setsockopt(int fd, int level, int option, const void *value, socklen_t length) {
-    enum wire_protocol protocol = protocol_of(fd);
-    if (!protocol) {
-        return real()->setsockopt(fd, level, option, value, length);
-    }
+int can_setsockopt(const struct socket *sock, int level, int option, const void *value, socklen_t length) {
     if (level == SOL_SOCKET && is_of_device(option)) {
-        return set_device(fd, option, value, length);
+        return set_device(sock->fd, option, value, length);
     }
     if (level == SOL_SOCKET && option == SO_PEEK_OFF) {
         return refuse("setsockopt", EOPNOTSUPP, "a CAN socket has no such option");
     }
     if (level == SOL_SOCKET) {
-        return set_socket_option(fd, option, value, length);
+        return set_socket_option(sock->fd, option, value, length);
     }
-    if (level != level_of(protocol)) {
-        return refuse_level("setsockopt", protocol);
+    if (!sock->protocol->level || level != sock->protocol->level) {
+        return refuse_level(sock, "setsockopt");
     }
     if (length > WIRE_REPLY) {
         return refuse("setsockopt", EINVAL, "the value is too long");
     }
     struct iovec data = {(void *)value, length};
     struct wire_request request = {.kind = WIRE_SET, .option = option, .length = length};
-    int result = ask(fd, "setsockopt", &request, &data, 1, NULL);
+    int result = ask(sock->fd, "setsockopt", &request, &data, 1, NULL);
     /* Whether there is such an option comes before its value. */
     request = (struct wire_request){.kind = WIRE_GET, .option = option};
-    return result && errno == EFAULT && !ask(fd, "setsockopt", &request, NULL, 0, NULL) ? fail(EFAULT) : result;
+    return result && errno == EFAULT && !ask(sock->fd, "setsockopt", &request, NULL, 0, NULL) ? fail(EFAULT) : result;
+}
+
+EXPORT int setsockopt(int fd, int level, int option, const void *value, socklen_t length) {
+    struct socket sock = socket_of(fd);
+    return HAS(sock, setsockopt) ? sock.protocol->setsockopt(&sock, level, option, value, length)
+                                 : real()->setsockopt(fd, level, option, value, length);
 }
 
 /* Takes the error, and what says that there is one, so that nothing is left to be read. */
@@ -194,13 +189,13 @@ static int take_shown_error(int fd) {
     return error;
 }
 
-/* What SO_DOMAIN, SO_TYPE, SO_PROTOCOL and SO_ERROR are of a CAN socket; -1 for other options. The kernel's CAN sockets
- * have no protocol there. */
-static int socket_fact(int fd, enum wire_protocol protocol, int option) {
+/* The values of SO_DOMAIN, SO_TYPE, SO_PROTOCOL and SO_ERROR for a CAN socket; -1 for other options. The kernel's CAN
+ * sockets have no protocol there. */
+static int socket_fact(const struct socket *sock, int option) {
     switch (option) {
-    case SO_ERROR: return take_shown_error(fd);
-    case SO_DOMAIN: return AF_CAN;
-    case SO_TYPE: return protocol == WIRE_RAW ? SOCK_RAW : SOCK_DGRAM;
+    case SO_ERROR: return take_shown_error(sock->fd);
+    case SO_DOMAIN: return sock->protocol->family;
+    case SO_TYPE: return sock->protocol->type;
     case SO_PROTOCOL: return 0;
     default: return -1;
     }
@@ -215,7 +210,7 @@ static int socket_refusal(int option) {
 }
 
 /* The kernel's rules for how much of a value is returned: a short one is cut, but never a list of filters. */
-static int get_protocol_option(int fd, enum wire_protocol protocol, int option, void *value, socklen_t *length) {
+static int get_protocol_option(const struct socket *sock, int option, void *value, socklen_t *length) {
     char whole[WIRE_REPLY];
     struct answer answer = {.data = whole, .room = sizeof whole};
     socklen_t has;
@@ -225,36 +220,40 @@ static int get_protocol_option(int fd, enum wire_protocol protocol, int option, 
     if ((int)has < 0) {
         return fail(EINVAL);
     }
-    if (ask(fd, "getsockopt", &(struct wire_request){.kind = WIRE_GET, .option = option}, NULL, 0, &answer)) {
+    if (ask(sock->fd, "getsockopt", &(struct wire_request){.kind = WIRE_GET, .option = option}, NULL, 0, &answer)) {
         return -1;
     }
     socklen_t needed = (socklen_t)answer.length;
-    if (protocol == WIRE_RAW && option == CAN_RAW_FILTER && has < needed) {
+    if (option == sock->protocol->uncut_option && has < needed) {
         return copy_to(length, &needed, sizeof needed) ? refuse("getsockopt", ERANGE, "the filters need more room")
                                                        : fail(EFAULT);
     }
     return copy_value(value, length, whole, needed, false);
 }
 
-EXPORT int getsockopt(int fd, int level, int option, void *restrict value, socklen_t *restrict length) {
-    enum wire_protocol protocol = protocol_of(fd);
+int can_getsockopt(const struct socket *sock, int level, int option, void *value, socklen_t *length) {
     const struct ucred nobody = {0, (uid_t)-1, (gid_t)-1};
-    int fact = protocol && level == SOL_SOCKET ? socket_fact(fd, protocol, option) : -1;
-    if (protocol && level == SOL_SOCKET && option == SO_PEERCRED) {
+    if (level != SOL_SOCKET) {
+        return sock->protocol->level && level == sock->protocol->level
+                   ? get_protocol_option(sock, option, value, length)
+                   : refuse_level(sock, "getsockopt");
+    }
+    if (option == SO_PEERCRED) {
         return copy_value(value, length, &nobody, sizeof nobody, false);
     }
-    if (protocol && level == SOL_SOCKET && socket_refusal(option)) {
+    if (socket_refusal(option)) {
         return refuse("getsockopt", socket_refusal(option), "a CAN socket has no such option");
     }
-    if (protocol && level == SOL_SOCKET && is_of_device(option)) {
-        return get_device(fd, option, value, length);
+    if (is_of_device(option)) {
+        return get_device(sock->fd, option, value, length);
     }
-    if (!protocol || (level == SOL_SOCKET && fact < 0)) {
-        return real()->getsockopt(fd, level, option, value, length);
-    }
-    if (fact >= 0) {
-        return copy_value(value, length, &fact, sizeof fact, false);
-    }
-    return level == level_of(protocol) ? get_protocol_option(fd, protocol, option, value, length)
-                                       : refuse_level("getsockopt", protocol);
+    int fact = socket_fact(sock, option);
+    return fact < 0 ? real()->getsockopt(sock->fd, level, option, value, length)
+                    : copy_value(value, length, &fact, sizeof fact, false);
+}
+
+EXPORT int getsockopt(int fd, int level, int option, void *restrict value, socklen_t *restrict length) {
+    struct socket sock = socket_of(fd);
+    return HAS(sock, getsockopt) ? sock.protocol->getsockopt(&sock, level, option, value, length)
+                                 : real()->getsockopt(fd, level, option, value, length);
 }

@@ -197,7 +197,7 @@ static int put_quick(int fd, const struct wire_quick *quick, const struct iovec 
 /* Whether no reply will come: the bridge is gone, or the descriptor was another socket's when the request was sent. */
 static bool is_lost(int fd, const char *name) {
     struct pollfd polled = {fd, 0, 0};
-    return memcmp(kind_of(fd).name, name, WIRE_NAME_ROOM) ||
+    return memcmp(socket_of(fd).name, name, WIRE_NAME_ROOM) ||
            (syscall(SYS_ppoll, &polled, 1L, &(struct timespec){0, 0}, NULL, 0L) > 0 && polled.revents & POLLHUP);
 }
 
@@ -235,7 +235,7 @@ static enum quick get_reply(const struct wire_place *place, struct answer *answe
     return QUICK_DONE;
 }
 
-static enum quick write_by(struct known *one, int fd, const struct kind *kind, const struct wire_request *request,
+static enum quick write_by(struct known *one, const struct socket *sock, const struct wire_request *request,
                            const struct iovec *data, size_t pieces, struct answer *answer) {
     struct wire_memory *memory = one->memory;
     struct wire_place *place = take_place(memory);
@@ -249,13 +249,13 @@ static enum quick write_by(struct known *one, int fd, const struct kind *kind, c
         quick.ifindex = WIRE_LEFT;
         pieces = 0;
     }
-    int error = talk == TALK_DONE ? 0 : put_quick(fd, &quick, data, pieces);
+    int error = talk == TALK_DONE ? 0 : put_quick(sock->fd, &quick, data, pieces);
     if (error) {
         free_place(place);
         refuse_unsent("write", error);
         return QUICK_REFUSED;
     }
-    if (!await_reply(fd, kind->name, place, memory->key + quick.place)) {
+    if (!await_reply(sock->fd, sock->name, place, memory->key + quick.place)) {
         refuse_unsent("write", EPIPE);
         return QUICK_REFUSED; /* The place stays taken, as a reply may come even so. */
     }
@@ -265,17 +265,18 @@ static enum quick write_by(struct known *one, int fd, const struct kind *kind, c
     return result;
 }
 
-enum quick ask_quickly(int fd, const struct kind *kind, const struct wire_request *request, const struct iovec *data,
-                       size_t pieces, struct answer *answer) {
-    struct known *one = is_off || request->length > CANFD_MTU ? NULL : enter(kind->name);
+enum quick ask_quickly(const struct socket *sock, const struct wire_request *request, const struct msghdr *message,
+                       struct answer *answer) {
+    struct known *one = is_off || request->length > CANFD_MTU ? NULL : enter(sock->name);
     if (!one) {
         return QUICK_NONE;
     }
-    struct wire_memory *memory = memory_of(one, fd);
+    struct wire_memory *memory = memory_of(one, sock->fd);
     if (memory && loan_is_new(memory, &one->copy)) {
-        borrow(one, fd);
+        borrow(one, sock->fd);
     }
-    enum quick result = memory ? write_by(one, fd, kind, request, data, pieces, answer) : QUICK_NONE;
+    enum quick result =
+        memory ? write_by(one, sock, request, message->msg_iov, message->msg_iovlen, answer) : QUICK_NONE;
     leave(one);
     return result;
 }

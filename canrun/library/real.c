@@ -1,4 +1,4 @@
-/* The functions of the C library that are called by those of this one, what a descriptor is, and errors. */
+/* The functions of the C library that are called by those of this one, and errors. */
 #define _GNU_SOURCE
 #include "library.h"
 
@@ -8,7 +8,6 @@
 #include <stdlib.h>
 #include <string.h>
 #include <sys/syscall.h>
-#include <sys/un.h>
 #include <unistd.h>
 
 static struct real found;
@@ -27,31 +26,6 @@ const struct real *real(void) {
         resolve();
     }
     return &found;
-}
-
-struct kind kind_of(int fd) {
-    const socklen_t head = offsetof(struct sockaddr_un, sun_path) + 1;
-    struct kind kind = {0};
-    struct sockaddr_un name;
-    socklen_t length = sizeof name;
-    int before = errno;
-    long failed = syscall(SYS_getsockname, fd, &name, &length);
-    errno = before;
-    kind.is_netlink = !failed && name.sun_family == AF_NETLINK;
-    if (failed || name.sun_family != AF_UNIX || length < head + sizeof WIRE_NAME || length >= head + sizeof kind.name ||
-        name.sun_path[0] || memcmp(name.sun_path + 1, WIRE_NAME, sizeof WIRE_NAME - 1)) {
-        return kind;
-    }
-    memcpy(kind.name, name.sun_path + 1, length - head);
-    kind.protocol = (enum wire_protocol)name.sun_path[sizeof WIRE_NAME];
-    if (kind.protocol == WIRE_ISOTP) {
-        note_isotp(fd);
-    }
-    return kind;
-}
-
-enum wire_protocol protocol_of(int fd) {
-    return kind_of(fd).protocol;
 }
 
 int fail(int error) {

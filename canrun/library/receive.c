@@ -72,10 +72,9 @@ static ssize_t scatter(const struct msghdr *message, const char *data, size_t le
 }
 
 /* The address of who sent it; of ISO-TP it has no identifiers, as in the kernel. */
-static bool make_name(enum wire_protocol protocol, struct msghdr *message, int ifindex) {
+static bool make_name(const struct socket *sock, struct msghdr *message, int ifindex) {
     struct sockaddr_can can = {.can_family = AF_CAN, .can_ifindex = ifindex};
-    socklen_t length = offsetof(struct sockaddr_can, can_addr);
-    length += protocol == WIRE_ISOTP ? 2 * (socklen_t)sizeof(canid_t) : 0;
+    socklen_t length = sock->protocol->address_size;
     bool is_copied = copy_to(message->msg_name, &can, MIN(message->msg_namelen, length));
     message->msg_namelen = length;
     return is_copied;
@@ -85,7 +84,7 @@ static ssize_t no_device(void) {
     return refuse("read", ENODEV, "the server is gone, and its interfaces with it");
 }
 
-/* Where a datagram goes: that of CAN_RAW into room of its own, with its trailer after the frame, but for the first
+/* Where a datagram goes: one that is a frame into room of its own, with its trailer after the frame, but for the first
  * bytes, which the kernel writes to the program where that has room for them in a piece; the others into the pieces of
  * the program, after the trailer. */
 struct datagram {
@@ -94,20 +93,20 @@ struct datagram {
 };
 
 /* The next datagram, as it comes: its message's length, and its trailer; -1 and errno where there is none. */
-static ssize_t take_any(int fd, enum wire_protocol protocol, struct msghdr *message, int flags,
-                        struct datagram *datagram) {
-    ssize_t length = real()->recvmsg(fd, message, (flags & ~MSG_OOB) | (protocol == WIRE_RAW ? 0 : MSG_TRUNC));
+static ssize_t take_any(const struct socket *sock, struct msghdr *message, int flags, struct datagram *datagram) {
+    bool has_frames = sock->protocol->has_frames;
+    ssize_t length = real()->recvmsg(sock->fd, message, (flags & ~MSG_OOB) | (has_frames ? 0 : MSG_TRUNC));
     if (length < 0) {
         return errno == ECONNRESET ? no_device() : -1;
     }
     if (length < (ssize_t)sizeof datagram->trailer) {
         return no_device();
     }
-    if (protocol == WIRE_RAW && message->msg_iovlen == 2) {
+    if (has_frames && message->msg_iovlen == 2) {
         memcpy(datagram->frame, message->msg_iov->iov_base, CAN_MTU);
     }
     length -= (ssize_t)sizeof datagram->trailer;
-    if (protocol == WIRE_RAW) {
+    if (has_frames) {
         memcpy(&datagram->trailer, datagram->frame + length, sizeof datagram->trailer);
     }
     return length;
@@ -115,14 +114,14 @@ static ssize_t take_any(int fd, enum wire_protocol protocol, struct msghdr *mess
 
 /* The next datagram that is a message. One that says that the socket has an error is followed by the next where another
  * call has taken the error. */
-static ssize_t take(int fd, enum wire_protocol protocol, struct msghdr *message, int flags, struct datagram *datagram) {
+static ssize_t take(const struct socket *sock, struct msghdr *message, int flags, struct datagram *datagram) {
     size_t control = message->msg_controllen;
     ssize_t length;
-    while ((length = take_any(fd, protocol, message, flags, datagram)) >= 0 && datagram->trailer.is_error) {
+    while ((length = take_any(sock, message, flags, datagram)) >= 0 && datagram->trailer.is_error) {
         if (flags & MSG_PEEK) {
-            take_any(fd, protocol, message, MSG_DONTWAIT, datagram);
+            take_any(sock, message, MSG_DONTWAIT, datagram);
         }
-        int error = take_error(fd);
+        int error = take_error(sock->fd);
         if (error) {
             return refuse("read", error, "a message has not come whole, or its interface is gone");
         }
@@ -131,33 +130,18 @@ static ssize_t take(int fd, enum wire_protocol protocol, struct msghdr *message,
     return length;
 }
 
-/* What the kernel's CAN_ISOTP refuses: other flags, and a socket that is not bound, to which nothing can have come. */
-static int check_isotp(int fd, int flags) {
-    struct answer answer = {0};
-    if (flags & ~(MSG_DONTWAIT | MSG_TRUNC | MSG_PEEK)) {
-        return refuse("read", EINVAL, "CAN_ISOTP has no such flag");
-    }
-    int before = errno;
-    bool has_any = syscall(SYS_recvfrom, fd, NULL, 0L, MSG_PEEK | MSG_DONTWAIT, NULL, NULL) >= 0;
-    errno = before;
-    if (!has_any && !ask(fd, "read", &(struct wire_request){.kind = WIRE_ADDRESS}, NULL, 0, &answer) && !answer.value) {
-        return refuse("read", EADDRNOTAVAIL, "bind comes first");
-    }
-    return 0;
-}
-
 size_t room_of(const struct msghdr *message, size_t length) {
     size_t room = 0;
     for (size_t i = 0; i < message->msg_iovlen && room < length; i++) {
-        room += message->msg_iov[i].iov_len;
+        room += MIN(message->msg_iov[i].iov_len, length - room);
     }
-    return MIN(room, length);
+    return room;
 }
 
 /* Writes the pieces of a datagram; returns how many there are. */
-static size_t lay_out(struct iovec *parts, enum wire_protocol protocol, const struct msghdr *user,
+static size_t lay_out(struct iovec *parts, const struct socket *sock, const struct msghdr *user,
                       struct datagram *datagram) {
-    if (protocol != WIRE_RAW) {
+    if (!sock->protocol->has_frames) {
         parts[0] = (struct iovec){&datagram->trailer, sizeof datagram->trailer};
         memcpy(parts + 1, user->msg_iov, user->msg_iovlen * sizeof *parts);
         return 1 + user->msg_iovlen;
@@ -178,30 +162,31 @@ static ssize_t copy_rest(const struct iovec *part, const char *frame, size_t len
                                                                                                          : fail(EFAULT);
 }
 
-static ssize_t can_recvmsg(int fd, enum wire_protocol protocol, struct msghdr *user, int flags) {
+/* Copies what came into room of this library's own; returns how much the program has got, or -1 and errno. */
+static ssize_t hand_out(const struct msghdr *user, const struct msghdr *message, const struct datagram *datagram,
+                        bool has_frames, ssize_t length) {
+    return !has_frames                ? (ssize_t)room_of(user, (size_t)length)
+           : message->msg_iovlen == 2 ? copy_rest(user->msg_iov, datagram->frame, (size_t)length)
+                                      : scatter(user, datagram->frame, (size_t)length);
+}
+
+ssize_t receive_message(const struct socket *sock, struct msghdr *user, int flags, ssize_t *length) {
     struct datagram datagram;
     struct iovec parts[2 + user->msg_iovlen];
-    bool is_raw = protocol == WIRE_RAW;
     struct msghdr message = {.msg_iov = parts,
-                             .msg_iovlen = lay_out(parts, protocol, user, &datagram),
+                             .msg_iovlen = lay_out(parts, sock, user, &datagram),
                              .msg_control = user->msg_control,
                              .msg_controllen = user->msg_controllen};
-    if (protocol == WIRE_ISOTP && check_isotp(fd, flags)) {
-        return -1;
-    }
     if (flags & MSG_ERRQUEUE) {
         return fail(EAGAIN);
     }
-    ssize_t length = take(fd, protocol, &message, flags, &datagram);
-    ssize_t done = length < 0                          ? -1
-                   : is_raw && message.msg_iovlen == 2 ? copy_rest(user->msg_iov, datagram.frame, (size_t)length)
-                   : is_raw                            ? scatter(user, datagram.frame, (size_t)length)
-                                                       : (ssize_t)room_of(user, (size_t)length);
+    *length = take(sock, &message, flags, &datagram);
+    ssize_t done = *length < 0 ? -1 : hand_out(user, &message, &datagram, sock->protocol->has_frames, *length);
     if (done < 0) {
         return -1;
     }
-    keep_stamp(fd, datagram.trailer.nanoseconds);
-    if (user->msg_name && !make_name(protocol, user, datagram.trailer.ifindex)) {
+    keep_stamp(sock->fd, datagram.trailer.nanoseconds);
+    if (user->msg_name && !make_name(sock, user, datagram.trailer.ifindex)) {
         return fail(EFAULT);
     }
     if (user->msg_control) {
@@ -209,9 +194,14 @@ static ssize_t can_recvmsg(int fd, enum wire_protocol protocol, struct msghdr *u
     }
     user->msg_controllen = message.msg_controllen;
     user->msg_flags = (message.msg_flags & ~MSG_TRUNC) | (int)datagram.trailer.message_flags;
-    user->msg_flags |= done < length ? MSG_TRUNC : 0;
-    /* The kernel's CAN_RAW and CAN_BCM return what was copied, whatever MSG_TRUNC asks for. */
-    return protocol == WIRE_ISOTP && flags & MSG_TRUNC ? length : done;
+    user->msg_flags |= done < *length ? MSG_TRUNC : 0;
+    return done;
+}
+
+/* The kernel's CAN_RAW and CAN_BCM return what was copied, whatever MSG_TRUNC asks for. */
+ssize_t can_recvmsg(const struct socket *sock, struct msghdr *message, int flags) {
+    ssize_t length;
+    return receive_message(sock, message, flags, &length);
 }
 
 /* Gives the address as far as there is room; as in the kernel that is looked at once a message has been taken. */
@@ -229,18 +219,18 @@ static int give_name(struct sockaddr *from, socklen_t *room, const struct msghdr
                : fail(EFAULT);
 }
 
-static ssize_t receive(int fd, enum wire_protocol protocol, void *data, size_t length, int flags, struct sockaddr *from,
+static ssize_t receive(const struct socket *sock, void *data, size_t length, int flags, struct sockaddr *from,
                        socklen_t *room) {
     struct sockaddr_can name;
     struct iovec part = {data, length};
     struct msghdr message = {
         .msg_iov = &part, .msg_iovlen = 1, .msg_name = from ? &name : NULL, .msg_namelen = sizeof name};
-    ssize_t result = can_recvmsg(fd, protocol, &message, flags);
+    ssize_t result = sock->protocol->recvmsg(sock, &message, flags);
     return result >= 0 && from && give_name(from, room, &message) ? -1 : result;
 }
 
-/* The same as can_recvmsg for a message that the program names. */
-static ssize_t receive_named(int fd, enum wire_protocol protocol, struct msghdr *named, int flags) {
+/* The same for a message that the program names. */
+static ssize_t receive_named(const struct socket *sock, struct msghdr *named, int flags) {
     struct msghdr message;
     if (!copy_from(&message, named, sizeof message)) {
         return fail(EFAULT);
@@ -253,40 +243,40 @@ static ssize_t receive_named(int fd, enum wire_protocol protocol, struct msghdr 
         return fail(EFAULT);
     }
     message.msg_iov = parts;
-    ssize_t result = can_recvmsg(fd, protocol, &message, flags);
+    ssize_t result = sock->protocol->recvmsg(sock, &message, flags);
     message.msg_iov = theirs;
     return result < 0 || copy_to(named, &message, sizeof message) ? result : fail(EFAULT);
 }
 
 EXPORT ssize_t recvmsg(int fd, struct msghdr *message, int flags) {
-    enum wire_protocol protocol = protocol_of(fd);
-    return protocol ? receive_named(fd, protocol, message, flags) : real()->recvmsg(fd, message, flags);
+    struct socket sock = socket_of(fd);
+    return HAS(sock, recvmsg) ? receive_named(&sock, message, flags) : real()->recvmsg(fd, message, flags);
 }
 
 EXPORT ssize_t recvfrom(int fd, void *restrict data, size_t length, int flags, struct sockaddr *restrict from,
                         socklen_t *restrict room) {
-    enum wire_protocol protocol = protocol_of(fd);
-    return protocol ? receive(fd, protocol, data, length, flags, from, room)
-                    : real()->recvfrom(fd, data, length, flags, from, room);
+    struct socket sock = socket_of(fd);
+    return HAS(sock, recvmsg) ? receive(&sock, data, length, flags, from, room)
+                              : real()->recvfrom(fd, data, length, flags, from, room);
 }
 
 EXPORT ssize_t recv(int fd, void *data, size_t length, int flags) {
-    enum wire_protocol protocol = protocol_of(fd);
-    return protocol ? receive(fd, protocol, data, length, flags, NULL, NULL) : real()->recv(fd, data, length, flags);
+    struct socket sock = socket_of(fd);
+    return HAS(sock, recvmsg) ? receive(&sock, data, length, flags, NULL, NULL) : real()->recv(fd, data, length, flags);
 }
 
 /* A read of nothing takes no frame, as the kernel says of sockets. */
 EXPORT ssize_t read(int fd, void *data, size_t length) {
-    enum wire_protocol protocol = protocol_of(fd);
-    if (!protocol) {
+    struct socket sock = socket_of(fd);
+    if (!HAS(sock, recvmsg)) {
         return real()->read(fd, data, length);
     }
-    return length ? receive(fd, protocol, data, length, 0, NULL, NULL) : 0;
+    return length ? receive(&sock, data, length, 0, NULL, NULL) : 0;
 }
 
 EXPORT ssize_t readv(int fd, const struct iovec *parts, int count) {
-    enum wire_protocol protocol = protocol_of(fd);
-    if (!protocol || count < 0 || count > PIECES_MOST) {
+    struct socket sock = socket_of(fd);
+    if (!HAS(sock, recvmsg) || count < 0 || count > PIECES_MOST) {
         return real()->readv(fd, parts, count);
     }
     struct iovec copy[count + 1];
@@ -294,7 +284,7 @@ EXPORT ssize_t readv(int fd, const struct iovec *parts, int count) {
     if (!copy_from(copy, parts, (size_t)count * sizeof *copy)) {
         return fail(EFAULT);
     }
-    return room_of(&message, 1) ? can_recvmsg(fd, protocol, &message, 0) : 0;
+    return room_of(&message, 1) ? sock.protocol->recvmsg(&sock, &message, 0) : 0;
 }
 
 /* What is left of `timeout` since it began at `end` minus itself; as the kernel, it is looked at after each message. */
@@ -325,17 +315,17 @@ static bool read_end(struct timespec *end, const struct timespec *timeout) {
 }
 
 EXPORT int recvmmsg(int fd, struct mmsghdr *messages, unsigned count, int flags, struct timespec *timeout) {
-    enum wire_protocol protocol = protocol_of(fd);
+    struct socket sock = socket_of(fd);
     struct timespec end = {0, 0};
     unsigned done = 0;
-    if (!protocol) {
+    if (!HAS(sock, recvmsg)) {
         return real()->recvmmsg(fd, messages, count, flags, timeout);
     }
     if (timeout && !read_end(&end, timeout)) {
         return -1;
     }
     while (done < count) {
-        ssize_t length = receive_named(fd, protocol, &messages[done].msg_hdr, flags & ~MSG_WAITFORONE);
+        ssize_t length = receive_named(&sock, &messages[done].msg_hdr, flags & ~MSG_WAITFORONE);
         unsigned got = (unsigned)length;
         if (length < 0 || !copy_to(&messages[done].msg_len, &got, sizeof got)) {
             return done ? (int)done : -1;

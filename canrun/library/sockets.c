@@ -1,4 +1,4 @@
-/* Making CAN sockets, and the calls that a CAN socket refuses. */
+/* Making CAN sockets, knowing them again, and the calls that a CAN socket refuses. */
 #define _GNU_SOURCE
 #include "library.h"
 
@@ -12,50 +12,77 @@
 #include <time.h>
 #include <unistd.h>
 
-/* The protocol of such a socket; or 0 and errno, as can_create of the kernel. */
-static enum wire_protocol protocol_for(int type, int protocol) {
-    static const struct {
-        int protocol, type;
-        enum wire_protocol wire;
-    } known[] = {{CAN_RAW, SOCK_RAW, WIRE_RAW},
-                 {CAN_BCM, SOCK_DGRAM, WIRE_BCM},
-                 {CAN_ISOTP, SOCK_DGRAM, WIRE_ISOTP},
-                 {CAN_J1939, SOCK_DGRAM, 0}};
+/* The protocols of CAN sockets, by their numbers of linux/can.h, as proto_tab of the kernel. */
+static const struct protocol *const protocols[CAN_NPROTO] = {
+    [CAN_RAW] = &raw_protocol,
+    [CAN_BCM] = &bcm_protocol,
+    [CAN_J1939] = &(const struct protocol){.type = SOCK_DGRAM}, /* as a kernel has it; here it has no bridge */
+    [CAN_ISOTP] = &isotp_protocol,
+};
+
+static const struct protocol *protocol_of(int number) {
+    const struct protocol *protocol = number < 0 || number >= CAN_NPROTO ? NULL : protocols[number];
+    return protocol && protocol->family ? protocol : NULL;
+}
+
+struct socket socket_of(int fd) {
+    const socklen_t head = offsetof(struct sockaddr_un, sun_path) + 1;
+    struct socket sock = {.fd = fd};
+    struct sockaddr_un name;
+    socklen_t length = sizeof name;
+    int before = errno;
+    long failed = syscall(SYS_getsockname, fd, &name, &length);
+    errno = before;
+    if (!failed && name.sun_family == AF_NETLINK) {
+        sock.protocol = &netlink_protocol;
+    }
+    if (failed || name.sun_family != AF_UNIX || length < head + sizeof WIRE_NAME || length >= head + sizeof sock.name ||
+        name.sun_path[0] || memcmp(name.sun_path + 1, WIRE_NAME, sizeof WIRE_NAME - 1)) {
+        return sock;
+    }
+    memcpy(sock.name, name.sun_path + 1, length - head);
+    sock.protocol = protocol_of(name.sun_path[sizeof WIRE_NAME] - '0');
+    if (HAS(sock, shows_error)) {
+        note_error_of(fd);
+    }
+    return sock;
+}
+
+bool is_can_socket(int fd) {
+    struct socket sock = socket_of(fd);
+    return sock.protocol && sock.protocol->family == PF_CAN;
+}
+
+/* Whether there are such sockets; else errno, as can_create of the kernel. */
+static bool has_protocol(int type, int number) {
     if (type < 0 || type > SOCK_PACKET) {
         refuse("socket", EINVAL, "there is no such type of sockets");
-        return 0;
-    }
-    if (protocol < 0 || protocol >= CAN_NPROTO) {
+    } else if (number < 0 || number >= CAN_NPROTO) {
         refuse("socket", EINVAL, "this is no protocol of linux/can.h");
-        return 0;
+    } else if (protocols[number] && protocols[number]->type != type) {
+        refuse("socket", EPROTOTYPE, "CAN_RAW is SOCK_RAW, the others are SOCK_DGRAM");
+    } else if (!protocol_of(number)) {
+        refuse("socket", EPROTONOSUPPORT, "of the protocols there are CAN_RAW, CAN_BCM and CAN_ISOTP");
+    } else {
+        return true;
     }
-    for (size_t i = 0; i < sizeof known / sizeof *known; i++) {
-        if (known[i].protocol == protocol && known[i].type != type) {
-            refuse("socket", EPROTOTYPE, "CAN_RAW is SOCK_RAW, the others are SOCK_DGRAM");
-            return 0;
-        }
-        if (known[i].protocol == protocol && known[i].wire) {
-            return known[i].wire;
-        }
-    }
-    refuse("socket", EPROTONOSUPPORT, "of the protocols there are CAN_RAW, CAN_BCM and CAN_ISOTP");
-    return 0;
+    return false;
 }
 
 /* Gives a socket a name that no other one has. Returns 0, or an errno. */
-static int give_name(int fd, enum wire_protocol protocol) {
+static int give_name(int fd, int protocol) {
     static unsigned number;
     struct sockaddr_un name = {.sun_family = AF_UNIX};
     struct timespec now;
     clock_gettime(CLOCK_MONOTONIC, &now);
-    int length = snprintf(name.sun_path + 1, sizeof name.sun_path - 1, WIRE_NAME "%c/%ld.%u.%llx", protocol,
+    int length = snprintf(name.sun_path + 1, sizeof name.sun_path - 1, WIRE_NAME "%d/%ld.%u.%llx", protocol,
                           syscall(SYS_gettid), __atomic_fetch_add(&number, 1, __ATOMIC_RELAXED),
                           (unsigned long long)now.tv_sec * 1000000000 + (unsigned long long)now.tv_nsec);
     socklen_t whole = (socklen_t)(offsetof(struct sockaddr_un, sun_path) + 1 + (size_t)length);
     return syscall(SYS_bind, fd, &name, whole) ? errno : 0;
 }
 
-static int start_pair(int ends[2], enum wire_protocol protocol) {
+static int start_pair(int ends[2], int protocol) {
     int error = give_name(ends[0], protocol);
     if (error) {
         return refuse("socket", error, "the pair gets no name");
@@ -66,11 +93,11 @@ static int start_pair(int ends[2], enum wire_protocol protocol) {
 
 int can_socket(int type, int protocol) {
     int flags = type & (SOCK_NONBLOCK | SOCK_CLOEXEC), ends[2], before = errno;
-    enum wire_protocol wire = protocol_for(type & ~flags, protocol);
-    if (!wire || syscall(SYS_socketpair, AF_UNIX, SOCK_SEQPACKET | SOCK_CLOEXEC, 0, ends)) {
+    if (!has_protocol(type & ~flags, protocol) ||
+        syscall(SYS_socketpair, AF_UNIX, SOCK_SEQPACKET | SOCK_CLOEXEC, 0, ends)) {
         return -1;
     }
-    int result = start_pair(ends, wire);
+    int result = start_pair(ends, protocol);
     int error = result ? errno : before;
     syscall(SYS_close, ends[1]);
     if (result) {
@@ -100,22 +127,18 @@ EXPORT int socketpair(int family, int type, int protocol, int ends[2]) {
 }
 
 EXPORT int listen(int fd, int backlog) {
-    return protocol_of(fd) ? refuse_call("listen") : real()->listen(fd, backlog);
+    return is_can_socket(fd) ? refuse_call("listen") : real()->listen(fd, backlog);
 }
 
 EXPORT int accept(int fd, struct sockaddr *restrict address, socklen_t *restrict length) {
-    return protocol_of(fd) ? refuse_call("accept") : real()->accept(fd, address, length);
+    return is_can_socket(fd) ? refuse_call("accept") : real()->accept(fd, address, length);
 }
 
 EXPORT int accept4(int fd, struct sockaddr *restrict address, socklen_t *restrict length, int flags) {
     bool is_odd = flags & ~(SOCK_NONBLOCK | SOCK_CLOEXEC);
-    return protocol_of(fd) && !is_odd ? refuse_call("accept4") : real()->accept4(fd, address, length, flags);
+    return is_can_socket(fd) && !is_odd ? refuse_call("accept4") : real()->accept4(fd, address, length, flags);
 }
 
 EXPORT int shutdown(int fd, int how) {
-    return protocol_of(fd) ? refuse_call("shutdown") : real()->shutdown(fd, how);
-}
-
-EXPORT int getpeername(int fd, struct sockaddr *restrict address, socklen_t *restrict length) {
-    return protocol_of(fd) ? refuse_call("getpeername") : real()->getpeername(fd, address, length);
+    return is_can_socket(fd) ? refuse_call("shutdown") : real()->shutdown(fd, how);
 }

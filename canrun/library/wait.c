@@ -1,6 +1,6 @@
-/* Waiting: poll and epoll of a socket of ISO-TP that has an error. Its bridge says so by a message without data, which
- * the kernel shows as POLLIN; a CAN socket has POLLERR. select shows both alike. In a program without such sockets, and
- * for all others, there is nothing to do. */
+/* Waiting: poll and epoll of a socket that has an error of its own, as one of ISO-TP. Its bridge says so by a message
+ * without data, which the kernel shows as POLLIN; a CAN socket has POLLERR. select shows both alike. In a program
+ * without such sockets, and for all others, there is nothing to do. */
 #define _GNU_SOURCE
 #include "library.h"
 
@@ -15,13 +15,13 @@
 #include <sys/syscall.h>
 #include <time.h>
 
-/* Descriptors that were sockets of ISO-TP when they were last used: a hint, as the kernel may have given them away. */
+/* Descriptors that were such sockets when they were last used: a hint, as the kernel may have given them away. */
 #define KNOWN_MOST 4096
 #define WORD 64
 static uint64_t known[KNOWN_MOST / WORD];
 static bool has_known;
 
-void note_isotp(int fd) {
+void note_error_of(int fd) {
     uint64_t bit = 1ull << fd % WORD;
     if (fd < KNOWN_MOST && !(__atomic_load_n(&known[fd / WORD], __ATOMIC_RELAXED) & bit)) {
         __atomic_fetch_or(&known[fd / WORD], bit, __ATOMIC_RELAXED);
@@ -38,7 +38,7 @@ bool has_error(int fd) {
     int before = errno;
     long length = syscall(SYS_recvfrom, fd, &trailer, sizeof trailer, MSG_PEEK | MSG_DONTWAIT | MSG_TRUNC, NULL, NULL);
     errno = before;
-    return length == sizeof trailer && trailer.is_error && protocol_of(fd);
+    return length == sizeof trailer && trailer.is_error && is_can_socket(fd);
 }
 
 void drop_error(int fd) {
@@ -49,7 +49,7 @@ void drop_error(int fd) {
     errno = before;
 }
 
-/* The events of a socket of ISO-TP, for those of the kernel. The bits of poll are those of epoll. */
+/* The events of a socket that has an error, for those of the kernel. The bits of poll are those of epoll. */
 static uint32_t events_of(int fd, uint32_t events) {
     int waiting = 0, before = errno;
     syscall(SYS_ioctl, fd, FIONREAD, &waiting);

@@ -1,7 +1,7 @@
 /* What the preloaded library and a bridge say to each other, over the SOCK_SEQPACKET pair that is a CAN socket.
  *
- * The program's end of the pair has an abstract name that begins with WIRE_NAME and a letter for the protocol; that is
- * how the library knows a CAN socket.
+ * The program's end of the pair has an abstract name that begins with WIRE_NAME and a digit, the protocol's number of
+ * linux/can.h; that is how the library knows a CAN socket.
  *
  * Library to bridge: a request and its data, with the write end of a pipe (SCM_RIGHTS) that takes the one reply. What
  * comes without a pipe is a quick write, whose reply comes in memory that library and bridge share; or the frame of a
@@ -17,7 +17,6 @@
 #define WIRE_NAME "canbusd-can/"
 /* The room for a name, with the 0 after it. */
 #define WIRE_NAME_ROOM 64
-enum wire_protocol { WIRE_RAW = 'r', WIRE_BCM = 'b', WIRE_ISOTP = 'i' };
 
 /* The longest message, either way: one of ISO-TP. */
 #define WIRE_LARGEST 66000
@@ -25,15 +24,16 @@ enum wire_protocol { WIRE_RAW = 'r', WIRE_BCM = 'b', WIRE_ISOTP = 'i' };
 #define WIRE_REPLY 4096
 
 enum wire_kind {
-    WIRE_SEND, /* the frame or message follows; `ifindex` is that of sendto, or WIRE_BOUND; what the write returns is
-                * the reply's value */
-    WIRE_BIND, /* to `ifindex`, 0 for all */
-    WIRE_SET,  /* `option` of the protocol's level; the value follows */
-    WIRE_GET,  /* the same; the value is the reply's data */
+    WIRE_SEND,    /* the frame or message follows; `ifindex` is that of sendto, or WIRE_BOUND; what the write returns is
+                   * the reply's value */
+    WIRE_BIND,    /* to the address that follows, a struct sockaddr_can */
+    WIRE_CONNECT, /* the same */
+    WIRE_SET,     /* `option` of the protocol's level; the value follows */
+    WIRE_GET,     /* the same; the value is the reply's data */
     WIRE_SOCKET_SET, /* `option` of SOL_SOCKET, which the kernel has set, so that the bridge knows of it */
     WIRE_SET_DEVICE, /* SO_BINDTODEVICE, which the kernel does not keep; the index is `ifindex` */
     WIRE_GET_DEVICE, /* the same; it is the reply's value */
-    WIRE_ADDRESS,    /* the index is the reply's value; of ISO-TP the two identifiers are its data */
+    WIRE_ADDRESS,    /* the reply's data are the address that the socket is bound to, its value the index of that */
     WIRE_ERROR,      /* takes the socket's error, which is the reply's value; 0 where another has taken it */
     WIRE_CLOSE,      /* the socket is closed once a byte comes by what is no pipe, but one end of a pair; the end of a
                       * message is waited for until another comes, or the other end is gone */
@@ -48,10 +48,9 @@ enum wire_wait { WIRE_WAIT, WIRE_NO_WAIT, WIRE_SHORT_WAIT };
 struct wire_request {
     uint32_t kind;
     int32_t ifindex;
-    int32_t option;        /* of WIRE_SEND, whether a quick write of this frame has found no room */
-    int32_t number;        /* the first number of a value of SOL_SOCKET; of WIRE_SEND, an enum wire_wait */
-    uint32_t rx_id, tx_id; /* WIRE_BIND of ISO-TP */
-    uint32_t length;       /* of the data; a message of ISO-TP is followed by what only takes room */
+    int32_t option;  /* of WIRE_SEND, whether a quick write of this frame has found no room */
+    int32_t number;  /* the first number of a value of SOL_SOCKET; of WIRE_SEND, an enum wire_wait */
+    uint32_t length; /* of the data; a message of ISO-TP is followed by what only takes room */
 };
 
 struct wire_reply {

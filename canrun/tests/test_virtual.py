@@ -58,7 +58,7 @@ def test_moments(tmp_path, nodes):
         assert 126 <= int(micro) - number * 10000 <= 134, (number, micro)
 
 
-def davis(rounds):
+def worst_case_bench(rounds):
     """The lines of a bench in which three nodes send as the case does, from the same second on."""
     sends = [(k * 540, 1, "001 7 55 55 55 55 55 55 05") for k in range(7 * rounds)]
     for node, text in ((2, "002 7 55 55 55 55 55 55 03"), (3, "003 7 55 55 55 55 55 55 7C")):
@@ -75,9 +75,9 @@ def davis(rounds):
 @needs_gcc
 def test_response_times(tmp_path, nodes):
     """three unchanged programs leave the log of a bench with the same sends, byte for byte"""
-    left = case("davis", tmp_path / "run", nodes, ROUNDS="100")
+    left = case("worst_case", tmp_path / "run", nodes, ROUNDS="100")
     words = [program(), "bench", "--bitrate", "500000", "--log", str(tmp_path / "log"), "can0,can1,can2"]
-    subprocess.run(words, input=davis(100), text=True, stdout=subprocess.DEVNULL, check=True)
+    subprocess.run(words, input=worst_case_bench(100), text=True, stdout=subprocess.DEVNULL, check=True)
     assert left["can0.log"] == (tmp_path / "log").read_bytes()
     assert left["can0.log"].count(b"\n") == 1700
 

@@ -19,7 +19,7 @@ RUNS = 5
 SEED = ("--seed", "5", "--jitter", "300")
 
 SAME = [
-    *(("nodes", ""), ("tools", ""), ("isotp", ""), ("bcm", ""), ("davis", ""), ("senders", "")),
+    *(("nodes", ""), ("tools", ""), ("isotp", ""), ("bcm", ""), ("worst_case", ""), ("senders", "")),
     ("bus_off", "auto"),
     *(pytest.param(*words, marks=needs_can) for words in (("bus_off", "program"), ("pytest", ""))),
     *(pytest.param("python", kind, marks=needs_can) for kind in ("socketcan", "canbusd")),
@@ -27,13 +27,14 @@ SAME = [
 
 
 def all_same(name, kind, folder, nodes, runs, options=()):
-    """Runs a case so often, and compares what each run left with that of the first."""
-    first = case(name, folder / "0", nodes, options, KIND=kind)
+    """Runs a case so often in one folder, whose name may be part of what it writes, and compares what each run left."""
+    first = case(name, folder / "run", nodes, options, KIND=kind)
+    (folder / "run").rename(folder / "first")
     for number in range(1, runs):
-        left = case(name, folder / str(number), nodes, options, KIND=kind)
+        left = case(name, folder / "run", nodes, options, KIND=kind)
         differ = [key for key in {*first, *left} if first.get(key) != left.get(key)]
         assert not differ, f"run {number}: {differ}"
-        shutil.rmtree(folder / str(number))
+        shutil.rmtree(folder / "run")
 
 
 @needs_gcc
@@ -45,13 +46,9 @@ def test_same_bytes(tmp_path, nodes, name, kind, runs):
     all_same(name, kind, tmp_path, nodes, runs)
 
 
-#: Of those whose tests hold with jitter too.
-DRAWN = [words for words in SAME if "davis" not in words]
-
-
 @needs_gcc
 @needs_tools
-@pytest.mark.parametrize("name, kind", DRAWN)
+@pytest.mark.parametrize("name, kind", SAME)
 def test_same_bytes_of_a_seed(tmp_path, nodes, name, kind):
     """the same with a seed and jitter"""
     all_same(name, kind, tmp_path, nodes, 2, SEED)

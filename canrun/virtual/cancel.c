@@ -23,7 +23,7 @@ EXPORT int pthread_cancel(pthread_t thread) {
     regain_turn();
     may_be_cancelled = true;
     int error = real(thread);
-    for (uint32_t i = 0; i < run->used; i++) {
+    for (uint32_t i = 0; i < slots_used(); i++) {
         struct slot *slot = &run->slots[i];
         if (slot->state == SLOT_WAITS && slot->thread == thread && slot->pid == my_slot()->pid) {
             slot->flags |= IS_CANCELLED;

@@ -65,7 +65,7 @@ long canbusd_virtual_wait(uint32_t *word, uint32_t expected, uint64_t key, const
 /* The one that has waited longest for a key, and for one of these bits; NULL: nobody. */
 static struct slot *first_of(uint64_t key, uint32_t bits) {
     struct slot *first = NULL;
-    for (uint32_t i = 0; i < run->used; i++) {
+    for (uint32_t i = 0; i < slots_used(); i++) {
         struct slot *slot = &run->slots[i];
         if (slot->state == SLOT_WAITS && slot->key == key && slot->bits & bits && !(slot->flags & IS_WOKEN) &&
             (!first || slot->since < first->since)) {

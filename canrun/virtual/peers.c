@@ -15,8 +15,6 @@
 #include <sys/un.h>
 
 #define NAME_SERVICES "/run/systemd/"
-/* How many processes there may be between one of the run and its coordinator. */
-#define DEEPEST 1000
 
 /* The run ends: for that server time goes on as ever. `host` is where it is, after `, at `, or empty. */
 static void fail_outside(const char *what, const char *host) {
@@ -30,12 +28,7 @@ static void fail_outside(const char *what, const char *host) {
 
 /* All of a run are below its coordinator. Of one that has ended it is not known. */
 static bool is_of_run(uint32_t pid) {
-    for (int i = 0; i < DEEPEST && pid > 1; i++, pid = proc_parent(pid)) {
-        if (pid == (uint32_t)run->coordinator) {
-            return true;
-        }
-    }
-    return pid == 0;
+    return proc_is_below(pid, (uint32_t)coordinator_pid) || !proc_parent(pid);
 }
 
 static bool has_port(uint32_t port) {
@@ -132,6 +125,26 @@ static long connect_unix(int fd, const struct sockaddr *to, socklen_t length) {
     uint64_t deadline = timeout_of(fd, POLLOUT);
     long result = try_until(try_connect, &it, EAGAIN, deadline, deadline == NEVER);
     return result == -ETIMEDOUT ? -EAGAIN : result;
+}
+
+/* The kernel's CAN sockets have its clock; those of the run are had by canbusd-run inside of it, which sets this. */
+#define HAS_INTERFACES "CANBUSD_INTERFACES"
+
+EXPORT int socket(int domain, int type, int protocol) {
+    static _Atomic bool is_said;
+    char test[TEST_ROOM];
+    if (!run || domain != PF_CAN || getenv(HAS_INTERFACES)) {
+        return (int)answer(RAW(SYS_socket, domain, type, protocol));
+    }
+    if (!is_said) {
+        is_said = true;
+        tell(false,
+             "%.60s (process %ld) has no CAN sockets%s: they take a server and canbusd-run inside of the run, as in "
+             "canbusd-run --virtual sh -c 'canbusd serve --bitrate 500000 can0 & sleep 1; canbusd-run %.60s ..'; "
+             "examples/scenario.sh is a whole one",
+             program_invocation_short_name, RAW(SYS_getpid, 0), tell_test(test), program_invocation_short_name);
+    }
+    return errno = EAFNOSUPPORT, -1;
 }
 
 EXPORT int connect(int fd, const struct sockaddr *to, socklen_t length) {

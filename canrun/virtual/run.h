@@ -85,7 +85,9 @@ struct slot {
     uint64_t go_at;        /* where its process has `go` */
 } __attribute__((aligned(128)));
 
-/* A timer that sends a signal: alarm, setitimer, timer_create. */
+/* A timer that sends a signal: alarm, setitimer, timer_create. Of the process, alarm and setitimer have this id, and
+ * those of timer_create others. */
+#define INTERVAL_TIMER 1
 struct alarm {
     _Atomic uint32_t pid; /* 0: free */
     uint32_t tid;         /* 0: to the process */
@@ -95,6 +97,14 @@ struct alarm {
     _Atomic uint64_t deadline;
     uint64_t period;
     uint32_t overrun;
+};
+
+/* What a process asks the coordinator for, which sees by the connection who asks: that it sends the signals of this
+ * alarm, or NO_ALARM: the epoll of the run. */
+#define NO_ALARM ALARMS
+struct request {
+    uint32_t alarm, tid;
+    int32_t number;
 };
 
 /* A timer that is read: timerfd. Its descriptor is a timer of the kernel, which never runs there, and whose interval is
@@ -129,7 +139,6 @@ struct run {
     uint64_t seed;   /* 0: the order is that of their births */
     uint64_t test;   /* what the name of the test at hand adds to the seed */
     uint64_t jitter; /* nanoseconds that a timed wait is longer at most */
-    int32_t coordinator;
     uint32_t has_ended;
     _Atomic uint32_t has_failed; /* a line has said why the run can't go on */
     _Atomic uint64_t now __attribute__((aligned(64)));
@@ -138,6 +147,7 @@ struct run {
     _Atomic uint32_t pause;
     _Atomic uint32_t births; /* a word to wait on for one that is born */
     _Atomic uint64_t waits, tickets;
+    _Atomic uint64_t ending;          /* process << 32 and thread of the one that handed the turn on as it ended */
     _Atomic uint64_t progress;        /* how often one waited for something new, or ended */
     _Atomic uint32_t tries;           /* threads that wait for what nobody wakes them for */
     _Atomic uint64_t born;            /* how many have been */

@@ -284,7 +284,7 @@ static void sent_to(uint32_t pid) {
 
 void signal_sent(pid_t pid, int number) {
     uint32_t told[64], count = 0;
-    for (uint32_t i = 0; i < run->used && count < 64; i++) {
+    for (uint32_t i = 0; i < slots_used() && count < 64; i++) {
         uint32_t of = run->slots[i].pid;
         bool is_new = of != 0 && of != (uint32_t)RAW(SYS_getpid, 0) && (pid <= 0 || of == (uint32_t)pid);
         for (uint32_t k = 0; k < count; k++) {
@@ -298,7 +298,7 @@ void signal_sent(pid_t pid, int number) {
         sent_to(told[k]);
     }
     if (number == SIGSTOP || number == SIGTSTP || number == SIGCONT) {
-        for (uint32_t i = 0; i < run->used; i++) {
+        for (uint32_t i = 0; i < slots_used(); i++) {
             struct slot *slot = &run->slots[i];
             slot->flags |= slot->state == SLOT_WAITS && slot->kind == KIND_CHILD ? IS_WOKEN : 0;
         }

@@ -4,15 +4,14 @@
 #include "proc.h"
 #include "random.h"
 #include "rights.h"
+#include "../command/program.h"
 #include "tell.h"
 
 #include <fcntl.h>
 #include <limits.h>
-#include <link.h>
 #include <stdio.h>
 #include <stdlib.h>
 #include <string.h>
-#include <sys/auxv.h>
 #include <sys/mman.h>
 #include <sys/socket.h>
 #include <sys/un.h>
@@ -21,7 +20,7 @@
 /* The least number of the run's descriptor in a program, so that it is in nobody's way. */
 #define HIGH_DESCRIPTOR 900
 
-/* The coordinator, which sees who asks by the connection, sends the epoll. */
+/* The descriptor that comes with the coordinator's reply, -1 where there is none. */
 static int take_epoll(int fd) {
     struct rights rights;
     struct msghdr *message = rights_message(&rights, -1);
@@ -39,15 +38,27 @@ static int take_epoll(int fd) {
     return epoll;
 }
 
-bool register_process(void) {
+/* Asks the coordinator, which sees by the connection who asks; a connection with its reply, or -1. */
+static int ask_coordinator(const struct request *request) {
     struct sockaddr_un name = {.sun_family = AF_UNIX};
-    int length = snprintf(name.sun_path + 1, sizeof name.sun_path - 1, RUN_SOCKET, run->coordinator);
+    int length = snprintf(name.sun_path + 1, sizeof name.sun_path - 1, RUN_SOCKET, coordinator_pid);
     int fd = (int)RAW(SYS_socket, AF_UNIX, SOCK_SEQPACKET | SOCK_CLOEXEC, 0);
+    socklen_t size = (socklen_t)(offsetof(struct sockaddr_un, sun_path) + 1 + (size_t)length);
+    if (fd >= 0 && (RAW(SYS_connect, fd, &name, size) ||
+                    RAW(SYS_sendto, fd, request, sizeof *request, MSG_NOSIGNAL, NULL, 0) != sizeof *request)) {
+        RAW(SYS_close, fd);
+        return -1;
+    }
+    return fd;
+}
+
+bool register_process(void) {
+    const struct request request = {.alarm = NO_ALARM};
+    int fd = ask_coordinator(&request);
     if (fd < 0) {
         return false;
     }
-    socklen_t size = (socklen_t)(offsetof(struct sockaddr_un, sun_path) + 1 + (size_t)length);
-    int epoll = RAW(SYS_connect, fd, &name, size) ? -1 : take_epoll(fd);
+    int epoll = take_epoll(fd);
     RAW(SYS_close, fd);
     if (epoll >= 0) {
         if (run_epoll >= 0) {
@@ -66,6 +77,20 @@ static void await_end_of_run(const char *path) {
         RAW(SYS_nanosleep, &second, NULL);
     }
     RAW(SYS_exit_group, 125);
+}
+
+bool register_alarm(const struct alarm *alarm) {
+    const struct request request = {(uint32_t)(alarm - run->alarms), alarm->tid, alarm->number};
+    int fd = ask_coordinator(&request);
+    char reply;
+    long length = fd >= 0 ? RAW(SYS_recvfrom, fd, &reply, 1, 0, NULL, NULL) : -1;
+    while (length == -EINTR) {
+        length = RAW(SYS_recvfrom, fd, &reply, 1, 0, NULL, NULL);
+    }
+    if (fd >= 0) {
+        RAW(SYS_close, fd);
+    }
+    return length == 1;
 }
 
 static struct run *map_run(const char *path) {
@@ -89,7 +114,7 @@ static uint32_t find_slot(void) {
         uint32_t index = (uint32_t)atoi(given) % SLOTS;
         return run->slots[index].state == SLOT_BORN ? index : take_slot();
     }
-    for (uint32_t i = 0; i < run->used; i++) {
+    for (uint32_t i = 0; i < slots_used(); i++) {
         struct slot *slot = &run->slots[i];
         bool is_old = slot->pid == pid && slot->tid && slot->state != SLOT_FREE && slot->state != SLOT_BORN;
         bool has_it = i == turn_owner();
@@ -97,12 +122,12 @@ static uint32_t find_slot(void) {
             found = i;
         }
     }
-    for (uint32_t i = 0; i < run->used && found != NOBODY; i++) {
+    for (uint32_t i = 0; i < slots_used() && found != NOBODY; i++) {
         if (i != found && run->slots[i].pid == pid && run->slots[i].state != SLOT_BORN) {
             free_slot(&run->slots[i]); /* The other threads ended with execve. */
         }
     }
-    for (uint32_t i = 0; i < run->used && found == NOBODY; i++) {
+    for (uint32_t i = 0; i < slots_used() && found == NOBODY; i++) {
         struct slot *slot = &run->slots[i];
         if (slot->state == SLOT_BORN && slot->parent && (slot->pid == pid || (!slot->pid && slot->parent == parent))) {
             found = i;
@@ -111,9 +136,11 @@ static uint32_t find_slot(void) {
     return found == NOBODY ? take_slot() : found;
 }
 
+#define SELF "/proc/self/exe"
+
 static void recognize(void) {
     char path[PATH_MAX];
-    long length = RAW(SYS_readlinkat, AT_FDCWD, "/proc/self/exe", path, sizeof path - 1);
+    long length = RAW(SYS_readlinkat, AT_FDCWD, SELF, path, sizeof path - 1);
     path[length > 0 ? length : 0] = 0;
     const char *name = strrchr(path, '/');
     is_server = name && !strcmp(name, "/canbusd");
@@ -123,31 +150,23 @@ static void recognize(void) {
 }
 
 #ifndef FOR_BRIDGE
-/* The linker of Go marks its programs by a note of this owner. */
-static bool is_of_go(void) {
-    const ElfW(Phdr) *segments = (const ElfW(Phdr) *)getauxval(AT_PHDR);
-    size_t count = getauxval(AT_PHNUM);
-    uintptr_t base = 0;
-    for (size_t i = 0; i < count; i++) {
-        base = segments[i].p_type == PT_PHDR ? (uintptr_t)segments - segments[i].p_vaddr : base;
+/* A tracer stops it at its calls, and waits for turns itself. */
+static void end_traced(void) {
+    char test[TEST_ROOM];
+    if (proc_tracer((uint32_t)RAW(SYS_getpid, 0))) {
+        tell(true, "%.60s (process %ld) is traced, as by strace or gdb, so it can't be in virtual time%s",
+             program_invocation_short_name, RAW(SYS_getpid, 0), tell_test(test));
     }
-    for (size_t i = 0; i < count; i++) {
-        const ElfW(Nhdr) *note = (const ElfW(Nhdr) *)(base + segments[i].p_vaddr);
-        if (segments[i].p_type == PT_NOTE && note->n_namesz == 4 && !memcmp(note + 1, "Go\0", 4)) {
-            return true;
-        }
-    }
-    return false;
 }
 
-/* What can't be in virtual time though it has the library ends the run. */
-static void refuse_obstacles(void) {
-    uint32_t pid = (uint32_t)RAW(SYS_getpid, 0), tracer = proc_tracer(pid);
-    if (tracer || is_of_go()) {
-        char test[TEST_ROOM];
-        tell(true, "%.60s (process %u) %s, so it can't be in virtual time%s", program_invocation_short_name, pid,
-             tracer ? "is traced, as by strace or gdb" : "is a program of Go, which calls the kernel itself",
-             tell_test(test));
+/* What calls the kernel itself, as programs of Go do also where they load libraries, waits unseen: so the run ends at
+ * once. */
+static void end_bypassing(void) {
+    const char *obstacle = is_server ? NULL : program_bypass(SELF);
+    char test[TEST_ROOM];
+    if (obstacle) {
+        tell(true, "%.60s (process %ld) %s, so its waits are not seen%s; start it outside of the run",
+             program_invocation_short_name, RAW(SYS_getpid, 0), obstacle, tell_test(test));
     }
 }
 #endif
@@ -159,9 +178,10 @@ __attribute__((constructor(103))) static void start(void) {
         return;
     }
     run = at;
+    coordinator_pid = atoi(path + sizeof "/proc/" - 1);
     recognize();
 #ifndef FOR_BRIDGE
-    refuse_obstacles();
+    end_traced();
 #endif
     if (!register_process()) {
         char test[TEST_ROOM];
@@ -179,5 +199,6 @@ __attribute__((constructor(103))) static void start(void) {
     start_random();
     begin_first_thread();
     timers_find();
+    end_bypassing();
 #endif
 }

@@ -63,6 +63,7 @@ static void thread_ends(void *count) {
     } while (!begin_deciding());
     leave_mutexes();
     wake(key_of((void *)(uintptr_t)pthread_self(), OF_END), INT_MAX);
+    run->ending = (uint64_t)slot->pid << 32 | slot->tid;
     free_slot(slot);
     uint32_t next = next_turn(false);
     my.slot = NULL;
@@ -101,7 +102,7 @@ EXPORT int pthread_create(pthread_t *restrict thread, const pthread_attr_t *rest
 }
 
 static bool is_alive(pthread_t thread) {
-    for (uint32_t i = 0; i < run->used; i++) {
+    for (uint32_t i = 0; i < slots_used(); i++) {
         struct slot *slot = &run->slots[i];
         if (slot->state != SLOT_FREE && slot->thread == thread && slot->pid == my_slot()->pid) {
             return true;

@@ -32,9 +32,6 @@ uint64_t deadline_for(clockid_t id, const struct itimerspec *value, bool is_abso
     return is_absolute ? moment_of(id, &value->it_value) : after(length_of(&value->it_value));
 }
 
-/* Of the process, setitimer and alarm have this number, and those of timer_create others. */
-#define INTERVAL_TIMER 1
-
 static struct alarm *alarm_of(uint32_t id) {
     uint32_t pid = (uint32_t)RAW(SYS_getpid, 0);
     for (int i = 0; i < ALARMS; i++) {
@@ -45,19 +42,21 @@ static struct alarm *alarm_of(uint32_t id) {
     return NULL;
 }
 
-static struct alarm *new_alarm(uint32_t id, int number) {
+/* `number` is 0 where the coordinator sends no signal; NULL where there is no place, or it does not take it. */
+static struct alarm *new_alarm(uint32_t id, int number, uint32_t tid) {
     for (uint32_t i = 0; i < ALARMS; i++) {
         struct alarm *alarm = &run->alarms[i];
         uint32_t none = 0;
         if (!alarm->pid && __atomic_compare_exchange_n((uint32_t *)&alarm->pid, &none, UINT32_MAX, 0, __ATOMIC_SEQ_CST,
                                                        __ATOMIC_SEQ_CST)) {
-            alarm->tid = 0;
+            alarm->tid = tid;
             alarm->number = number;
             alarm->id = id ? id : i + 2;
             alarm->value = alarm->period = alarm->overrun = 0;
             alarm->deadline = NEVER;
-            alarm->pid = (uint32_t)RAW(SYS_getpid, 0);
-            return alarm;
+            bool is_taken = !number || register_alarm(alarm);
+            alarm->pid = is_taken ? (uint32_t)RAW(SYS_getpid, 0) : 0;
+            return is_taken ? alarm : NULL;
         }
     }
     return NULL;
@@ -81,7 +80,7 @@ EXPORT int setitimer(__itimer_which_t which, const struct itimerval *restrict va
     if (old) {
         *old = interval_left(alarm);
     }
-    alarm = alarm ? alarm : new_alarm(INTERVAL_TIMER, SIGALRM);
+    alarm = alarm ? alarm : new_alarm(INTERVAL_TIMER, SIGALRM, 0);
     if (!alarm) {
         return errno = EAGAIN, -1;
     }
@@ -174,12 +173,12 @@ EXPORT int timer_create(clockid_t id, struct sigevent *restrict event, timer_t *
     }
     int how = event ? event->sigev_notify : SIGEV_SIGNAL;
     bool sends = how == SIGEV_SIGNAL || how == SIGEV_THREAD_ID;
-    struct alarm *alarm = new_alarm(0, !sends ? 0 : event ? event->sigev_signo : SIGALRM);
+    uint32_t tid = how == SIGEV_THREAD_ID ? (uint32_t)event->_sigev_un._tid : 0;
+    struct alarm *alarm = new_alarm(0, !sends ? 0 : event ? event->sigev_signo : SIGALRM, tid);
     if (!alarm) {
         return errno = EAGAIN, -1;
     }
     uintptr_t place = (uintptr_t)(alarm - run->alarms);
-    alarm->tid = how == SIGEV_THREAD_ID ? (uint32_t)event->_sigev_un._tid : 0;
     alarm->value = event ? (uint64_t)(uintptr_t)event->sigev_value.sival_ptr : place;
     int error = how == SIGEV_THREAD ? start_caller(alarm, event) : 0;
     if (error) {

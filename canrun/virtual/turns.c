@@ -10,6 +10,7 @@
 
 struct run *run;
 int run_epoll = -1;
+int coordinator_pid;
 bool is_server, is_bridge;
 __thread struct my my;
 void (*handle_deferred)(void);
@@ -18,6 +19,13 @@ void (*hold_cancel)(bool is_held);
 /* How long a thread sleeps before it looks whether the coordinator is still there, in real time. */
 #define LIVE_SECONDS 1
 #define BIRTH_NANOSECONDS 20000000
+/* How many events are taken at once, and how often: more than slots and descriptors of each are ready together. */
+#define EVENTS 32
+#define MOST_LOOKS 2000
+/* How often it is looked whether a thread has ended, first without a pause, and the nanoseconds between; a minute. */
+#define END_YIELDS 20
+#define END_PAUSE 100000
+#define END_LOOKS 600000
 
 /* ---- what is random ---- */
 
@@ -42,7 +50,7 @@ void begin_test(const char *name) {
     /* The next older one each time. */
     for (struct slot *next;; run->born++) {
         next = NULL;
-        for (uint32_t i = 0; i < run->used; i++) {
+        for (uint32_t i = 0; i < slots_used(); i++) {
             struct slot *slot = &run->slots[i];
             bool is_next = slot->state != SLOT_FREE && slot->number > below && (!next || slot->number < next->number);
             next = is_next ? slot : next;
@@ -96,7 +104,7 @@ void free_slot(struct slot *slot) {
 }
 
 void begin_slot(uint32_t index) {
-    struct slot *slot = &run->slots[index];
+    struct slot *slot = slot_at(index);
     my.slot = slot;
     my.index = index;
     slot->pid = (uint32_t)RAW(SYS_getpid, 0);
@@ -126,22 +134,23 @@ struct slot *my_slot(void) {
 /* ---- who can go on ---- */
 
 static void collect_events(void) {
-    struct epoll_event events[32];
-    long count;
-    do {
-        count = RAW(SYS_epoll_pwait, run_epoll, events, 32, 0, NULL, 8);
+    struct epoll_event events[EVENTS];
+    long count = EVENTS;
+    /* Who waits is told of each descriptor once. What else a program has put there may be ready for ever. */
+    for (int i = 0; count == EVENTS && i < MOST_LOOKS; i++) {
+        count = RAW(SYS_epoll_pwait, run_epoll, events, EVENTS, 0, NULL, 8);
         if (count == -EBADF && register_process()) {
-            count = 32; /* A program that closes all descriptors has closed this one. */
+            count = EVENTS; /* A program that closes all descriptors has closed this one. */
             continue;
         }
         for (long i = 0; i < count; i++) {
             uint32_t index = (uint32_t)events[i].data.u64, generation = (uint32_t)(events[i].data.u64 >> 32);
-            struct slot *slot = &run->slots[index % SLOTS];
+            struct slot *slot = slot_at(index);
             if (slot->generation == generation && slot->state == SLOT_WAITS && slot->kind == KIND_DESCRIPTOR) {
                 slot->flags |= HAS_EVENT;
             }
         }
-    } while (count == 32);
+    }
 }
 
 struct look {
@@ -164,8 +173,8 @@ static bool goes_before(const struct slot *one, const struct slot *other) {
 static struct look look_round(void) {
     struct look look = {.best = NOBODY, .next = NEVER};
     uint64_t now = run->now, round = 0;
-    for (uint32_t i = 0; i < run->used; i++) {
-        struct slot *slot = &run->slots[i], *best = &run->slots[look.best % SLOTS];
+    for (uint32_t i = 0; i < slots_used(); i++) {
+        struct slot *slot = &run->slots[i], *best = slot_at(look.best);
         uint32_t state = slot->state;
         look.has_outside |= state == SLOT_OUTSIDE;
         if (!can_go_on(slot, now)) {
@@ -187,7 +196,7 @@ static struct look look_round(void) {
 /* Lets those look once more that nobody wakes, where another has gone on since they did; false where there is none. */
 static bool try_again(void) {
     bool has_one = false;
-    for (uint32_t i = 0; run->tries && i < run->used; i++) {
+    for (uint32_t i = 0; run->tries && i < slots_used(); i++) {
         struct slot *slot = &run->slots[i];
         if (slot->state == SLOT_WAITS && slot->tries && slot->tried != run->progress) {
             slot->tried = run->progress;
@@ -217,7 +226,7 @@ static bool go_on(uint64_t next) {
 }
 
 static bool has_birth(void) {
-    for (uint32_t i = 0; i < run->used; i++) {
+    for (uint32_t i = 0; i < slots_used(); i++) {
         if (run->slots[i].state == SLOT_BORN) {
             return true;
         }
@@ -270,7 +279,7 @@ bool turn_change(uint64_t turn, uint32_t to) {
 
 void ring(void) {
     if (turn_owner() == NOBODY) {
-        RAW(SYS_kill, run->coordinator, SIGURG);
+        RAW(SYS_kill, coordinator_pid, SIGURG);
     }
 }
 
@@ -280,8 +289,8 @@ bool begin_deciding(void) {
 }
 
 void wake_owner(uint32_t index) {
-    run->slots[index].go++;
-    RAW(SYS_futex, &run->slots[index].go, FUTEX_WAKE, 1);
+    slot_at(index)->go++;
+    RAW(SYS_futex, &slot_at(index)->go, FUTEX_WAKE, 1);
 }
 
 void hand_turn(uint32_t index) {
@@ -298,9 +307,23 @@ bool has_turn(void) {
 }
 
 void check_coordinator(void) {
-    if (run->has_ended || RAW(SYS_kill, run->coordinator, 0) == -ESRCH) {
+    if (run->has_ended || RAW(SYS_kill, coordinator_pid, 0) == -ESRCH) {
         RAW(SYS_exit_group, 125); /* Nothing is left of a run whose coordinator is gone. */
     }
+}
+
+/* A thread that handed the turn on as it ended is gone before the next one goes on, which may get its stack. */
+static void await_end(void) {
+    struct timespec pause = {0, END_PAUSE};
+    uint64_t ending = run->ending;
+    for (int i = 0; ending && i < END_LOOKS && !RAW(SYS_tgkill, ending >> 32, (uint32_t)ending, 0); i++) {
+        if (i < END_YIELDS) {
+            RAW(SYS_sched_yield, 0);
+        } else {
+            RAW(SYS_nanosleep, &pause, NULL);
+        }
+    }
+    run->ending = 0;
 }
 
 void await_turn(void) {
@@ -308,6 +331,7 @@ void await_turn(void) {
     for (;;) {
         uint32_t seen = my.slot->go;
         if (has_turn()) {
+            await_end();
             return;
         }
         /* With a timeout it returns EINTR after any handler, also of SA_RESTART. */
@@ -432,7 +456,7 @@ uint64_t key_of_signals(uint32_t pid) {
 void wake(uint64_t key, int most) {
     while (most-- > 0) {
         struct slot *first = NULL;
-        for (uint32_t i = 0; i < run->used; i++) {
+        for (uint32_t i = 0; i < slots_used(); i++) {
             struct slot *slot = &run->slots[i];
             if (slot->state == SLOT_WAITS && slot->key == key && !(slot->flags & IS_WOKEN) &&
                 (!first || slot->since < first->since)) {
@@ -448,7 +472,7 @@ void wake(uint64_t key, int most) {
 }
 
 void wake_descriptors(uint32_t pid) {
-    for (uint32_t i = 0; i < run->used; i++) {
+    for (uint32_t i = 0; i < slots_used(); i++) {
         struct slot *slot = &run->slots[i];
         if (slot->state == SLOT_WAITS && (!pid || slot->pid == pid) && slot->kind == KIND_DESCRIPTOR) {
             slot->flags |= LOOKS_AGAIN;

@@ -10,6 +10,18 @@
 /* NULL: there is no virtual time, and all calls are the kernel's. */
 extern struct run *run;
 extern int run_epoll;
+/* The process of the coordinator. */
+extern int coordinator_pid;
+
+/* How many slots were ever used. */
+static inline uint32_t slots_used(void) {
+    uint32_t used = run->used;
+    return used < SLOTS ? used : SLOTS;
+}
+/* One whose number comes from the memory of the run. */
+static inline struct slot *slot_at(uint32_t index) {
+    return &run->slots[index % SLOTS];
+}
 
 /* Whether a wait is for what nobody of the run wakes its thread for, and whether it is one more of the same. */
 enum tries { TRIES_NOT, TRIES, TRIES_ON };
@@ -111,5 +123,7 @@ uint64_t key_of_signals(uint32_t pid);
 extern void (*handle_deferred)(void);
 /* Asks the coordinator for the epoll. Returns false where there is none. */
 bool register_process(void);
+/* Asks it to send the signals of an alarm of this process. */
+bool register_alarm(const struct alarm *alarm);
 
 #endif

@@ -5,7 +5,7 @@ import pytest
 from browser import PROGRAM
 from test_page import ATTEMPT, CUT, TABS, WRITTEN, browser, long_run, opened, show_each  # noqa: F401  two fixtures
 from test_report import NAMES, bus_off, record_of
-from test_time_on_wire import three_messages
+from test_time_on_wire import run_of_three_messages
 
 from canbusd._page.report import page
 from canbusd._process.rates import Rates
@@ -42,7 +42,7 @@ EACH = """[...Array(axis.count - 1).keys()].every(step => {
 @pytest.fixture
 def half(opened):  # noqa: F811
     """The page of a run whose attempts take half of the time."""
-    return opened(three_messages(), NODES, HALF)
+    return opened(run_of_three_messages(), NODES, HALF)
 
 
 def look(shown, first, last):
@@ -69,7 +69,7 @@ def test_the_track(half):
 
 
 def test_more_than_the_wire_can_carry(opened):
-    shown = opened(three_messages(), NODES, DOUBLE)
+    shown = opened(run_of_three_messages(), NODES, DOUBLE)
     assert shown.run(SEEN) == ["in view 175.0 %", "in all 175.0 %"]
     assert shown.run(f"{DRAWN}([500 / 1e6])") == [[True, True]]
     assert "at 250 kbit/s." in shown.run("at('facts').textContent")
@@ -103,7 +103,7 @@ def test_by_attempts_the_load_is_that_of_their_time(half):
 
 
 def test_the_detail(opened):
-    shown = opened(three_messages(), NODES, FULL)
+    shown = opened(run_of_three_messages(), NODES, FULL)
     shown.run("choose(6)")
     words = shown.run(
         "[...document.querySelectorAll('#chosen dt')].map(one => [one.textContent, one.nextSibling.textContent])"
@@ -149,7 +149,7 @@ def test_attempts_longer_than_the_axis(opened):
 
 
 def test_identifiers_that_take_most(opened):
-    shown = opened(three_messages(), NODES, FULL)
+    shown = opened(run_of_three_messages(), NODES, FULL)
     shown.run("showTab('tab-load')")
     rows = "[...at('loads').rows].map(row => [...row.cells].map(cell => cell.textContent))"
     assert shown.run(rows)[1:] == [
@@ -168,7 +168,7 @@ def test_shares_are_those_of_the_attempts(opened):
     assert shown.run(SAME) is True and shown.run(EACH) is True
     shown.key("t")
     assert shown.run(EACH) is True
-    shown = opened(three_messages(), NODES, HALF)
+    shown = opened(run_of_three_messages(), NODES, HALF)
     assert shown.run(SAME) is True
 
 

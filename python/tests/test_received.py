@@ -135,7 +135,7 @@ def test_the_state_at_the_start_counts_only_while_it_lasts():
     assert received.expected_state("a", "passive").moment == 1_000_001
 
 
-def test_what_is_forgotten(monkeypatch):
+def test_old_frames_and_states_are_forgotten(monkeypatch):
     monkeypatch.setattr(received_frames, "MOST_KEPT", 20)
     monkeypatch.setattr(received_frames, "MOST_STATES", 20)
     received = Received([["a", "b"]], ["a", "b"])

@@ -56,7 +56,7 @@ def replay_of(*tried, rates=SLOW):
     return parse_record(run_of(*tried), rates=rates).replay
 
 
-def three_messages():
+def run_of_three_messages():
     """The same run with each frame sent when it is queued, so that others take part in the arbitration that they lose."""
     entries = [f"open {iface} 1 = socket {iface}" for iface in range(3)]
     numbers = {A: 0, B: 0, C: 0}
@@ -202,7 +202,7 @@ def test_words_that_are_refused(full, command):
 
 
 def test_the_columns_of_a_page():
-    header, column = data_of(page(three_messages(), ("a", "b", "c"), "run.rec", rates=SLOW))
+    header, column = data_of(page(run_of_three_messages(), ("a", "b", "c"), "run.rec", rates=SLOW))
     wire = header["wire"]
     assert (wire["bitrate"], wire["dbitrate"], wire["end"]) == (500000, None, 1512000)
     assert column(wire["begin"]) == [216000 * attempt for attempt in range(7)]
@@ -262,7 +262,7 @@ def test_pages_of_runs_that_tried_nothing():
 
 
 def test_without_a_bit_rate_a_page_has_nothing_of_it():
-    text = page(three_messages(), ("a", "b", "c"), "run.rec")
+    text = page(run_of_three_messages(), ("a", "b", "c"), "run.rec")
     assert "wire" not in data_of(text)[0]
     assert "bus load" not in text.lower() and "wire.busy" not in text
-    assert "bus load" in page(three_messages(), ("a", "b", "c"), "run.rec", rates=SLOW)
+    assert "bus load" in page(run_of_three_messages(), ("a", "b", "c"), "run.rec", rates=SLOW)

@@ -55,7 +55,7 @@ def lines_of(releases: Iterable[Release]) -> list[str]:
     return [*lines, f"run {moment(LAST * 1000)}"]
 
 
-def written(sent: Iterable[Sent], nodes: int) -> list[str]:
+def expected_lines(sent: Iterable[Sent], nodes: int) -> list[str]:
     """What a bench says of these frames."""
     counts = [0] * nodes
     lines = []
@@ -71,7 +71,7 @@ def check(program: str, releases: Sequence[Release], nodes: int, rates: Rates) -
     """A bench sends these frames as the model does: what the model says of them."""
     sent = list(simulated(releases, rates))
     options = [*rate_options(rates), "--txqueue", "1024", "--rxqueue", "1"]
-    assert bench(program, options, interfaces(nodes), lines_of(releases)) == written(sent, nodes)
+    assert bench(program, options, interfaces(nodes), lines_of(releases)) == expected_lines(sent, nodes)
     return sent
 
 

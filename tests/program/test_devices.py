@@ -329,7 +329,7 @@ def test_input_of_a_server():
         os.close(file)
 
 
-def test_errors_of_a_server(tmp_path):
+def test_a_full_standard_error_of_a_server(tmp_path):
     """full: a record that is full, and files that fail, are reported to nobody; the status says so"""
     with full() as file:
         os.mkdir(os.path.join(tmp_path, "can0.log"))

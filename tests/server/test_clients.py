@@ -363,7 +363,7 @@ def test_player_and_logger():
 
 
 @pytest.mark.quiet
-def test_examples(tmp_path):
+def test_the_examples_of_python(tmp_path):
     """examples/python: the first session, and the tests with the package's fixtures"""
     folder = os.path.join(ROOT, "examples", "python")
     with serving("can0,can1") as server:

@@ -50,7 +50,7 @@ def names_of(bus):
     return [f"can{2 * bus}", f"can{2 * bus + 1}"]
 
 
-def write_script(path, names, attempts, rng):
+def write_fault_script(path, names, attempts, rng):
     """A fault now and then, of each kind, and now and then 40 in a row."""
     with open(path, "w", encoding="utf-8") as file:
         number = 20
@@ -331,7 +331,7 @@ def test_load_with_faults(request, tmp_path, frames):
     buses = []
     for bus in range(BUSES):
         script = os.path.join(tmp_path, f"faults{bus}")
-        write_script(script, names_of(bus), frames // BUSES * 2, random.Random(seed + bus))
+        write_fault_script(script, names_of(bus), frames // BUSES * 2, random.Random(seed + bus))
         buses.append(f"{','.join(names_of(bus))}@{script}")
     with serving_alone(
         "--pace", "0", "--txqueue", "1024", "--rxqueue", "1000", "--limit", "16777216", "--report", *buses

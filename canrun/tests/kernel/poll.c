@@ -29,17 +29,18 @@ CASE(select_writable, a = raw("can0"), selected(a))
 CASE(select_both, a = raw("can1"), b = raw("can0"), PUT(b, 0x123), until(a, POLLIN), selected(a))
 CASE(select_isotp_failed, a = tp(RX, TX, 0), b = peer(), DO(write(a, "0123456789", 10)), take(b, 1),
      SAYS(b, 0x32, 0, 0), until(a, POLLOUT), selected(a))
-CASE(epoll_level, a = raw("can1"), b = raw("can0"), watch(a, EPOLLIN), watched(), PUT(b, 0x123), PUT(b, 0x124),
-     watched(), glance(a), until(a, POLLIN), watched(), glance(a), watched())
-CASE(epoll_edge, a = raw("can1"), b = raw("can0"), watch(a, EPOLLIN | EPOLLET), watched(), PUT(b, 0x123), watched(),
-     watched(), PUT(b, 0x124), watched(), take(a, 2), watched())
-CASE(epoll_once, a = raw("can1"), b = raw("can0"), watch(a, EPOLLIN | EPOLLONESHOT), PUT(b, 0x123), watched(),
-     PUT(b, 0x124), watched())
-CASE(epoll_out, a = raw("can0"), watch(a, EPOLLOUT), watched())
+CASE(epoll_level, a = raw("can1"), b = raw("can0"), watch(a, EPOLLIN), watched(false), PUT(b, 0x123), PUT(b, 0x124),
+     watched(true), glance(a), until(a, POLLIN), watched(true), glance(a), watched(false))
+CASE(epoll_edge, a = raw("can1"), b = raw("can0"), watch(a, EPOLLIN | EPOLLET), watched(false), PUT(b, 0x123),
+     watched(true), watched(false), PUT(b, 0x124), watched(true), take(a, 2), watched(false))
+CASE(epoll_once, a = raw("can1"), b = raw("can0"), watch(a, EPOLLIN | EPOLLONESHOT), PUT(b, 0x123), watched(true),
+     PUT(b, 0x124), watched(false))
+CASE(epoll_out, a = raw("can0"), watch(a, EPOLLOUT), watched(true))
 CASE(epoll_twice, a = raw("can0"), watch(a, EPOLLIN), watch(a, EPOLLIN))
-CASE(epoll_of_closed, a = raw("can1"), b = raw("can0"), watch(a, EPOLLIN), close(a), PUT(b, 0x123), watched())
-CASE(epoll_isotp_sending, a = tp(RX, TX, 0), b = peer(), watch(a, EPOLLOUT), watched(), DO(write(a, "0123456789", 10)),
-     take(b, 1), watched(), SAYS(b, 0x30, 0, 0), take(b, 1), until(a, POLLOUT), watched())
+CASE(epoll_of_closed, a = raw("can1"), b = raw("can0"), watch(a, EPOLLIN), close(a), PUT(b, 0x123), watched(false))
+CASE(epoll_isotp_sending, a = tp(RX, TX, 0), b = peer(), watch(a, EPOLLOUT), watched(true),
+     DO(write(a, "0123456789", 10)), take(b, 1), watched(false), SAYS(b, 0x30, 0, 0), take(b, 1), until(a, POLLOUT),
+     watched(true))
 
 /* Signals that come while a call waits. */
 #define INTERRUPTED(name, how, ...) CASE(name, signals(how), __VA_ARGS__)

@@ -24,8 +24,11 @@ void say(const char *format, ...) {
     va_end(values);
 }
 
+long returned;
+
 void result(long value) {
     int error = errno;
+    returned = value;
     if (value == -1 && error != 0) {
         say(" %s", strerrorname_np(error));
     } else {

@@ -53,6 +53,8 @@ extern char *nowhere, *volatile null;
 void say(const char *format, ...) __attribute__((format(printf, 1, 2)));
 /* What a call returns, or its errno. */
 void result(long value);
+/* What the last of them returned. */
+extern long returned;
 #define DO(...) (errno = 0, result((long)(__VA_ARGS__)))
 /* The same of a call that returns a descriptor, whose number is not said. */
 #define OPEN(...) (errno = 0, result((__VA_ARGS__) < 0 ? -1 : 0))
@@ -115,7 +117,7 @@ extern int quiet;
 void take(int fd, int expected);
 /* Reads frames up to one with this identifier. */
 void take_to(int fd, canid_t id);
-/* Reads a frame, and says its bytes up to the last that is not 0; it need not come. */
+/* Reads the frame of the last write, and says its bytes up to the last that is not 0; none comes of one that failed. */
 void look(int fd);
 /* The same of messages of ISO-TP, to one of the byte 0x77; and of CAN_BCM, to one of the frame LAST of writer. */
 void message(int fd);
@@ -133,7 +135,8 @@ void until(int fd, short events);
 void events(int fd, short events);
 void selected(int fd);
 void watch(int fd, unsigned events);
-void watched(void);
+/* What is watched has an event, which may take its time, or has none. */
+void watched(bool is_expected);
 /* Waits, in milliseconds; only where a moment has to pass. */
 void pass(int milliseconds);
 /* A handler of SIGALRM or another, with these flags; SIGALRM in 50 ms; how many came. */

@@ -77,7 +77,7 @@ void take_to(int fd, canid_t id) {
 
 void look(int fd) {
     unsigned char got[CANFD_MTU] = {0};
-    if (!comes(fd, POLLIN, quiet * 2)) {
+    if (!comes(fd, POLLIN, returned > 0 ? PATIENCE : quiet * 2)) {
         say(" -");
         return;
     }
@@ -226,9 +226,9 @@ void watch(int fd, unsigned wanted) {
     DO(epoll_ctl(watcher, EPOLL_CTL_ADD, fd, &(struct epoll_event){.events = wanted}));
 }
 
-void watched(void) {
+void watched(bool is_expected) {
     struct epoll_event got = {.events = 0};
-    DO(epoll_wait(watcher, &got, 1, quiet * 2));
+    DO(epoll_wait(watcher, &got, 1, is_expected ? PATIENCE : quiet * 2));
     show_events((short)got.events);
 }
 

@@ -11,13 +11,13 @@ int main(void) {
     struct can_frame frame = frame_of(0x123, 0);
     CHECK(getsockname(any, (struct sockaddr *)&own, &length) == 0 && own.can_ifindex == 0);
     FAILS(write(any, &frame, sizeof frame), ENXIO);
-    put(car0, 0x123, 1);
+    send_numbered(car0, 0x123, 1);
     CHECK(comes(any, PATIENCE));
     length = sizeof from;
     CHECK(recvfrom(any, &frame, sizeof frame, 0, (struct sockaddr *)&from, &length) == 16 && number_of(&frame) == 1);
     CHECK(from.can_ifindex == to.can_ifindex);
     /* By loopback at can0, and as a frame of the bus at can1. */
-    put(can0, 0x123, 2);
+    send_numbered(can0, 0x123, 2);
     bool has_can0 = false, has_can1 = false;
     for (int i = 0; i < 2; i++) {
         char name[IFNAMSIZ];
@@ -37,7 +37,7 @@ int main(void) {
     frame = frame_of(0x125, 4);
     CHECK(sendto(can0, &frame, sizeof frame, 0, (struct sockaddr *)&to, sizeof to) == 16);
     get(car0, 0x125, 4);
-    put(car0, 0x126, 5);
+    send_numbered(car0, 0x126, 5);
     CHECK(!comes(can0, QUIET));
     return 0;
 }

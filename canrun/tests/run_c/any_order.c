@@ -11,7 +11,7 @@ static void *gateway(void *ready) {
     CHECK(write(*(int *)ready, "x", 1) == 1);
     for (unsigned i = 0; i < FRAMES; i++) {
         get(in, 0x100, i);
-        put_patiently(out, 0x200, i);
+        send_patiently(out, 0x200, i);
     }
     close(in);
     close(out);
@@ -49,7 +49,7 @@ int main(void) {
     unsigned causes = 0, answers = 0;
     int64_t last = 0, moment;
     for (unsigned i = 0; i < FRAMES; i++) {
-        put_patiently(writer, 0x100, i);
+        send_patiently(writer, 0x100, i);
     }
     /* A frame comes by each interface of its bus: can0 and can1, car0 and car1. */
     for (; count < 4 * FRAMES; count++) {

@@ -128,12 +128,12 @@ static void filtered(void) {
     struct can_frame mask = {.can_id = 0x201, .can_dlc = 8, .data = {0xFF}};
     CHECK(give((struct message){.head = {.opcode = RX_SETUP, .flags = RX_FILTER_ID, .can_id = 0x200}}) > 0);
     CHECK(give((struct message){.head = {.opcode = RX_SETUP, .can_id = 0x201, .nframes = 1}, .frames = {mask}}) > 0);
-    put(raw, 0x200, 1);
-    put(raw, 0x200, 1);
-    put(raw, 0x201, 0x101); /* The first is new. */
-    put(raw, 0x201, 0x201); /* It differs where the mask has no bits. */
-    put(raw, 0x201, 0x202);
-    put(raw, 0x202, 9);
+    send_numbered(raw, 0x200, 1);
+    send_numbered(raw, 0x200, 1);
+    send_numbered(raw, 0x201, 0x101); /* The first is new. */
+    send_numbered(raw, 0x201, 0x201); /* It differs where the mask has no bits. */
+    send_numbered(raw, 0x201, 0x202);
+    send_numbered(raw, 0x202, 9);
     struct message message;
     for (int i = 0; i < 2; i++) {
         message = expect(RX_CHANGED, 0x200, 1);
@@ -145,7 +145,7 @@ static void filtered(void) {
     CHECK(number_of(&message.frames[0]) == 0x202);
     CHECK(give((struct message){.head = {.opcode = RX_DELETE, .can_id = 0x200}}) > 0);
     CHECK(give((struct message){.head = {.opcode = RX_DELETE, .can_id = 0x201}}) > 0);
-    put(raw, 0x200, 2);
+    send_numbered(raw, 0x200, 2);
     CHECK(!comes(manager, QUIET));
 }
 
@@ -156,10 +156,10 @@ static void limits(void) {
                                          .nframes = 1,
                                          .ival1 = ms(50)},
                                 .frames = {{.can_id = 0x210, .data = {0xFF}}}}) > 0);
-    put(raw, 0x210, 1);
+    send_numbered(raw, 0x210, 1);
     expect(RX_CHANGED, 0x210, 1);
     expect(RX_TIMEOUT, 0x210, 0);
-    put(raw, 0x210, 1); /* It has not changed, but comes back. */
+    send_numbered(raw, 0x210, 1); /* It has not changed, but comes back. */
     expect(RX_CHANGED, 0x210, 1);
     CHECK(give((struct message){.head = {.opcode = RX_DELETE, .can_id = 0x210}}) > 0);
     while (comes(manager, 0)) {
@@ -170,7 +170,7 @@ static void limits(void) {
     CHECK(give((struct message){
               .head = {.opcode = RX_SETUP, .flags = SETTIMER | RX_FILTER_ID, .can_id = 0x211, .ival2 = ms(2000)}}) > 0);
     for (unsigned i = 0; i < 5; i++) {
-        put(raw, 0x211, i);
+        send_numbered(raw, 0x211, i);
     }
     struct message first = expect(RX_CHANGED, 0x211, 1), last = expect(RX_CHANGED, 0x211, 1);
     CHECK(number_of(&first.frames[0]) == 0 && number_of(&last.frames[0]) == 4 && now() - start >= 1999);
@@ -196,7 +196,7 @@ static void all_interfaces(void) {
     get(raw, 0x123, 8);
     task.head = (struct bcm_msg_head){.opcode = RX_SETUP, .flags = RX_FILTER_ID, .can_id = 0x230};
     CHECK(sendto(all, &task, size_of(0), 0, (struct sockaddr *)&to, sizeof to) == (ssize_t)size_of(0));
-    put(raw, 0x230, 1);
+    send_numbered(raw, 0x230, 1);
     CHECK(comes(all, PATIENCE) &&
           recvfrom(all, &message, sizeof message, 0, (struct sockaddr *)&from, &length) == (ssize_t)size_of(1));
     CHECK(from.can_ifindex == to.can_ifindex && message.head.opcode == RX_CHANGED);

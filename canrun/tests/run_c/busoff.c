@@ -20,7 +20,7 @@ int main(void) {
     CHECK(setsockopt(classes, SOL_CAN_RAW, CAN_RAW_ERR_FILTER, &off, sizeof off) == 0);
     CHECK(setsockopt(classes, SOL_CAN_RAW, CAN_RAW_FILTER, NULL, 0) == 0);
     CHECK(setsockopt(filtered, SOL_CAN_RAW, CAN_RAW_FILTER, &by_filter, sizeof by_filter) == 0);
-    put(node, 0x123, 1);
+    send_numbered(node, 0x123, 1);
     error_comes(node, 0x204, CAN_ERR_CRTL_TX_WARNING);
     error_comes(node, 0x204, CAN_ERR_CRTL_TX_PASSIVE);
     error_comes(node, CAN_ERR_BUSOFF, 0);
@@ -31,7 +31,7 @@ int main(void) {
     CHECK(length == sizeof frame || errno == ENETDOWN); /* The restart may have come already. */
     bool was_down = length < 0;
     error_comes(node, CAN_ERR_RESTARTED, 0);
-    put(node, 0x123, 3);
+    send_numbered(node, 0x123, 3);
     if (!was_down) {
         get(reader, 0x123, 2);
     }

@@ -36,7 +36,7 @@ static void each_read(void) {
     struct mmsghdr several[3] = {{.msg_hdr = {.msg_iov = others, .msg_iovlen = 1}},
                                  {.msg_hdr = {.msg_iov = others + 1, .msg_iovlen = 1}}};
     for (unsigned i = 0; i < 9; i++) {
-        put(can0, 0x102, i);
+        send_numbered(can0, 0x102, i);
     }
     CHECK(read(can1, &frame, sizeof frame) == 16 && is_frame(&frame, 0));
     CHECK(readv(can1, parts, 2) == 16 && is_frame(&frame, 1));
@@ -63,8 +63,8 @@ static void flags(void) {
     struct iovec part = {&frame, 8};
     struct msghdr message = {.msg_iov = &part, .msg_iovlen = 1};
     FAILS(recv(can1, &frame, sizeof frame, MSG_DONTWAIT), EAGAIN);
-    put(can0, 0x103, 7);
-    put(can0, 0x103, 8);
+    send_numbered(can0, 0x103, 7);
+    send_numbered(can0, 0x103, 8);
     CHECK(comes(can1, PATIENCE));
     CHECK(read(can1, &frame, 0) == 0);
     CHECK(recv(can1, &frame, sizeof frame, MSG_PEEK) == 16 && number_of(&frame) == 7);
@@ -84,7 +84,7 @@ static void nonblocking(void) {
     CHECK(fcntl(other, F_GETFL) & O_NONBLOCK && fcntl(other, F_GETFD) & FD_CLOEXEC);
     CHECK(!(fcntl(can1, F_GETFL) & O_NONBLOCK) && !(fcntl(can1, F_GETFD) & FD_CLOEXEC));
     FAILS(read(other, &frame, sizeof frame), EAGAIN);
-    put(other, 0x104, 1);
+    send_numbered(other, 0x104, 1);
     get(can0, 0x104, 1);
     get(can1, 0x104, 1); /* By loopback. */
     CHECK(fcntl(other, F_SETFL, 0) == 0);

@@ -83,13 +83,13 @@ static inline unsigned number_of(const struct can_frame *frame) {
     return number;
 }
 
-static inline void put(int fd, canid_t id, unsigned number) {
+static inline void send_numbered(int fd, canid_t id, unsigned number) {
     struct can_frame frame = frame_of(id, number);
     CHECK(write(fd, &frame, sizeof frame) == sizeof frame);
 }
 
 /* The same, again and again while the transmit queue is full. */
-static inline void put_patiently(int fd, canid_t id, unsigned number) {
+static inline void send_patiently(int fd, canid_t id, unsigned number) {
     struct can_frame frame = frame_of(id, number);
     while (write(fd, &frame, sizeof frame) != sizeof frame) {
         CHECK(errno == ENOBUFS);

@@ -49,9 +49,9 @@ static void devices(void) {
     bound_device(fd, "can1");
     CHECK(setsockopt(fd, SOL_SOCKET, SO_BINDTODEVICE, "can0 and more", 4) == 0);
     bound_device(fd, "can0");
-    put(fd, 0x123, 1);
+    send_numbered(fd, 0x123, 1);
     get(reader, 0x123, 1);
-    put(reader, 0x123, 2);
+    send_numbered(reader, 0x123, 2);
     get(fd, 0x123, 2);
     CHECK(setsockopt(fd, SOL_SOCKET, SO_BINDTODEVICE, "", 0) == 0);
     bound_device(fd, "");

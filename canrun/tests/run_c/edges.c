@@ -42,7 +42,7 @@ static void addresses(void) {
     to.can.can_ifindex = -1;
     FAILS(sendto(fd, &frame, sizeof frame, 0, address, sizeof to.can), ENXIO);
     FAILS(bind(fd, address, sizeof to.can), ENODEV);
-    put(fd, 0x123, 2);
+    send_numbered(fd, 0x123, 2);
     get(reader, 0x123, 2);
     CHECK(close(fd) == 0 && close(reader) == 0);
 }
@@ -84,7 +84,7 @@ static void pointers_of_reads(int fd, int writer) {
     struct can_frame frame;
     socklen_t length = 16;
     for (unsigned i = 0; i < 4; i++) {
-        put(writer, 0x123, i);
+        send_numbered(writer, 0x123, i);
     }
     CHECK(comes(fd, PATIENCE));
     FAILS(read(fd, nowhere, sizeof frame), EFAULT);
@@ -106,7 +106,7 @@ static void pointers(void) {
     int fd = bound("can1"), writer = bound("can0");
     pointers_of_writes(writer);
     pointers_of_reads(fd, writer);
-    put(writer, 0x123, 9);
+    send_numbered(writer, 0x123, 9);
     get(fd, 0x123, 9);
     CHECK(close(fd) == 0 && close(writer) == 0);
 }
@@ -119,7 +119,7 @@ static void order_of_arguments(void) {
     socklen_t length = (socklen_t)-1;
     struct mmsghdr message = {.msg_hdr = {.msg_iov = &(struct iovec){&frame, sizeof frame}, .msg_iovlen = 1}};
     FAILS(recvfrom(fd, &frame, sizeof frame, MSG_DONTWAIT, (struct sockaddr *)&from, NULL), EAGAIN);
-    put(writer, 0x123, 1);
+    send_numbered(writer, 0x123, 1);
     CHECK(comes(fd, PATIENCE));
     FAILS(recvfrom(fd, &frame, sizeof frame, 0, (struct sockaddr *)&from, &length), EINVAL);
     FAILS(recv(fd, &frame, sizeof frame, MSG_DONTWAIT), EAGAIN);
@@ -145,14 +145,14 @@ static void filters(void) {
     int fd = bound("can1"), writer = bound("can0");
     struct can_filter filter = {0x12345123, 0xDFFFFFFF};
     CHECK(setsockopt(fd, SOL_CAN_RAW, CAN_RAW_FILTER, &filter, sizeof filter) == 0);
-    put(writer, 0x123 | CAN_EFF_FLAG, 1);
-    put(writer, 0x124, 2);
-    put(writer, 0x123, 3);
+    send_numbered(writer, 0x123 | CAN_EFF_FLAG, 1);
+    send_numbered(writer, 0x124, 2);
+    send_numbered(writer, 0x123, 3);
     get(fd, 0x123, 3);
     filter = (struct can_filter){0x12345123 | CAN_INV_FILTER, 0xDFFFFFFF};
     CHECK(setsockopt(fd, SOL_CAN_RAW, CAN_RAW_FILTER, &filter, sizeof filter) == 0);
-    put(writer, 0x123, 4);
-    put(writer, 0x124, 5);
+    send_numbered(writer, 0x123, 4);
+    send_numbered(writer, 0x124, 5);
     get(fd, 0x124, 5);
     CHECK(close(fd) == 0 && close(writer) == 0);
 }
@@ -162,7 +162,7 @@ static void errors(void) {
     int fd = bound("can0"), reader = bound("can1");
     struct can_frame frame = {.can_id = CAN_ERR_FLAG | CAN_ERR_BUSERROR, .can_dlc = CAN_ERR_DLC};
     CHECK(write(fd, &frame, sizeof frame) == sizeof frame);
-    put(fd, 0x123, 1);
+    send_numbered(fd, 0x123, 1);
     get(reader, 0x123, 1);
     CHECK(close(fd) == 0 && close(reader) == 0);
 }

@@ -24,8 +24,8 @@ int main(void) {
     CHECK(epoll_ctl(level, EPOLL_CTL_ADD, reader, &on_level) == 0 &&
           epoll_ctl(edge, EPOLL_CTL_ADD, reader, &on_edge) == 0);
     CHECK(!comes(reader, QUIET) && selected(reader, 0) == 0 && waited(level, 0) == 0 && waited(edge, 0) == 0);
-    put(writer, 0x123, 1);
-    put(writer, 0x123, 2);
+    send_numbered(writer, 0x123, 1);
+    send_numbered(writer, 0x123, 2);
     CHECK(selected(reader, PATIENCE) == 1 && waited(level, PATIENCE) == 1 && waited(edge, PATIENCE) == 1);
     get(reader, 0x123, 1);
     CHECK(waited(level, PATIENCE) == 1);
@@ -33,7 +33,7 @@ int main(void) {
     while (waited(edge, QUIET) == 1) {
     }
     CHECK(waited(level, 0) == 0 && selected(reader, 0) == 0 && !comes(reader, 0));
-    put(writer, 0x123, 3);
+    send_numbered(writer, 0x123, 3);
     CHECK(waited(edge, PATIENCE) == 1 && waited(edge, QUIET) == 0); /* Edge: once. */
     get(reader, 0x123, 3);
     return 0;

@@ -68,7 +68,7 @@ static void writes(int fd) {
     set(fd, CAN_RAW_FD_FRAMES, 1);
     fd_frame.len = 65;
     FAILS(write(fd, &fd_frame, sizeof fd_frame), EINVAL);
-    put(fd, 0x123, 2);
+    send_numbered(fd, 0x123, 2);
     get(reader, 0x123, 2);
 }
 
@@ -79,14 +79,14 @@ static void binds(void) {
     int moved = bound("can0"), writer = bound("can0");
     address.can_ifindex = 12345;
     FAILS(bind(moved, (struct sockaddr *)&address, sizeof address), ENODEV);
-    put(writer, 0x124, 1);
+    send_numbered(writer, 0x124, 1);
     get(moved, 0x124, 1);
     address = address_of("can1");
     CHECK(bind(moved, (struct sockaddr *)&address, sizeof address) == 0);
     CHECK(bind(moved, (struct sockaddr *)&address, sizeof address) == 0);
     CHECK(getsockname(moved, (struct sockaddr *)&own, &length) == 0 && own.can_ifindex == address.can_ifindex &&
           length == 8);
-    put(moved, 0x124, 2);
+    send_numbered(moved, 0x124, 2);
     get(writer, 0x124, 2);
 }
 

@@ -26,7 +26,7 @@ int main(void) {
     CHECK(read(reader, &filled, sizeof filled) == CANFD_MTU && filled.len == 12 && filled.data[8] == 9 &&
           filled.data[9] == 0);
     /* Both kinds by one read; a socket without the option gets classic frames only. */
-    put(writer, 0x321, 7);
+    send_numbered(writer, 0x321, 7);
     CHECK(read(reader, &filled, sizeof filled) == CAN_MTU && filled.can_id == 0x321);
     get(classic, 0x321, 7);
     CHECK(!comes(classic, QUIET));

@@ -31,7 +31,7 @@ static void succeeds(pid_t child) {
 
 int main(int count, char **words) {
     if (count > 1) {
-        put(atoi(words[1]), 0x123, 50);
+        send_numbered(atoi(words[1]), 0x123, 50);
         struct sockaddr_can own;
         socklen_t length = sizeof own;
         CHECK(getsockname(atoi(words[1]), (struct sockaddr *)&own, &length) == 0 &&
@@ -41,22 +41,22 @@ int main(int count, char **words) {
     int writer = bound("can0"), reader = bound("can1"), pair[2];
     pid_t child = fork();
     if (child == 0) {
-        put(writer, 0x123, 1);
+        send_numbered(writer, 0x123, 1);
         get(reader, 0x123, 1);
         _exit(0);
     }
     succeeds(child);
-    put(writer, 0x123, 2); /* Its copies are closed, ours are not. */
+    send_numbered(writer, 0x123, 2); /* Its copies are closed, ours are not. */
     get(reader, 0x123, 2);
     int copy = dup(writer), third = dup2(copy, 77);
     CHECK(copy >= 0 && third == 77 && close(writer) == 0 && close(copy) == 0);
-    put(third, 0x123, 3);
+    send_numbered(third, 0x123, 3);
     get(reader, 0x123, 3);
     CHECK(socketpair(AF_UNIX, SOCK_STREAM, 0, pair) == 0);
     send_descriptor(pair[0], third);
     CHECK(close(third) == 0);
     int arrived = receive_descriptor(pair[1]);
-    put(arrived, 0x123, 4);
+    send_numbered(arrived, 0x123, 4);
     get(reader, 0x123, 4);
     child = fork();
     if (child == 0) {

@@ -5,7 +5,7 @@
 int main(void) {
     struct can_frame frame;
     int reader = bound("can1"), writer = bound("can0");
-    put(writer, 0x123, 1);
+    send_numbered(writer, 0x123, 1);
     CHECK(comes(reader, PATIENCE));
     printf("ready\n");
     fflush(stdout);

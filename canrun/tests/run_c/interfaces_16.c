@@ -23,7 +23,7 @@ int main(void) {
         snprintf(name, sizeof name, "node%u", i);
         int fd = bound(name);
         unsigned indices = 0;
-        put(fd, 0x123, i);
+        send_numbered(fd, 0x123, i);
         for (int copy = 0; copy < 16; copy++) {
             struct can_frame frame;
             struct sockaddr_can from;

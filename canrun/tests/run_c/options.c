@@ -71,21 +71,21 @@ static void others(int fd) {
 static void effects(void) {
     int writer = bound("can0"), beside = bound("can0"), reader = bound("can1");
     set(writer, CAN_RAW_LOOPBACK, 0);
-    put(writer, 0x111, 1);
+    send_numbered(writer, 0x111, 1);
     get(reader, 0x111, 1);
     CHECK(!comes(beside, QUIET));
     set(writer, CAN_RAW_LOOPBACK, 1);
-    put(writer, 0x111, 2);
+    send_numbered(writer, 0x111, 2);
     get(beside, 0x111, 2);
     CHECK(!comes(writer, QUIET));
     set(writer, CAN_RAW_RECV_OWN_MSGS, 1);
-    put(writer, 0x111, 3);
+    send_numbered(writer, 0x111, 3);
     get(writer, 0x111, 3);
     int early = socket(PF_CAN, SOCK_RAW, CAN_RAW);
     struct sockaddr_can address = address_of("can0");
     set(early, CAN_RAW_RECV_OWN_MSGS, 1);
     CHECK(bind(early, (struct sockaddr *)&address, sizeof address) == 0);
-    put(early, 0x111, 4);
+    send_numbered(early, 0x111, 4);
     get(early, 0x111, 4);
 }
 

@@ -25,7 +25,7 @@ int main(void) {
     CHECK(setsockopt(slow, SOL_SOCKET, SO_RCVBUF, &(int){1}, sizeof(int)) == 0);
     CHECK(setsockopt(slow, SOL_SOCKET, SO_RXQ_OVFL, &(int){1}, sizeof(int)) == 0);
     for (unsigned i = 0; i < FRAMES; i++) {
-        put_patiently(writer, 0x123, i);
+        send_patiently(writer, 0x123, i);
         get(sync, 0x123, i);
     }
     for (unsigned i = 0; i < FRAMES; i++) {
@@ -38,7 +38,7 @@ int main(void) {
         received++;
     }
     usleep(QUIET * 1000);
-    put_patiently(writer, 0x7FF, 0);
+    send_patiently(writer, 0x7FF, 0);
     CHECK(take(slow, &dropped) == UINT32_MAX);
     CHECK(dropped > 0 && received < FRAMES && received + dropped == FRAMES);
     printf("%u received, %u lost\n", received, dropped);

@@ -19,7 +19,7 @@ static void take_turns(int self, int beside, int other) {
     int senders[TURNS];
     for (int i = 0; i < TURNS; i++) {
         senders[i] = i % 3 == 0 ? self : i % 3 == 1 ? beside : other;
-        put_patiently(senders[i], 0x7, 7);
+        send_patiently(senders[i], 0x7, 7);
         /* So that they go out in this order, though they are of several interfaces. */
         int own = senders[i] == self ? MSG_CONFIRM | MSG_DONTROUTE : senders[i] == beside ? MSG_DONTROUTE : 0;
         CHECK(flags_of_next(self, 7) == own);
@@ -31,7 +31,7 @@ static void take_turns(int self, int beside, int other) {
 /* The same without waiting for each: the order is that of the interface, which is one. */
 static void take_turns_at_once(int self, int beside) {
     for (int i = 0; i < TURNS; i++) {
-        put_patiently(i % 5 < 2 ? self : beside, 0x7, 7);
+        send_patiently(i % 5 < 2 ? self : beside, 0x7, 7);
     }
     for (int i = 0; i < TURNS; i++) {
         CHECK(flags_of_next(self, 7) == (i % 5 < 2 ? MSG_CONFIRM | MSG_DONTROUTE : MSG_DONTROUTE));
@@ -42,8 +42,8 @@ int main(void) {
     int self = bound("can0"), beside = bound("can0"), other = bound("can1");
     set(self, CAN_RAW_RECV_OWN_MSGS, 1);
     for (unsigned i = 0; i < 5; i++) {
-        put_patiently(self, 0x123, i);
-        put_patiently(other, 0x123, 100 + i);
+        send_patiently(self, 0x123, i);
+        send_patiently(other, 0x123, 100 + i);
         CHECK(flags_of_next(beside, i) == MSG_DONTROUTE);
         CHECK(flags_of_next(beside, 100 + i) == 0);
         CHECK(flags_of_next(self, i) == (MSG_CONFIRM | MSG_DONTROUTE));
@@ -55,7 +55,7 @@ int main(void) {
     take_turns_at_once(self, beside);
     set(self, CAN_RAW_LOOPBACK, 0);
     int late = bound("can1");
-    put(self, 0x123, 9);
+    send_numbered(self, 0x123, 9);
     CHECK(flags_of_next(late, 9) == 0 && !comes(self, QUIET));
     return 0;
 }

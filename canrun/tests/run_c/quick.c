@@ -14,7 +14,7 @@ static unsigned seen[SOCKETS];
 static void write_all(const int *fds, unsigned from) {
     for (unsigned i = from; i < from + EACH; i++) {
         for (unsigned s = 0; s < SOCKETS; s++) {
-            put_patiently(fds[s], 0x100 + s, i);
+            send_patiently(fds[s], 0x100 + s, i);
         }
     }
 }
@@ -29,7 +29,7 @@ static void read_all(void) {
 
 static void *write_some(void *number) {
     for (unsigned i = 0; i < EACH; i++) {
-        put_patiently(writers[0], 0x200 + (unsigned)(uintptr_t)number, i);
+        send_patiently(writers[0], 0x200 + (unsigned)(uintptr_t)number, i);
     }
     return NULL;
 }

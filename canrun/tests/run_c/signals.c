@@ -26,7 +26,7 @@ int main(void) {
     CHECK(sigaction(SIGALRM, &action, NULL) == 0 && setitimer(ITIMER_REAL, &every, NULL) == 0);
     FAILS(read(waiting, &frame, sizeof frame), EINTR);
     for (unsigned i = 0; i < FRAMES; i++) {
-        put_patiently(writer, 0x123, i);
+        send_patiently(writer, 0x123, i);
         ssize_t length;
         while ((length = read(reader, &frame, sizeof frame)) < 0 && errno == EINTR) {
         }
@@ -40,7 +40,7 @@ int main(void) {
     CHECK(pthread_create(&thread, NULL, wait_for_ever, &waiting) == 0);
     usleep(50000);
     CHECK(pthread_cancel(thread) == 0 && pthread_join(thread, &result) == 0 && result == PTHREAD_CANCELED);
-    put(writer, 0x123, 5);
+    send_numbered(writer, 0x123, 5);
     get(waiting, 0x123, 5);
     return 0;
 }

@@ -12,7 +12,7 @@
 
 static void *work(void *result) {
     int fd = bound("can0"), other = bound("can1");
-    put(fd, 0x123, 1);
+    send_numbered(fd, 0x123, 1);
     get(other, 0x123, 1);
     CHECK(close(fd) == 0 && close(other) == 0);
     return result;

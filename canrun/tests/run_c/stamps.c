@@ -42,7 +42,7 @@ int main(void) {
         struct timespec now;
         struct timeval micro;
         struct timespec nano;
-        put(writer, 0x123, round);
+        send_numbered(writer, 0x123, round);
         int64_t moment = stamp_of(readers[0], ways[0].type);
         clock_gettime(CLOCK_REALTIME, &now);
         CHECK(moment <= now.tv_sec * 1000000000ll + now.tv_nsec && moment > (now.tv_sec - 60) * 1000000000ll);
@@ -58,7 +58,7 @@ int main(void) {
     struct can_frame frame;
     struct iovec part = {&frame, sizeof frame};
     struct msghdr message = {.msg_iov = &part, .msg_iovlen = 1, .msg_control = little, .msg_controllen = sizeof little};
-    put(writer, 0x123, 9);
+    send_numbered(writer, 0x123, 9);
     CHECK(comes(readers[2], PATIENCE) && recvmsg(readers[2], &message, 0) == sizeof frame &&
           message.msg_flags & MSG_CTRUNC);
     return 0;

@@ -9,7 +9,7 @@ static unsigned char seen[THREADS * EACH];
 
 static void *write_all(void *number) {
     for (unsigned i = 0; i < EACH; i++) {
-        put_patiently(writer, 0x123, (unsigned)(uintptr_t)number * EACH + i);
+        send_patiently(writer, 0x123, (unsigned)(uintptr_t)number * EACH + i);
     }
     return NULL;
 }
@@ -39,7 +39,7 @@ int main(void) {
         CHECK(pthread_join(writers[i], NULL) == 0);
     }
     for (int i = 0; i < THREADS; i++) {
-        put_patiently(writer, 0x7FF, 0);
+        send_patiently(writer, 0x7FF, 0);
     }
     for (int i = 0; i < THREADS; i++) {
         CHECK(pthread_join(readers[i], NULL) == 0);

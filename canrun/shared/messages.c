@@ -1,7 +1,8 @@
-/* Frames as texts of the server's raw mode, both ways: docs of the messages are in canbusd.1. */
-#include "bridge.h"
+/* Frames as texts of the server's raw mode: see messages.h. canbusd.1 has what the messages mean. */
+#include "messages.h"
 
 #include <string.h>
+#include <sys/param.h>
 
 static const char DIGITS[] = "0123456789ABCDEF";
 /* The lengths that an FD frame may have past 8 (ISO 11898-1). */

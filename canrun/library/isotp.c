@@ -1,0 +1,91 @@
+/* CAN_ISOTP: messages that the bridge cuts into frames, one after the other. */
+#define _GNU_SOURCE
+#include "library.h"
+
+#include <errno.h>
+#include <fcntl.h>
+#include <linux/can/isotp.h>
+#include <string.h>
+#include <sys/syscall.h>
+
+/* While a message is being sent its request takes room in the socket, so that this is not ready to be written: it is at
+ * a quarter of SO_SNDBUF. */
+#define FILLERS 64
+static size_t add_fillers(int fd, size_t length, struct iovec fillers[FILLERS]) {
+    static char nothing[16384];
+    int room = 0;
+    socklen_t size = sizeof room;
+    real()->getsockopt(fd, SOL_SOCKET, SO_SNDBUF, &room, &size);
+    size_t count = 0;
+    for (; count < FILLERS && length < (size_t)room / 4; count++) {
+        fillers[count] = (struct iovec){nothing, MIN(sizeof nothing, (size_t)room / 4 - length)};
+        length += fillers[count].iov_len;
+    }
+    return count;
+}
+
+/* A write has failed: where that was by the error of the socket, nobody else hears of it. */
+static void forget_error(int fd) {
+    static const int known[] = {EMSGSIZE, ECOMM, EBADMSG, EILSEQ, ETIMEDOUT};
+    for (size_t i = 0; i < sizeof known / sizeof *known; i++) {
+        if (errno == known[i]) {
+            drop_error(fd);
+            return;
+        }
+    }
+}
+
+static ssize_t isotp_sendmsg(const struct socket *sock, const struct msghdr *message, int flags) {
+    struct wire_request request;
+    struct answer answer = {0};
+    struct iovec all[message->msg_iovlen + FILLERS];
+    size_t count = message->msg_iovlen;
+    if (begin_write(message, &request)) {
+        return -1;
+    }
+    request.number = flags & MSG_DONTWAIT || fcntl(sock->fd, F_GETFL) & O_NONBLOCK ? WIRE_NO_WAIT : WIRE_WAIT;
+    memcpy(all, message->msg_iov, count * sizeof *all);
+    count += add_fillers(sock->fd, request.length, all + count);
+    if (ask(sock->fd, "write", &request, all, count, &answer)) {
+        forget_error(sock->fd);
+        return -1;
+    }
+    return answer.value;
+}
+
+/* What the kernel refuses: other flags, and a socket that is not bound, to which nothing can have come. */
+static int check_read(const struct socket *sock, int flags) {
+    struct answer answer = {0};
+    if (flags & ~(MSG_DONTWAIT | MSG_TRUNC | MSG_PEEK)) {
+        return refuse("read", EINVAL, "CAN_ISOTP has no such flag");
+    }
+    int before = errno;
+    bool has_any = syscall(SYS_recvfrom, sock->fd, NULL, 0L, MSG_PEEK | MSG_DONTWAIT, NULL, NULL) >= 0;
+    errno = before;
+    if (!has_any && !ask(sock->fd, "read", &(struct wire_request){.kind = WIRE_ADDRESS}, NULL, 0, &answer) &&
+        !answer.value) {
+        return refuse("read", EADDRNOTAVAIL, "bind comes first");
+    }
+    return 0;
+}
+
+static ssize_t isotp_recvmsg(const struct socket *sock, struct msghdr *message, int flags) {
+    ssize_t length, done = check_read(sock, flags) ? -1 : receive_message(sock, message, flags, &length);
+    return done >= 0 && flags & MSG_TRUNC ? length : done;
+}
+
+const struct protocol isotp_protocol = {
+    .family = PF_CAN,
+    .type = SOCK_DGRAM,
+    .address_size = CAN_REQUIRED_SIZE(struct sockaddr_can, can_addr.tp),
+    .level = SOL_CAN_ISOTP,
+    .lingers = true,
+    .shows_error = true,
+    .bind = can_bind,
+    .connect = no_connect,
+    .getname = can_getname,
+    .setsockopt = can_setsockopt,
+    .getsockopt = can_getsockopt,
+    .sendmsg = isotp_sendmsg,
+    .recvmsg = isotp_recvmsg,
+};
