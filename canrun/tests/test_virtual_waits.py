@@ -1,6 +1,7 @@
 """Virtual time beside the real: each kind of wait, in eight languages, is as long as it says and returns what it does."""
 
 import os
+import re
 import shutil
 import subprocess
 import sys
@@ -14,7 +15,19 @@ from virtual_runs import virtual
 
 FOLDER = os.path.join(ROOT, "canrun", "tests", "waits")
 TOPICS = (
-    *("sleeps", "polls", "signals", "signalfds", "cancels", "locks", "timers", "timerfds", "files", "queues", "sockets"),
+    *(
+        "sleeps",
+        "polls",
+        "signals",
+        "signalfds",
+        "cancels",
+        "locks",
+        "timers",
+        "timerfds",
+        "files",
+        "queues",
+        "sockets",
+    ),
     *("processes", "by_number"),
 )
 #: How much longer a wait of the real time may be, in seconds, and how often all of them are tried on a busy machine.
@@ -77,7 +90,7 @@ def make_program_of_c(tmp_path_factory):
 def names_of(topic):
     """The waits of a table."""
     with open(os.path.join(FOLDER, f"{topic}.c"), encoding="ascii") as file:
-        return [line.split('"')[1] for line in file if line.startswith('    {"')]
+        return re.findall(rf'\{{"({topic}_\w+)",', file.read())
 
 
 @needs_gcc
@@ -102,7 +115,12 @@ def test_often(program_of_c, topic):
 
 SCRIPTS = [
     ("waits.py", (sys.executable,), 43),
-    *(("waits.pl", ("perl",), 15), ("waits.sh", ("bash",), 13), ("waits.tcl", ("tclsh",), 7), ("waits.js", ("node",), 7)),
+    *(
+        ("waits.pl", ("perl",), 15),
+        ("waits.sh", ("bash",), 13),
+        ("waits.tcl", ("tclsh",), 7),
+        ("waits.js", ("node",), 7),
+    ),
 ]
 
 
@@ -118,7 +136,9 @@ def test_script(script, command, count):
 def test_cpp(tmp_path):
     """waits of C++"""
     source = os.path.join(FOLDER, "languages", "waits.cpp")
-    subprocess.run(["g++", "-std=c++17", "-Wall", "-Wextra", "-pthread", "-o", str(tmp_path / "waits"), source], check=True)
+    subprocess.run(
+        ["g++", "-std=c++17", "-Wall", "-Wextra", "-pthread", "-o", str(tmp_path / "waits"), source], check=True
+    )
     compare(13, tmp_path / "waits")
 
 

@@ -63,7 +63,8 @@ static void thread_ends(void *count) {
     } while (!begin_deciding());
     leave_mutexes();
     wake(key_of((void *)(uintptr_t)pthread_self(), OF_END), INT_MAX);
-    run->ending = (uint64_t)slot->pid << 32 | slot->tid;
+    /* The first thread is there as long as the process. */
+    run->ending = slot->tid != slot->pid ? (uint64_t)slot->pid << 32 | slot->tid : 0;
     free_slot(slot);
     uint32_t next = next_turn(false);
     my.slot = NULL;
