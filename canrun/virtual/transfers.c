@@ -1,6 +1,7 @@
 /* Calls that read, write, send, receive and accept. */
 #define _GNU_SOURCE
 #include "calls.h"
+#include "peers.h"
 #include "random.h"
 
 #include <fcntl.h>
@@ -122,6 +123,7 @@ EXPORT ssize_t sendto(int fd, const void *data, size_t length, int flags, const 
     size_t done = 0;
     my.has_talked = true;
     cancel_point();
+    check_datagram(fd, to);
     if (!run || flags & MSG_DONTWAIT) {
         return answer(RAW(SYS_sendto, fd, data, length, flags, to, room));
     }
@@ -151,6 +153,7 @@ EXPORT ssize_t sendmsg(int fd, const struct msghdr *message, int flags) {
     struct rest rest;
     my.has_talked = true;
     cancel_point();
+    check_datagram(fd, message->msg_name);
     if (!run || flags & MSG_DONTWAIT || message->msg_iovlen > PARTS) {
         return await_ready(fd, POLLOUT, flags) ? answer(RAW(SYS_sendmsg, fd, message, flags)) : -1;
     }
@@ -315,6 +318,7 @@ static mode_t mode_of_blocking(int fd, size_t length) {
 
 EXPORT ssize_t write(int fd, const void *data, size_t length) {
     cancel_point();
+    check_datagram(fd, NULL);
     mode_t mode = mode_of_blocking(fd, length);
     if (length > PIECE && S_ISFIFO(mode)) {
         return write_pieces(fd, data, length);
