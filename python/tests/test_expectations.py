@@ -8,8 +8,8 @@ import pytest
 
 from canbusd._run.summary import end_of_log
 from canbusd.faults import Faults
-from canbusd.server import Server
-from conftest import WAIT, message
+from canbusd.server import Server, ServerError
+from common import WAIT, message
 
 OFF = Faults().destroyed(range(32))
 
@@ -343,5 +343,5 @@ def test_an_observed_server_ends_in_order(observed, can0):
 def test_a_killed_server():
     with Server("can0,can1", observe="can1") as server:
         server.kill()
-        with pytest.raises(can.CanOperationError):
+        with pytest.raises(ServerError, match="^the server was killed: nothing can be expected of it$"):
             server.expect(id=1)

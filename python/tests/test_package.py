@@ -186,6 +186,34 @@ def test_an_older_python():
     assert done.stderr.endswith("ImportError: canbusd needs Python 3.9 or later, and this is 3.8\n")
 
 
+MISTAKES = """
+from canbusd import Bench, Faults, Server
+with Server("a,b", ack="nobody") as server:
+    server.expect_state("a", "of")
+    print(server.state("a") == "bus off")
+    server.isotp("a", tx=1, rx=2, library="isotp")
+    print([attempt for attempt in server.attempts() if attempt.outcome == "failed"])
+Server("a", record="always")
+Bench("a", ack="nobody")
+Faults().next(1).destroyed("crc")
+Faults().destroyed(1, "crc")
+Faults().next(1).local("bit", "a")
+Faults().local("bit", "a", 1)
+Faults().last_bit()
+Server("a", pace=1)
+"""
+
+
+def test_a_type_checker_sees_words_that_are_none(tmp_path):
+    pytest.importorskip("mypy")
+    (tmp_path / "mistakes.py").write_text(MISTAKES)
+    words = [sys.executable, "-m", "mypy", "--strict", "--cache-dir", tmp_path / "cache", "mistakes.py"]
+    environment = {**ENVIRONMENT, "MYPYPATH": str(SOURCES)}
+    done = subprocess.run(words, cwd=tmp_path, env=environment, capture_output=True, text=True, check=False)
+    wrong = {int(line) for line in re.findall(r"^mistakes.py:(\d+): error: ", done.stdout, re.M)}
+    assert wrong == {*range(3, 16)}, done.stdout
+
+
 def test_one_version(installed):
     version = canbusd.__version__
     assert INFO.name == f"canbusd-{version}.dist-info"

@@ -14,7 +14,7 @@ from pathlib import Path
 
 import can
 import pytest
-from conftest import WAIT, message, needs_live, shape
+from common import WAIT, message, needs_live, shape
 from on_wire import nanos_of
 
 import canbusd
@@ -96,12 +96,13 @@ def test_ways_to_give_faults(tmp_path, form):
         (["can0,can1", "can0,can2"], {}, "buses"),
         (["can0", "can1,can0"], {}, "buses are of different interfaces, and two have 'can0'"),
         ([str(number) for number in range(17)], {}, "buses are 1 to 16"),
-        (["can0,can0"], {}, "names of a bus's interfaces are 1 to 16 different ones .* not 'can0,can0'"),
-        (["can 0"], {}, "names .* not 'can 0'"),
-        (["can0,"], {}, "names .* not 'can0,'"),
+        (["can0,can0"], {}, "names of a bus's interfaces are different, and 'can0,can0' has 'can0' twice"),
+        (["can 0"], {}, "names .* 'can,0', not 'can 0'"),
+        (["can0 can1"], {}, "joined by commas without spaces, 'can0,can1', not 'can0 can1'"),
+        (["can0,"], {}, "names .* not '', as in 'can0,'"),
         (["k\N{LATIN SMALL LETTER U WITH DIAERESIS}che"], {}, "names .* 1 to 15 ASCII letters, digits, _, - and .,"),
         (["a123456789012345"], {}, "names .* not 'a123456789012345'"),
-        ([",".join(f"can{number}" for number in range(17))], {}, "names .* 1 to 16 "),
+        ([",".join(f"can{number}" for number in range(17))], {}, "names .* 1 to 16, .* has 17"),
         (["can0"], {"out": "/no/such/folder"}, "out"),
         (["can0", "can1"], {"faults": Faults()}, "faults"),
         (["can0"], {"faults": {"can1": Faults()}}, "faults"),
@@ -111,8 +112,9 @@ def test_ways_to_give_faults(tmp_path, form):
         (["can0"], {"pace_ms": 0.5}, "pace_ms"),
         (["can0"], {"write_bytes": 255}, "write_bytes"),
         (["can0"], {"bitrate": 4999}, "bitrate"),
-        (["can0"], {"dbitrate": 500_000}, "dbitrate needs a bitrate"),
-        (["can0"], {"bitrate": 500_000, "dbitrate": 499_999}, "dbitrate needs a bitrate"),
+        (["can0"], {"dbitrate": 500_000}, "data_bitrate=500000 needs a bitrate too"),
+        (["can0"], {"bitrate": 500_000, "data_bitrate": 499_999}, "data_bitrate=499999 is below bitrate=500000"),
+        (["can0"], {"data_bitrate": 500_000, "dbitrate": 600_000}, "are one argument, not 500000 and 600000"),
         (["can0"], {"txqueue": "10"}, "txqueue"),
         (["can0"], {"limit": True}, "limit"),
         (["can0"], {"listen": "x"}, "listen is HOST:PORT, .* not 'x'"),
@@ -142,8 +144,8 @@ def test_a_start_that_fails_says_why(buses, options, said):
 
 @pytest.mark.parametrize("name", [pytest.param(name, marks=needs_live if name == "flush" else ()) for name in NUMBERS])
 def test_the_limits_of_numbers_are_those_of_the_program(name, tmp_path):
-    option, least, most = NUMBERS[name]
-    more = {"flush": {"record": "live"}, "dbitrate": {"bitrate": least}}.get(name, {})
+    option, least, most, _ = NUMBERS[name]
+    more = {"flush": {"record": "live"}, "data_bitrate": {"bitrate": least}}.get(name, {})
     for number, is_taken in ((least - 1, False), (least, True), (most, True), (most + 1, False)):
         words = [find_program(), "serve", "--until-eof", "--listen", "127.0.0.1:0", "--out", tmp_path]
         words += [f"--{option}={value}" for option, value in more.items()]

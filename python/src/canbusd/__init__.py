@@ -101,7 +101,9 @@ def __getattr__(name: str) -> Any:
         if name in names:
             globals()[name] = found = getattr(importlib.import_module(f"canbusd.{module}"), name)
             return found
-    raise AttributeError(f"module {__name__!r} has no attribute {name!r}")
+    from canbusd._calls import meant
+
+    raise AttributeError(f"module {__name__!r} has no attribute {name!r}{meant(name, __all__)}")
 
 
 def __dir__() -> list[str]:

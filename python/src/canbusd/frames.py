@@ -1,9 +1,12 @@
 """Frames: their fields, candump's spelling of them, and error message frames in words."""
 
 import re
-from collections.abc import Callable, Sequence
+from collections.abc import Callable, Iterable, Sequence
 from dataclasses import dataclass, field
 from typing import TYPE_CHECKING, Optional, Protocol, TypeVar, Union
+
+from canbusd._calls import NamesWhatThereIs
+from canbusd._text import shown
 
 if TYPE_CHECKING:
     from can.message import Message
@@ -51,8 +54,20 @@ class BadFrame(ValueError):
     """Why a text or its fields are no frame."""
 
 
+def data_bytes(data: object) -> bytes:
+    """Returns the bytes of a frame; BadFrame for a text or a number, of which Python makes others."""
+    if isinstance(data, str) and re.fullmatch("(?:[0-9A-Fa-f]{2} ?)+", data):
+        raise BadFrame(f"data is bytes, such as bytes.fromhex({data!r}), not {data!r}")
+    if isinstance(data, (str, int)) or not isinstance(data, Iterable):
+        raise BadFrame(f"data is bytes, such as b'\\x01\\x02', or a list of numbers, not {data!r}")
+    try:
+        return bytes(data)
+    except (TypeError, ValueError):
+        raise BadFrame(f"data is bytes, or numbers from 0 to 255, not {data!r}") from None
+
+
 @dataclass(frozen=True)
-class Frame:
+class Frame(NamesWhatThereIs):
     """A frame that is sent or was received, with the names that python-can's `Message` has.
 
     `str()` of it is candump's spelling, `123#1122`, which `Frame.parse` reads. Unlike a `Message` it has an 11-bit
@@ -75,8 +90,15 @@ class Frame:
     #: Of an FD frame: whether its sender says that it is error passive.
     error_state_indicator: bool = False
 
+    _INSTEAD = {
+        **dict.fromkeys(("id", "identifier", "can_id"), "arbitration_id"),
+        **dict.fromkeys(("extended", "is_extended"), "is_extended_id"),
+        "length": "dlc",
+    }
+
     def __post_init__(self) -> None:
-        object.__setattr__(self, "data", bytes(self.data))
+        if self.data.__class__ is not bytes:
+            object.__setattr__(self, "data", data_bytes(self.data))
         if not self.is_remote_frame:
             object.__setattr__(self, "dlc", len(self.data))
         check_frame(self)
@@ -88,22 +110,29 @@ class Frame:
         Of the digit of an FD frame's flags 1 is the bit rate switch and 2 the error state indicator; what else it says
         (candump adds 4, by which Linux marks FD frames) is left out.
         """
-        words = SPELLING.fullmatch(text)
+        try:
+            return cls._parsed(text, timestamp)
+        except BadFrame as fault:
+            raise BadFrame(f"{shown(str(text)) or 'an empty text'}: {fault}") from None
+
+    @classmethod
+    def _parsed(cls, text: str, timestamp: float) -> "Frame":
+        words = SPELLING.fullmatch(text) if isinstance(text, str) else None
         if not words:
             raise BadFrame("no frame such as 123#1122, 00000123#R4 or 123##01122")
         digits, flags, payload = words[1], words[2], words[3].upper().replace(".", "")
         number = int(digits, 16)
         is_error = len(digits) == 8 and number >> 29 == 1
         if len(digits) not in (3, 8) or (number > (0x7FF if len(digits) == 3 else 0x1FFFFFFF) and not is_error):
-            raise BadFrame("no identifier of 11 bits in 3 digits or of 29 bits in 8")
+            raise BadFrame("an identifier has 11 bits in 3 digits, as 123, or 29 bits in 8, as 00000123")
         is_extended = len(digits) == 8 and not is_error
         if payload.startswith("R") and flags is None:
             if not re.fullmatch("R[0-8]?", payload):
-                raise BadFrame("no remote frame of length 0 to 8")
+                raise BadFrame("a remote frame asks for 0 to 8 bytes, as R4 does")
             dlc = int(payload[1:] or "0")
             return cls(number, b"", is_extended, is_remote_frame=True, dlc=dlc, timestamp=timestamp)
         if not re.fullmatch("(?:[0-9A-F]{2})*", payload):
-            raise BadFrame("the bytes of data are not pairs of digits")
+            raise BadFrame("the bytes of data are not pairs of digits, as in 123#01")
         return cls(
             number & 0x1FFFFFFF,
             bytes.fromhex(payload),
@@ -224,8 +253,11 @@ def frame_like(message: MessageLike) -> Frame:
 def check_frame(message: MessageLike) -> None:
     """Raises BadFrame where no frame has these fields."""
     most = 0x1FFFFFFF if message.is_extended_id or message.is_error_frame else 0x7FF
+    if not isinstance(message.arbitration_id, int):
+        raise BadFrame(f"arbitration_id is a number, such as 0x123, not {message.arbitration_id!r}")
     if not 0 <= message.arbitration_id <= most:
-        raise BadFrame(f"arbitration_id {message.arbitration_id:#x} is not in 0 to {most:X}")
+        cure = "; is_extended_id=True has 29 bits" if 0x7FF < message.arbitration_id <= 0x1FFFFFFF else ""
+        raise BadFrame(f"arbitration_id {message.arbitration_id:#x} is not in 0 to {most:X}{cure}")
     if not message.is_fd and flag_number(message):
         raise BadFrame("bitrate_switch and error_state_indicator are flags of FD frames")
     length = len(message.data)

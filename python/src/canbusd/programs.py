@@ -10,6 +10,7 @@ from collections.abc import Mapping, Sequence
 from pathlib import Path
 from typing import Any, Optional, Union
 
+from canbusd._calls import NamesWhatThereIs, explained
 from canbusd._process.guard import Guard
 from canbusd._process.output import Output, Search
 from canbusd._process.program import ServerError, find_program
@@ -75,12 +76,18 @@ def check_program(
         raise PermissionError(errno.EACCES, os.strerror(errno.EACCES), name)
 
 
-class Program:
+class Program(NamesWhatThereIs):
     """A program that stays while the test goes on, which :meth:`canbusd.Server.start` starts; the server ends it.
 
     Its standard output and standard error are in `output`, as far as it has written them: a program that buffers what it
     writes may do so late.
     """
+
+    _INSTEAD = {
+        **dict.fromkeys(("kill", "terminate", "send_signal", "close"), "stop() ends it"),
+        **dict.fromkeys(("returncode", "poll"), "status, which is None while it runs"),
+        **dict.fromkeys(("stdout", "stderr", "communicate", "read"), "output is what it has written so far"),
+    }
 
     def __init__(
         self, words: Sequence[str], command: Sequence[str], output: Path, may_end: bool, **kwargs: Any
@@ -120,12 +127,15 @@ class Program:
         """What it has written so far."""
         return self._path.read_text(encoding="utf-8", errors="replace")
 
+    @explained()
     def expect(self, text: str, *, within: float = 10.0) -> str:
         """Waits until its output has this text, and returns the output; AssertionError after these seconds, or at its end.
 
         Of an output of more than a megabyte it returns the last one up to the text, after a line that says how much is before.
         """
         __tracebackhide__ = True
+        if not isinstance(text, str):
+            raise ValueError(f"text is what its output has, such as '123   [1]  11', not {text!r}")
         check_within(within)
         deadline, pause = time.monotonic() + within, POLL
         with Search(self._path, text) as search:
@@ -142,6 +152,7 @@ class Program:
                 time.sleep(pause)
                 pause = min(2 * pause, LONGEST_POLL)
 
+    @explained()
     def wait(self, timeout: float) -> int:
         """Waits until it ends by itself, as it may then, and returns its status; TimeoutError after these seconds."""
         __tracebackhide__ = True
@@ -199,6 +210,10 @@ class RunsPrograms:
     _result: Any
     _programs: list[Program]
 
+    def _check_runs(self, what: str) -> None:
+        """ServerError where the server has ended, with what is not possible then."""
+        raise NotImplementedError
+
     def run(self, words: Words, wait: bool = False, **kwargs: Any) -> "subprocess.CompletedProcess[Any]":
         """Runs a program whose CAN sockets are those of this server to its end: ``"cansend can0 123#"``, or a list of words.
 
@@ -208,6 +223,7 @@ class RunsPrograms:
         """
         check_no_shell(kwargs)
         found = words_of(words)
+        self._check_runs("no program can be run on its buses")
         check_program(found[0], kwargs.get("env"), kwargs.get("cwd"))
         return subprocess.run([*self._run_words(wait), *found], **kwargs)
 
@@ -219,9 +235,11 @@ class RunsPrograms:
         program; its output is :attr:`Program.output`.
         """
         check_no_shell(kwargs)
+        taken = next((name for name in ("stdout", "stderr", "capture_output") if name in kwargs), None)
+        if taken is not None:
+            raise ValueError(f"{taken} is the Program's: its `output` is what it writes to both")
         found = words_of(words)
-        if self._result is not None:
-            raise ServerError("the server has ended, and no program can be started on its buses")
+        self._check_runs("no program can be started on its buses")
         check_program(found[0], kwargs.get("env"), kwargs.get("cwd"))
         path = self._folder / f"program{len(self._programs)}"
         program = Program(found, self._run_words(wait), path, may_end, **kwargs)

@@ -14,6 +14,7 @@ import os
 from collections.abc import Callable, Iterable, Iterator, Mapping
 from typing import Any, NamedTuple, Optional, Union
 
+from canbusd._calls import NamesWhatThereIs, explained
 from canbusd._database.dbc_lines import LineFault, check_numbers, is_dbc, refused_line
 from canbusd._database.formats import DatabaseError as DatabaseError
 from canbusd._database.formats import MessageFormat, Signal, Value as Value
@@ -49,11 +50,18 @@ class Decoded(NamedTuple):
         return f"{self.message}: {self.fault or ', '.join(map(str, self.signals))}"
 
 
-class Database:
+class Database(NamesWhatThereIs):
     """The messages of files, by their identifiers and names; `str()` of it shows all of them.
 
     DatabaseError where two messages have one name or one identifier, and are not the same.
     """
+
+    _INSTEAD = {
+        **dict.fromkeys(("get_message_by_name", "get_message_by_frame_id"), "message('EngineData')"),
+        **dict.fromkeys(("signals", "signal"), "message('EngineData').signals"),
+        "encode_message": "encode('EngineData', {..})",
+        "decode_message": "decode(frame)",
+    }
 
     def __init__(self, messages: Iterable[MessageFormat]) -> None:
         self._by_name: dict[str, MessageFormat] = {}
@@ -64,6 +72,14 @@ class Database:
                 if other is not None and (other.name, other.identifier, other.is_extended) != (one.name, *frame):
                     raise DatabaseError(f"{one.place()}: {one} is in the way of {other}", one.path, one.name)
             self._by_name[one.name] = self._by_frame[frame] = one
+
+    def with_more(self, other: "Database") -> "Database":
+        """Returns these messages and those of another; where one of that has a name or an identifier of these, it is left out."""
+        more = [one for one in other.messages if not self._has(one)]
+        return Database([*self.messages, *more]) if more else self
+
+    def _has(self, one: MessageFormat) -> bool:
+        return one.name in self._by_name or (one.identifier, one.is_extended) in self._by_frame
 
     @property
     def messages(self) -> list[MessageFormat]:
@@ -105,8 +121,11 @@ class Database:
         except Exception as fault:
             return Decoded(message.name, (), f"{fault}")
 
+    @explained("values are a dict, such as {'EngineSpeed': 800}")
     def encode(self, name: str, values: Mapping[str, Value]) -> Frame:
         """Returns the frame of this message with these values: numbers, their names, or texts of them."""
+        if not isinstance(values, Mapping):
+            raise ValueError(f"values are a dict of signals, such as {{'EngineSpeed': 800}}, not {values!r}")
         message = self.message(name)
         return frame_of(message, message.encode(values))
 
@@ -134,6 +153,8 @@ def frame_of(message: MessageFormat, data: bytes) -> Frame:
 
 def load_database(*paths: Union[str, "os.PathLike[str]"], library: Optional[str] = None) -> Database:
     """Returns the messages of these files; `library` is cantools or canmatrix, else the first that is installed."""
+    if not paths:
+        raise ValueError("load_database needs the path of a file, such as load_database('car.dbc')")
     name, messages_in = installed(library)
     messages: list[MessageFormat] = []
     for path in (os.fspath(path) for path in paths):

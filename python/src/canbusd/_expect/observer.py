@@ -14,6 +14,7 @@ from canbusd._session.injection import TIMEOUT
 from canbusd._session.observing_session import ObservingSession, Reader, wait_for_input
 from canbusd._session.protocol import in_words
 from canbusd._session.raw_session import fault
+from canbusd._session.waits import seconds_until
 from canbusd._text import seconds_words, times
 from canbusd.frames import Frame, described_line
 from canbusd.signals import Database
@@ -28,6 +29,12 @@ MOST_WITH_STATES = 16
 # How many frames a session keeps as they came while nobody expects anything. More are handed on, so many at once, and then
 # other threads, such as that of a rest bus, run for these seconds.
 MOST_UNREAD_FRAMES, FRAMES_AT_ONCE, PAUSE_SECONDS = 20_000, 16, 0.0001
+
+#: In how many frames one is looked for that came earlier.
+MOST_TAKEN = 10_000
+IN_ORDER = (
+    "expectations look after the frame that the last one returned: expect frames in their order, or by expect_sequence"
+)
 
 
 def decoded_words(frame: Frame, database: Optional[Database], signals: Sequence[str]) -> str:
@@ -84,8 +91,9 @@ class Observer:
             found = self._sessions.get(name)
             if found is None:
                 if name not in self._all:
+                    given = name if isinstance(name, str) else repr(name)
                     known = f"no such interface; the server has {', '.join(self._all)}"
-                    raise fault("CanInitializationError", f"{name}: {known}")
+                    raise fault("CanInitializationError", f"{given}: {known}")
                 found = ObservingSession(self._address, name, name in self.received.observed)
                 self._sessions[name] = found
                 self.received.begin(name, found.first)
@@ -100,10 +108,10 @@ class Observer:
             queued = session.stats().queued
             while True:
                 self._gather()
-                left = deadline - time.monotonic()
+                left = seconds_until(deadline)
                 if session.taken >= queued:
                     break
-                if left <= 0:
+                if left == 0:
                     late = f"{session.channel}: frames did not come within {seconds_words(TIMEOUT)}"
                     raise fault("CanTimeoutError", ": ".join(filter(None, [late, self._full(session.channel)])))
                 wait_for_input([session], left)
@@ -119,8 +127,7 @@ class Observer:
                 self.settle()
                 with self._lock:
                     found, arrived = look(), self.received.arrived
-                left = deadline - time.monotonic()
-                if found is not None or left <= 0:
+                if found is not None or seconds_until(deadline) == 0:
                     return found
                 self._await(may_be, arrived, deadline)
 
@@ -131,8 +138,8 @@ class Observer:
                 if any(may_be(seen) for seen in self.received.arrived_since(arrived)):
                     return
                 arrived = self.received.arrived
-            left = deadline - time.monotonic()
-            if left <= 0:
+            left = seconds_until(deadline)
+            if left == 0:
                 return
             wait_for_input(list(self._sessions.values()), left)
             self._gather()
@@ -208,6 +215,15 @@ class Observer:
         """Says that the number which is looked for came, but in an identifier of other bits; nothing if it did not."""
         hints = (wanted.hint(seen.frame) for seen in self.untaken(channel))
         return next((f"\n{hint}" for hint in hints if hint), "")
+
+    def came_before(self, wanted: Wanted, channel: Optional[str]) -> str:
+        """Says that what is looked for came before the last expectation, for the text of a failure; nothing if it did not."""
+        with self._lock:
+            taken = islice(self.received.taken(channel), MOST_TAKEN)
+            before = next((seen for seen in taken if wanted.matches(seen.frame)), None)
+        if before is None:
+            return ""
+        return f"\nit came earlier: {self.line(before, channel)}\n{IN_ORDER}"
 
     def find_state(self, name: str, state: str, within: float) -> Optional[StateSeen]:
         """Returns when an interface came into a state, since the last that was expected and within seconds."""

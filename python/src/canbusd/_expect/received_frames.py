@@ -11,7 +11,7 @@ from collections.abc import Iterator, Sequence
 from itertools import islice
 from typing import NamedTuple, Optional
 
-from canbusd._session.protocol import ErrorCounters
+from canbusd._session.protocol import ErrorCounters, State
 from canbusd.frames import Frame, frame_of_message
 
 # How many frames of a bus are kept, and how many changes of state of an interface.
@@ -74,7 +74,7 @@ def state_in(words: Sequence[str]) -> Optional[ErrorCounters]:
     if number & RESTARTED:
         return ErrorCounters("active", 0, 0)
     if number & CONTROLLER:
-        state = "passive" if data[1] & PASSIVE_BITS else "warning" if data[1] & WARNING_BITS else "active"
+        state: State = "passive" if data[1] & PASSIVE_BITS else "warning" if data[1] & WARNING_BITS else "active"
         return ErrorCounters(state, data[6], data[7])
     return None
 

@@ -3,7 +3,9 @@
 from collections.abc import Mapping
 from typing import TYPE_CHECKING
 
+from canbusd._calls import explained
 from canbusd._restbus.schedule import MICROS, micros
+from canbusd._session.arguments import check_within
 from canbusd._session.injection import Refused
 from canbusd._session.protocol import NO_FRAMES
 from canbusd.frames import Frame
@@ -27,12 +29,14 @@ class BenchRestBus(RestBus):
             for name in dict.fromkeys(interfaces.values())
         }
 
+    @explained()
     def run(self, until: float) -> list[Attempt]:
         """Sends what is due before this moment, each frame at its own, and returns the attempts that are made meanwhile.
 
         On a bench with a bit rate these are the attempts that begin before it, without one those in which all frames that
         wait are tried, at the moment at which something is due.
         """
+        check_within(until, "until")
         attempts: list[Attempt] = []
         end = micros(until)
         with self.changing():

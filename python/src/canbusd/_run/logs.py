@@ -81,7 +81,7 @@ def entry_of(text: str, place: str) -> Entry:
     try:
         return Entry(words[2], Frame.parse(words[3], float(words[1])))
     except BadFrame as fault:
-        raise ValueError(f"{place}: {fault}: {shown(text)}") from None
+        raise ValueError(f"{place}: {fault}") from None
 
 
 def check_lines(path: Path) -> None:

@@ -35,6 +35,6 @@ def run(options: argparse.Namespace) -> None:
             try:
                 bus.restart()
             except CanOperationError as fault:
-                faults.append(f"{bus.channel}: {fault}")
+                faults.append(f"{fault}")
     if faults:
         raise ValueError("; ".join(faults))

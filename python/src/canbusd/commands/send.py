@@ -70,12 +70,9 @@ def frame_of_signals(message: str, values: Mapping[str, Value], database: Option
 
 def frame_of_word(text: str) -> Frame:
     """The frame that a word of the command line names."""
-    try:
-        frame = Frame.parse(text)
-        if frame.is_error_frame:
-            raise BadFrame("an error message frame, which nobody sends")
-    except BadFrame as fault:
-        raise BadFrame(f"{text}: {fault}") from None
+    frame = Frame.parse(text)
+    if frame.is_error_frame:
+        raise BadFrame(f"{text}: an error message frame, which nobody sends")
     if re.search("##[4-9A-Fa-f]", text):
         print(f"canbusd send: {text}: of the flags only 1 and 2 are sent", file=sys.stderr)
     return frame
