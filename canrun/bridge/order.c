@@ -44,6 +44,9 @@ static void release(uint64_t moment) {
 }
 
 void order_put(const struct item *item, int index) {
+    if (missed_is(item, index)) {
+        return;
+    }
     if (!is_bound || bound_index || session_count < 2) {
         protocol->receive(item, index);
         return;

@@ -12,6 +12,7 @@
 #include <errno.h>
 #include <stdio.h>
 #include <stdlib.h>
+#include <sys/personality.h>
 #include <string.h>
 #include <unistd.h>
 
@@ -59,6 +60,8 @@ struct words {
     const char *virtual_word; /* an option that only --virtual has */
     struct virtual_options virtual;
     char **program;
+    int is_ready;      /* PROGRAM begins runs in virtual time by itself, in children of it */
+    const char *child; /* the first of a run, which this process has forked: its number, a colon, and the pipe to it */
 };
 
 static int fault(const char *text, const char *word) {
@@ -108,7 +111,7 @@ static int check_words(const struct words *words) {
                      "again for programs with CAN sockets",
                      NULL);
     }
-    return *words->program ? 0 : fault("which program? --help shows how it is used", NULL);
+    return *words->program || words->child ? 0 : fault("which program? --help shows how it is used", NULL);
 }
 
 /* Returns 0, or a status after a line on standard error. */
@@ -122,8 +125,12 @@ static int read_words(char **at, struct words *words) {
         }
         if (!strcmp(*at, "--wait")) {
             words->waits = 1;
+        } else if (!strcmp(*at, "--ready")) {
+            words->is_ready = 1;
         } else if (!strcmp(*at, "--virtual")) {
             words->is_virtual = 1;
+        } else if ((value = value_of("--child", &at))) {
+            words->child = value;
         } else if (take_virtual(&at, words, &status)) {
             if (status) {
                 return status;
@@ -219,13 +226,19 @@ static int become(char **program) {
     return error == ENOENT ? STATUS_NOT_FOUND : STATUS_NOT_RUN;
 }
 
-/* Runs the program, and all that it starts, with a simulated clock. */
+/* Runs the program or the child, and all that it starts, with a simulated clock. */
 static int run_virtual(const struct words *words) {
     char path[PATH_MAX];
-    int status = 0, error = program_find(words->program[0], path);
+    int status = 0, child, settings;
     if (getenv(RUN_SETTING)) {
         return fault("--virtual: this is a run in virtual time already", NULL);
     }
+    if (words->child) {
+        return sscanf(words->child, "%d:%d", &child, &settings) == 2
+                   ? virtual_run_child(&words->virtual, child, settings)
+                   : fault("--child is PID:DESCRIPTOR", words->child);
+    }
+    int error = program_find(words->program[0], path);
     if (error) {
         fault(words->program[0], strerror(error));
         return error == ENOENT ? STATUS_NOT_FOUND : STATUS_NOT_RUN;
@@ -250,6 +263,11 @@ int main(int count, char **all) {
     }
     if (words.is_virtual) {
         return run_virtual(&words);
+    }
+    if (words.is_ready) {
+        personality(ADDR_NO_RANDOMIZE); /* Its children have the addresses of other runs. */
+        status = preload(VIRTUAL_LIBRARY);
+        return status ? status : become(words.program);
     }
     if (!words.address) {
         words.address = address && *address ? address : ADDRESS_DEFAULT;

@@ -90,7 +90,8 @@ static const char *other_greeting(char *greeting) {
     return said;
 }
 
-/* Asks for the names of all interfaces; false where the server does not know the question, or a terminal could not show them. */
+/* Asks for the names of all interfaces; false where the server does not know the question, or a terminal could not show
+ * them. */
 static bool ask_interfaces(int fd, struct server *server) {
     static const char question[] = "< interfaces >", before[] = "< interfaces ", after[] = " >";
     char message[sizeof before + INTERFACE_NAMES + sizeof after];

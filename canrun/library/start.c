@@ -21,7 +21,7 @@
 
 /* What the bridge has to know of the environment. */
 static const char *const SETTINGS[] = {
-    "CANBUSD_ADDRESS", "CANBUSD_INTERFACES", "CANBUSD_RUN_WAIT", "CANBUSD_RUN_VIRTUAL",
+    "CANBUSD_ADDRESS", "CANBUSD_INTERFACES", "CANBUSD_RUN_WAIT", "CANBUSD_RUN_VIRTUAL", "CANBUSD_RUN_MISSED",
 #ifdef __SANITIZE_ADDRESS__
     "ASAN_OPTIONS",    "UBSAN_OPTIONS",
 #endif

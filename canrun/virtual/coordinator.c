@@ -522,29 +522,34 @@ static int status_of(int status) {
     return WIFEXITED(status) ? WEXITSTATUS(status) : 128 + WTERMSIG(status);
 }
 
-/* The coordinator's process, which is the guard's child. */
-static int coordinate(const struct virtual_options *options, const char *file, char **words, pid_t guard) {
-    sigset_t before;
+/* Makes this process the coordinator of a run that has no program yet; false where it can't be had. `before` are the
+ * signals that were blocked. */
+static bool begin(const struct virtual_options *options, pid_t parent, sigset_t *before) {
     coordinator.options = options;
     prctl(PR_SET_CHILD_SUBREAPER, 1);
     prctl(PR_SET_PDEATHSIG, SIGUSR2);
     prctl(PR_SET_TIMERSLACK, 1000);
-    set_signals(&before);
-    if (getppid() != guard) {
-        return STATUS_STUCK;
+    set_signals(before);
+    if (getppid() != parent) {
+        return false;
     }
     if (!make_run(options) || !make_descriptors()) {
         fprintf(stderr, "canbusd-run: virtual time can't be had: %s\n", strerror(errno));
-        return STATUS_STUCK;
+        return false;
     }
+    return true;
+}
+
+/* The slot of the first program, which is not there yet or waits. */
+static struct slot *first_slot(void) {
     struct slot *slot = &run->slots[take_slot()];
     slot->parent = (uint32_t)getpid();
     slot->state = SLOT_BORN;
-    coordinator.root = fork();
-    if (!coordinator.root) {
-        become_program(file, words, &before);
-    }
-    slot->pid = (uint32_t)coordinator.root;
+    return slot;
+}
+
+/* Goes on to the end of the run; returns its status. */
+static int coordinate(void) {
     signal(SIGINT, SIG_IGN);
     signal(SIGQUIT, SIG_IGN);
     loop();
@@ -552,7 +557,7 @@ static int coordinate(const struct virtual_options *options, const char *file, c
     run->has_ended = 1;
     tree_kill();
     int result = coordinator.status ? coordinator.status : status_of(coordinator.root_status);
-    if (result && (options->seed || options->jitter)) {
+    if (result && (coordinator.options->seed || coordinator.options->jitter)) {
         say("status %d; %s repeats it", result, getenv(RUN_OPTIONS));
     }
     if (getenv("CANBUSD_RUN_DEBUG")) {
@@ -560,6 +565,40 @@ static int coordinate(const struct virtual_options *options, const char *file, c
             run->turn >> TURN_BITS, (double)run->spun / SECOND);
     }
     return result;
+}
+
+static int run_program(const struct virtual_options *options, const char *file, char **words, pid_t guard) {
+    sigset_t before;
+    if (!begin(options, guard, &before)) {
+        return STATUS_STUCK;
+    }
+    struct slot *slot = first_slot();
+    coordinator.root = fork();
+    if (!coordinator.root) {
+        become_program(file, words, &before);
+    }
+    slot->pid = (uint32_t)coordinator.root;
+    return coordinate();
+}
+
+static bool tell_settings(int fd) {
+    static const char *const names[] = {RUN_SETTING, RUN_OPTIONS};
+    bool are_told = true;
+    for (size_t i = 0; i < sizeof names / sizeof *names; i++) {
+        are_told &= dprintf(fd, "%s=%s%c", names[i], getenv(names[i]), 0) > 0;
+    }
+    return !close(fd) && are_told;
+}
+
+int virtual_run_child(const struct virtual_options *options, pid_t child, int settings) {
+    sigset_t before;
+    if (!begin(options, getppid(), &before)) {
+        return STATUS_STUCK;
+    }
+    first_slot()->pid = (uint32_t)child;
+    coordinator.root = child;
+    signal(SIGPIPE, SIG_IGN); /* The child may have ended. */
+    return tell_settings(settings) ? coordinate() : STATUS_STUCK;
 }
 
 /* ---- the guard: nothing is left of a run whose coordinator is killed ---- */
@@ -583,7 +622,7 @@ int virtual_run(const struct virtual_options *options, const char *file, char **
         return STATUS_STUCK;
     }
     if (!child) {
-        _exit(coordinate(options, file, words, guard));
+        _exit(run_program(options, file, words, guard));
     }
     guarded = child;
     signal(SIGINT, SIG_IGN);

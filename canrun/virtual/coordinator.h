@@ -3,6 +3,7 @@
 #define COORDINATOR_H
 
 #include <stdint.h>
+#include <sys/types.h>
 
 struct virtual_options {
     uint64_t epoch;  /* nanoseconds since 1970 at the start */
@@ -14,5 +15,9 @@ struct virtual_options {
 
 /* Runs a program, whose file is this and which has these words, with all that it starts; returns the status. */
 int virtual_run(const struct virtual_options *options, const char *file, char **words);
+
+/* Runs a child that this process has forked before, with all that it starts; returns the status. The child gets the
+ * settings of the run by a pipe, whose writing end this is: NAME=VALUE, each with a NUL after it. */
+int virtual_run_child(const struct virtual_options *options, pid_t child, int settings);
 
 #endif

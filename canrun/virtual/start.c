@@ -202,3 +202,13 @@ __attribute__((constructor(103))) static void start(void) {
     end_bypassing();
 #endif
 }
+
+/* Makes a process part of the run that its environment names, which has loaded this library before and has one thread:
+ * it was forked outside of the run. Returns 0, or -1 where there is no such run. */
+EXPORT int canbusd_virtual_enter(void);
+EXPORT int canbusd_virtual_enter(void) {
+    if (!run) {
+        start();
+    }
+    return run ? 0 : -1;
+}
