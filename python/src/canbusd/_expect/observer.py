@@ -9,7 +9,7 @@ from itertools import groupby, islice
 from typing import Optional, TypeVar
 
 from canbusd._expect.frame_matcher import Wanted
-from canbusd._expect.received_frames import MOST_KEPT, MOST_SHOWN, Received, Seen, StateSeen, state_in
+from canbusd._expect.received_frames import MOST_KEPT, MOST_SHOWN, Received, Seen, StateSeen, state_in, without_copies
 from canbusd._session.injection import TIMEOUT
 from canbusd._session.observing_session import ObservingSession, Reader, wait_for_input
 from canbusd._session.protocol import in_words
@@ -165,12 +165,13 @@ class Observer:
     def collect(
         self, matches: Callable[[Frame], bool], channel: Optional[str], count: int, within: float
     ) -> list[Seen]:
-        """Returns the first so many frames that match, of those that were not taken; fewer after these seconds."""
+        """Returns the first so many frames that match, of those that were not taken, each once; fewer after these seconds."""
         self.received.channels(channel)
         left = count
 
         def found() -> list[Seen]:
-            return list(islice((seen for seen in self.received.untaken(channel) if matches(seen.frame)), count))
+            wanted = (seen for seen in self.received.untaken(channel) if matches(seen.frame))
+            return list(islice(without_copies(wanted), count))
 
         def look() -> Optional[list[Seen]]:
             nonlocal left

@@ -7,7 +7,7 @@ session was read first.
 
 from bisect import bisect_left, bisect_right
 from collections import deque
-from collections.abc import Iterator, Sequence
+from collections.abc import Iterable, Iterator, Sequence
 from itertools import islice
 from typing import NamedTuple, Optional
 
@@ -28,11 +28,13 @@ OFF = 256
 class Seen:
     """A frame or an error message frame that was on a bus, and the interfaces at which it was seen."""
 
-    __slots__ = ("moment", "key", "words", "channels", "_frame")
+    __slots__ = ("moment", "number", "key", "words", "channels", "_frame")
 
-    def __init__(self, moment: int, key: tuple[object, ...], words: list[str]) -> None:
+    def __init__(self, moment: int, number: str, key: tuple[object, ...], words: list[str]) -> None:
         #: In microseconds.
         self.moment = moment
+        #: Which of its sender's frames it is; empty if that is not known.
+        self.number = number
         self.key, self.words = key, words
         #: By the name of each interface that received it, whether that has sent it too.
         self.channels: dict[str, bool] = {}
@@ -49,6 +51,21 @@ class Seen:
         """The first of these interfaces that received it from another, else the one that sent it."""
         seen = [name for name in names if name in self.channels]
         return next((name for name in seen if not self.channels[name]), seen[0])
+
+
+def without_copies(frames: Iterable[Seen]) -> Iterator[Seen]:
+    """Yields frames, without those that receivers have again after a fault in the last bit of end of frame.
+
+    Such a copy is the next frame of its sender, with the number that it had before. So it follows no other frame with its
+    identifier and data.
+    """
+    numbers: dict[tuple[str, ...], str] = {}
+    for seen in frames:
+        text = f"{seen.moment // 1_000_000}.{seen.moment % 1_000_000:06}"
+        content = tuple(word for word in seen.words if word != text)
+        if not seen.number or numbers.get(content) != seen.number:
+            yield seen
+        numbers[content] = seen.number
 
 
 class StateSeen(NamedTuple):
@@ -102,7 +119,7 @@ class SeenBus:
         seen = self._known((*key, times), moment)
         is_new = seen is None
         if seen is None:
-            seen = self._insert(Seen(moment, (*key, times), words))
+            seen = self._insert(Seen(moment, number, (*key, times), words))
         seen.channels[name] = is_own
         return seen if is_new else None
 

@@ -20,7 +20,7 @@ from canbusd._expect.cyclic_checks import (
     wrong_gaps,
 )
 from canbusd._expect.frame_matcher import Step, Wanted, wanted_of
-from canbusd._expect.received_frames import Seen
+from canbusd._expect.received_frames import Seen, without_copies
 from canbusd._session.arguments import check_within
 from canbusd._text import seconds_words
 from canbusd.signals import Database
@@ -123,7 +123,7 @@ class Supervision:
         observer = self._observing()
 
         def look() -> Optional[Followed]:
-            followed = follow(observer.received.untaken(channel), wanted, allowed)
+            followed = follow(without_copies(observer.received.untaken(channel)), wanted, allowed)
             return followed if followed.intruder or len(followed.found) == len(wanted) else None
 
         def may_be(seen: Seen) -> bool:
