@@ -106,7 +106,7 @@ install-extras:
 	done
 	sed 's|^ExecStart=/usr/bin/canbusd|ExecStart="$(PREFIX)/bin/canbusd"|' contrib/canbusd.service >"$(UNITS)/canbusd.service"
 	chmod 644 "$(UNITS)/canbusd.service"
-	for file in README.md LICENSE docs/*.md docs/pictures/* examples/*.* examples/python/*.* examples/recipes/*.* examples/c/*.* examples/car/*.* examples/virtual_ecu/*; do \
+	for file in README.md LICENSE docs/*.md docs/pictures/* examples/*.* examples/python/*.* examples/recipes/*.* examples/c/*.* examples/car/*.* examples/sweep/*.* examples/virtual_ecu/*; do \
 		install -D -m 644 "$$file" "$(DOCDIR)/$$file" || exit; \
 	done
 

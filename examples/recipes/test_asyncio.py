@@ -23,5 +23,6 @@ def test_an_answer(canbusd):
             notifier.stop()
         return received.arbitration_id
 
-    with canbusd.bus("ecu") as ecu, canbusd.bus("tester") as tester:
+    # Without error message frames, which are no requests, and no answers.
+    with canbusd.bus("ecu", error_frames=False) as ecu, canbusd.bus("tester", error_frames=False) as tester:
         assert asyncio.run(ask(ecu, tester)) == 0x101

@@ -11,7 +11,7 @@ REQUEST, STATE = 0x200, 0x201
 
 @pytest.mark.canbusd("tester,lamp")
 def test_the_lamp_answers(canbusd):
-    with canbusd.bus("tester") as tester, canbusd.bus("lamp") as lamp:
+    with canbusd.bus("tester") as tester, canbusd.bus("lamp", error_frames=False) as lamp:
 
         def answer(message):
             lamp.send(can.Message(arbitration_id=STATE, data=message.data, is_extended_id=False))

@@ -87,7 +87,7 @@ def test_public_paths_can_be_imported():
 
 #: Rooms of the package, each with the modules at the top that users have of it; one imports of itself and of those before it.
 LAYERS = """
-    _text+_python_can+_calls+_whole_file+virtual+frames+rules+faults
+    _text+_python_can+_calls+_whole_file+_placement+virtual+frames+rules+faults
     _session
     _process
     _database+signals
@@ -97,6 +97,7 @@ LAYERS = """
     _restbus+rest_bus
     bench server
     _page
+    _sweep
     commands+candump2bench pytest_plugin
     __main__
 """

@@ -5,7 +5,7 @@ _canbusd() {
     # The value of an option follows a blank or `=`, at which bash parts words unless COMP_WORDBREAKS lacks it.
     [ "$before" != = ] || before=${COMP_WORDS[COMP_CWORD - 2]}
     case $text in --*=*) before=${text%%=*} ;; esac
-    local package="dump send status watch fault restart restbus convert report replay"
+    local package="dump send status watch fault restart restbus convert sweep report replay"
     local options="--ack --report --txqueue --rxqueue --limit --auto-restart --bitrate --dbitrate --help"
     case $COMP_CWORD,$before,${COMP_WORDS[1]} in
     # A file follows a redirection.
@@ -20,7 +20,7 @@ _canbusd() {
         *) compopt -o default ;;
         esac
         ;;
-    *,restbus | *,convert | *,report | *,replay) compopt -o default ;;
+    *,restbus | *,convert | *,sweep | *,report | *,replay) compopt -o default ;;
     *,help) _canbusd_offer "bench serve audit $package" ;;
     *,bench) _canbusd_word "$options --record --log --strict --show-faults" ;;
     *,serve) _canbusd_word "$options --listen --sessions --pace --write --out --record --flush --sync --until-eof --verbose" ;;

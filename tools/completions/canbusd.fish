@@ -10,7 +10,7 @@ function __canbusd_scripts
     end
 end
 
-set -l package dump send status watch fault restart restbus convert report replay
+set -l package dump send status watch fault restart restbus convert sweep report replay
 set -l commands bench serve audit $package help
 set -l first "not __fish_seen_subcommand_from $commands"
 set -l runs "__fish_seen_subcommand_from bench serve"
@@ -26,13 +26,14 @@ complete -c canbusd -n $first -a fault -d "Give a running bus a rule of faults"
 complete -c canbusd -n $first -a restart -d "Bring interfaces back from bus off"
 complete -c canbusd -n $first -a restbus -d "Send what the other nodes of a DBC file send"
 complete -c canbusd -n $first -a convert -d "Make an ASC, BLF or candump log"
+complete -c canbusd -n $first -a sweep -d "Run a command with a fault at each attempt"
 complete -c canbusd -n $first -a report -d "Show the run of a record"
 complete -c canbusd -n $first -a replay -d "Replay a record"
 complete -c canbusd -n $first -a help -d "Show the help of a command"
 complete -c canbusd -n $first -l version -d "Show the version"
 complete -c canbusd -l help -d "Show the help"
 complete -c canbusd -n "__fish_seen_subcommand_from help" -a "bench serve audit $package"
-complete -c canbusd -n "__fish_seen_subcommand_from restbus convert report replay" -F
+complete -c canbusd -n "__fish_seen_subcommand_from restbus convert sweep report replay" -F
 complete -c canbusd -n "__fish_seen_subcommand_from audit" -F
 complete -c canbusd -n "__fish_seen_subcommand_from audit" -l cut -d "Audit a record that is cut off"
 complete -c canbusd -n "__fish_seen_subcommand_from audit" -l events -d "Write what each entry brought about"

@@ -24,6 +24,7 @@ _canbusd() {
             restart\:"bring interfaces back from bus off"
             restbus\:"send what the other nodes of a DBC file send"
             convert\:"make an ASC, BLF or candump log"
+            sweep\:"run a command with a fault at each attempt"
             report\:"show the run of a record"
             replay\:"replay a record"
             help\:"show the help of a command"
@@ -73,8 +74,8 @@ _canbusd() {
             '--faults=[names and script of faults of the run]:bus:_canbusd_bus' \
             '*:record:_files'
         ;;
-    restbus | convert | report | replay) _arguments '*:file:_files' ;;
-    help) _arguments '1:command:(bench serve audit dump send status watch fault restart restbus convert report replay)' ;;
+    restbus | convert | sweep | report | replay) _arguments '*:file:_files' ;;
+    help) _arguments '1:command:(bench serve audit dump send status watch fault restart restbus convert sweep report replay)' ;;
     esac
 }
 

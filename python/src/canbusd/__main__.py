@@ -21,6 +21,7 @@ COMMANDS = {
     "restart": ("canbusd.commands.restart", "bring interfaces back from bus off"),
     "restbus": ("canbusd.commands.restbus", "send what the other nodes of a DBC file send"),
     "convert": ("canbusd.commands.convert", "make an ASC, BLF or candump log of another"),
+    "sweep": ("canbusd.commands.sweep", "run a command with a fault at each attempt"),
     "report": ("canbusd.commands.report", "show the run of a record as a page, or as text"),
     "replay": ("canbusd.commands.replay", "replay a record, and list what happened in it"),
 }

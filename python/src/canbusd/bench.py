@@ -18,6 +18,7 @@ from pathlib import Path
 from typing import TYPE_CHECKING, Optional, Union, cast
 
 from canbusd._calls import NamesWhatThereIs, explained
+from canbusd import _placement as placement
 from canbusd._process.dialogue import MOST_INPUT as MOST_INPUT, BenchError as BenchError, Dialogue, moment_text
 from canbusd._process.program import audited
 from canbusd._process.program_run import Ack, bus_of, option_words, rates_of
@@ -95,8 +96,8 @@ class Bench(Dialogue, HasRestBus["BenchRestBus"], NamesWhatThereIs):
         self._rates = rates_of(bitrate, data_bitrate, dbitrate)
         words += self._rates.words if self._rates else []
         self.names, faults = bus_of(names, faults)
-        script = script_bytes(faults)
         super().__init__(out)
+        script = script_bytes(placement.script_of((self._number, self.names[0]), faults))
         self._sessions = 0
         self._sent: dict[str, list[Frame]] = {name: [] for name in self.names}
         words += ["--record", str(self._path("rec")), "--log", str(self._path("log")), "--"]
@@ -252,6 +253,12 @@ class Bench(Dialogue, HasRestBus["BenchRestBus"], NamesWhatThereIs):
     def _page(self, record: Record, path: Path) -> Path:
         """Writes the page of the run there."""
         return write_page(record, path, self._rules, self._rates)
+
+    def _finish(self, fault: str = "") -> None:
+        try:
+            super()._finish(fault)
+        finally:
+            placement.keep((self._number, self.names[0]), self.names, 0, self._path("rec"))
 
     def _path(self, ending: str) -> Path:
         return self._out / f"{self.names[0]}.{ending}"

@@ -22,6 +22,7 @@ from can.exceptions import CanInitializationError, CanOperationError
 from can.message import Message
 
 from canbusd._calls import NamesWhatThereIs, explained
+from canbusd import _placement as placement
 from canbusd._session.address import reason_of, server_address
 from canbusd._session.arguments import bit_rates, interface_name, mask_or_truth, one_data_rate, seconds, truth
 from canbusd._session.connection import Connection, SessionRefused
@@ -382,7 +383,9 @@ class CanbusdBus(InjectsFaults, NamesWhatThereIs, BusABC):
 
     def _open(self, messages: Sequence[str]) -> RawSession:
         try:
-            return RawSession(self.address, self.channel, messages, self._timeout, self._receives_own)
+            session = RawSession(self.address, self.channel, messages, self._timeout, self._receives_own)
+            session.missed = placement.missed_at(self.channel)
+            return session
         except (OSError, SessionRefused) as fault:
             raise CanInitializationError(f"{self.channel_info}: {reason_of(fault)}") from None
 

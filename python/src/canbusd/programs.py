@@ -11,6 +11,7 @@ from pathlib import Path
 from typing import Any, Optional, Union
 
 from canbusd._calls import NamesWhatThereIs, explained
+from canbusd import _placement as placement
 from canbusd._process.guard import Guard
 from canbusd._process.output import Output, Search
 from canbusd._process.program import ServerError, find_program
@@ -96,11 +97,18 @@ class Program(NamesWhatThereIs):
         self._may_end, self._is_stopped = may_end, False
         # Not in the terminal's foreground: Ctrl-C is the test's.
         how: dict[str, Any] = {"stdin": subprocess.DEVNULL, "start_new_session": True, **kwargs}
+        self._command, self._how = [*command, *words], how
+        output.write_bytes(b"")
+        self._start()
+        placement.note_program(self._restart)
+
+    def _start(self) -> None:
+        """Starts it; its output follows what is there."""
         self._guard = Guard()
         child: "Optional[subprocess.Popen[bytes]]" = None
         try:
-            with open(output, "wb") as file:
-                child = subprocess.Popen([*command, *words], stdout=file, stderr=subprocess.STDOUT, **how)
+            with open(self._path, "ab") as file:
+                child = subprocess.Popen(self._command, stdout=file, stderr=subprocess.STDOUT, **self._how)
             self._guard.watch(child.pid)
         except BaseException:
             if child is not None:
@@ -108,6 +116,14 @@ class Program(NamesWhatThereIs):
             self._guard.release()
             raise
         self._child = child
+
+    def _restart(self) -> None:
+        """Kills it, as a reset does, and starts it anew; not one that has ended."""
+        if self.status is None:
+            self._kill()
+            self._child.wait()
+            self._guard.release()
+            self._start()
 
     @property
     def pid(self) -> int:

@@ -14,17 +14,19 @@ import re
 import shutil
 from collections.abc import Callable, Iterator, Sequence
 from pathlib import Path
-from typing import TYPE_CHECKING, Any, Generator, Protocol, Union
+from typing import TYPE_CHECKING, Any, Generator, Optional, Protocol, Union
 
 import pytest
 
 from canbusd._expect.expectations import Expectations
 from canbusd._calls import no_such
+from canbusd import _placement as placement
 from canbusd._process.program import SET_BY, ProgramNotFound, audited
 from canbusd._process.program_run import FOLDERS, RUNNING
 from canbusd._run import summary
 from canbusd._run.fault_rules_of_run import faults_beside, unused_rules
 from canbusd._run.live import left_by
+from canbusd._sweep import options as sweep_options
 from canbusd.bench import Bench
 from canbusd.record import BadRecord, read_record
 from canbusd.rules import Rule
@@ -54,6 +56,7 @@ def pytest_addoption(parser: pytest.Parser) -> None:
         help="of which tests the logs, records and pages are kept (default: failed)",
     )
     add_virtual_options(parser.getgroup("canbusd"))
+    sweep_options.add_sweep_options(parser.getgroup("canbusd"))
 
 
 def add_virtual_options(group: Any) -> None:
@@ -73,8 +76,11 @@ def add_virtual_options(group: Any) -> None:
 
 @pytest.hookimpl(tryfirst=True)  # type: ignore[misc]
 def pytest_cmdline_main(config: pytest.Config) -> None:
-    """Starts pytest anew in virtual time, where that is asked for."""
+    """Starts pytest anew in virtual time or for a sweep, where that is asked for."""
     seed, jitter = config.getoption("--canbusd-seed"), config.getoption("--canbusd-jitter")
+    if sweep_options.is_swept(config):
+        sweep_options.begin(config)
+        return
     if not config.getoption("--canbusd-virtual"):
         if seed is not None or jitter is not None:
             raise pytest.UsageError("--canbusd-seed and --canbusd-jitter need --canbusd-virtual")
@@ -95,6 +101,10 @@ def pytest_configure(config: pytest.Config) -> None:
         "canbusd(*buses, **options): the buses of the fixtures canbusd and canbusd_bench, and their options, as of "
         "canbusd.Server and canbusd.Bench; virtual=True: the test is for pytest --canbusd-virtual",
     )
+    config.addinivalue_line(
+        "markers",
+        "canbusd_sweep(faults=, senders=, ids=, known=, pairs=): what --canbusd-sweep tries, and which failures are known",
+    )
     program = str(config.getini("canbusd_program"))
     if not program:
         return
@@ -105,6 +115,16 @@ def pytest_configure(config: pytest.Config) -> None:
     # Also where the process of pytest-xdist that started this one has set it.
     if os.environ["CANBUSD"] == path:
         SET_BY["CANBUSD"] = "canbusd_program in the ini file"
+
+
+@pytest.hookimpl(tryfirst=True)  # type: ignore[misc]
+def pytest_runtestloop(session: pytest.Session) -> Optional[bool]:
+    """Carries out a sweep, where that is asked for, in place of the tests."""
+    config = session.config
+    if not sweep_options.is_swept(config) or config.option.collectonly or session.testsfailed:
+        return None
+    sweep_options.carry_out(session)
+    return True
 
 
 def pytest_unconfigure(config: pytest.Config) -> None:
@@ -129,7 +149,7 @@ def pytest_runtest_makereport(item: pytest.Item) -> Generator[None, Any, None]:
     report = outcome.get_result()
     if report.failed:
         item.stash[FAILED] = True
-        if is_virtual():
+        if is_virtual() and not placement.is_there():
             report.sections.append(("canbusd: virtual time", f"repeat: {repeated_by(item.nodeid)}"))
 
 
@@ -251,7 +271,8 @@ class Runs:
         faults = [*self._stop(), *self._audit()]
         unused = [] if faults else [*self._unused()]
         failed = bool(faults) or self._item.stash.get(FAILED, False)
-        if failed or self._keep == "all":
+        # In a sweep only where the page of the run is wanted.
+        if (failed or self._keep == "all") and not (placement.is_there() and self._keep == "none"):
             self._report()
         if self._keep == "none" or (self._keep == "failed" and not failed):
             shutil.rmtree(self._folder, ignore_errors=True)
@@ -297,11 +318,13 @@ class Runs:
         """Yields the rules that gave no verdict, as far as there is a record that says so."""
         for path, (run, names) in self._records.items():
             if isinstance(run, Bench):
-                yield from run._given.unused()
+                given = placement.rules_of((run._number, names[0]))
+                yield from (rule for rule in run._given.unused() if str(rule) not in given)
                 continue
             faults = faults_beside(path) if path.exists() else None
             if faults is not None:
-                yield from unused_rules(names, faults)
+                given = placement.rules_of((run._number, names[0]))
+                yield from (rule for rule in unused_rules(names, faults) if str(rule) not in given)
 
     def _report(self) -> None:
         """Adds what is known of each bus and program to the test's report, and to its properties in a JUnit file."""

@@ -21,6 +21,7 @@ import canbusd
 from canbusd._calls import NamesWhatThereIs, explained
 from canbusd._expect.expectations import Expectations
 from canbusd._expect.observer import Observer, observed_by_default
+from canbusd import _placement as placement
 from canbusd._process.program import ServerError as ServerError, audited
 from canbusd._process.program_run import RUNNING, Ack, ProgramRun, option_words, rates_of
 from canbusd._process.serve_words import Recorded, bus_words, record_options
@@ -135,7 +136,7 @@ class Server(Expectations, SimulatesNodes, RunsPrograms, ProgramRun, NamesWhatTh
         self.database = None if database is None else database_of(database)
         super().__init__(out)
         self._txqueue = txqueue
-        self._by_bus = bus_words(buses, faults, self._folder)
+        self._by_bus = bus_words(buses, faults, self._folder, self._number)
         self._prepare(record)
         self._observed = self._observed_of(observe)
         words = ["--until-eof", "--listen", listen, *options, "--out", str(self._out)]
@@ -424,4 +425,7 @@ class Server(Expectations, SimulatesNodes, RunsPrograms, ProgramRun, NamesWhatTh
             raise ServerError(f"the server did not end within {END:.0f} seconds, and was killed") from None
         finally:
             RUNNING.discard(self)
+        for name, bus in self._by_bus.items():
+            own = sum(one in self._observed for one in bus[:-1])
+            placement.keep((self._number, name), bus[:-1], own, self._out / f"{name}.rec")
         return self._child.returncode, written.decode()

@@ -355,9 +355,9 @@ def page(
     return filled("page.html", scripts).replace("/*RUN*/", data)
 
 
-def filled(name: str, scripts: Sequence[str]) -> str:
+def filled(name: str, scripts: Sequence[str], styles: Sequence[str] = ("page.css",)) -> str:
     """Returns a page without its data."""
-    parts = {"BODY": part(name), "STYLE": part("page.css"), "SCRIPT": "".join(part(one) for one in scripts)}
+    parts = {"BODY": part(name), "STYLE": "".join(map(part, styles)), "SCRIPT": "".join(map(part, scripts))}
     text = part("shell.html")
     for place, content in parts.items():
         text = text.replace(f"/*{place}*/", content.rstrip("\n"))

@@ -14,6 +14,7 @@ from pathlib import Path
 from types import TracebackType
 from typing import Literal, Optional, TypeVar, Union
 
+from canbusd import _placement as placement
 from canbusd._process.program import find_program
 from canbusd._process.rates import LEAST_BITRATE, MOST_BITRATE, MOST_DBITRATE, Rates
 from canbusd._session.arguments import one_data_rate, truth
@@ -133,6 +134,8 @@ class ProgramRun:
         if out is not None and not os.path.isdir(out):
             raise ValueError(f"out is a folder that exists, not {os.fspath(out)!r}")
         self._process = os.getpid()
+        #: Which server or bench of a test it is, for a sweep.
+        self._number = placement.next_run()
         self._folder = Path(tempfile.mkdtemp(prefix="canbusd-", dir=FOLDERS.get()))
         self._remove = weakref.finalize(self, remove, self._folder, self._process)
         self._out = Path(out) if out is not None else self._folder

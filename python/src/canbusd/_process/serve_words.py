@@ -4,6 +4,7 @@ from collections.abc import Mapping
 from pathlib import Path
 from typing import Literal, Optional, Union
 
+from canbusd import _placement as placement
 from canbusd._process.program_run import check_names
 from canbusd._session.arguments import truth
 from canbusd.faults import Script, script_bytes
@@ -12,11 +13,11 @@ Recorded = Literal["end", "live", "none"]
 
 
 def bus_words(
-    buses: tuple[str, ...], faults: Union[Script, Mapping[str, Script], None], folder: Path
+    buses: tuple[str, ...], faults: Union[Script, Mapping[str, Script], None], folder: Path, run: int = 0
 ) -> dict[str, list[str]]:
     """Returns the interfaces of each bus by the first of them, after the fault scripts were written into this folder.
 
-    The last word of each list is what the program is given: `can0,can1@FILE`.
+    The last word of each list is what the program is given: `can0,can1@FILE`. `run` is the number of the server.
     """
     by_bus: dict[str, list[str]] = {}
     known: set[str] = set()
@@ -27,23 +28,37 @@ def bus_words(
             raise ValueError(f"buses are of different interfaces, and two have {twice!r}")
         known.update(names)
         by_bus[names[0]] = [*names, bus]
+    scripts = scripts_of(by_bus, faults)
+    for name, words in by_bus.items():
+        bus, at, path = words[-1].partition("@")
+        given = Path(path) if at else scripts.get(name)
+        script = placement.script_of((run, name), given)
+        if script is None or (at and script is given):
+            continue
+        file = folder / f"{name}.faults"
+        file.write_bytes(script_bytes(script))
+        words[-1] = f"{bus}@{file}"
+    return by_bus
+
+
+def scripts_of(by_bus: Mapping[str, list[str]], faults: Union[Script, Mapping[str, Script], None]) -> dict[str, Script]:
+    """Returns the script of each bus that has one by these faults, by its first interface; ValueError if one has two."""
     if faults is None:
-        return by_bus
+        return {}
     if not isinstance(faults, Mapping):
         if len(by_bus) != 1:
             example = f"{{{next(iter(by_bus))!r}: ..}}"
             raise ValueError(f"faults of several buses are a dict, by the name of a bus's first interface: {example}")
         faults = {next(iter(by_bus)): faults}
+    scripts: dict[str, Script] = {}
     for given, script in faults.items():
         name = given.split(",")[0]
         if name not in by_bus:
             raise ValueError(f"faults of {given!r}: a bus is named by its first interface, here {' or '.join(by_bus)}")
-        if "@" in by_bus[name][-1]:
+        if name in scripts or "@" in by_bus[name][-1]:
             raise ValueError(f"faults of {given!r} are given twice")
-        file = folder / f"{name}.faults"
-        file.write_bytes(script_bytes(script))
-        by_bus[name][-1] += f"@{file}"
-    return by_bus
+        scripts[name] = script
+    return scripts
 
 
 def record_options(

@@ -10,6 +10,7 @@ from collections import deque
 from collections.abc import Sequence
 from typing import Optional
 
+from canbusd._placement import Missed
 from canbusd._session.connection import LONGEST_POLL, POLL, Connection, NoAnswer, SessionRefused
 from canbusd._session.injection import NO_INTERFACE, InjectsFaults, no_interface
 from canbusd._session.protocol import ErrorCounters, Load, Stats, counters_of, load_of, refusal_in, stats_of
@@ -68,6 +69,8 @@ class RawSession(InjectsFaults):
     ) -> None:
         #: The interface.
         self.channel = channel
+        #: The frame that its socket loses, in a sweep.
+        self.missed: Optional[Missed] = None
         self._timeout = timeout
         self._connection = Connection(address, timeout)
         try:
@@ -107,7 +110,12 @@ class RawSession(InjectsFaults):
     def frame(self, timeout: Optional[float]) -> Optional[str]:
         """Returns the next message that hands over a frame, from `<` on; None where none came in this time, in seconds."""
         try:
-            return self._connection.frame(timeout)
+            began = time.monotonic()
+            found = self._connection.frame(timeout)
+            if self.missed is not None and found is not None and self.missed.is_it(found):
+                self.missed = None
+                return self.frame(None if timeout is None else max(0.0, timeout - (time.monotonic() - began)))
+            return found
         except ConnectionError as reason:
             raise self._failed("CanOperationError", str(reason)) from None
 

@@ -1,0 +1,145 @@
+"""The placement of a sweep that this process carries out: what it adds to the runs of a test, and where their records go.
+
+A sweep carries out a test again and again, each time in a process of its own, with a fault at another attempt. Elsewhere there
+is no placement, and nothing here does anything.
+"""
+
+import os
+import shutil
+import threading
+import time
+from collections.abc import Callable, Mapping, Sequence
+from dataclasses import dataclass, field
+from pathlib import Path
+from typing import NamedTuple, Optional
+
+from canbusd.faults import Script, lines_of, script_bytes
+
+#: A bus of a test: the number of its server or bench, in the order of their starts, and its first interface.
+BusKey = tuple[int, str]
+
+
+class Missed(NamedTuple):
+    """A frame that the receive queues of an interface lose, as by an overrun."""
+
+    interface: str
+    #: In 3 digits or 8, and in seconds with six digits after the point, as messages have them.
+    identifier: str
+    moment: str
+
+    def is_it(self, message: str) -> bool:
+        """Whether a message hands over this frame."""
+        return f" {self.identifier} {self.moment} " in message and not message.startswith("< error ")
+
+
+class Reset(NamedTuple):
+    """A program of a test that is killed at a moment, and starts anew."""
+
+    program: int
+    moment: float
+
+
+#: The first bus of the first server or bench.
+FIRST: BusKey = (0, "")
+
+
+@dataclass
+class Placement:
+    """What this process adds to the runs of its test, and how they are seen when they end."""
+
+    #: Lines of a script for a bus, which go before its own.
+    lines: Mapping[BusKey, Sequence[str]] = field(default_factory=dict)
+    #: Called with each record that a run leaves: its bus, the names of its interfaces, how many of its first sockets are the
+    #: package's own, and its path.
+    keep: Callable[[BusKey, Sequence[str], int, Path], None] = lambda *_: None
+    missed: Sequence[Missed] = ()
+    resets: Sequence[Reset] = ()
+    #: How many programs the test has started.
+    programs: int = 0
+    #: How many servers and benches the test has started, and the first bus of the first of them.
+    runs: int = 0
+    first: Optional[BusKey] = None
+
+    def next_run(self) -> int:
+        """Returns the number of a server or a bench that starts."""
+        self.runs += 1
+        return self.runs - 1
+
+    def lines_of(self, bus: BusKey) -> list[str]:
+        """Returns the lines for a bus. The first one that is asked for is the first of all."""
+        self.first = self.first or bus
+        return [*(self.lines.get(FIRST, ()) if bus == self.first else ()), *self.lines.get(bus, ())]
+
+
+_current: Optional[Placement] = None
+
+
+def carry_out(placement: Placement) -> None:
+    """Has this process carry out a placement."""
+    global _current
+    _current = placement
+    for one in placement.missed:
+        os.environ["CANBUSD_RUN_MISSED"] = " ".join(one)
+
+
+def is_there() -> bool:
+    """Whether this process carries out a placement."""
+    return _current is not None
+
+
+def next_run() -> int:
+    """Returns the number of a server or a bench that starts; 0 if there is no placement."""
+    return _current.next_run() if _current else 0
+
+
+def script_of(bus: BusKey, script: Optional[Script]) -> Optional[Script]:
+    """Returns the script of a bus, with the faults of the placement before its own."""
+    added = _current.lines_of(bus) if _current else ()
+    if not added:
+        return script
+    numbers = {line.partition(" ")[0] for line in added if line[:1].isdigit()}
+    own = lines_of(script_bytes(script).decode())
+    return "".join(f"{line}\n" for line in [*added, *(line for line in own if line.partition(" ")[0] not in numbers)])
+
+
+def rules_of(bus: BusKey) -> Sequence[str]:
+    """Returns the rules of the placement for a bus, which are none of the test's."""
+    return [line for line in (_current.lines_of(bus) if _current else ()) if not line[:1].isdigit()]
+
+
+def missed_at(interface: str) -> Optional[Missed]:
+    """Returns the frame that sockets of an interface lose, if the placement has one."""
+    return next((one for one in _current.missed if one.interface == interface), None) if _current else None
+
+
+def note_program(restart: Callable[[], None]) -> None:
+    """Notes that the test has started a program, which is called so to be killed and to start anew."""
+    if _current is None:
+        return
+    number = _current.programs
+    _current.programs += 1
+    for reset in _current.resets:
+        if reset.program == number:
+            threading.Thread(target=_restart_at, args=(reset.moment, restart), daemon=True).start()
+
+
+def _restart_at(moment: float, restart: Callable[[], None]) -> None:
+    time.sleep(max(0.0, moment - time.time()))
+    restart()
+
+
+def keep(bus: BusKey, names: Sequence[str], own: int, record: Path) -> None:
+    """Hands a record that is whole to the sweep, if there is one."""
+    if _current and record.exists():
+        _current.keep(bus, names, own, record)
+
+
+def copy_to(folder: Path) -> Callable[[BusKey, Sequence[str], int, Path], None]:
+    """Returns what copies each record into this folder, with what is known of its bus beside it."""
+
+    def copy(bus: BusKey, names: Sequence[str], own: int, record: Path) -> None:
+        target = folder / f"{bus[0]}-{bus[1]}.rec"
+        shutil.copyfile(record, target)
+        target.with_suffix(".bus").write_text(f"{own} {','.join(names)}")
+
+    return copy

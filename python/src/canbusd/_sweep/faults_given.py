@@ -1,0 +1,87 @@
+"""The texts of faults, as `--canbusd-fault` takes them and the sweep prints them.
+
+    5 lastbit                                the attempt with this number, in the words of a fault script
+    5-20 global bit                          several attempts in a row
+    next 1 from ecu id 123 skip 2 lastbit    a rule
+    1:can0:5 lastbit                         of another bus than the first: the number of its server or bench, and the bus
+    missed ecu 123 1767225600.005089         the sockets of ecu lose the frame with this identifier and moment
+    reset 0 1767225600.005089                the first program of the test is killed at this moment, and starts anew
+"""
+
+import re
+from collections.abc import Iterable
+from dataclasses import dataclass
+from typing import Optional
+
+from canbusd._placement import FIRST, BusKey, Missed, Reset
+from canbusd._text import NAME, shown
+from canbusd.rules import VERDICT, is_rule, parse_rule
+
+TEXT = re.compile(rf"(?:(?P<run>[0-9]+):(?P<bus>{NAME.pattern}):)?(?P<line>.*)")
+MISSED = re.compile(rf"missed ({NAME.pattern}) ([0-9A-F]{{3}}|[0-9A-F]{{8}}) ([0-9]{{1,10}}\.[0-9]{{6}})")
+RESET = re.compile(r"reset ([0-9]{1,4}) ([0-9]{1,10}\.[0-9]{6})")
+NUMBERED = re.compile(rf"(?P<first>[0-9]{{1,8}})(?:-(?P<last>[0-9]{{1,8}}))? (?:{VERDICT.pattern})")
+
+
+@dataclass(frozen=True)
+class Fault:
+    """A fault that a placement gives a bus of a test."""
+
+    #: The bus; None is that of the test's first server or bench, and of a server its first.
+    bus: Optional[BusKey]
+    #: The line of a script, or the same for several attempts in a row, as `5-20 global bit`.
+    line: str
+
+    def __str__(self) -> str:
+        return self.line if self.bus is None else f"{self.bus[0]}:{self.bus[1]}:{self.line}"
+
+    @property
+    def missed(self) -> Optional[Missed]:
+        """The frame that the sockets of an interface lose, if it is such a fault."""
+        found = MISSED.fullmatch(self.line)
+        return Missed(*found.groups()) if found else None
+
+    @property
+    def reset(self) -> Optional[Reset]:
+        """The program that is killed and starts anew, if it is such a fault."""
+        found = RESET.fullmatch(self.line)
+        return Reset(int(found[1]), float(found[2])) if found else None
+
+    @property
+    def lines(self) -> list[str]:
+        """The lines of a script."""
+        if self.missed or self.reset:
+            return []
+        numbers, _, verdict = self.line.partition(" ")
+        first, dash, last = numbers.partition("-")
+        return [f"{one} {verdict}" for one in range(int(first), int(last) + 1)] if dash else [self.line]
+
+
+def parse_fault(text: str) -> Fault:
+    """Returns the fault that this text is; ValueError says what is wrong with it."""
+    found = TEXT.fullmatch(text)
+    assert found is not None
+    bus = (int(found["run"]), found["bus"]) if found["bus"] else None
+    line = found["line"]
+    if is_rule(line):
+        parse_rule(line)
+        return Fault(bus, line)
+    if MISSED.fullmatch(line) or RESET.fullmatch(line):
+        return Fault(bus, line)
+    numbered = NUMBERED.fullmatch(line)
+    if not numbered:
+        raise ValueError(
+            f"{shown(text)!r} is no fault: `5 lastbit`, `5-20 global bit` or `next 1 from can0 id 123 lastbit`, in the "
+            "words of a fault script; before it RUN:BUS: if the test has several buses"
+        )
+    if numbered["last"] and int(numbered["last"]) < int(numbered["first"]):
+        raise ValueError(f"{shown(text)!r}: its last attempt is before its first")
+    return Fault(bus, line)
+
+
+def lines_by_bus(faults: Iterable[Fault]) -> dict[BusKey, list[str]]:
+    """Returns the lines that each bus gets by these faults."""
+    found: dict[BusKey, list[str]] = {}
+    for fault in faults:
+        found.setdefault(fault.bus or FIRST, []).extend(fault.lines)
+    return found

@@ -1,0 +1,113 @@
+"""Tests of pytest as what is swept."""
+
+import shlex
+import sys
+import threading
+import time
+from collections.abc import Iterable
+from pathlib import Path
+from typing import Any
+
+import pytest
+from _pytest.runner import runtestprotocol
+
+from canbusd._placement import Placement
+from canbusd._sweep import worker
+from canbusd._sweep.places import Place, Result
+from canbusd._sweep.telling import Report
+
+#: The fixtures with a server, and that with a bench.
+SERVER_FIXTURES, BENCH_FIXTURE = {"canbusd", "canbusd_server"}, "canbusd_bench"
+
+
+class ItemTask:
+    """A test of pytest."""
+
+    def __init__(self, item: pytest.Item) -> None:
+        self.item = item
+
+    @property
+    def name(self) -> str:
+        """Its node ID."""
+        return self.item.nodeid
+
+    @property
+    def is_virtual(self) -> bool:
+        """All tests run in virtual time but those with benches only."""
+        names = set(getattr(self.item, "fixturenames", ()))
+        return bool(names & SERVER_FIXTURES) or BENCH_FIXTURE not in names
+
+    def redirect(self, path: Path) -> None:
+        """Has what pytest does not capture go into a file."""
+        capture: Any = self.item.config.pluginmanager.getplugin("capturemanager")
+        if capture is None:
+            worker.point_output_at(path)
+            return
+        capture.stop_global_capturing()
+        worker.point_output_at(path)
+        capture.start_global_capturing()
+        capture.suspend_global_capture()
+
+    def carry_out(self, order: worker.Order, given: Placement, room: Path) -> "tuple[Result, list[str]]":
+        """Carries out the test."""
+        config = self.item.config
+        config.option.canbusd_keep = "failed" if order.has_page else "none"
+        folder = room / "tmp"
+        folder.mkdir()
+        config._tmp_path_factory._basetemp = folder  # type: ignore[attr-defined]
+        began = time.monotonic()
+        # What is of the whole session was made before the fork, and stays.
+        reports = runtestprotocol(self.item, log=False, nextitem=self.item.session)  # type: ignore[arg-type]
+        took = time.monotonic() - began
+        return result_of(reports, took), list(sys.modules)
+
+    def repeat(self, place: Place) -> str:
+        """Returns the command that carries out a placement again."""
+        return shlex.join(["python3", "-m", "pytest", "--canbusd-sweep", *place.words("--canbusd-"), self.name])
+
+    def kept_as(self, rule: str) -> str:
+        """Returns the marker with which an ordinary test has a placement."""
+        return f'as a test: @pytest.mark.canbusd(.., faults="{rule}")'
+
+
+def result_of(reports: "list[pytest.TestReport]", took: float) -> Result:
+    """Returns the result of a test with these reports, which took so many seconds."""
+    bad = next((one for one in reports if one.failed), None)
+    if bad is None:
+        return Result("skipped" if any(one.skipped for one in reports) else "passed", took=took)
+    crash = getattr(bad.longrepr, "reprcrash", None)
+    message = f"{bad.when}: {worker.first_line(crash.message if crash else bad.longreprtext)}"
+    sections = (f"---- {title} ----\n{text}" for title, text in reports[-1].sections)
+    return Result("failed", message, "\n".join([bad.longreprtext, *sections]), took)
+
+
+def prepare(session: pytest.Session, items: Iterable[pytest.Item]) -> None:
+    """Makes what each run would make again: the fixtures of the whole session. UsageError if they leave a thread."""
+    session._setupstate.setup(session)  # type: ignore[arg-type]
+    for item in items:
+        info: Any = item._fixtureinfo  # type: ignore[attr-defined]
+        for name, definitions in info.name2fixturedefs.items():
+            if definitions[-1].scope == "session" and name in info.names_closure:
+                item._request.getfixturevalue(name)  # type: ignore[attr-defined]
+    if threading.active_count() > 1:
+        names = ", ".join(thread.name for thread in threading.enumerate()[1:])
+        raise pytest.UsageError(f"tests can't be swept while a fixture of the session has a thread: {names}")
+
+
+def report_to_pytest(report: Report) -> None:
+    """Reports a test, or a group of its placements, to pytest: for its summary, its status and JUnit."""
+    task = report.test.task
+    assert isinstance(task, ItemTask)
+    item, base = task.item, report.test.base
+    name = f"{item.nodeid}::[{report.group}]" if report.group else item.nodeid
+    long: Any = report.text if report.outcome == "failed" else None
+    if report.outcome == "skipped":
+        long = (str(item.path), 0, "skipped without a fault")
+    took = base.took if base is not None and not report.group else 0.0
+    for when, outcome, text, duration in (
+        ("setup", "passed", None, 0.0),
+        ("call", report.outcome, long, took),
+        ("teardown", "passed", None, 0.0),
+    ):
+        one: Any = pytest.TestReport(name, item.location, {}, outcome, text, when, duration=duration)  # type: ignore[arg-type]
+        item.ihook.pytest_runtest_logreport(report=one)

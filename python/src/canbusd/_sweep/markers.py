@@ -1,0 +1,56 @@
+"""The tests of pytest that are swept, and what their markers say."""
+
+from collections.abc import Iterable, Sequence
+from typing import Any, Optional
+
+import pytest
+
+from canbusd._sweep.items import BENCH_FIXTURE, SERVER_FIXTURES, ItemTask
+from canbusd._sweep.places import ALL_KINDS, USUAL
+from canbusd._sweep.tests import Test
+
+#: The arguments of the marker.
+ARGUMENTS = ("faults", "senders", "ids", "known", "pairs")
+
+
+def swept_tests(items: Iterable[pytest.Item], all_of_them: bool, kinds: Optional[Sequence[str]]) -> list[Test]:
+    """Returns the tests that have the marker, or all that have a server or a bench; with these kinds, if any are given."""
+    found = []
+    for item in items:
+        marker = item.get_closest_marker("canbusd_sweep")
+        names = set(getattr(item, "fixturenames", ()))
+        if marker or (all_of_them and names & {*SERVER_FIXTURES, BENCH_FIXTURE}):
+            found.append(test_of(item, dict(marker.kwargs) if marker else {}, marker.args if marker else (), kinds))
+    return found
+
+
+def test_of(item: pytest.Item, given: dict[str, Any], args: Sequence[Any], kinds: Optional[Sequence[str]]) -> Test:
+    """Returns a test with what its marker says; UsageError if that is wrong."""
+    unknown = next((name for name in given if name not in ARGUMENTS), None)
+    if args or unknown:
+        what = f"there is no argument {unknown}" if unknown else "its arguments have names"
+        raise pytest.UsageError(f"{item.nodeid}: marker canbusd_sweep: {what}; there are {', '.join(ARGUMENTS)}")
+    wanted = kinds or listed(given.get("faults", USUAL))
+    wrong = next((kind for kind in wanted if kind not in ALL_KINDS), None)
+    if wrong is not None:
+        raise pytest.UsageError(f"{item.nodeid}: no kind of fault {wrong!r}; there are {', '.join(ALL_KINDS)}")
+    return Test(
+        ItemTask(item),
+        wanted,
+        listed(given.get("senders", ())),
+        [identifier_text(one) for one in listed(given.get("ids", ()))],
+        listed(given.get("known", ())),
+        int(given.get("pairs", 0)),
+    )
+
+
+def listed(value: Any) -> list[Any]:
+    """Returns a list of what is one value or several."""
+    return [value] if isinstance(value, (str, int)) else list(value)
+
+
+def identifier_text(value: Any) -> str:
+    """Returns an identifier as records spell it: 3 digits or 8."""
+    if isinstance(value, str):
+        return value.upper()
+    return f"{value:03X}" if value <= 0x7FF else f"{value:08X}"

@@ -1,0 +1,172 @@
+"""The runs of a sweep, several at once, each on a processor of its own."""
+
+import os
+import select
+import shutil
+import signal
+import tempfile
+import time
+from collections import deque
+from collections.abc import Callable, Iterable
+from dataclasses import dataclass
+from pathlib import Path
+from typing import Optional
+
+from canbusd._sweep import worker
+from canbusd._sweep.places import Place, Result
+from canbusd._sweep.tests import Test
+
+#: Seconds of real time after which a run is ended, at the least, and how many times as long as the run without a fault.
+LEAST_LIMIT, TIMES = 60.0, 50.0
+#: The same of a test's own time.
+LEAST_UNTIL, TIMES_UNTIL = 60.0, 10.0
+
+
+@dataclass
+class Job:
+    """A run that is to be: a test with a placement, or without a fault."""
+
+    test: Test
+    place: Optional[Place] = None
+    #: Whether the page of a failed run is kept.
+    has_page: bool = False
+
+    @property
+    def order(self) -> worker.Order:
+        """How the run is to be carried out."""
+        base, place = self.test.base, self.place
+        until = None if base is None else LEAST_UNTIL + TIMES_UNTIL * base.took
+        if place is None:
+            return worker.Order((), 0, 0, until, self.has_page)
+        return worker.Order(place.faults, place.seed, place.jitter, until, self.has_page)
+
+    @property
+    def limit(self) -> float:
+        """The seconds of real time that it may take."""
+        return LEAST_LIMIT + TIMES * (self.test.real_seconds or LEAST_LIMIT)
+
+
+@dataclass
+class Run:
+    """A run that goes on."""
+
+    job: Job
+    pid: int
+    room: Path
+    processor: int
+    began: float
+    is_late: bool = False
+
+
+@dataclass
+class Outcome:
+    """A run that is over, whose records are in this folder until the next one ends."""
+
+    job: Job
+    result: Result
+    room: Path
+    modules: list[str]
+    seconds: float
+
+
+class Pool:
+    """Carries out runs. Nothing of them is left when it is done, or interrupted."""
+
+    def __init__(self, at_once: int, until: Optional[float]) -> None:
+        """`until` is the moment after which no run begins."""
+        processors = sorted(os.sched_getaffinity(0))
+        self._free = deque(processors[number % len(processors)] for number in range(at_once))
+        self._running: dict[int, Run] = {}
+        self._until = until
+        self._folder = Path(tempfile.mkdtemp(prefix="canbusd-sweep-"))
+        self._number = 0
+        #: How many runs did not begin in time.
+        self.not_begun = 0
+
+    def carry_out(self, jobs: Iterable[Job], done: Callable[[Outcome], Iterable[Job]]) -> None:
+        """Carries out these runs, and those that `done` returns when one is over."""
+        waiting = deque(jobs)
+        try:
+            while waiting or self._running:
+                while waiting and self._free and not self._is_late():
+                    self._start(waiting.popleft())
+                if waiting and self._is_late():
+                    self.not_begun += len(waiting)
+                    waiting.clear()
+                for pidfd in self._ended():
+                    waiting.extend(self._finish(pidfd, done))
+        except BaseException:
+            self.end()
+            raise
+
+    def end(self) -> None:
+        """Ends what still runs, and removes the folders of all runs."""
+        for run in self._running.values():
+            kill_group(run.pid)
+        self._running.clear()
+        end_children(set())
+        shutil.rmtree(self._folder, ignore_errors=True)
+
+    def _is_late(self) -> bool:
+        return self._until is not None and time.monotonic() >= self._until
+
+    def _start(self, job: Job) -> None:
+        room = self._folder / str(self._number)
+        room.mkdir()
+        self._number += 1
+        processor = self._free.popleft()
+        pid = worker.start(job.test.task, job.order, room, processor)
+        self._running[os.pidfd_open(pid)] = Run(job, pid, room, processor, time.monotonic())
+
+    def _ended(self) -> list[int]:
+        """Waits until runs have ended, and ends those that take too long; returns the descriptors of those that have ended."""
+        poll = select.poll()
+        for pidfd in self._running:
+            poll.register(pidfd, select.POLLIN)
+        now = time.monotonic()
+        left = min((run.began + run.job.limit - now for run in self._running.values()), default=0.0)
+        over = [pidfd for pidfd, _ in poll.poll(max(0.0, left) * 1000 + 1)] if self._running else []
+        for run in self._running.values():
+            if time.monotonic() - run.began >= run.job.limit:
+                run.is_late = True
+                kill_group(run.pid)
+        return over
+
+    def _finish(self, pidfd: int, done: Callable[[Outcome], Iterable[Job]]) -> Iterable[Job]:
+        run = self._running[pidfd]
+        seconds = time.monotonic() - run.began
+        kill_group(run.pid)
+        _, status = os.waitpid(run.pid, 0)
+        os.close(pidfd)
+        del self._running[pidfd]
+        end_children({one.pid for one in self._running.values()})
+        self._free.append(run.processor)
+        result, modules = worker.read_result(run.room, status)
+        if run.is_late:
+            result = Result("failed", f"it went on after {run.job.limit:.0f} s of real time")
+        more = list(done(Outcome(run.job, result, run.room, modules, seconds)))
+        shutil.rmtree(run.room, ignore_errors=True)
+        return more
+
+
+def kill_group(pid: int) -> None:
+    """Ends the processes of a run that are in its group."""
+    try:
+        os.killpg(pid, signal.SIGKILL)
+    except ProcessLookupError:
+        pass
+
+
+def end_children(known: set[int]) -> None:
+    """Ends the children of this process but these: what a run has left became one when its parent ended."""
+    for _ in range(100):
+        with open(f"/proc/self/task/{os.getpid()}/children", encoding="ascii") as file:
+            left = [int(word) for word in file.read().split() if int(word) not in known]
+        if not left:
+            return
+        for pid in left:
+            try:
+                os.kill(pid, signal.SIGKILL)
+                os.waitpid(pid, 0)
+            except (ProcessLookupError, ChildProcessError):
+                pass

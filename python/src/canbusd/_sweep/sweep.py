@@ -1,0 +1,227 @@
+"""A sweep of tests: each without a fault first, then with each placement, and what is said of them."""
+
+import os
+import random
+import shutil
+import time
+from collections import defaultdict
+from collections.abc import Iterable, Iterator
+from dataclasses import dataclass
+from pathlib import Path
+from typing import Optional
+
+from canbusd._sweep import worker
+from canbusd._sweep.attempts import attempts_in
+from canbusd._sweep.faults_given import Fault
+from canbusd._sweep.places import Place, pairs_of, places_at
+from canbusd._sweep.pool import Job, Outcome, Pool
+from canbusd._sweep.results import read_results, write_page, write_results
+from canbusd._sweep.telling import Telling
+from canbusd._sweep.tests import Test
+
+#: The jitter of other orders, in microseconds, unless an option says another.
+JITTER = 500
+#: Seconds between two notes of the results so far.
+BETWEEN_NOTES = 2.0
+
+
+@dataclass(frozen=True)
+class Options:
+    """What the command line says of a sweep."""
+
+    at_once: int
+    seconds: Optional[float]
+    is_quick: bool
+    pairs: int
+    seeds: int
+    jitter: int
+    checks: int
+    is_resumed: bool
+    shard: Optional[tuple[int, int]]
+    out: Path
+    #: One placement that is carried out again, by its faults, seed and jitter.
+    given: Optional[Place]
+
+
+class Sweep:
+    """A sweep of tests, or of a command."""
+
+    def __init__(self, tests: list[Test], options: Options, telling: Telling) -> None:
+        self._tests, self._options, self._telling = tests, options, telling
+        self._until = None if options.seconds is None else time.monotonic() + options.seconds
+        self._noted = 0.0
+        self._modules: set[str] = set()
+        self._groups: dict[tuple[str, str], list[Place]] = defaultdict(list)
+        #: How many placements did not leave the same records again.
+        self.differences: list[str] = []
+
+    def carry_out(self) -> None:
+        """Carries out the sweep, and writes what was found."""
+        worker.adopt_orphans()
+        worker.warm(())
+        pool = Pool(self._options.at_once, self._until)
+        try:
+            self._run_all(pool)
+        finally:
+            pool.end()
+
+    def _run_all(self, pool: Pool) -> None:
+        """Runs each test without a fault, and then its placements."""
+        self._telling.begin(len(self._tests))
+        if self._options.given is None:
+            pool.carry_out([Job(test) for test in self._tests], self._base_done)
+            worker.warm(sorted(self._modules))
+        self._make_places()
+        began = time.monotonic()
+        self._note(is_due=True)
+        try:
+            pool.carry_out(self._jobs(), self._done)
+            pool.carry_out(self._pairs(), self._done)
+        finally:
+            self._note(is_due=True)
+        took = time.monotonic() - began
+        if self._options.given is None:
+            self._check(pool)
+            self._confirm(pool)
+            self._note(is_due=True)
+            write_page(self._options.out / "index.html", self._tests)
+        self._telling.end(self._tests, took, pool.not_begun, self._options.seconds, self.differences)
+
+    def _base_done(self, outcome: Outcome) -> Iterable[Job]:
+        """Takes a run without a fault."""
+        test = outcome.job.test
+        test.base, test.real_seconds = outcome.result, outcome.seconds
+        if outcome.result.outcome == "passed":
+            test.attempts = attempts_in(outcome.room)
+        self._modules.update(outcome.modules)
+        return ()
+
+    def _make_places(self) -> None:
+        """Makes the placements of each test that passed without a fault."""
+        options = self._options
+        for test in self._tests:
+            if options.given is not None:
+                test.places = [options.given]
+                continue
+            if test.base is None or test.base.outcome != "passed":
+                continue
+            places = list(places_at(test.attempts, test.kinds, test.senders, test.ids, test.base.programs))
+            places += [Place("order", (), (), seed, options.jitter) for seed in range(1, options.seeds + 1)]
+            if options.shard is not None:
+                number, count = options.shard
+                places = places[number - 1 :: count]
+            test.places = [*places]
+            for place in places:
+                self._groups[test.name, place.group].append(place)
+        if options.is_resumed:
+            read_results(options.out / "sweep.json", self._tests)
+
+    def _jobs(self) -> Iterator[Job]:
+        """Yields the runs to be, of all tests in turn, so that a limit of time is shared by all."""
+        waiting = [
+            iter([place for place in test.places if place.result is None and (place.is_sample or not self._is_quick)])
+            for test in self._tests
+        ]
+        left = list(zip(self._tests, waiting))
+        while left:
+            still = []
+            for test, places in left:
+                place = next(places, None)
+                if place is not None:
+                    yield Job(test, place, has_page=self._options.given is not None)
+                    still.append((test, places))
+            left = still
+
+    def _note(self, is_due: bool = False) -> None:
+        """Writes the results so far, now and then, so that a sweep that is killed can go on."""
+        now = time.monotonic()
+        if self._options.given is None and (is_due or now - self._noted >= BETWEEN_NOTES):
+            self._noted = now
+            write_results(self._options.out / "sweep.json", self._tests)
+
+    def _pairs_of(self, test: Test) -> int:
+        """How many second faults a test gets."""
+        return self._options.pairs or test.pairs
+
+    def _pairs(self) -> Iterator[Job]:
+        """Yields the runs with a second fault."""
+        for test in self._tests:
+            for place in [*pairs_of(test.places, self._pairs_of(test), random.Random(0))]:
+                test.places.append(place)
+                yield Job(test, place)
+
+    @property
+    def _is_quick(self) -> bool:
+        return self._options.is_quick and self._options.given is None
+
+    def _done(self, outcome: Outcome) -> Iterable[Job]:
+        """Takes the run of a placement. If the samples of a group differ, all of it is run."""
+        test, place = outcome.job.test, outcome.job.place
+        assert place is not None
+        place.result = outcome.result
+        self._note()
+        if self._pairs_of(test) and len(place.attempts) == 1:
+            place.later = attempts_in(outcome.room)
+        self._telling.progress(self._tests)
+        if self._options.given is not None:
+            place.page = self._kept_page(outcome, "given")
+        group = self._groups.get((test.name, place.group), [])
+        found = {one.result.outcome for one in group if one.result is not None}
+        if not self._is_quick or len(found) < 2:
+            return ()
+        rest = [one for one in group if one.result is None and not one.is_sample]
+        for one in rest:
+            one.is_sample = True
+        return [Job(test, one) for one in rest]
+
+    def _check(self, pool: Pool) -> None:
+        """Carries out some placements twice more, and compares the records."""
+        done = [(test, place) for test in self._tests for place in test.places if place.result is not None]
+        count = min(self._options.checks, len(done))
+        for test, place in (done[number * len(done) // count] for number in range(count)):
+            seen = {place.result.records if place.result else ""}
+
+            def take(outcome: Outcome, seen: set[str] = seen) -> Iterable[Job]:
+                seen.add(outcome.result.records)
+                return ()
+
+            pool.carry_out([Job(test, place)], take)
+            if len(seen) > 1:
+                self.differences.append(f"{test.name}: {' '.join(map(str, place.faults))}")
+
+    def _confirm(self, pool: Pool) -> None:
+        """Carries out the first failure of each group again, now with the page of its run."""
+        jobs = []
+        for test in self._tests:
+            firsts: dict[str, Place] = {}
+            for place in test.places:
+                if place.has_failed:
+                    firsts.setdefault(place.group, place)
+            jobs += [Job(test, place, has_page=True) for place in firsts.values()]
+
+        def take(outcome: Outcome) -> Iterable[Job]:
+            place = outcome.job.place
+            assert place is not None and place.result is not None
+            place.is_confirmed = outcome.result.message == place.result.message
+            place.page = self._kept_page(outcome, f"{outcome.job.test.name}-{place.group}")
+            return ()
+
+        pool.carry_out(jobs, take)
+
+    def _kept_page(self, outcome: Outcome, name: str) -> str:
+        """Copies the page of a run and its records beside the page of the sweep; returns its path from there."""
+        found = sorted(outcome.room.glob("tmp/**/*.html"))
+        if not found:
+            return ""
+        stem = "".join(letter if letter.isalnum() else "-" for letter in name)
+        folder = self._options.out / "runs" / stem
+        shutil.rmtree(folder, ignore_errors=True)
+        folder.mkdir(parents=True)
+        for path in [*found, *outcome.room.glob("*.rec")]:
+            shutil.copyfile(path, folder / path.name)
+        return os.path.relpath(folder / found[0].name, self._options.out)
+
+
+def given_place(faults: Iterable[Fault], seed: int, jitter: int) -> Place:
+    """The placement that a command line gives."""
+    return Place("given", list(faults), (), seed, jitter)

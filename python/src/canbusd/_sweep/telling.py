@@ -1,0 +1,188 @@
+"""What a sweep writes."""
+
+import re
+import time
+from collections import Counter, defaultdict
+from collections.abc import Callable, Sequence
+from typing import NamedTuple, Optional, Protocol
+
+from canbusd._sweep.places import Place
+from canbusd._sweep.tests import Test
+from canbusd._text import times
+
+#: From how many groups of a kind on they are told as one line, and how many different failures of a group are shown.
+MOST_GROUPS, MOST_FAILURES = 8, 2
+#: Seconds between two lines of progress on a terminal, and elsewhere.
+OFTEN, RARELY = 0.2, 30.0
+
+
+class Terminal(Protocol):
+    """What a sweep is written to, such as pytest's reporter."""
+
+    isatty: bool
+
+    def ensure_newline(self) -> None:
+        """Ends the line."""
+
+    def section(self, title: str) -> None:
+        """Writes the title of a section."""
+
+    def write_line(self, line: str, **markup: bool) -> None:
+        """Writes a line."""
+
+    def rewrite(self, line: str, **markup: bool) -> None:
+        """Writes a line over the last one."""
+
+
+class Report(NamedTuple):
+    """The result of a test without a fault, or of a group of placements that fails."""
+
+    test: Test
+    group: str
+    outcome: str
+    text: str
+
+
+class Telling:
+    """Writes the course of a sweep and its results."""
+
+    def __init__(self, terminal: Terminal, page: str, report: Callable[[Report], None]) -> None:
+        """`page` is the path of the page, if there is one; `report` is called with what failed and what passed."""
+        self._terminal, self._page, self._report = terminal, page, report
+        self._began = self._last = time.monotonic()
+        #: How many failures are none that a marker knows of.
+        self.failures = 0
+        self._reports: list[Report] = []
+
+    def begin(self, count: int) -> None:
+        """Says that the sweep begins."""
+        self._terminal.ensure_newline()
+        self._terminal.write_line(f"canbusd sweep: {count} test{'' if count == 1 else 's'} without a fault first")
+
+    def progress(self, tests: Sequence[Test]) -> None:
+        """Says how far the sweep is, now and then."""
+        now = time.monotonic()
+        is_terminal = self._terminal.isatty
+        if now - self._last < (OFTEN if is_terminal else RARELY):
+            return
+        self._last = now
+        places = [place for test in tests for place in test.places]
+        done = [place for place in places if place.result is not None]
+        failed = sum(place.has_failed for place in done)
+        line = (
+            f"{len(done)} placements done, {failed} failed, {len(places) - len(done)} left, {now - self._began:.0f} s"
+        )
+        if is_terminal:
+            self._terminal.rewrite(line, erase=True)
+        else:
+            self._terminal.write_line(line)
+
+    def end(
+        self,
+        tests: Sequence[Test],
+        took: float,
+        not_begun: int,
+        limit: Optional[float],
+        differences: Sequence[str],
+    ) -> None:
+        """Writes what was found."""
+        self._terminal.ensure_newline()
+        self._terminal.section("canbusd sweep")
+        for test in tests:
+            self._tell_test(test)
+        for text in differences:
+            self.failures += 1
+            self._terminal.write_line(f"not the same records again: {text}", red=True)
+        places = [place for test in tests for place in test.places]
+        run = sum(place.result is not None for place in places)
+        rest = f", {not_begun} not begun ({limit:.0f} s)" if not_begun and limit is not None else ""
+        left = len(places) - run - not_begun
+        rest += f", {left} like those that were run" if left > 0 else ""
+        speed = f"{run / max(took, 0.001):.1f} a second"
+        self._terminal.write_line(f"{len(places)} placements, {run} run{rest}; {took:.1f} s, {speed}")
+        if self._page:
+            self._terminal.write_line(self._page)
+        for report in self._reports:
+            self._report(report)
+
+    def _tell_test(self, test: Test) -> None:
+        """Writes the results of a test."""
+        base = test.base
+        if base is not None and base.outcome != "passed":
+            words = f"{test.name}: {base.outcome} without a fault"
+            self._terminal.write_line(
+                f"{words}: {base.message}" if base.message else words, red=base.outcome == "failed"
+            )
+            self._reports.append(Report(test, "", base.outcome, base.long))
+            return
+        run = [place for place in test.places if place.result is not None]
+        bad = [place for place in run if place.has_failed]
+        if len(test.places) == 1 and test.places[0].kind == "given":
+            self._tell_given(test, test.places[0])
+            return
+        counts = f"{len(test.attempts)} attempts, {len(test.places)} placements, {len(run)} run, {len(bad)} failed"
+        self._terminal.write_line(f"{test.name}: {counts}", red=bool(bad), green=not bad)
+        self._reports.append(Report(test, "", "passed", ""))
+        for group, places in groups_of(run).items():
+            if any(place.has_failed for place in places):
+                self._tell_group(test, group, places)
+            elif group.startswith("missed "):
+                self._terminal.write_line(f"  not noticed: {group}, {times(len(places), 'placement')}")
+            elif group in test.known:
+                self._terminal.write_line(f"  {group}: known to fail, and none of {len(places)} does now", yellow=True)
+
+    def _tell_given(self, test: Test, place: Place) -> None:
+        """Writes the one placement that was carried out again."""
+        result = place.result
+        assert result is not None
+        self._reports.append(Report(test, "", result.outcome, result.long))
+        page = f"; page: {place.page}" if place.page else ""
+        self._terminal.write_line(f"{test.name}: {result.outcome}; its records are {result.records}{page}")
+        if result.outcome == "failed":
+            self.failures += 1
+
+    def _tell_group(self, test: Test, group: str, places: Sequence[Place]) -> None:
+        """Writes the failures of a group."""
+        bad = [place for place in places if place.has_failed]
+        is_known = group in test.known
+        first = bad[0]
+        head = f"{group}: {len(bad)} of {len(places)} placements fail{', as is known' if is_known else ''}"
+        lines = [f"  {head}"]
+        lines += [f"    {count} x {text[:150]}" for text, count in failures_of(bad)]
+        again = "" if first.is_confirmed else " (another failure when it was carried out again)"
+        lines += [f"    first: {first}{again}", f"    repeat: {test.task.repeat(first)}"]
+        rule = first.as_rule()
+        lines += [f"    {test.task.kept_as(rule)}"] if rule else []
+        for line in lines:
+            self._terminal.write_line(line, red=not is_known, yellow=is_known)
+        if not is_known:
+            self.failures += 1
+            long = first.result.long if first.result else ""
+            self._reports.append(Report(test, group, "failed", "\n".join([*lines, "", long])))
+
+
+def groups_of(places: Sequence[Place]) -> dict[str, list[Place]]:
+    """Returns placements by what they are of; many groups of a kind are one line for each sender."""
+    by_kind: dict[str, set[str]] = defaultdict(set)
+    for place in places:
+        by_kind[place.kind].add(place.group)
+    found: dict[str, list[Place]] = defaultdict(list)
+    for place in places:
+        group = place.group
+        if len(by_kind[place.kind]) > MOST_GROUPS and place.attempts:
+            senders = " and ".join(one.sender for one in place.attempts)
+            group = f"{place.kind} any frame from {senders}"
+        found[group].append(place)
+    return found
+
+
+def failures_of(places: Sequence[Place]) -> list[tuple[str, int]]:
+    """Returns the most frequent failures of placements, those alike but for numbers as one; each with its count."""
+    first: dict[str, str] = {}
+    count: Counter[str] = Counter()
+    for place in places:
+        text = place.result.message if place.result else ""
+        shape = re.sub(r"\w*[0-9]\w*", "N", text)
+        first.setdefault(shape, text)
+        count[shape] += 1
+    return [(first[shape], number) for shape, number in count.most_common(MOST_FAILURES)]

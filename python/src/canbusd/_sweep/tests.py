@@ -1,0 +1,34 @@
+"""What is swept, and its runs."""
+
+from collections.abc import Sequence
+from dataclasses import dataclass, field
+from typing import Optional
+
+from canbusd._sweep.attempts import Attempted
+from canbusd._sweep.places import USUAL, Place, Result
+from canbusd._sweep.worker import Task
+
+
+@dataclass
+class Test:
+    """A test or a command that is swept, and its runs."""
+
+    __test__ = False
+
+    task: Task
+    kinds: Sequence[str] = USUAL
+    senders: Sequence[str] = ()
+    ids: Sequence[str] = ()
+    #: The groups that fail and may.
+    known: Sequence[str] = ()
+    pairs: int = 0
+    #: The run without a fault, its attempts, and the seconds of real time that it took.
+    base: Optional[Result] = None
+    attempts: list[Attempted] = field(default_factory=list)
+    real_seconds: float = 0.0
+    places: list[Place] = field(default_factory=list)
+
+    @property
+    def name(self) -> str:
+        """What it is called."""
+        return self.task.name

@@ -1,0 +1,451 @@
+"""The sweep: each fault at each attempt of a test, by tests that run pytest."""
+
+import json
+import os
+import re
+import shutil
+import signal
+import subprocess
+import sys
+import time
+from pathlib import Path
+from xml.etree import ElementTree
+
+import pytest
+
+import canbusd
+from canbusd._process.program import find_program
+from canbusd._sweep.attempts import Attempted
+from canbusd._sweep.faults_given import Fault, parse_fault
+from canbusd._sweep.places import places_at
+
+pytest_plugins = ["pytester"]
+EXAMPLES = Path(__file__).resolve().parents[2] / "examples" / "sweep"
+
+# An ECU that counts what it receives, so a frame that comes twice is counted twice.
+PRESSES = """
+    def press(canbusd, count):
+        with canbusd.bus("tester") as tester, canbusd.bus("ecu", error_frames=False) as ecu:
+            for _ in range(count):
+                tester.send(can.Message(arbitration_id=0x123, is_extended_id=False), timeout=1)
+            presses = 0
+            while ecu.recv(0.05) is not None:
+                presses += 1
+        return presses
+
+    @pytest.mark.canbusd("tester,ecu", bitrate=500_000)
+    @pytest.mark.canbusd_sweep()
+    def test_presses(canbusd):
+        assert press(canbusd, 3) == 3
+"""
+BENCH = """
+    @pytest.mark.canbusd("a,b")
+    @pytest.mark.canbusd_sweep(faults=["destroyed", "twice"])
+    def test_five(canbusd_bench):
+        sender, receiver = canbusd_bench.open("a"), canbusd_bench.open("b")
+        for number in range(5):
+            sender.send(0x100 + number, b"")
+        canbusd_bench.run()
+        assert len(receiver.receive()) == 5
+"""
+
+
+@pytest.fixture
+def sweep(pytester, monkeypatch):
+    """Runs pytest on tests, in another process with this package; the options are those of a sweep."""
+    monkeypatch.setenv("PYTHONPATH", str(Path(canbusd.__file__).parents[1]), prepend=os.pathsep)
+    monkeypatch.setenv("PYTHONDONTWRITEBYTECODE", "1")
+
+    def run(text, *words):
+        pytester.makepyfile("import can, canbusd, pytest\n" + "\n".join(line[4:] for line in text.split("\n")))
+        plugins = ["-p", "canbusd.pytest_plugin", "-p", "no:cacheprovider", "-p", "no:xdist"]
+        return pytester.runpytest_subprocess(*plugins, *words)
+
+    return run
+
+
+def found(pytester):
+    """What the sweep found, by the names of tests."""
+    tests = json.loads((pytester.path / "canbusd-sweep" / "sweep.json").read_text())["tests"]
+    return {test["test"].partition("::")[2]: test for test in tests}
+
+
+def outcomes(test, kind):
+    return [place["result"]["outcome"] for place in test["placements"] if place["kind"] == kind]
+
+
+def test_a_frame_that_is_counted_twice(sweep, pytester):
+    result = sweep(PRESSES, "--canbusd-sweep", "--junitxml=results.xml")
+    result.stdout.fnmatch_lines(
+        [
+            "test_a_frame_that_is_counted_twice.py::test_presses: 3 attempts, 9 placements, 9 run, 3 failed",
+            "  twice 123 from tester: 3 of 3 placements fail",
+            "    3 x call: *assert 4 == 3",
+            "    first: attempt 0, frame 0 of 123 from tester",
+            "    repeat: python3 -m pytest --canbusd-sweep --canbusd-fault '0 lastbit' *::test_presses",
+            '    as a test: @pytest.mark.canbusd(.., faults="next 1 from tester id 123 lastbit")',
+            "9 placements, 9 run; *",
+            "canbusd-sweep/index.html",
+        ]
+    )
+    assert result.ret == pytest.ExitCode.TESTS_FAILED
+    test = found(pytester)["test_presses"]
+    assert outcomes(test, "destroyed") == outcomes(test, "burst") == ["passed"] * 3
+    assert outcomes(test, "twice") == ["failed"] * 3
+    cases = ElementTree.parse(pytester.path / "results.xml").findall(".//testcase")
+    failures = [case.find("failure") for case in cases]
+    assert [failure is None for failure in failures] == [True, False]
+    assert "--canbusd-fault '0 lastbit'" in failures[1].text
+
+
+def test_a_placement_again(sweep, pytester):
+    """by its number and by its rule it leaves the records that it left in the sweep"""
+    sweep(PRESSES, "--canbusd-sweep")
+    places = [one for one in found(pytester)["test_presses"]["placements"] if one["rule"]]
+    for place in [places[1], places[-1]]:
+        for fault in [*place["faults"], place["rule"]]:
+            again = sweep(PRESSES, "--canbusd-sweep", "--canbusd-fault", fault)
+            again.stdout.fnmatch_lines([f"*::test_presses: *; its records are {place['result']['records']}*"])
+
+
+def test_a_found_fault_as_an_ordinary_test(sweep, pytester):
+    sweep(PRESSES, "--canbusd-sweep")
+    rule = next(one["rule"] for one in found(pytester)["test_presses"]["placements"] if one["kind"] == "twice")
+    kept = PRESSES.replace("bitrate=500_000", f"bitrate=500_000, faults='{rule}'")
+    sweep(kept, "--canbusd-virtual").assert_outcomes(failed=1)
+
+
+def test_a_bench(sweep, pytester):
+    """without a run in virtual time"""
+    result = sweep(BENCH, "--canbusd-sweep")
+    result.stdout.fnmatch_lines(["*::test_five: 5 attempts, 10 placements, 10 run, 5 failed"])
+    test = found(pytester)["test_five"]
+    assert outcomes(test, "destroyed") == ["passed"] * 5 and outcomes(test, "twice") == ["failed"] * 5
+
+
+def test_known_failures(sweep):
+    known = PRESSES.replace(
+        "canbusd_sweep()", "canbusd_sweep(known=['twice 123 from tester', 'burst 123 from tester'])"
+    )
+    result = sweep(known, "--canbusd-sweep")
+    result.stdout.fnmatch_lines(
+        [
+            "  twice 123 from tester: 3 of 3 placements fail, as is known",
+            "  burst 123 from tester: known to fail, and none of 3 does now",
+        ]
+    )
+    assert result.ret == 0
+
+
+def test_a_frame_that_is_missed(sweep, pytester):
+    """by one receiver; a frame that nobody looks at is named"""
+    result = sweep(PRESSES, "--canbusd-sweep", "--canbusd-sweep-faults", "missed")
+    result.stdout.fnmatch_lines(
+        ["  missed by ecu 123 from tester: 3 of 3 placements fail", "    3 x call: *assert 2 == 3"]
+    )
+    fault = found(pytester)["test_presses"]["placements"][0]
+    assert fault["faults"][0].startswith("missed ecu 123 ") and fault["rule"] == ""
+    unseen = PRESSES.replace("== 3", ">= 2")
+    sweep(unseen, "--canbusd-sweep", "--canbusd-sweep-faults", "missed").stdout.fnmatch_lines(
+        ["  not noticed: missed by ecu 123 from tester, 3 placements"]
+    )
+
+
+@pytest.mark.skipif(not shutil.which("gcc"), reason="no gcc")
+def test_programs_miss_frames_and_are_reset(pytester, monkeypatch):
+    """as the ECU of the example, which counts presses, and forgets them in a reset"""
+    monkeypatch.setenv("PYTHONPATH", str(Path(canbusd.__file__).parents[1]), prepend=os.pathsep)
+    shutil.copytree(EXAMPLES, pytester.path / "sweep")
+    plugins = ["-p", "canbusd.pytest_plugin", "-p", "no:cacheprovider", "-p", "no:xdist"]
+    words = ["--canbusd-sweep", "--canbusd-sweep-faults", "missed,reset", "sweep", "-k", "press"]
+    pytester.runpytest_subprocess(*plugins, *words).stdout.fnmatch_lines(
+        [
+            # Nobody looks at the cyclic message.
+            "  not noticed: missed by tester 200 from ecu, 8 placements",
+            "  missed by ecu 123 from tester: 7 of 7 placements fail",
+            "    7 x call: assert 6 == 7",
+            # What was counted before is forgotten, but for a reset before the first press.
+            "  reset of program 0 123 from tester: 7 of 7 placements fail",
+        ]
+    )
+
+
+def test_quick(sweep, pytester):
+    """the first two, the middle and the last frame of an identifier; and the others where these differ"""
+    many = BENCH.replace("0x100 + number", "0x100").replace("range(5)", "range(9)").replace("== 5", ">= 9")
+    sweep(many, "--canbusd-sweep", "--canbusd-sweep-quick").stdout.fnmatch_lines(
+        ["*: 9 attempts, 18 placements, 8 run, 0 failed", "18 placements, 8 run, 10 like those that were run; *"]
+    )
+    differs = many.replace(">= 9", "== 9")
+    sweep(differs, "--canbusd-sweep", "--canbusd-sweep-quick").stdout.fnmatch_lines(
+        # All copies are one too many, so the four samples do not differ.
+        ["*: 9 attempts, 18 placements, 8 run, 4 failed"]
+    )
+    last = many.replace(">= 9", "== 9 or canbusd_bench.record().attempts[-2].outcome == 'lastbit'")
+    sweep(last, "--canbusd-sweep", "--canbusd-sweep-quick").stdout.fnmatch_lines(
+        ["*: 9 attempts, 18 placements, 13 run, 8 failed"]
+    )
+
+
+def test_parts_of_a_sweep(sweep, pytester):
+    keys = []
+    for part in ("1/3", "2/3", "3/3"):
+        sweep(BENCH, "--canbusd-sweep", "--canbusd-sweep-shard", part)
+        keys += [(one["kind"], *one["faults"]) for one in found(pytester)["test_five"]["placements"]]
+    assert len(keys) == len({*keys}) == 10
+
+
+def test_a_limit_of_time(sweep, pytester):
+    """what did not begin is said, and done by a sweep that goes on"""
+    result = sweep(BENCH, "--canbusd-sweep", "--canbusd-sweep-time", "0")
+    assert "not run" not in result.stdout.str() and result.ret == 0
+    begun = sweep(BENCH, "--canbusd-sweep", "--canbusd-sweep-shard", "1/2")
+    begun.stdout.fnmatch_lines(["5 placements, 5 run; *"])
+    test = found(pytester)["test_five"]
+    test["placements"][0]["result"]["message"] = "known from before"
+    path = pytester.path / "canbusd-sweep" / "sweep.json"
+    path.write_text(json.dumps({"format": 1, "tests": [test]}))
+    sweep(BENCH, "--canbusd-sweep", "--canbusd-sweep-resume").stdout.fnmatch_lines(["10 placements, 10 run; *"])
+    assert "known from before" in path.read_text()
+
+
+def test_second_faults(sweep, pytester):
+    """a test that survives one copy of a frame and not two"""
+    two = BENCH.replace("== 5", "<= 6").replace('["destroyed", "twice"]', '["twice"], pairs=20')
+    sweep(two, "--canbusd-sweep").stdout.fnmatch_lines(["  twice, then twice *: * placements fail"])
+    places = found(pytester)["test_five"]["placements"]
+    bad = [one for one in places if one["result"]["outcome"] == "failed"]
+    assert bad and all(one["kind"] == "twice, then twice" and len(one["faults"]) == 2 for one in bad)
+
+
+def test_a_test_that_fails_without_a_fault(sweep):
+    result = sweep(BENCH.replace("== 5", "== 6"), "--canbusd-sweep")
+    result.stdout.fnmatch_lines(["*::test_five: failed without a fault: call: *assert 5 == 6"])
+    result.assert_outcomes(failed=1)
+
+
+REFUSED = {
+    "no sweep": (["--canbusd-sweep-quick"], "--canbusd-sweep-quick needs --canbusd-sweep"),
+    "a fault without one": (["--canbusd-fault", "0 lastbit"], "--canbusd-fault needs --canbusd-sweep"),
+    "virtual time too": (["--canbusd-sweep", "--canbusd-virtual"], "*leave out --canbusd-virtual"),
+    "no fault": (["--canbusd-sweep", "--canbusd-fault", "0 last"], "*'0 last' is no fault: `5 lastbit`, *"),
+    "a range that falls": (
+        ["--canbusd-sweep", "--canbusd-fault", "5-3 lastbit"],
+        "*its last attempt is before its first",
+    ),
+    "a rule with a fault": (["--canbusd-sweep", "--canbusd-fault", "next 0 lastbit"], "*next takes at least 1 attempt"),
+    "no part": (
+        ["--canbusd-sweep", "--canbusd-sweep-shard", "3/2"],
+        "a part is K/N, the K-th of N parts, as 1/4, not 3/2",
+    ),
+    "no kind": (
+        ["--canbusd-sweep", "--canbusd-sweep-faults", "lost"],
+        "*no kind of fault 'lost'; there are destroyed, *",
+    ),
+    "no runs": (["--canbusd-sweep", "--canbusd-sweep-jobs", "0"], "*a number from 1 on, not 0"),
+}
+
+
+@pytest.mark.parametrize("words, said", REFUSED.values(), ids=REFUSED)
+def test_refused(sweep, words, said):
+    result = sweep(BENCH, *words)
+    result.stderr.fnmatch_lines([f"ERROR: {said}"])
+    assert result.ret == pytest.ExitCode.USAGE_ERROR
+
+
+def test_nothing_to_sweep(sweep):
+    result = sweep("    def test_it():\n        pass", "--canbusd-sweep")
+    result.stderr.fnmatch_lines(["ERROR: no test has the marker canbusd_sweep; --canbusd-sweep-all takes all with *"])
+    unknown = sweep(BENCH.replace("faults=", "fault="), "--canbusd-sweep")
+    unknown.stderr.fnmatch_lines(["ERROR: *marker canbusd_sweep: there is no argument fault; there are faults, *"])
+
+
+def test_a_fixture_with_a_thread(sweep):
+    text = """
+    import threading, time
+
+    @pytest.fixture(scope="session")
+    def busy():
+        end = threading.Event()
+        threading.Thread(target=end.wait, name="its thread").start()
+        yield
+        end.set()
+
+    @pytest.mark.canbusd_sweep()
+    def test_it(busy, canbusd_bench):
+        pass
+    """
+    result = sweep(text, "--canbusd-sweep")
+    result.stderr.fnmatch_lines(["ERROR: tests can't be swept while a fixture of the session has a thread: its thread"])
+
+
+def test_a_sweep_that_is_killed(pytester, monkeypatch):
+    """leaves no process, and results from which the next one goes on"""
+    monkeypatch.setenv("PYTHONPATH", str(Path(canbusd.__file__).parents[1]), prepend=os.pathsep)
+    mark = f"CANBUSD_SWEEP_TEST={os.getpid()}"
+    monkeypatch.setenv(*mark.split("="))
+    slow = PRESSES.replace("press(canbusd, 3) == 3", "press(canbusd, 20) >= 20")
+    path = pytester.makepyfile("import can, canbusd, pytest\n" + "\n".join(line[4:] for line in slow.split("\n")))
+    words = [
+        sys.executable,
+        "-m",
+        "pytest",
+        "-q",
+        "-p",
+        "canbusd.pytest_plugin",
+        "-p",
+        "no:xdist",
+        "--canbusd-sweep",
+        path,
+    ]
+    child = subprocess.Popen(words, cwd=pytester.path, stdout=subprocess.DEVNULL, stderr=subprocess.DEVNULL)
+    results = pytester.path / "canbusd-sweep" / "sweep.json"
+    until = time.monotonic() + 60
+    while not (results.exists() and '"outcome": "passed"' in results.read_text()) and time.monotonic() < until:
+        time.sleep(0.02)
+    child.send_signal(signal.SIGKILL)
+    child.wait()
+    until = time.monotonic() + 30
+    while (left := processes_with(mark)) and time.monotonic() < until:
+        time.sleep(0.05)
+    assert not left
+    assert json.loads(results.read_text())["tests"][0]["base"]["outcome"] == "passed"
+
+
+# Two frames to a program that wants two, and has a third where one comes twice.
+TWO = """#!/bin/sh
+"$CANBUSD_RUN" "$PYTHON" node.py can1 >"$TMPDIR/got" &
+sleep 0.05
+"$CANBUSD_RUN" "$PYTHON" node.py can0 2
+wait
+echo "$(wc -l <"$TMPDIR/got") frames"
+[ "$(wc -l <"$TMPDIR/got")" -eq 2 ]
+"""
+NODE = """import socket, struct, sys
+node = socket.socket(socket.AF_CAN, socket.SOCK_RAW, socket.CAN_RAW)
+node.bind((sys.argv[1],))
+for number in range(int("".join(sys.argv[2:]) or 0)):
+    node.send(struct.pack("=IB3x8s", 0x123, 1, bytes([number])))
+node.settimeout(0.3)
+while not sys.argv[2:]:
+    try:
+        print(node.recv(16).hex(), flush=True)
+    except TimeoutError:
+        break
+"""
+
+
+def test_a_command(pytester, monkeypatch):
+    """its status is the verdict, and its programs find the server by the environment"""
+    monkeypatch.setenv("PYTHONPATH", str(Path(canbusd.__file__).parents[1]), prepend=os.pathsep)
+    monkeypatch.setenv("CANBUSD_RUN", find_program("canbusd-run"))
+    monkeypatch.setenv("PYTHON", sys.executable)
+    pytester.makefile(".py", node=NODE)
+    script = pytester.path / "two.sh"
+    script.write_text(TWO)
+    script.chmod(0o755)
+    words = [sys.executable, "-m", "canbusd", "sweep", "--bitrate", "500000"]
+    found = subprocess.run([*words, "can0,can1", "--", script], cwd=pytester.path, capture_output=True, text=True)
+    assert found.returncode == 1, found.stderr
+    assert re.search(
+        r"two\.sh: 2 attempts, 6 placements, 6 run, 2 failed\n"
+        r"  twice 123 from can0: 2 of 2 placements fail\n"
+        r"    2 x status 1: 3 frames\n"
+        r"    first: attempt 0, frame 0 of 123 from can0\n"
+        r"    repeat: canbusd sweep --bitrate 500000 --fault '0 lastbit' can0,can1 -- \S+two\.sh\n"
+        r"    as a script: next 1 from can0 id 123 lastbit\n",
+        found.stdout,
+    )
+    again = subprocess.run(
+        [*words, "--fault", "1 global bit", "can0,can1", "--", script],
+        cwd=pytester.path,
+        capture_output=True,
+        text=True,
+    )
+    assert again.returncode == 0 and "two.sh: passed; its records are " in again.stdout
+
+
+@pytest.mark.parametrize(
+    "words, said",
+    [
+        (["can0,can1", "true"], "-- is before the command"),
+        (["--", "true"], "it takes a bus, such as can0,can1, and a command"),
+        (["can0", "--"], "it takes a bus, such as can0,can1, and a command"),
+        (["--faults", "lost", "can0", "--", "true"], "no kind of fault 'lost'; there are destroyed, "),
+        (["--fault", "0 last", "can0", "--", "true"], "'0 last' is no fault: "),
+        (["--shard", "2/1", "can0", "--", "true"], "a part is K/N, the K-th of N parts, as 1/4, not 2/1"),
+    ],
+)
+def test_words_of_the_command(words, said):
+    found = subprocess.run([sys.executable, "-m", "canbusd", "sweep", *words], capture_output=True, text=True)
+    assert found.returncode == 2 and said in found.stderr
+
+
+def processes_with(mark):
+    """The processes that have this in their environment, but for this one."""
+    found = []
+    for path in Path("/proc").glob("[0-9]*/environ"):
+        try:
+            if mark.encode() in path.read_bytes() and int(path.parts[2]) != os.getpid():
+                found.append(int(path.parts[2]))
+        except OSError:
+            pass
+    return found
+
+
+@pytest.mark.skipif(not shutil.which("gcc"), reason="no gcc")
+def test_the_examples(pytester, monkeypatch):
+    """Each planted fault is found, at each placement that shows it."""
+    monkeypatch.setenv("PYTHONPATH", str(Path(canbusd.__file__).parents[1]), prepend=os.pathsep)
+    shutil.copytree(EXAMPLES, pytester.path / "sweep")
+    plugins = ["-p", "canbusd.pytest_plugin", "-p", "no:cacheprovider", "-p", "no:xdist"]
+    result = pytester.runpytest_subprocess(*plugins, "--canbusd-sweep", "sweep")
+    result.stdout.fnmatch_lines(
+        [
+            # Each of the seven frames, and no other.
+            "*::test_a_press_counts_once: 22 attempts, 66 placements, 66 run, 7 failed",
+            "  twice 123 from tester: 7 of 7 placements fail",
+            # All but the first, before which there is no counter, and the last two, which come too late to be missed.
+            "*::test_the_counter_has_no_gap: 16 attempts, 64 placements, 64 run, 13 failed",
+            "  busoff 200 from ecu: 13 of 16 placements fail",
+            # The one request that the gateway gets so late that the next one meets it.
+            "*::test_each_request_is_answered: 16 attempts, 32 placements, 32 run, 1 failed",
+            "  destroyed 100 from tester: 1 of 8 placements fail",
+        ]
+    )
+
+
+def attempt(number, sender, frame, nth=0, nth_of_sender=0, errors=0, fault="good"):
+    return Attempted((0, "a"), number, "0.000000", sender, frame, nth, nth_of_sender, errors, "done", fault)
+
+
+def test_rules_of_placements():
+    """the frame is named by its sender, its identifier and which of them it is"""
+    found = [attempt(0, "a", "123#"), attempt(1, "a", "123#", 1, 1), attempt(2, "b", "00000123#", 0, 0, 16)]
+    rules = [(place.kind, str(place.faults[0]), place.as_rule()) for place in places_at(found, ["twice", "busoff"])]
+    assert rules == [
+        ("twice", "0 lastbit", "next 1 from a id 123 lastbit"),
+        ("twice", "1 lastbit", "next 1 from a id 123 skip 1 lastbit"),
+        ("twice", "2 lastbit", "next 1 from b id 00000123 lastbit"),
+        # 256 is bus off, and each failed attempt adds 8 (ISO 11898-1).
+        ("busoff", "next 32 from a global bit", "next 32 from a global bit"),
+        ("busoff", "next 32 from a skip 1 global bit", "next 32 from a skip 1 global bit"),
+        ("busoff", "next 30 from b global bit", "next 30 from b global bit"),
+    ]
+
+
+def test_attempts_that_have_a_fault_get_none():
+    found = [attempt(0, "a", "123#", fault="global bit"), attempt(1, "a", "123#", 1, 1)]
+    assert [place.faults[0].line for place in places_at(found, ["destroyed", "burst"])] == [
+        "1 global bit",
+        "1-16 global bit",
+    ]
+
+
+def test_texts_of_faults():
+    assert parse_fault("5 lastbit") == Fault(None, "5 lastbit")
+    assert parse_fault("1:can0:5-7 global bit").lines == ["5 global bit", "6 global bit", "7 global bit"]
+    assert str(parse_fault("1:can0:next 2 from a global form")) == "1:can0:next 2 from a global form"
+    for text in ("", "5", "x lastbit", "5 local crc", "1:5 lastbit"):
+        with pytest.raises(ValueError, match=re.escape("is no fault")):
+            parse_fault(text)
