@@ -253,8 +253,8 @@ def test_one_that_is_forgotten(server):
         time.sleep(0.02)
 
 
-# More than is read within the time, and at the end without a line's end.
-ENDLESS = "import os\nwhile True: os.write(1, b'x' * 99_999 + b'\\n')"
+# More than is read within the time of an expectation, but no more than a disk has.
+ENDLESS = "import os, signal\nfor _ in range(3000): os.write(1, b'x' * 99_999 + b'\\n')\nsignal.pause()"
 
 
 def peak():

@@ -11,7 +11,7 @@ import threading
 from pathlib import Path
 
 import pytest
-from test_commands import environment
+from test_commands import call, environment
 
 from canbusd import Bench, Server
 from canbusd.__main__ import COMMANDS, PROGRAM
@@ -68,11 +68,7 @@ TRIED = {
 
 def convert(folder, *words, **more):
     """The command `convert` in this folder: its status, and what it wrote."""
-    done = subprocess.run(
-        [sys.executable, "-m", "canbusd", "convert", *map(str, words)], cwd=folder, env=environment(), text=True,
-        stdin=subprocess.DEVNULL, capture_output=True, timeout=WAIT, check=False, **more,
-    )  # fmt: skip
-    return done.returncode, done.stdout, done.stderr
+    return call("convert", *words, cwd=folder, **more)
 
 
 def contents(folder):
