@@ -14,7 +14,7 @@
 #                   folder below PREFIX in which python3 looks for packages
 # make uninstall    removes them
 # make deb          makes a package for Debian of what make install installs
-# make wheel        makes a wheel of the Python package with the program of dist/, for pip
+# make wheel        makes a wheel of the Python package with the programs that make install takes, for pip
 # make clean        removes what was built here
 
 PREFIX ?= /usr/local
@@ -32,7 +32,7 @@ FISH = $(DESTDIR)$(PREFIX)/share/fish/vendor_completions.d
 # Where python3 looks for packages, below PREFIX.
 PYTHONDIR ?= $(shell ./scripts/python-package place "$(PREFIX)")
 # Tools that need python3 and the package: in bin/ each is a link.
-TOOLS = canbusd-report candump2bench
+TOOLS = candump2bench
 
 # The compiler of canbusd-run.
 CC_OF_RUN = $(if $(filter default,$(origin CC)),gcc,$(CC))
@@ -123,13 +123,11 @@ uninstall-extras:
 	rm -rf "$(DOCDIR)"
 
 # canbusd-run, where there is one that fits the sources or a gcc to build it: the command finds libraries and bridge beside it.
-RUN_FILES = canbusd-run canbusd-bridge libcanbusd-run.so libcanbusd-virtual.so
-
 install: install-run
 install-run:
 	install -d "$(BINDIR)" "$(LIBEXECDIR)" "$(MANDIR)" "$(COMPLETIONS)" "$(ZSH)" "$(FISH)"
-	if program=$$(./scripts/run-program choose); then \
-		for file in $(RUN_FILES); do install -m 755 "$$(dirname "$$program")/$$file" "$(LIBEXECDIR)/$$file" || exit; done && \
+	if files=$$(./scripts/run-program files); then \
+		install -m 755 $$files "$(LIBEXECDIR)" && \
 		ln -sf ../libexec/canbusd/canbusd-run "$(BINDIR)/canbusd-run" && \
 		install -m 644 canbusd-run.1 "$(MANDIR)/canbusd-run.1" && \
 		install -m 644 tools/completions/canbusd-run.bash "$(COMPLETIONS)/canbusd-run" && \

@@ -21,7 +21,7 @@ import canbusd
 from canbusd import Load
 from canbusd._process.program import find_program
 from canbusd._process.program_run import NUMBERS
-from canbusd.commands import NOTHING
+from canbusd._session.protocol import NO_FRAMES
 from canbusd.faults import Faults
 from canbusd.server import Server, ServerError
 
@@ -244,7 +244,7 @@ def test_the_load_of_a_bus():
     """A full bus is busy all the time, and an idle one never; each frame counts with the bits that follow it."""
     frame, size = message(1, bytes(8)), 500
     with Server("can0,can1", "car0", bitrate=50_000, txqueue=size) as server:
-        with server.bus("can0") as can0, server.bus("can1", can_filters=NOTHING) as can1, server.bus("car0") as car0:
+        with server.bus("can0") as can0, server.bus("can1", can_filters=NO_FRAMES) as can1, server.bus("car0") as car0:
 
             def is_full():
                 can0.send_many([frame] * (size - can0.stats().waiting), timeout=WAIT)
@@ -276,6 +276,31 @@ def test_what_a_server_says_of_a_full_record():
         with pytest.raises(can.CanInitializationError, match=f"^canbusd: channel 'can1' .*: {cure}"):
             server.bus("can1")
     assert "record full" in server.said
+
+
+class UntilFull:
+    """A clock for deadlines that goes on only once the record of a server is full."""
+
+    sleep = staticmethod(time.sleep)
+
+    def __init__(self, server):
+        self._server = server
+
+    def monotonic(self):
+        return 1000.0 if "record full" in self._server.said else 0.0
+
+
+@pytest.mark.parametrize("sends", ["one", "many"])
+def test_a_record_that_fills_while_a_send_waits(monkeypatch, sends):
+    """Without an acknowledgement no frame leaves the queue, and each attempt is an entry: the counts stay as they are."""
+    with Server("can0", ack="peers", limit=300, txqueue=2, observe=()) as server, server.bus("can0") as can0:
+        monkeypatch.setattr("canbusd._session.raw_session.time", UntilFull(server))
+        with pytest.raises(can.CanOperationError, match="^record full.*: start the server again with a higher limit="):
+            if sends == "one":
+                for number in range(3):
+                    can0.send(message(number), timeout=WAIT)
+            else:
+                can0.send_many([message(number) for number in range(3)], WAIT)
 
 
 def test_what_is_expected_where_the_record_is_full():

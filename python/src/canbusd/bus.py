@@ -38,7 +38,7 @@ from canbusd._session.protocol import (
     options,
 )
 from canbusd._session.raw_session import ERROR_CODES, RawSession, refusal
-from canbusd.frames import command_of, identifier_word, passes_filters, received, without_origin
+from canbusd.frames import command_of, frame_of_message, identifier_word, passes_filters, without_origin
 
 if TYPE_CHECKING:
     from can.typechecking import AutoDetectedConfig
@@ -340,9 +340,9 @@ class CanbusdBus(InjectsFaults, NamesWhatThereIs, BusABC):
     def _message(self, text: str) -> Message:
         """The message in this text; where own ones are received, one that was sent here is marked."""
         if not self._receives_own:
-            return received(self._make, *text.split()[1:])
+            return frame_of_message(self._make, *text.split()[1:])
         text, number = without_origin(text)
-        message = received(self._make, *text.split()[1:])
+        message = frame_of_message(self._make, *text.split()[1:])
         message.is_rx = number is None or not self._is_own(number)
         return message
 

@@ -32,13 +32,7 @@ PLACES = {
 BRS, ESI = 0x1, 0x2
 # How many bytes an FD frame may have.
 FD_LENGTHS = (*range(9), 12, 16, 20, 24, 32, 48, 64)
-# Regular expressions of a data or remote frame, of an FD frame and of an error message frame, as a record spells them.
-IDENTIFIER = "(?:[0-7][0-9A-F]{2}|[01][0-9A-F]{7})"
-FRAME = f"{IDENTIFIER}#(?:(?:[0-9A-F]{{2}}){{0,8}}|R[1-8]?)"
-FD_DATA = f"(?:{'|'.join(f'[0-9A-F]{{{2 * length}}}' for length in FD_LENGTHS)})"
-FD_FRAME = f"{IDENTIFIER}##0{FD_DATA}"
-# The same, with flags or without.
-FLAGGED_FRAME = f"{IDENTIFIER}##[0-3]{FD_DATA}"
+# A regular expression of an error message frame, as a record spells it.
 ERROR_FRAME = "[23][0-9A-F]{7}#[0-9A-F]{16}"
 
 # cansend's spelling: an FD frame has a second # and a digit of flags.
@@ -291,7 +285,7 @@ def command_of(message: MessageLike) -> str:
     return f"{words} {message.data.hex(' ').upper()}" if message.dlc else words
 
 
-def received(make: Callable[..., Made], kind: str, *words: str) -> Made:
+def frame_of_message(make: Callable[..., Made], kind: str, *words: str) -> Made:
     """Returns what `make` makes of the words of a message that hands over a frame."""
     if kind == "fdframex":
         flags, *words_of_frame = words
@@ -326,23 +320,12 @@ def without_origin(message: str) -> tuple[str, Optional[int]]:
 def frame_of(message: str) -> Optional[Frame]:
     """Returns the frame that a session's message, without `<` and `>`, hands over; None for an answer."""
     words = MESSAGE.fullmatch(message.strip())
-    return received(Frame, *words[1].split(" "), *words.groups(default="")[1:]) if words else None
-
-
-def error_frame(error_class: int, data: Union[bytes, Sequence[int]]) -> str:
-    """Returns the text of an error message frame: its class with the error flag, and 8 bytes."""
-    return f"{error_class | ERROR:08X}#{bytes(data).hex().upper()}"
+    return frame_of_message(Frame, *words[1].split(" "), *words.groups(default="")[1:]) if words else None
 
 
 def is_fd(text: str) -> bool:
     """Whether this is the text of an FD frame."""
     return "##" in text
-
-
-def flags_in(text: str) -> int:
-    """Returns the number of the flags of the frame with this text, or in a line with it; 0 for another frame."""
-    place = text.find("##")
-    return int(text[place + 2]) if place >= 0 else 0
 
 
 def is_error(text: str) -> bool:

@@ -6,11 +6,13 @@
 The program says what each entry of a record brought about, and refuses one that is not legal.
 """
 
+import contextlib
 import functools
 import os
+import re
 from collections.abc import Iterable, Sequence
 from dataclasses import dataclass, field
-from typing import Literal, Optional, Union, cast
+from typing import BinaryIO, Literal, Optional, Union, cast
 
 from canbusd._process.rates import Rates
 from canbusd._run.events import BadRecord, Events
@@ -26,6 +28,8 @@ __all__ = ["Attempt", "BadRecord", "Item", "Record", "audit", "fault_named", "pa
 Path = Union[str, "os.PathLike[str]"]
 Outcome = Literal["done", "lastbit", "destroyed", "noack", "idle"]
 Fate = Literal["taken", "waiting", "unread", "dropped"]
+# How records begin, and how many bytes of one that does not are shown to the program.
+BEGINNING, LINE = re.compile(b"canbus record [1-5]\n"), 256
 
 
 @dataclass(frozen=True)
@@ -159,6 +163,7 @@ def read_record(
     """
     check_no_log(path)
     with open(path, "rb") as file:
+        check_beginning(file)
         return parse_record(file.read(), path, names, cut, rates)
 
 
@@ -188,8 +193,22 @@ def parse_record(
 def read_run(path: Path, names: Optional[Sequence[str]], cut: bool, rates: Optional[Rates]) -> Record:
     """Returns the record in this file, as read_record does, but without its text, which may be large."""
     check_no_log(path)
-    with open(path, "rb") as file, Events(cut, rates, file) as events:
-        return record_of(events.texts_of_file(), b"", path, names, rates)
+    with open(path, "rb") as file:
+        check_beginning(file)
+        with Events(cut, rates, file) as events:
+            return record_of(events.texts_of_file(), b"", path, names, rates)
+
+
+def check_beginning(file: BinaryIO) -> None:
+    """BadRecord where a file begins as no record does: the program would read all of it before it says so."""
+    try:
+        text = os.pread(file.fileno(), LINE, 0)
+    except OSError:
+        # A pipe, whose beginning can't be read twice.
+        return
+    if not BEGINNING.match(text):
+        with Events(cut=True) as events, contextlib.suppress(StopIteration):
+            next(events.texts(text))
 
 
 def record_of(

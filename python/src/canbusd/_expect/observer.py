@@ -25,9 +25,9 @@ T = TypeVar("T")
 MOST_OBSERVED = 8
 # Up to how many of them have a session from the start, which receives their states at least. A server has 64 sessions.
 MOST_WITH_STATES = 16
-# How many frames a session keeps as they came, where nobody expects anything; what is more is handed on, so many at once,
-# and other threads, such as that of a rest bus, run for these seconds after each.
-MOST_UNREAD, SOME, BREATH = 20_000, 16, 0.0001
+# How many frames a session keeps as they came while nobody expects anything. More are handed on, so many at once, and then
+# other threads, such as that of a rest bus, run for these seconds.
+MOST_UNREAD_FRAMES, FRAMES_AT_ONCE, PAUSE_SECONDS = 20_000, 16, 0.0001
 
 #: In how many frames one is looked for that came earlier.
 MOST_TAKEN = 10_000
@@ -350,12 +350,12 @@ class Observer:
             for session in self._sessions.values():
                 session.read()
         while self._hand_some_on():
-            time.sleep(BREATH)
+            time.sleep(PAUSE_SECONDS)
 
     def _hand_some_on(self) -> bool:
         """Hands on some of the oldest frames of each session that has too many, and returns whether there was one."""
         with self._lock:
-            full = [session for session in self._sessions.values() if session.unread > MOST_UNREAD]
+            full = [session for session in self._sessions.values() if session.unread > MOST_UNREAD_FRAMES]
             for session in full:
-                session.hand_on_read(self.received.add, min(SOME, session.unread - MOST_UNREAD))
+                session.hand_on_read(self.received.add, min(FRAMES_AT_ONCE, session.unread - MOST_UNREAD_FRAMES))
             return bool(full)

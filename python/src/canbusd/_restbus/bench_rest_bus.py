@@ -7,6 +7,7 @@ from canbusd._calls import explained
 from canbusd._restbus.schedule import MICROS, micros
 from canbusd._session.arguments import check_within
 from canbusd._session.injection import Refused
+from canbusd._session.protocol import NO_FRAMES
 from canbusd.frames import Frame
 from canbusd.record import Attempt
 from canbusd.rest_bus import PASSING, RestBus, RestMessage
@@ -14,9 +15,6 @@ from canbusd.signals import Database
 
 if TYPE_CHECKING:
     from canbusd.bench import Bench
-
-# What no frame passes: everything, inverted.
-NOTHING = [{"can_id": 0x20000000, "can_mask": 0}]
 
 
 class BenchRestBus(RestBus):
@@ -27,7 +25,7 @@ class BenchRestBus(RestBus):
         self._bench, self._now = bench, micros(float(bench._moment))
         has_fd = any(message.format.is_fd for message in self.messages)
         self._sessions = {
-            name: bench.open(name, NOTHING, fd=has_fd, error_frames=False)
+            name: bench.open(name, NO_FRAMES, fd=has_fd, error_frames=False)
             for name in dict.fromkeys(interfaces.values())
         }
 

@@ -14,6 +14,8 @@ ALL_CLASSES = 0x1FFFFFFF
 # The states of an interface, by how bad they are.
 State = Literal["active", "warning", "passive", "off"]
 STATES: tuple[State, ...] = ("active", "warning", "passive", "off")
+# Filters that no frame passes: everything, inverted.
+NO_FRAMES = [{"can_id": INVERTED, "can_mask": 0}]
 
 Filters = Sequence[Mapping[str, Any]]
 A_FILTER = "{'can_id': 0x123, 'can_mask': 0x7FF}"

@@ -11,8 +11,9 @@ import canbusd._python_can  # noqa: F401  it says what is missing, so it comes f
 
 from can.exceptions import CanOperationError
 
+from canbusd._session.protocol import NO_FRAMES
 from canbusd.bus import CanbusdBus
-from canbusd.commands import NOTHING, add_address, add_database, database_of, least_zero
+from canbusd.commands import add_address, add_database, database_of, least_zero
 from canbusd.frames import BadFrame, Frame
 from canbusd.signals import Database, Value
 
@@ -81,7 +82,7 @@ def run(options: argparse.Namespace) -> None:
     """Sends the frames."""
     frames = list(frames_of_words(options.frames, database_of(options)))
     has_fd = any(frame.is_fd for frame in frames)
-    with CanbusdBus(options.interface, NOTHING, address=options.address, fd=has_fd, error_frames=False) as bus:
+    with CanbusdBus(options.interface, NO_FRAMES, address=options.address, fd=has_fd, error_frames=False) as bus:
         try:
             for frame in frames:
                 bus.send(frame.message(), timeout=options.timeout)
