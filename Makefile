@@ -1,11 +1,10 @@
 # make              proves and builds the program, and builds canbusd-run where there is a gcc
 # make run          builds canbusd-run only (canrun/)
-# make test         the test command: every proof, edit, test and example, and all that is outside of Rattle; `scripts/setup`
-#                   installs what it needs
-# make quick        every test and example of Rattle without proofs, in a few minutes, for work in between
-# make python-test  the tests of the Python package, on the program; needs python-can and pytest
-# make check        the program, its documents and tools from outside, by pytest; slow tests are left out (tests/), and what
-#                   else is skipped is listed with what it lacks. It takes some 5 minutes
+# make check        all that needs no kit: tests of the program, of canbusd-run and of the Python package, examples, types, form
+#                   and linters. Slow tests are left out, and what else is skipped is listed with what it lacks. PART=bench runs
+#                   one part of it; `scripts/outside --list` prints them
+# make test         the test command: all of that, and each proof, edit and test of Rattle. PART=unproved runs what a change of
+#                   Rattle needs in between, scripts/test says which parts there are; `scripts/setup` installs what it needs
 # make dist         puts the proved program into dist/, with what it was built from
 # make dist-run     puts canbusd-run into dist/, with what it was built from
 # make verify-dist  proves and builds it again from scratch, and compares it with dist/ byte for byte
@@ -46,13 +45,7 @@ run:
 	else echo "canbusd: there is no $(CC_OF_RUN), so canbusd-run is not built"; fi
 
 test:
-	./scripts/test
-
-quick:
-	./scripts/quick
-
-python-test:
-	./scripts/python-package test
+	./scripts/test $(if $(PART),"$(PART)")
 
 # Debian's python3 where there is one, since python-can is installed there.
 PYTHON ?= $(shell command -v /usr/bin/python3 || command -v python3)
@@ -60,7 +53,7 @@ PYTHON ?= $(shell command -v /usr/bin/python3 || command -v python3)
 check:
 	@$(PYTHON) -c 'import can, pytest' || { echo 'make check: $(PYTHON) has no python-can or no pytest;' \
 		'`apt-get install python3-can python3-pytest` for /usr/bin/python3, else PYTHON=.. names another' >&2; exit 1; }
-	$(PYTHON) -m pytest -q -rs -m "not slow and not sanitized" tests canrun/tests
+	@PYTHON="$(PYTHON)" ./scripts/outside $(if $(PART),"$(PART)")
 
 dist:
 	./scripts/program dist
@@ -149,5 +142,5 @@ wheel:
 clean:
 	rm -rf crates/*/out canrun/out python/build python/src/canbusd.egg-info
 
-.PHONY: all run test quick python-test check dist dist-run verify-dist install install-extras install-run uninstall \
+.PHONY: all run test check dist dist-run verify-dist install install-extras install-run uninstall \
 	uninstall-extras uninstall-run deb wheel clean

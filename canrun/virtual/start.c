@@ -1,7 +1,10 @@
 /* A program, or a bridge, becomes part of the run. */
 #define _GNU_SOURCE
 #include "calls.h"
+#include "proc.h"
+#include "random.h"
 #include "rights.h"
+#include "../command/program.h"
 #include "tell.h"
 
 #include <fcntl.h>
@@ -17,7 +20,7 @@
 /* The least number of the run's descriptor in a program, so that it is in nobody's way. */
 #define HIGH_DESCRIPTOR 900
 
-/* The coordinator, which sees who asks by the connection, sends the epoll. */
+/* The descriptor that comes with the coordinator's reply, -1 where there is none. */
 static int take_epoll(int fd) {
     struct rights rights;
     struct msghdr *message = rights_message(&rights, -1);
@@ -35,15 +38,27 @@ static int take_epoll(int fd) {
     return epoll;
 }
 
-bool register_process(void) {
+/* Asks the coordinator, which sees by the connection who asks; a connection with its reply, or -1. */
+static int ask_coordinator(const struct request *request) {
     struct sockaddr_un name = {.sun_family = AF_UNIX};
-    int length = snprintf(name.sun_path + 1, sizeof name.sun_path - 1, RUN_SOCKET, run->coordinator);
+    int length = snprintf(name.sun_path + 1, sizeof name.sun_path - 1, RUN_SOCKET, coordinator_pid);
     int fd = (int)RAW(SYS_socket, AF_UNIX, SOCK_SEQPACKET | SOCK_CLOEXEC, 0);
+    socklen_t size = (socklen_t)(offsetof(struct sockaddr_un, sun_path) + 1 + (size_t)length);
+    if (fd >= 0 && (RAW(SYS_connect, fd, &name, size) ||
+                    RAW(SYS_sendto, fd, request, sizeof *request, MSG_NOSIGNAL, NULL, 0) != sizeof *request)) {
+        RAW(SYS_close, fd);
+        return -1;
+    }
+    return fd;
+}
+
+bool register_process(void) {
+    const struct request request = {.alarm = NO_ALARM};
+    int fd = ask_coordinator(&request);
     if (fd < 0) {
         return false;
     }
-    socklen_t size = (socklen_t)(offsetof(struct sockaddr_un, sun_path) + 1 + (size_t)length);
-    int epoll = RAW(SYS_connect, fd, &name, size) ? -1 : take_epoll(fd);
+    int epoll = take_epoll(fd);
     RAW(SYS_close, fd);
     if (epoll >= 0) {
         if (run_epoll >= 0) {
@@ -54,8 +69,35 @@ bool register_process(void) {
     return epoll >= 0;
 }
 
+/* A program of another user may not take part: the coordinator sees it, and ends the run, which ends this one. */
+static void await_end_of_run(const char *path) {
+    const struct timespec second = {1, 0};
+    int coordinator = atoi(path + sizeof "/proc/" - 1);
+    while (coordinator > 0 && RAW(SYS_kill, coordinator, 0) != -ESRCH) {
+        RAW(SYS_nanosleep, &second, NULL);
+    }
+    RAW(SYS_exit_group, 125);
+}
+
+bool register_alarm(const struct alarm *alarm) {
+    const struct request request = {(uint32_t)(alarm - run->alarms), alarm->tid, alarm->number};
+    int fd = ask_coordinator(&request);
+    char reply;
+    long length = fd >= 0 ? RAW(SYS_recvfrom, fd, &reply, 1, 0, NULL, NULL) : -1;
+    while (length == -EINTR) {
+        length = RAW(SYS_recvfrom, fd, &reply, 1, 0, NULL, NULL);
+    }
+    if (fd >= 0) {
+        RAW(SYS_close, fd);
+    }
+    return length == 1;
+}
+
 static struct run *map_run(const char *path) {
     int fd = (int)RAW(SYS_openat, AT_FDCWD, path, O_RDWR | O_CLOEXEC);
+    if (fd == -EACCES || fd == -EPERM) {
+        await_end_of_run(path);
+    }
     if (fd < 0) {
         return NULL;
     }
@@ -72,7 +114,7 @@ static uint32_t find_slot(void) {
         uint32_t index = (uint32_t)atoi(given) % SLOTS;
         return run->slots[index].state == SLOT_BORN ? index : take_slot();
     }
-    for (uint32_t i = 0; i < run->used; i++) {
+    for (uint32_t i = 0; i < slots_used(); i++) {
         struct slot *slot = &run->slots[i];
         bool is_old = slot->pid == pid && slot->tid && slot->state != SLOT_FREE && slot->state != SLOT_BORN;
         bool has_it = i == turn_owner();
@@ -80,12 +122,12 @@ static uint32_t find_slot(void) {
             found = i;
         }
     }
-    for (uint32_t i = 0; i < run->used && found != NOBODY; i++) {
+    for (uint32_t i = 0; i < slots_used() && found != NOBODY; i++) {
         if (i != found && run->slots[i].pid == pid && run->slots[i].state != SLOT_BORN) {
             free_slot(&run->slots[i]); /* The other threads ended with execve. */
         }
     }
-    for (uint32_t i = 0; i < run->used && found == NOBODY; i++) {
+    for (uint32_t i = 0; i < slots_used() && found == NOBODY; i++) {
         struct slot *slot = &run->slots[i];
         if (slot->state == SLOT_BORN && slot->parent && (slot->pid == pid || (!slot->pid && slot->parent == parent))) {
             found = i;
@@ -94,9 +136,11 @@ static uint32_t find_slot(void) {
     return found == NOBODY ? take_slot() : found;
 }
 
+#define SELF "/proc/self/exe"
+
 static void recognize(void) {
     char path[PATH_MAX];
-    long length = RAW(SYS_readlinkat, AT_FDCWD, "/proc/self/exe", path, sizeof path - 1);
+    long length = RAW(SYS_readlinkat, AT_FDCWD, SELF, path, sizeof path - 1);
     path[length > 0 ? length : 0] = 0;
     const char *name = strrchr(path, '/');
     is_server = name && !strcmp(name, "/canbusd");
@@ -105,6 +149,28 @@ static void recognize(void) {
 #endif
 }
 
+#ifndef FOR_BRIDGE
+/* A tracer stops it at its calls, and waits for turns itself. */
+static void end_traced(void) {
+    char test[TEST_ROOM];
+    if (proc_tracer((uint32_t)RAW(SYS_getpid, 0))) {
+        tell(true, "%.60s (process %ld) is traced, as by strace or gdb, so it can't be in virtual time%s",
+             program_invocation_short_name, RAW(SYS_getpid, 0), tell_test(test));
+    }
+}
+
+/* What calls the kernel itself, as programs of Go do also where they load libraries, waits unseen: so the run ends at
+ * once. */
+static void end_bypassing(void) {
+    const char *obstacle = is_server ? NULL : program_bypass(SELF);
+    char test[TEST_ROOM];
+    if (obstacle) {
+        tell(true, "%.60s (process %ld) %s, so its waits are not seen%s; start it outside of the run",
+             program_invocation_short_name, RAW(SYS_getpid, 0), obstacle, tell_test(test));
+    }
+}
+#endif
+
 __attribute__((constructor(103))) static void start(void) {
     const char *path = getenv(RUN_SETTING);
     struct run *at = path && *path ? map_run(path) : NULL;
@@ -112,7 +178,11 @@ __attribute__((constructor(103))) static void start(void) {
         return;
     }
     run = at;
+    coordinator_pid = atoi(path + sizeof "/proc/" - 1);
     recognize();
+#ifndef FOR_BRIDGE
+    end_traced();
+#endif
     if (!register_process()) {
         char test[TEST_ROOM];
         tell(false, "the coordinator does not reply to %.60s (process %ld)%s", program_invocation_short_name,
@@ -125,4 +195,10 @@ __attribute__((constructor(103))) static void start(void) {
     start_signals();
 #endif
     begin_slot(index);
+#ifndef FOR_BRIDGE
+    start_random();
+    begin_first_thread();
+    timers_find();
+    end_bypassing();
+#endif
 }

@@ -9,7 +9,7 @@ import time
 
 import can
 import pytest
-from conftest import WAIT, message, shape
+from common import WAIT, message, shape
 
 from canbusd._session.pending_questions import MOST_PAGES, PAGE
 from canbusd.bus import CanbusdBus, interfaces

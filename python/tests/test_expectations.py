@@ -9,7 +9,7 @@ import pytest
 from canbusd._run.summary import end_of_log
 from canbusd.faults import Faults
 from canbusd.server import Server, ServerError
-from conftest import WAIT, message
+from common import WAIT, message
 
 OFF = Faults().destroyed(range(32))
 

@@ -6,7 +6,7 @@ import threading
 
 import can
 import pytest
-from conftest import WAIT, message, needs_live, shape
+from common import WAIT, message, needs_live, shape
 from test_record import LIVE, LIVE_RESTARTED
 
 from canbusd._run.live import GrowingFile, LiveLog, LiveRecord, left_by

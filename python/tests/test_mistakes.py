@@ -8,7 +8,7 @@ import pytest
 
 import canbusd
 from canbusd import Bench, Server, ServerError
-from conftest import WAIT, message
+from common import WAIT, message
 
 # Which of these errors it is, and words of its text in their order.
 WITHOUT_A_RUN = [

@@ -10,7 +10,7 @@ import time
 from pathlib import Path
 
 import pytest
-from conftest import WAIT, message
+from common import WAIT, message
 
 from canbusd import Server, ServerError
 from canbusd._process.output import BLOCK, MOST, Output, Search

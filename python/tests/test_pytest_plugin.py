@@ -7,7 +7,7 @@ from pathlib import Path
 from xml.etree import ElementTree
 
 import pytest
-from conftest import needs_live
+from common import needs_live
 from test_report import data_of
 
 import canbusd

@@ -9,7 +9,7 @@ from pathlib import Path
 
 import pytest
 from can.exceptions import CanOperationError
-from conftest import WAIT
+from common import WAIT
 
 from canbusd._restbus.punctuality import INTERVAL, Punctuality
 from canbusd._restbus.schedule import Schedule, phases

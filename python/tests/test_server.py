@@ -14,7 +14,7 @@ from pathlib import Path
 
 import can
 import pytest
-from conftest import WAIT, message, needs_live, shape
+from common import WAIT, message, needs_live, shape
 from on_wire import nanos_of
 
 import canbusd

@@ -7,7 +7,7 @@ import pytest
 
 from canbusd.server import Server
 from canbusd.signals import DatabaseError, load_database
-from conftest import WAIT, message
+from common import WAIT, message
 from test_report import data_of
 from test_signals import CAR
 

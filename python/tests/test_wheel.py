@@ -13,7 +13,7 @@ import zipfile
 import pytest
 
 import canbusd
-from conftest import PYTHON, WAIT
+from common import PYTHON, WAIT
 
 CLONE = PYTHON.parent
 NAME = f"canbusd-{canbusd.__version__}-py3-none-manylinux_2_34_x86_64.whl"
