@@ -3,6 +3,7 @@
 #include "bcm.h"
 
 #include <errno.h>
+#include <linux/can/raw.h>
 #include <stdlib.h>
 #include <string.h>
 

@@ -144,7 +144,7 @@ EXPORT FILE *fdopen(int fd, const char *mode) {
 /* The C library does not look at the number of such a stream; that of others that are no files is arbitrary. */
 #define IS_OF_FILE 0x2000
 EXPORT int fileno(FILE *stream) {
-    bool is_ours = stream && !(stream->_flags & IS_OF_FILE) && stream->_fileno >= 0 && is_can_socket(stream->_fileno);
+    bool is_ours = !(stream->_flags & IS_OF_FILE) && stream->_fileno >= 0 && is_can_socket(stream->_fileno);
     return is_ours ? stream->_fileno : real()->fileno(stream);
 }
 

@@ -263,6 +263,36 @@ def test_installed_in_a_folder_of_the_user(copy, tmp_path):
     assert (again.returncode, again.stdout) == (0, ""), again
 
 
+LISTEN = "  --listen is HOST:PORT, [V6]:PORT, or a Unix path that begins with / or .; a port is 0 to 65535\n"
+JOINED = "  names of a bus are joined by commas, without spaces: can0,can1\n"
+
+
+@pytest.mark.parametrize(
+    "words, said",
+    [
+        (["can0, can1"], JOINED),
+        (["--listen", "localhost", "can0"], LISTEN),
+        (["--listen=29536", "can0"], LISTEN),
+        (["--listen", "127.0.0.1:99999", "can0"], LISTEN),
+        (["--out", "nosuchdir", "can0"], "  --out is a folder that exists: mkdir 'nosuchdir'\n"),
+        (["--out=nosuchdir", "can0"], "  --out is a folder that exists: mkdir 'nosuchdir'\n"),
+        # The program says it all.
+        (["--listen", "/none/socket", "can0"], ""),
+        (["--out", ".", "--listen", "127.0.0.1:0", "can0,can0"], ""),
+    ],
+)
+def test_a_word_that_is_refused_is_followed_by_its_cure(launchers, tmp_path, words, said):
+    """the launcher adds what to do to what the program says"""
+    for launcher in launchers.values():
+        done = subprocess.run(
+            [launcher, "serve", *words], cwd=tmp_path, stdin=subprocess.DEVNULL, capture_output=True, text=True, check=False
+        )
+        alone = subprocess.run(
+            [program(), "serve", *words], cwd=tmp_path, stdin=subprocess.DEVNULL, capture_output=True, text=True, check=False
+        )
+        assert (done.returncode, done.stderr) == (1, alone.stderr + said)
+
+
 def test_staged(copy, tmp_path):
     """installed below DESTDIR"""
     words = "PREFIX=/usr", f"DESTDIR={tmp_path}/staged"

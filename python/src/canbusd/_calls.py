@@ -2,7 +2,6 @@
 
 import difflib
 import functools
-import inspect
 from collections.abc import Callable, Iterable, Mapping
 from typing import TYPE_CHECKING, Any, ClassVar, TypeVar, cast
 
@@ -63,6 +62,9 @@ def explained(cure: str = "") -> Callable[[F], F]:
 
 def misfit(function: Callable[..., Any], args: tuple[Any, ...], kwargs: Mapping[str, Any]) -> str:
     """Says why these are no arguments of a method; the empty text where they are."""
+    # It takes its time, and is for mistakes only.
+    import inspect
+
     signature = inspect.signature(function)
     # The first is the object.
     _, *parameters = [one.replace(annotation=one.empty) for one in signature.parameters.values()]
