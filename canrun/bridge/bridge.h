@@ -14,6 +14,7 @@
 #include <stdbool.h>
 #include <stddef.h>
 #include <stdint.h>
+#include <sys/param.h>
 #include <sys/types.h>
 
 /* The bridge's end of the pair. */
@@ -22,8 +23,6 @@
 #define NUMBERS_KEPT (1u << 24)
 /* Seconds that a server is given for a reply. */
 #define PATIENCE 5
-#define MIN(a, b) ((a) < (b) ? (a) : (b))
-#define MAX(a, b) ((a) > (b) ? (a) : (b))
 
 /* ---- main.c ---- */
 

@@ -67,7 +67,7 @@ static int64_t sooner(int64_t one, int64_t other) {
     return one < 0 ? other : other < 0 ? one : MIN(one, other);
 }
 
-/* Who sends something may be brought items, which are asked about before the wait. */
+/* Items may come with the verdict on a frame that is sent here: the sessions are asked about them before the wait. */
 static int64_t do_due(void) {
     int64_t due;
     do {

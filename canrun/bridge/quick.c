@@ -5,7 +5,6 @@
 #include <errno.h>
 #include <fcntl.h>
 #include <linux/futex.h>
-#include <stdio.h>
 #include <string.h>
 #include <sys/mman.h>
 #include <sys/random.h>
@@ -52,7 +51,8 @@ int quick_share(int to) {
 
 static void put_reply(struct wire_place *place, int error, int value, bool is_nowhere) {
     place->reply = (struct wire_reply){error, value, is_nowhere};
-    snprintf(place->text, sizeof place->text, "%s", error ? refusal : "");
+    place->text[0] = 0;
+    strncat(place->text, error ? refusal : "", sizeof place->text - 1);
     __atomic_store_n(&place->state, PLACE_REPLIED, __ATOMIC_RELEASE);
     if (is_virtual()) {
         wake_number(memory->key + (uint64_t)(place - memory->places));

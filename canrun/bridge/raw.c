@@ -191,8 +191,14 @@ void raw_want_own(void) {
 
 /* ---- frames ---- */
 
+static bool waits;
+
+__attribute__((constructor)) static void read_setting(void) {
+    waits = getenv("CANBUSD_RUN_WAIT");
+}
+
 bool raw_waits(void) {
-    return getenv("CANBUSD_RUN_WAIT");
+    return waits;
 }
 
 int raw_send(struct session *to, const struct canfd_frame *frame, bool is_fd, const struct later *later) {
@@ -244,6 +250,11 @@ static int raw_sendmsg(const struct wire_request *request, const char *data, siz
     return raw_write(request->ifindex, data, length, request_waits(request, reply_to) ? &later : NULL);
 }
 
+static int raw_getname(struct sockaddr_can *address, bool is_peer) {
+    (void)address;
+    return is_peer ? refused(EOPNOTSUPP, "a socket of CAN_RAW has no peer") : 0;
+}
+
 static int raw_bind(const struct sockaddr_can *address) {
     return sessions_bind(address->can_ifindex);
 }
@@ -272,6 +283,7 @@ static void raw_receive(const struct item *item, int index) {
 
 const struct protocol raw_protocol = {
     .bind = raw_bind,
+    .getname = raw_getname,
     .setsockopt = raw_setsockopt,
     .getsockopt = raw_getsockopt,
     .sendmsg = raw_sendmsg,

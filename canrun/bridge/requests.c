@@ -157,15 +157,12 @@ static int get_option(int option, struct reply *reply) {
     return protocol->getsockopt ? protocol->getsockopt(option, reply->data, &reply->head.length) : no_call();
 }
 
-static int get_address(struct reply *reply) {
+static int get_address(bool is_peer, struct reply *reply) {
     struct sockaddr_can address = {.can_family = AF_CAN, .can_ifindex = bound_index};
-    if (protocol->getname) {
-        protocol->getname(&address);
-    }
+    int error = protocol->getname ? protocol->getname(&address, is_peer) : no_call();
     memcpy(reply->data, &address, sizeof address);
-    reply->head.value = bound_index;
     reply->head.length = sizeof address;
-    return 0;
+    return error;
 }
 
 /* The interface that the socket is bound to as a device, of which CAN takes no notice. */
@@ -182,7 +179,7 @@ static int carry_out(const struct wire_request *request, const char *data, size_
     case WIRE_SOCKET_SET: outbox_set(request->option, request->number); return 0;
     case WIRE_SET_DEVICE: device = request->ifindex; return 0;
     case WIRE_GET_DEVICE: reply->head.value = device; return 0;
-    case WIRE_ADDRESS: return get_address(reply);
+    case WIRE_ADDRESS: return get_address(request->option, reply);
     case WIRE_ERROR: reply->head.value = error_take(); return 0;
     case WIRE_CLOSE: return begin_close(to);
     case WIRE_CANCEL: return cancel(to);

@@ -102,7 +102,8 @@ static uint32_t message_flags(const struct session *session, const struct item *
 /* Takes the counts; false where the text is another. */
 static bool note_counts(struct session *session, const char *text, unsigned long *queued, unsigned *dropped) {
     unsigned long done, waiting, lost;
-    if (sscanf(text, "stats %lu %u %*u %*u %lu %lu %lu", queued, dropped, &done, &waiting, &lost) != 5) {
+    if (strncmp(text, "stats ", 6) ||
+        sscanf(text, "stats %lu %u %*u %*u %lu %lu %lu", queued, dropped, &done, &waiting, &lost) != 5) {
         return false;
     }
     session->gone = done + lost;

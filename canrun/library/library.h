@@ -18,6 +18,7 @@
 #include <stdio.h>
 #include <sys/epoll.h>
 #include <sys/ioctl.h>
+#include <sys/param.h>
 #include <sys/sendfile.h>
 #include <sys/socket.h>
 #include <sys/stat.h>
@@ -25,7 +26,6 @@
 #include <unistd.h>
 
 #define EXPORT __attribute__((visibility("default")))
-#define MIN(a, b) ((a) < (b) ? (a) : (b))
 
 /* The functions of the C library that are called by those of this one. */
 #define REAL_FUNCTIONS(X) \

@@ -64,7 +64,7 @@ int read_target(const struct msghdr *message, int32_t *index) {
 
 /* Has the protocol send a message; pieces that are too many for one call of the kernel with the request are joined. */
 static ssize_t send_message(const struct socket *sock, struct msghdr *message, int flags) {
-    size_t length = room_of(message, WIRE_LARGEST + 1);
+    size_t length = message->msg_iovlen <= PIECES ? 0 : room_of(message, WIRE_LARGEST + 1);
     if (message->msg_iovlen <= PIECES || length > WIRE_LARGEST) {
         return sock->protocol->sendmsg(sock, message, flags);
     }

@@ -15,8 +15,9 @@
 #include <sys/resource.h>
 #include <sys/syscall.h>
 
-/* A socket has one of these: one of the few that follow the sum of its name. */
-#define KNOWN 256
+/* A socket has one of these: one of the few from the hash of its name on. */
+#define KNOWN_BITS 8
+#define KNOWN (1u << KNOWN_BITS)
 #define FEW 16
 /* Nobody can use it now: it becomes that of another socket. */
 #define IS_CHANGING (1u << 31)
@@ -41,12 +42,14 @@ void share_leave(struct shared *one) {
     __atomic_fetch_sub(&one->users, 1, __ATOMIC_RELEASE);
 }
 
-static uint32_t sum_of(const char *name) {
-    uint32_t sum = 0;
-    for (size_t i = 0; i < WIRE_NAME_ROOM && name[i]; i++) {
-        sum = sum * 31 + (unsigned char)name[i];
+/* Fibonacci hashing: each bit of a name changes the upper ones of the product. */
+static uint32_t hash_of(const char *name) {
+    uint64_t hash = 0, word;
+    for (size_t i = 0; i < WIRE_NAME_ROOM; i += sizeof word) {
+        memcpy(&word, name + i, sizeof word);
+        hash = (hash ^ word) * 0x9E3779B97F4A7C15;
     }
-    return sum;
+    return (uint32_t)(hash >> (64 - KNOWN_BITS));
 }
 
 /* Makes it that of this socket, where no thread uses it. */
@@ -83,9 +86,9 @@ static void forget_closed(void) {
 /* Makes one of the few that of this socket. */
 static bool keep(const char *name, struct wire_memory *memory) {
     static uint32_t turn;
-    uint32_t sum = sum_of(name), first = __atomic_fetch_add(&turn, 1, __ATOMIC_RELAXED);
+    uint32_t hash = hash_of(name), first = __atomic_fetch_add(&turn, 1, __ATOMIC_RELAXED);
     for (uint32_t i = 0; i < FEW; i++) {
-        if (change(&known[(sum + (first + i) % FEW) % KNOWN], name, memory)) {
+        if (change(&known[(hash + (first + i) % FEW) % KNOWN], name, memory)) {
             return true;
         }
     }
@@ -94,9 +97,9 @@ static bool keep(const char *name, struct wire_memory *memory) {
 
 /* That of the socket with this name, which is used from now on; NULL where there is none yet. */
 static struct shared *find(const char *name) {
-    uint32_t sum = sum_of(name);
+    uint32_t hash = hash_of(name);
     for (uint32_t i = 0; i < FEW; i++) {
-        struct shared *one = &known[(sum + i) % KNOWN];
+        struct shared *one = &known[(hash + i) % KNOWN];
         bool is_changing = __atomic_fetch_add(&one->users, 1, __ATOMIC_ACQUIRE) & IS_CHANGING;
         if (!is_changing && one->memory && !memcmp(one->name, name, sizeof one->name)) {
             return one;

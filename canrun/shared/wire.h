@@ -35,7 +35,7 @@ enum wire_kind {
     WIRE_SOCKET_SET, /* `option` of SOL_SOCKET, which the kernel has set, so that the bridge knows of it */
     WIRE_SET_DEVICE, /* SO_BINDTODEVICE, which the kernel does not keep; the index is `ifindex` */
     WIRE_GET_DEVICE, /* the same; it is the reply's value */
-    WIRE_ADDRESS,    /* the reply's data are the address that the socket is bound to, its value the index of that */
+    WIRE_ADDRESS,    /* the reply's data are the address of the socket; with an `option`, of its peer */
     WIRE_ERROR,      /* takes the socket's error, which is the reply's value; 0 where another has taken it */
     WIRE_CLOSE,      /* the socket is closed once a byte comes by what is no pipe, but one end of a pair; the end of a
                       * message is waited for until another comes, or the other end is gone */

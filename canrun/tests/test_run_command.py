@@ -171,6 +171,33 @@ def test_numbers_of_a_long_run():
         server.close()
 
 
+#: Has two frames sent, the second by a timer, and shows of each that it receives its number.
+TIMED_FRAMES = """
+import socket, struct
+with socket.socket(socket.PF_CAN, socket.SOCK_DGRAM, socket.CAN_BCM) as can:
+    can.settimeout(20)
+    can.connect(("",))
+    def task(opcode, flags, count, frames):
+        return struct.pack("IIIqqqqII", opcode, flags, count, 0, 1000, 0, 0, 0x123, len(frames)) + b"".join(frames)
+    can.send(task(socket.CAN_BCM_RX_SETUP, socket.CAN_BCM_RX_FILTER_ID | socket.CAN_BCM_RX_NO_AUTOTIMER, 0, []))
+    start = socket.CAN_BCM_SETTIMER | socket.CAN_BCM_STARTTIMER
+    can.sendto(task(socket.CAN_BCM_TX_SETUP, start, 2, [struct.pack("=IB3x8s", 0x123, 0, b"")]), ("can0",))
+    for _ in range(4):
+        print(struct.unpack_from("I", can.recv(200))[0] == socket.CAN_BCM_RX_CHANGED)
+"""
+
+
+def test_frames_that_come_with_a_verdict():
+    """what comes with the verdict on a frame that a timer has sent is handed over, though nothing comes after it"""
+    with socket.create_server(("127.0.0.1", 0)) as server:
+        address = f"127.0.0.1:{server.getsockname()[1]}"
+        numbers = [(1, 2), (3, 4)]
+        threading.Thread(target=answer_sessions, args=(server, numbers), daemon=True).start()
+        ended = alone("--address", address, "/usr/bin/python3", "-c", TIMED_FRAMES)
+        assert ended.stdout.split() == 4 * ["True"], ended
+        server.close()
+
+
 def answer_sessions(server, numbers):
     """Greets each session, and answers a frame with its number, and with the frame and another one of its interface."""
     with contextlib.suppress(OSError):
@@ -181,7 +208,7 @@ def answer_sessions(server, numbers):
 
 def answer_session(connection, numbers):
     connection.sendall(b"< hi >")
-    text = ""
+    text, handed_over = "", 0
     with connection:
         while piece := connection.recv(4096):
             *messages, text = (text + piece.decode()).split(">")
@@ -190,9 +217,15 @@ def answer_session(connection, numbers):
                 if word == "send":
                     own, other = numbers.pop(0)
                     handed = "".join(f"< frame 123 0.000000  same {number} >" for number in (own, other))
+                    handed_over += 2
                     answer = f"< ack {own} >{handed}"
                 else:
-                    answer = {"echo": "< echo >", "interfaces": "< interfaces can0 >"}.get(word, "< ok >")
+                    known = {
+                        "echo": "< echo >",
+                        "interfaces": "< interfaces can0,can1 >",
+                        "stats": f"< stats {handed_over} 0 0 0 0 0 0 >",
+                    }
+                    answer = known.get(word, "< ok >")
                 connection.sendall(answer.encode())
 
 

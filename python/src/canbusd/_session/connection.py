@@ -34,6 +34,9 @@ POLL, LONGEST_POLL = 0.0002, 0.01
 LONGEST_WAIT = 3600.0
 # Seconds after which a thread looks for what another one has read, if that was interrupted before it woke it.
 LONGEST_NAP = 1.0
+# Who listens at an address may be anybody, and terminals carry out what they take for a command: other characters than those
+# that messages have are `?`, and all kinds of space one.
+PRINTED = bytes(32 if byte in b"\t\n\v\f\r" else byte if 32 <= byte < 127 else ord("?") for byte in range(256))
 
 T = TypeVar("T")
 
@@ -349,7 +352,7 @@ class Connection:
     def _sort(self) -> None:
         """Sorts what was read, messages which may be cut anywhere, into frames and answers."""
         is_end = b"" in self._pieces
-        messages = (self._rest + b"".join(self._pieces).decode("ascii", "replace")).split(">")
+        messages = (self._rest + b"".join(self._pieces).translate(PRINTED).decode("ascii")).split(">")
         rest = messages.pop()
         asked, frames, unasked = self._asked.sorted(messages, self._note)
         # All of it or nothing: no handler of a signal is called before the frames are there.

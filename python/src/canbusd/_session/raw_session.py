@@ -40,6 +40,11 @@ def refusal(text: str, after: str = "") -> Exception:
     return fault("CanOperationError", f"{text}{after}{CURES.get(text, '')}", ERROR_CODES.get(text))
 
 
+def stayed_full(after: str = "") -> Exception:
+    """The exception for a transmit queue that made no room in time."""
+    return fault("CanTimeoutError", f"{NO_BUFFERS}{after}: the transmit queue stayed full", errno.ENOBUFS)
+
+
 def with_cure(text: str) -> str:
     """Returns a text with what to do, where it ends as a full record's does."""
     return f"{text}{CURES[RECORD_FULL]}" if text.endswith(RECORD_FULL) else text
@@ -120,10 +125,13 @@ class RawSession(InjectsFaults):
         answer = self.answer(command)
         if answer == NO_BUFFERS and timeout is not None and timeout > 0:
             deadline = time.monotonic() + timeout
-            before: Optional[Stats] = None
-            while answer == NO_BUFFERS:
-                before = self._departure(before, deadline)
+            stats: Optional[Stats] = None
+            is_late = False
+            while answer == NO_BUFFERS and not is_late:
+                stats, is_late = self._departure(stats, deadline)
                 answer = self.answer(command)
+            if answer == NO_BUFFERS:
+                raise stayed_full()
         if answer:
             raise refusal(answer)
 
@@ -137,17 +145,20 @@ class RawSession(InjectsFaults):
         stats = self.stats()
         deadline = time.monotonic() + (self._timeout if timeout is None else timeout)
         while rest:
-            room = window - stats.waiting
+            room, is_late = window - stats.waiting, False
             if room < 1:
-                stats = self._departure(stats, deadline, f" after {total - len(rest)} of {times(total, 'message')}")
+                stats, is_late = self._departure(stats, deadline)
                 room = max(1, window - stats.waiting)
             answers = self.answers([*rest[:room], "stats"])
             stats = self._parsed(answers.pop(), stats_of)
             refused = [command for command, answer in zip(rest, answers) if answer]
             rest[: len(answers)] = refused
             reason = next((answer for answer in answers if answer not in ("", NO_BUFFERS)), None)
+            after = f" after {total - len(rest)} of {times(total, 'message')}"
             if reason is not None:
-                raise refusal(reason, f" after {total - len(rest)} of {times(total, 'message')}")
+                raise refusal(reason, after)
+            if refused and is_late:
+                raise stayed_full(after)
             if len(refused) < len(answers) and timeout is None:
                 deadline = time.monotonic() + self._timeout
             window = max(1, stats.waiting) if refused else min(most, window + 1)
@@ -156,7 +167,8 @@ class RawSession(InjectsFaults):
         """Brings the interface back from bus off; that it is not bus off is a fault unless it is not `is_needed`."""
         answer = self.answer("restart")
         if answer and (is_needed or answer != NOT_BUS_OFF):
-            raise refusal(answer)
+            state = f", but {self.error_counters().state}" if answer == NOT_BUS_OFF else ""
+            raise refusal(f"{self.channel}: {answer}{state}")
 
     def error_counters(self) -> ErrorCounters:
         """Returns the state of the interface and its error counts."""
@@ -184,17 +196,16 @@ class RawSession(InjectsFaults):
         """The exception of python-can of this kind."""
         return fault(kind, with_cure(text))
 
-    def _departure(self, before: Optional[Stats], deadline: float, after: str = "") -> Stats:
-        """Waits until a frame has left the transmit queue since these counts, and returns the counts then.
+    def _departure(self, before: Optional[Stats], deadline: float) -> tuple[Stats, bool]:
+        """Waits until a frame has left the transmit queue since these counts, or until the deadline.
 
-        A refused send is an entry of the record; looking at the counts is none.
+        Returns the counts then, and whether the deadline is over. The counts don't say whether a frame can still leave: a
+        last send does, which reports a full record. A refused send is an entry of the record; looking at the counts is none.
         """
         pause = POLL
         while True:
-            now = self.stats()
-            if time.monotonic() >= deadline:
-                raise fault("CanTimeoutError", f"{NO_BUFFERS}{after}: the transmit queue stayed full", errno.ENOBUFS)
-            if before is None or now.done + now.lost != before.done + before.lost:
-                return now
+            now, is_late = self.stats(), time.monotonic() >= deadline
+            if is_late or before is None or now.done + now.lost != before.done + before.lost:
+                return now, is_late
             time.sleep(min(pause, max(0.0, deadline - time.monotonic())))
             pause = min(2 * pause, LONGEST_POLL)
