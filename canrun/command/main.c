@@ -46,7 +46,8 @@ static const char HELP[] =
     "  --stall S             give up, with status 125, where nothing goes on for so many seconds of real time\n"
     "                        (default: 30; 0: never)\n"
     "  --seed N              another order of those that are due at one moment, the same for each N (default: 0, by age)\n"
-    "  --jitter MICROS       each timed wait is longer by up to so many microseconds, which N determines (default: 0)\n"
+    "  --jitter MICROS       each timed wait is longer by up to so many microseconds, which N determines (default: 0); to\n"
+    "                        find a race it has to exceed the time between the events that are to change places\n"
     "\n"
     "CANBUSD_RUN_DEBUG=1 in the environment writes each call that is refused, and why, to standard error.\n"
     "The status is the program's; 125 where canbusd-run fails, 126 where PROGRAM can't be run, 127 where there is none.\n";

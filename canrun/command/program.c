@@ -42,14 +42,24 @@ static bool read_at(int fd, void *data, size_t length, size_t offset) {
     return pread(fd, data, length, (off_t)offset) == (ssize_t)length;
 }
 
-/* Go marks its programs by a note of this owner. */
-static bool is_note_of_go(int fd, const Elf64_Phdr *segment) {
+/* Go marks its programs by a note of this owner; the linker of a program with C in it puts it after others. */
+static bool has_note_of_go(int fd, const Elf64_Phdr *segment) {
     struct {
         Elf64_Nhdr head;
         char owner[4];
     } note;
-    return segment->p_type == PT_NOTE && read_at(fd, &note, sizeof note, segment->p_offset) &&
-           note.head.n_namesz == 4 && !memcmp(note.owner, "Go\0", 4);
+    size_t align = segment->p_align > 4 ? segment->p_align : 4;
+    for (size_t at = 0; segment->p_type == PT_NOTE && at + sizeof note <= segment->p_filesz;) {
+        if (!read_at(fd, &note, sizeof note, segment->p_offset + at)) {
+            return false;
+        }
+        if (note.head.n_namesz == 4 && !memcmp(note.owner, "Go\0", 4)) {
+            return true;
+        }
+        size_t name = ((size_t)note.head.n_namesz + 3) / 4 * 4;
+        at += (sizeof note.head + name + note.head.n_descsz + align - 1) / align * align;
+    }
+    return false;
 }
 
 static bool is_loader_of_musl(int fd, const Elf64_Phdr *segment) {
@@ -73,7 +83,7 @@ static const char *elf_obstacle(int fd) {
     for (size_t i = 0; i < head.e_phnum && read_at(fd, &segment, sizeof segment, head.e_phoff + i * head.e_phentsize);
          i++) {
         is_dynamic |= segment.p_type == PT_INTERP;
-        is_go |= is_note_of_go(fd, &segment);
+        is_go |= has_note_of_go(fd, &segment);
         is_musl |= is_loader_of_musl(fd, &segment);
     }
     return is_go         ? "is a Go program, which calls the kernel itself"

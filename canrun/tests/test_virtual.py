@@ -4,7 +4,6 @@ import contextlib
 import os
 import random
 import re
-import shutil
 import signal
 import socket
 import subprocess
@@ -13,60 +12,11 @@ import time
 
 import pytest
 
-from running import FLAGS, command, needs, needs_gcc
+from running import FLAGS, command, needs_gcc
 from serving import ROOT, come_true, program
+from virtual_runs import CASES, SOURCES, case, fails, needs_can, needs_tools, nodes, virtual
 
-SOURCES = os.path.join(ROOT, "canrun", "tests", "virtual_c")
-CASES = os.path.join(ROOT, "canrun", "tests", "virtual_cases")
-#: How often a case is run in the suite.
-RUNS = 5
-
-has_can = subprocess.run([sys.executable, "-c", "import can"], check=False, capture_output=True).returncode == 0
-needs_can = pytest.mark.skipif(not has_can, reason="no python-can")
-needs_tools = needs("candump", "cangen", "canplayer")
-
-
-@pytest.fixture(scope="module")
-def nodes(tmp_path_factory):
-    """The folder of the C programs."""
-    folder = tmp_path_factory.mktemp("nodes")
-    for name in ("bcm", "cyclic", "full", "isotp", "lent", "race", "respond", "slow_end", "unseen", "waits"):
-        source = os.path.join(SOURCES, f"{name}.c")
-        subprocess.run(["gcc", *FLAGS, "-o", str(folder / name), source], check=True)
-    return folder
-
-
-def virtual(*words, options=(), patience=300, **how):
-    """Runs a program in virtual time; how it ended, and what it wrote."""
-    line = [command(), "--virtual", *options, "--", *map(str, words)]
-    return subprocess.run(line, capture_output=True, text=True, timeout=patience, check=False, **how)
-
-
-def files_below(folder):
-    """What the files of a folder have, by their names."""
-    return {
-        str(path.relative_to(folder)): path.read_bytes()
-        for path in sorted(folder.rglob("*"))
-        if path.is_file() and path.name != "address"
-    }
-
-
-def case(name, folder, nodes, options=(), **settings):
-    """Runs a case of virtual_cases/; what it wrote, and the files that it left."""
-    env = {
-        **os.environ,
-        "RUN": command(),
-        "CANBUSD": program(),
-        "NODES": str(nodes),
-        "CASES": CASES,
-        "OUT": str(folder),
-    }
-    env.update(PYTHON=sys.executable, PYTHONPATH=os.path.join(ROOT, "python", "src"), PYTHONDONTWRITEBYTECODE="1")
-    env.pop("PYTEST_ADDOPTS", None)
-    script = os.path.join(CASES, f"{name}.sh")
-    ended = virtual("bash", script, options=options, env={**env, "KIND": "", **settings})
-    assert ended.returncode == 0, ended
-    return {"stdout": ended.stdout, "stderr": ended.stderr, **files_below(folder)}
+__all__ = ["nodes"]
 
 
 @needs_gcc
@@ -141,48 +91,6 @@ def test_isotp(tmp_path, nodes):
     assert sent[2].endswith("write of 60 after 1.000000 s: -1 Communication error on send")
 
 
-SAME = [
-    *(("nodes", ""), ("tools", ""), ("isotp", ""), ("bcm", ""), ("worst_case", ""), ("senders", "")),
-    ("bus_off", "auto"),
-    *(pytest.param(*words, marks=needs_can) for words in (("bus_off", "program"), ("pytest", ""))),
-    *(pytest.param("python", kind, marks=needs_can) for kind in ("socketcan", "canbusd")),
-]
-
-
-def all_same(name, kind, folder, nodes, runs):
-    """Runs a case so often, and compares what each run left with that of the first."""
-    first = case(name, folder / "0", nodes, KIND=kind)
-    for number in range(1, runs):
-        left = case(name, folder / str(number), nodes, KIND=kind)
-        differ = [key for key in {*first, *left} if first.get(key) != left.get(key)]
-        assert not differ, f"run {number}: {differ}"
-        shutil.rmtree(folder / str(number))
-
-
-@needs_gcc
-@needs_tools
-@pytest.mark.parametrize("name, kind", SAME)
-@pytest.mark.parametrize("runs", [RUNS, pytest.param(100, marks=pytest.mark.slow)])
-def test_same_bytes(tmp_path, nodes, name, kind, runs):
-    """logs, records and all outputs are the same each time"""
-    all_same(name, kind, tmp_path, nodes, runs)
-
-
-@pytest.mark.slow
-@needs_gcc
-@needs_tools
-@pytest.mark.parametrize("name, kind", SAME)
-def test_same_bytes_beside_others(tmp_path, nodes, name, kind):
-    """the same beside four processes that burn the processors"""
-    burners = [subprocess.Popen(["nice", "-n", "19", "sh", "-c", "while :; do :; done"]) for _ in range(4)]
-    try:
-        all_same(name, kind, tmp_path, nodes, 100)
-    finally:
-        for burner in burners:
-            burner.kill()
-            burner.wait()
-
-
 def sockets(folder, nodes, script):
     """Runs a shell script between start and stop of a server; what it printed, the frames of can0, the turns taken."""
     settings = {"RUN": command(), "CANBUSD": program(), "NODES": str(nodes), "CASES": CASES, "OUT": str(folder)}
@@ -230,27 +138,6 @@ def test_lent_sessions(tmp_path, nodes):
             f'aside "$NODES/lent" turns 500; node=$!; sleep 0.{number}1; kill -9 $node; inside "$NODES/lent" filter'
         )
         assert sockets(tmp_path / f"killed{number}", nodes, script)[0] == plain[0]
-
-
-@needs_gcc
-@needs_tools
-def test_seeds(tmp_path, nodes):
-    """another seed has runs of its own, which are the same each time"""
-    options = ("--seed", "5", "--jitter", "300")
-    left = [
-        case("nodes", tmp_path / name, nodes, words, FRAMES="20") for name, words in zip("abc", (options, options, ()))
-    ]
-    assert left[0] == left[1] != left[2]
-
-
-@needs_gcc
-def test_race(nodes):
-    """a race that the usual order never shows is found by a seed, and repeated by it"""
-    assert virtual(nodes / "race").stdout == "all are unique\n"
-    found = [virtual(nodes / "race", options=("--seed", str(seed), "--jitter", "500")).stdout for seed in range(12)]
-    assert 1 <= sum("given out twice" in text for text in found) <= 11, found
-    again = [virtual(nodes / "race", options=("--seed", str(seed), "--jitter", "500")).stdout for seed in range(12)]
-    assert again == found
 
 
 def test_shell():
@@ -318,11 +205,6 @@ def test_lock_of_a_file(tmp_path):
     text = '(flock 8; sleep 5) 8>"$0" & sleep 1; flock "$0" date +%s; wait'
     ended = virtual("sh", "-c", text, tmp_path / "lock")
     assert (ended.returncode, ended.stdout, ended.stderr) == (0, "1767225605\n", ""), ended
-
-
-def fails(ended, pattern):
-    """Whether a run has ended with status 125 and a line that names program and reason."""
-    assert ended.returncode == 125 and re.search(pattern, ended.stderr), ended
 
 
 @needs_gcc

@@ -2,8 +2,13 @@
 #define _GNU_SOURCE
 #include "calls.h"
 
+#include <sched.h>
+#include <sys/sysinfo.h>
 #include <sys/time.h>
 #include <sys/times.h>
+#include <sys/timex.h>
+#include <threads.h>
+#include <unistd.h>
 
 /* A thread that looks at the clock this often without a wait between: then 10 microseconds pass, and after each further
  * hundred looks twice as many, up to a millisecond. So waiting by looking ends, and the same in each run. */
@@ -27,6 +32,10 @@ void looked(void) {
         my.looked_at = run->now;
         my.step = step * 2 > LAST_STEP ? LAST_STEP : step * 2;
     }
+}
+
+void forget_look(void) {
+    my.looks -= my.looks > 0;
 }
 
 bool is_of_day(clockid_t id) {
@@ -64,6 +73,8 @@ EXPORT int gettimeofday(struct timeval *restrict t, void *restrict zone) {
     return 0;
 }
 
+ALSO(__gettimeofday, gettimeofday)
+
 EXPORT time_t time(time_t *t) {
     struct timespec now;
     clock_gettime(CLOCK_REALTIME, &now);
@@ -82,22 +93,65 @@ EXPORT clock_t times(struct tms *used) {
     return run ? (clock_t)((run->now + UPTIME) / (SECOND / 100)) : (clock_t)result;
 }
 
-/* The clock of a run is set by nobody. */
+/* What a machine says of itself, with how long it is up. */
+EXPORT int sysinfo(struct sysinfo *info) {
+    int result = (int)answer(RAW(SYS_sysinfo, info));
+    if (run && !result) {
+        info->uptime = (long)((run->now + UPTIME) / SECOND);
+    }
+    return result;
+}
+
+/* ---- clocks of a run are set by nobody ---- */
+
 EXPORT int clock_settime(clockid_t id, const struct timespec *t) {
     return run ? (errno = EPERM, -1) : (int)answer(RAW(SYS_clock_settime, id, t));
 }
+
+EXPORT int settimeofday(const struct timeval *t, const struct timezone *zone) {
+    return run ? (errno = EPERM, -1) : (int)answer(RAW(SYS_settimeofday, t, zone));
+}
+
+EXPORT int clock_adjtime(clockid_t id, struct timex *state) {
+    if (run && state->modes) {
+        return errno = EPERM, -1;
+    }
+    int result = (int)answer(RAW(SYS_clock_adjtime, id, state));
+    if (run && result >= 0) {
+        uint64_t now = run->now + (is_of_day(id) ? run->epoch : UPTIME);
+        uint64_t part = state->status & STA_NANO ? 1 : 1000;
+        state->time = (struct timeval){(time_t)(now / SECOND), (suseconds_t)(now % SECOND / part)};
+    }
+    return result;
+}
+
+EXPORT int adjtimex(struct timex *state) {
+    return clock_adjtime(CLOCK_REALTIME, state);
+}
+ALSO(__adjtimex, adjtimex)
+ALSO(ntp_adjtime, adjtimex)
+
+EXPORT int ntp_gettimex(struct ntptimeval *state) {
+    struct timex whole = {.modes = 0};
+    int result = adjtimex(&whole);
+    *state = (struct ntptimeval){
+        .time = whole.time, .maxerror = whole.maxerror, .esterror = whole.esterror, .tai = whole.tai};
+    return result;
+}
+ALSO(ntp_gettime, ntp_gettimex)
 
 /* ---- sleeps ---- */
 
 /* Sleeps until a moment; false where a signal came before. */
 static bool sleep_until(uint64_t deadline) {
+    cancel_point();
     regain_turn();
     if (deadline <= run->now) {
         looked();
         yield_turn();
         return true;
     }
-    uint32_t flags = wait_turn(deadline, 0, KIND_MOMENT);
+    uint32_t flags = wait_turn_or_cancel(deadline, 0, KIND_MOMENT);
     return !(flags & IS_INTERRUPTED) || run->now >= deadline;
 }
 
@@ -128,6 +182,7 @@ EXPORT int nanosleep(const struct timespec *t, struct timespec *left) {
     }
     return error ? -1 : 0;
 }
+ALSO(__nanosleep, nanosleep)
 
 EXPORT int usleep(useconds_t n) {
     return nanosleep(&(struct timespec){n / 1000000, (long)(n % 1000000) * 1000}, NULL);
@@ -156,6 +211,8 @@ EXPORT int sched_yield(void) {
     yield();
     return 0;
 }
+ALSO(__sched_yield, sched_yield)
+ALSO(pthread_yield, sched_yield)
 
 EXPORT void thrd_yield(void) {
     sched_yield();

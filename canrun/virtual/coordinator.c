@@ -2,6 +2,7 @@
  * when signals are due, when a thread sleeps in a call that the library does not see, and when nothing can go on. */
 #define _GNU_SOURCE
 #include "coordinator.h"
+#include "grants.h"
 #include "messages.h"
 #include "outside.h"
 #include "proc.h"
@@ -19,6 +20,7 @@
 #include <string.h>
 #include <sys/epoll.h>
 #include <sys/mman.h>
+#include <sys/personality.h>
 #include <sys/prctl.h>
 #include <sys/socket.h>
 #include <sys/syscall.h>
@@ -32,7 +34,7 @@
  * stays with one that sleeps they are as near as at first. */
 #define WATCH_MS 4
 #define LONGEST_WATCH_MS 32
-#define STEADY_LOOKS 8
+#define IDLE_LOOKS 8
 #define SOON_MS 1
 #define STATUS_STUCK 125
 /* Seconds of the run that programs have to end once PROGRAM has; of real time, where they wait for nothing that comes;
@@ -43,7 +45,10 @@
 /* Nanoseconds of a processor after which a thread that has the turn computes for long. */
 #define LONG_RUN 1000000000
 #define PROCESSOR_SECONDS 0.25
-#define PROCESSES 4096
+/* Milliseconds in which one that connects has to ask. */
+#define ASK_MS 1000
+/* The length of the path of the run's memory up to its descriptor. */
+#define PATH_SLASHES 20
 
 static struct {
     const struct virtual_options *options;
@@ -53,7 +58,7 @@ static struct {
     bool has_ended, is_over;
     volatile sig_atomic_t number; /* of a signal that ends the run */
     uint64_t seen_turn;
-    int looks, steady_looks;
+    int looks, idle_looks;
     double since; /* real time since which nothing has gone on */
     uint64_t run_before;
 } coordinator = {.root_status = -1};
@@ -63,47 +68,66 @@ bool register_process(void) {
     return false;
 }
 
-static double real_now(void) {
-    struct timespec t;
-    clock_gettime(CLOCK_MONOTONIC, &t);
-    return (double)t.tv_sec + (double)t.tv_nsec * 1e-9;
-}
-
 /* ---- processes of the run ---- */
 
-static void watch_process(uint32_t pid) {
-    int fd = (int)syscall(SYS_pidfd_open, pid, 0);
+/* Whether a process is below this one, whose end is seen then. */
+static bool watch_process(uint32_t pid) {
+    int fd = descendant_open(pid);
     struct epoll_event event = {.events = EPOLLIN, .data.u64 = (uint64_t)pid << 32 | (uint32_t)fd};
-    if (fd >= 0) {
-        epoll_ctl(coordinator.own, EPOLL_CTL_ADD, fd, &event);
+    return fd >= 0 && !epoll_ctl(coordinator.own, EPOLL_CTL_ADD, fd, &event);
+}
+
+static bool is_known(uint32_t pid) {
+    for (uint32_t i = 0; i < slots_used(); i++) {
+        const struct slot *slot = &run->slots[i];
+        if (slot->pid == pid && slot->tid && slot->state != SLOT_BORN && slot->state != SLOT_FREE) {
+            return true;
+        }
+    }
+    return false;
+}
+
+/* A process of the run says that it is there, and gets the epoll, or has made an alarm. */
+static void reply_to(int fd, uint32_t pid) {
+    struct pollfd polled = {fd, POLLIN, 0};
+    struct request request;
+    struct rights rights;
+    if (poll(&polled, 1, ASK_MS) <= 0 || recv(fd, &request, sizeof request, 0) != sizeof request) {
+        return;
+    }
+    if (request.alarm != NO_ALARM) {
+        if (alarm_grant(pid, &request)) {
+            send(fd, "", 1, MSG_NOSIGNAL);
+        }
+    } else if (is_known(pid) || watch_process(pid)) {
+        sendmsg(fd, rights_message(&rights, run_epoll), MSG_NOSIGNAL);
     }
 }
 
-/* A process says that it is there; it gets the epoll. */
-static void admit(void) {
-    int fd = accept4(coordinator.listening, NULL, NULL, SOCK_CLOEXEC);
-    struct ucred peer = {0};
-    socklen_t length = sizeof peer;
-    struct rights rights;
-    if (fd < 0) {
-        return;
-    }
-    if (!getsockopt(fd, SOL_SOCKET, SO_PEERCRED, &peer, &length) && peer.pid > 0) {
-        bool is_known = false;
-        for (uint32_t i = 0; i < run->used; i++) {
-            is_known |= run->slots[i].pid == (uint32_t)peer.pid && run->slots[i].tid &&
-                        run->slots[i].state != SLOT_BORN && run->slots[i].state != SLOT_FREE;
+/* Who connects is served if it is of the run; of one that runs as another user only the end is watched. Returns whether
+ * there was one. */
+static bool admit(void) {
+    bool is_any = false;
+    int fd;
+    while ((fd = accept4(coordinator.listening, NULL, NULL, SOCK_CLOEXEC)) >= 0) {
+        struct ucred peer = {0};
+        socklen_t length = sizeof peer;
+        bool is_there = !getsockopt(fd, SOL_SOCKET, SO_PEERCRED, &peer, &length) && peer.pid > 0;
+        if (is_there && proc_is_below((uint32_t)peer.pid, (uint32_t)getpid())) {
+            is_any = true;
+            if (peer.uid == geteuid()) {
+                reply_to(fd, (uint32_t)peer.pid);
+            } else if (!is_known((uint32_t)peer.pid)) {
+                watch_process((uint32_t)peer.pid);
+            }
         }
-        if (!is_known) {
-            watch_process((uint32_t)peer.pid);
-        }
+        close(fd);
     }
-    sendmsg(fd, rights_message(&rights, run_epoll), MSG_NOSIGNAL);
-    close(fd);
+    return is_any;
 }
 
 static void forget(uint32_t pid) {
-    for (uint32_t i = 0; i < run->used; i++) {
+    for (uint32_t i = 0; i < slots_used(); i++) {
         struct slot *slot = &run->slots[i];
         if (slot->pid == pid && slot->state != SLOT_FREE) {
             free_slot(slot);
@@ -115,6 +139,11 @@ static void forget(uint32_t pid) {
     for (int i = 0; i < ALARMS; i++) {
         if (run->alarms[i].pid == pid) {
             run->alarms[i].pid = 0;
+        }
+    }
+    for (int i = 0; i < TIMERS; i++) {
+        if (run->timers[i].owner == pid && !run->timers[i].is_shared) {
+            run->timers[i].number = 0;
         }
     }
 }
@@ -138,7 +167,7 @@ static void process_ended(uint32_t pid, int fd) {
         wake_descriptors(parent);
     }
     forget(pid);
-    for (uint32_t i = 0; i < run->used; i++) {
+    for (uint32_t i = 0; i < slots_used(); i++) {
         struct slot *slot = &run->slots[i];
         if (slot->state == SLOT_WAITS && slot->kind == KIND_CHILD) {
             slot->flags |= IS_WOKEN;
@@ -179,17 +208,12 @@ static void end_waiting(void) {
 }
 
 static void send_alarm(struct alarm *alarm) {
-    siginfo_t info = {.si_signo = alarm->number, .si_code = SI_TIMER};
-    info.si_value.sival_ptr = (void *)(uintptr_t)alarm->value;
     uint32_t pid = alarm->pid;
     uint64_t due = alarm->deadline;
     alarm->deadline = alarm->period ? due + alarm->period : NEVER;
-    if (alarm->tid) {
-        syscall(SYS_rt_tgsigqueueinfo, pid, alarm->tid, alarm->number, &info);
-    } else if (alarm->id == 1) {
-        kill((pid_t)pid, alarm->number);
-    } else {
-        syscall(SYS_rt_sigqueueinfo, pid, alarm->number, &info);
+    if (!alarm_signal((uint32_t)(alarm - run->alarms))) {
+        alarm->pid = 0;
+        return;
     }
     settle(pid);
     wake(key_of_signals(pid), SLOTS);
@@ -219,7 +243,7 @@ static void end_by_until(void) {
     run->now = run->until;
     run->until = NEVER;
     say("the time is over (--until)");
-    kill(coordinator.root, SIGTERM);
+    descendant_signal((uint32_t)coordinator.root, SIGTERM);
     settle((uint32_t)coordinator.root);
 }
 
@@ -252,6 +276,7 @@ static int decide(void) {
             if (ignores || tries < 3) {
                 continue;
             }
+            run->progress++;
             break;
         case PAUSE_ALARM: send_alarms(); return 0;
         case PAUSE_UNTIL: end_by_until(); return 0;
@@ -267,19 +292,19 @@ static int decide(void) {
     }
 }
 
-static bool is_asked(void) {
-    struct pollfd polled = {coordinator.listening, POLLIN, 0};
-    return poll(&polled, 1, 0) > 0;
-}
-
 /* How long it is until the next look, in milliseconds. */
 static int watch_pause(void) {
-    int pause = WATCH_MS << coordinator.steady_looks / STEADY_LOOKS;
+    int pause = WATCH_MS << coordinator.idle_looks / IDLE_LOOKS;
     return pause < LONGEST_WATCH_MS ? pause : LONGEST_WATCH_MS;
 }
 
-static void note_steady(bool is_steady) {
-    coordinator.steady_looks = is_steady ? coordinator.steady_looks + (watch_pause() < LONGEST_WATCH_MS) : 0;
+/* Counts looks in a row at which there was nothing to do, as far as they make the next one later. */
+static void count_idle_looks(bool is_idle) {
+    if (!is_idle) {
+        coordinator.idle_looks = 0;
+    } else if (watch_pause() < LONGEST_WATCH_MS) {
+        coordinator.idle_looks++;
+    }
 }
 
 /* Somebody has the turn: whether it is handed on. It may run for long, but not for ever. */
@@ -291,14 +316,14 @@ static void watch(void) {
         coordinator.looks = 0;
         coordinator.since = 0;
         coordinator.run_before = 0;
-        note_steady(true);
+        count_idle_looks(true);
         return;
     }
-    note_steady(!outside_watch(turn, ++coordinator.looks, is_asked));
+    count_idle_looks(!outside_watch(turn, ++coordinator.looks, admit));
     if (run->turn != turn || coordinator.looks % RARELY) {
         return;
     }
-    struct slot *slot = &run->slots[owner];
+    struct slot *slot = slot_at(owner);
     uint64_t used = proc_usage(slot->pid, slot->tid).run;
     coordinator.run_before = coordinator.run_before ? coordinator.run_before : used;
     double stall = most_stall();
@@ -335,7 +360,7 @@ static void find_processor(void) {
     }
     looked_at = now;
     struct usage all = {0, 0, 0};
-    for (uint32_t i = 0; i < run->used; i++) {
+    for (uint32_t i = 0; i < slots_used(); i++) {
         if (run->slots[i].state != SLOT_FREE) {
             struct usage one = proc_usage(run->slots[i].pid, run->slots[i].tid);
             all.run += one.run;
@@ -345,9 +370,10 @@ static void find_processor(void) {
     bool is_slow = all.waited - before.waited > 2 * (all.run - before.run) + 50000000 && all.waited > before.waited;
     before = all;
     int here = sched_getcpu();
-    for (uint32_t i = 0; is_slow && here >= 0 && i < run->used; i++) {
-        if (run->slots[i].state != SLOT_FREE && run->slots[i].tid) {
-            pin(run->slots[i].tid, here);
+    for (uint32_t i = 0; is_slow && here >= 0 && i < slots_used(); i++) {
+        uint32_t pid = run->slots[i].pid, tid = run->slots[i].tid;
+        if (tid && proc_is_below(pid, (uint32_t)getpid()) && proc_state(pid, tid) != 'X') {
+            pin(tid, here);
         }
     }
 }
@@ -386,7 +412,7 @@ static void end_rest(void) {
     coordinator.since = 0;
     run->until = run->now + END_SECONDS * SECOND;
     for (size_t i = 0; i < count; i++) {
-        kill((pid_t)pids[i], SIGTERM);
+        descendant_signal(pids[i], SIGTERM);
     }
     for (size_t i = 0; i < count; i++) {
         settle(pids[i]);
@@ -426,6 +452,7 @@ static void loop(void) {
 }
 
 static bool make_run(const struct virtual_options *options) {
+    static const char slashes[PATH_SLASHES + 1] = "////////////////////";
     int fd = memfd_create(RUN_MEMORY, MFD_CLOEXEC);
     char path[64];
     if (fd < 0 || ftruncate(fd, sizeof *run)) {
@@ -438,12 +465,13 @@ static bool make_run(const struct virtual_options *options) {
     run->epoch = options->epoch;
     run->until = options->until;
     run->seed = options->seed;
-    run->random = options->seed * 0x9e3779b97f4a7c15ull + 0x2545f4914f6cdd1dull;
     run->jitter = options->jitter;
-    run->coordinator = getpid();
+    coordinator_pid = getpid();
     run->turn = NOBODY;
     run->magic = RUN_MAGIC;
-    snprintf(path, sizeof path, "/proc/%d/fd/%d", getpid(), fd);
+    /* Of one length, which addresses in programs hang on. */
+    int length = snprintf(path, sizeof path, "/proc/%d", getpid());
+    snprintf(path + length, sizeof path - (size_t)length, "%.*sfd/%d", PATH_SLASHES - length, slashes, fd);
     setenv(RUN_SETTING, path, 1);
     snprintf(path, sizeof path, "--seed %lu --jitter %lu", options->seed, options->jitter / 1000);
     setenv(RUN_OPTIONS, path, 1);
@@ -469,6 +497,7 @@ static void become_program(const char *file, char **words, const sigset_t *mask)
     int here = sched_getcpu();
     pin(0, here < 0 ? 0 : here);
     prctl(PR_SET_PDEATHSIG, SIGKILL);
+    personality(ADDR_NO_RANDOMIZE); /* Containers may refuse it. */
     sigprocmask(SIG_SETMASK, mask, NULL);
     execv(file, words);
     int error = errno;
@@ -522,11 +551,15 @@ static int coordinate(const struct virtual_options *options, const char *file, c
     say_notices();
     run->has_ended = 1;
     tree_kill();
+    int result = coordinator.status ? coordinator.status : status_of(coordinator.root_status);
+    if (result && (options->seed || options->jitter)) {
+        say("status %d; %s repeats it", result, getenv(RUN_OPTIONS));
+    }
     if (getenv("CANBUSD_RUN_DEBUG")) {
         say("%lu moments, %lu turns, %.6f s went by as programs looked at the clock again and again", run->moments,
             run->turn >> TURN_BITS, (double)run->spun / SECOND);
     }
-    return coordinator.status ? coordinator.status : status_of(coordinator.root_status);
+    return result;
 }
 
 /* ---- the guard: nothing is left of a run whose coordinator is killed ---- */

@@ -8,9 +8,16 @@
 #include <stdarg.h>
 #include <stdio.h>
 #include <string.h>
+#include <time.h>
 
 #define TOLD 256
 #define LISTED 10
+
+double real_now(void) {
+    struct timespec t;
+    clock_gettime(CLOCK_MONOTONIC, &t);
+    return (double)t.tv_sec + (double)t.tv_nsec * 1e-9;
+}
 
 static void put(const char *format, va_list list) {
     char text[1000];
@@ -87,10 +94,11 @@ const char *who(uint32_t pid, uint32_t tid) {
 }
 
 void say_waits(void) {
-    static const char *const kinds[] = {"a moment",      "a descriptor", "a lock, condition or semaphore",
-                                        "a child's end", "a signal",     "the interpreter"};
+    static const char *const kinds[] = {
+        "a moment", "a descriptor",    "a lock, condition or semaphore",          "a child's end",
+        "a signal", "the interpreter", "a lock, queue or semaphore of the kernel"};
     int listed = 0;
-    for (uint32_t i = 0; i < run->used; i++) {
+    for (uint32_t i = 0; i < slots_used(); i++) {
         struct slot *slot = &run->slots[i];
         if (slot->state == SLOT_FREE || slot->rank >= RANK_SESSION) {
             continue; /* A server always waits for its clients. */

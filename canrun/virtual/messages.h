@@ -7,6 +7,9 @@
 #include <stdbool.h>
 #include <stddef.h>
 
+/* Seconds of the real clock. */
+double real_now(void);
+
 /* A line, with the moment of the run. */
 void say(const char *format, ...) __attribute__((format(printf, 1, 2)));
 

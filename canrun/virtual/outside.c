@@ -19,6 +19,9 @@
 #define MEMORY "/memfd:" RUN_MEMORY
 /* What a program has loaded once it has loaded what is preloaded. */
 #define C_LIBRARY "/libc.so."
+#define LOADER "/ld-linux"
+/* How long a program without the library goes on in real time before that is said. */
+#define FOREIGN_SECONDS 0.3
 /* After how many looks it is seen whether a program loads the library at all. */
 #define FOREIGN_LOOKS 4
 /* After how many more looks a thread that has the turn is known to sleep. */
@@ -28,51 +31,77 @@
 
 /* ---- programs that do not load the library ---- */
 
-/* Whether a process has what is ours, and whether the C library. Of one that ends the list may be cut; the stack comes
- * after the libraries. */
-static void find_libraries(uint32_t pid, bool *has_ours, bool *has_c) {
+/* What a process has loaded: what is ours, the loader, the C library. Of one that ends the list may be cut; the stack
+ * comes after the libraries. */
+struct loaded {
+    bool has_ours, has_loader, has_c;
+};
+
+static struct loaded libraries_of(uint32_t pid) {
     char path[32], line[PATH_MAX + 200];
     bool is_whole = false;
-    *has_ours = *has_c = false;
+    struct loaded loaded = {false, false, false};
     snprintf(path, sizeof path, "/proc/%u/maps", pid);
     FILE *maps = fopen(path, "re");
     while (maps && fgets(line, sizeof line, maps)) {
-        *has_ours |= strstr(line, LIBRARY) || strstr(line, MEMORY);
-        *has_c |= strstr(line, C_LIBRARY) != NULL;
+        loaded.has_ours |= strstr(line, LIBRARY) || strstr(line, MEMORY);
+        loaded.has_loader |= strstr(line, LOADER) != NULL;
+        loaded.has_c |= strstr(line, C_LIBRARY) != NULL;
         is_whole |= strstr(line, "[stack]") != NULL;
     }
-    *has_c &= is_whole;
+    loaded.has_c &= is_whole;
     if (maps) {
         fclose(maps);
     }
+    return loaded;
 }
 
 /* Why a process is not in virtual time, NULL where it is, or has not begun. */
 static const char *obstacle_of(uint32_t pid) {
     char path[32], name[PATH_MAX];
-    bool has_ours, has_c;
     snprintf(path, sizeof path, "/proc/%u/exe", pid);
     ssize_t length = readlink(path, name, sizeof name - 1);
     name[length > 0 ? length : 0] = 0;
     const char *slash = strrchr(name, '/');
-    find_libraries(pid, &has_ours, &has_c);
-    if (length <= 0 || (slash && !strcmp(slash, "/canbusd-bridge")) || has_ours) {
+    struct loaded loaded = libraries_of(pid);
+    if (length <= 0 || (slash && !strcmp(slash, "/canbusd-bridge")) || loaded.has_ours) {
         return NULL;
     }
     const char *obstacle = program_obstacle(path);
-    return obstacle ? obstacle : has_c ? "has lost LD_PRELOAD, as by env -i" : NULL;
+    /* One that runs another program within it, as valgrind does, has that one's loader, which loads what is ours. */
+    bool is_host = obstacle && loaded.has_loader && !loaded.has_c;
+    return is_host ? NULL : obstacle ? obstacle : loaded.has_c ? "has lost LD_PRELOAD, as by env -i" : NULL;
+}
+
+static void say_foreign(uint32_t pid, const char *obstacle) {
+    say_once(pid, "%s %s, so it sees the real time; the clock of the run stands still while it runs", who(pid, 0),
+             obstacle);
+}
+
+/* Says of a program without the library that it is one, once it has been there for so long that the run waits for it.
+ */
+static void note_foreign(uint32_t index) {
+    static struct {
+        uint32_t pid;
+        double since;
+    } found[SLOTS];
+    uint32_t pid = run->slots[index].pid;
+    if (found[index].pid != pid) {
+        found[index].pid = pid;
+        found[index].since = real_now();
+    } else if (real_now() - found[index].since > FOREIGN_SECONDS) {
+        const char *obstacle = obstacle_of(pid);
+        if (obstacle) {
+            say_foreign(pid, obstacle);
+        }
+    }
 }
 
 static bool find_foreign(struct slot *slot, int looks) {
     if (slot->is_foreign || looks < FOREIGN_LOOKS || looks % FOREIGN_LOOKS) {
         return slot->is_foreign;
     }
-    const char *obstacle = obstacle_of(slot->pid);
-    if (obstacle) {
-        slot->is_foreign = 1;
-        say_once(slot->pid, "%s %s, so it sees the real time; the clock of the run stands still while it runs",
-                 who(slot->pid, 0), obstacle);
-    }
+    slot->is_foreign = obstacle_of(slot->pid) != NULL;
     return slot->is_foreign;
 }
 
@@ -125,7 +154,7 @@ static bool is_timed(const struct called *called) {
 
 /* Whether a thread that is thought to be outside has come back meanwhile, and sleeps on the word of its slot. */
 static bool waits_for_turn(uint32_t pid, uint32_t tid, const struct called *called) {
-    for (uint32_t i = 0; i < run->used && called->number == SYS_futex; i++) {
+    for (uint32_t i = 0; i < slots_used() && called->number == SYS_futex; i++) {
         struct slot *slot = &run->slots[i];
         uint32_t outside = SLOT_OUTSIDE;
         if (slot->pid == pid && slot->tid == tid && slot->go_at == called->arguments[0]) {
@@ -153,6 +182,9 @@ static bool sleeps(uint32_t pid, uint32_t tid) {
     }
     if (state == 'S' && called.is_known && is_timed(&called)) {
         const char *obstacle = obstacle_of(pid);
+        if (obstacle) {
+            say_foreign(pid, obstacle);
+        }
         fail("%s waits by the real clock, in system call %ld, which virtual time does not see%s%s", who(pid, tid),
              called.number, obstacle ? ": it " : "", obstacle ? obstacle : "");
         return false;
@@ -190,8 +222,11 @@ static bool all_sleep(uint32_t pid, uint32_t tid, uint64_t *times) {
 
 static bool one_pass(uint64_t *times) {
     *times = 0;
-    for (uint32_t i = 0; i < run->used; i++) {
+    for (uint32_t i = 0; i < slots_used(); i++) {
         struct slot *slot = &run->slots[i];
+        if (slot->state == SLOT_OUTSIDE && slot->is_foreign) {
+            note_foreign(i);
+        }
         if (slot->state == SLOT_OUTSIDE && !all_sleep(slot->pid, slot->is_foreign ? 0 : slot->tid, times)) {
             return false;
         }
@@ -237,7 +272,7 @@ bool outside_sleeps(void) {
 
 /* One that is stopped may not have begun its turn. */
 static void take_back(uint64_t turn, bool is_stopped) {
-    struct slot *slot = &run->slots[(uint32_t)turn & NOBODY];
+    struct slot *slot = slot_at((uint32_t)turn & NOBODY);
     uint32_t state = slot->state;
     if ((state == SLOT_RUNS || is_stopped) && turn_change(turn, NOBODY)) {
         __atomic_compare_exchange_n((uint32_t *)&slot->state, &state, SLOT_OUTSIDE, 0, __ATOMIC_SEQ_CST,
@@ -264,7 +299,7 @@ static bool is_asleep_for_long(uint32_t index, char state, uint64_t times) {
 
 bool outside_watch(uint64_t turn, int looks, bool (*is_asked)(void)) {
     uint32_t index = (uint32_t)turn & NOBODY;
-    struct slot *slot = &run->slots[index];
+    struct slot *slot = slot_at(index);
     uint32_t pid = slot->pid, tid = slot->tid;
     char state = proc_state(pid, tid);
     if (state == 'Z' || state == 'X') {
@@ -283,9 +318,9 @@ bool outside_watch(uint64_t turn, int looks, bool (*is_asked)(void)) {
 }
 
 void outside_share(uint64_t turn) {
-    struct slot *slot = &run->slots[(uint32_t)turn & NOBODY];
+    struct slot *slot = slot_at((uint32_t)turn & NOBODY);
     uint32_t runs = SLOT_RUNS;
-    for (uint32_t i = 0; i < run->used; i++) {
+    for (uint32_t i = 0; i < slots_used(); i++) {
         struct slot *other = &run->slots[i];
         bool waits = other->state == SLOT_WAITS && (other->flags || other->kind == KIND_INTERPRETER);
         if (other == slot || other->pid != slot->pid || !(waits || other->state == SLOT_READY)) {
@@ -303,7 +338,7 @@ void outside_share(uint64_t turn) {
 
 /* Whether a process has a slot that it knows of. */
 static bool has_begun(uint32_t pid) {
-    for (uint32_t i = 0; i < run->used; i++) {
+    for (uint32_t i = 0; i < slots_used(); i++) {
         if (run->slots[i].pid == pid && run->slots[i].tid && run->slots[i].state != SLOT_FREE) {
             return true;
         }
@@ -312,7 +347,7 @@ static bool has_begun(uint32_t pid) {
 }
 
 bool outside_runs(void) {
-    for (uint32_t i = 0; i < run->used; i++) {
+    for (uint32_t i = 0; i < slots_used(); i++) {
         struct slot *slot = &run->slots[i];
         bool is_awaited = slot->state == SLOT_BORN || slot->state == SLOT_OUTSIDE;
         char state = is_awaited && slot->pid ? proc_state(slot->pid, slot->tid) : 'X';
@@ -324,7 +359,7 @@ bool outside_runs(void) {
 }
 
 void outside_births(int looks) {
-    for (uint32_t i = 0; i < run->used; i++) {
+    for (uint32_t i = 0; i < slots_used(); i++) {
         struct slot *slot = &run->slots[i];
         if (slot->state != SLOT_BORN || !slot->pid || slot->parent == 0) {
             continue;
@@ -340,7 +375,7 @@ void outside_births(int looks) {
 }
 
 static bool is_known(uint32_t pid) {
-    for (uint32_t i = 0; i < run->used; i++) {
+    for (uint32_t i = 0; i < slots_used(); i++) {
         if (run->slots[i].pid == pid && run->slots[i].state != SLOT_FREE) {
             return true;
         }
@@ -350,7 +385,7 @@ static bool is_known(uint32_t pid) {
 
 void outside_strangers(void) {
     static uint32_t pids[TREE_MOST];
-    for (uint32_t i = 0; i < run->used; i++) {
+    for (uint32_t i = 0; i < slots_used(); i++) {
         if (run->slots[i].state == SLOT_BORN && !run->slots[i].pid) {
             return; /* It may be the one that has this slot. */
         }

@@ -14,6 +14,8 @@
  * between two looks, in nanoseconds. */
 #define SETTLE_SECONDS 60
 #define SETTLE_PAUSE 200000
+/* How many processes there may be between one of the run and its coordinator. */
+#define DEEPEST 1000
 
 static char *put_number(char *at, uint32_t number) {
     char digits[12];
@@ -63,6 +65,15 @@ uint32_t proc_parent(uint32_t pid) {
     return at && at[1] ? (uint32_t)atoi(at + 4) : 0;
 }
 
+bool proc_is_below(uint32_t pid, uint32_t top) {
+    for (int i = 0; i < DEEPEST && pid > 1; i++, pid = proc_parent(pid)) {
+        if (pid == top) {
+            return true;
+        }
+    }
+    return false;
+}
+
 struct usage proc_usage(uint32_t pid, uint32_t tid) {
     char text[100], *at = text;
     struct usage usage = {0, 0, 0};
@@ -92,7 +103,7 @@ bool proc_has_signal(uint32_t pid) {
  * none. */
 static bool is_settled(uint32_t pid) {
     bool is_there = false, is_stopped = false;
-    for (uint32_t i = 0; i < run->used; i++) {
+    for (uint32_t i = 0; i < slots_used(); i++) {
         struct slot *slot = &run->slots[i];
         if (slot->pid != pid || slot->state == SLOT_FREE || i == turn_owner()) {
             continue;

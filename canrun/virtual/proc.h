@@ -15,6 +15,9 @@ char proc_state(uint32_t pid, uint32_t tid);
 /* The parent of a process; 0 where there is no such process. */
 uint32_t proc_parent(uint32_t pid);
 
+/* Whether a process is below another, or is that one. */
+bool proc_is_below(uint32_t pid, uint32_t top);
+
 /* How long a thread has run and has waited for a processor, in nanoseconds, and how often it was given one. */
 struct usage {
     uint64_t run, waited, times;

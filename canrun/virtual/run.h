@@ -39,31 +39,57 @@ enum state {
     SLOT_TAKEN,   /* being filled */
 };
 
-/* What has come for one that waits; none of these, or IS_OVER: its moment. */
-enum { HAS_EVENT = 1, IS_WOKEN = 2, IS_INTERRUPTED = 4, IS_OVER = 8 };
+/* What has come for one that waits; none of these, or IS_OVER: its moment. LOOKS_AGAIN: a signal or a timer of its
+ * process; IS_CANCELLED: pthread_cancel; TRIES_AGAIN: see `tries`. */
+enum {
+    HAS_EVENT = 1,
+    IS_WOKEN = 2,
+    IS_INTERRUPTED = 4,
+    IS_OVER = 8,
+    LOOKS_AGAIN = 16,
+    IS_CANCELLED = 32,
+    TRIES_AGAIN = 64
+};
 
 /* What a thread waits for, for messages. */
-enum kind { KIND_MOMENT, KIND_DESCRIPTOR, KIND_LOCK, KIND_CHILD, KIND_SIGNAL, KIND_INTERPRETER };
+enum kind {
+    KIND_MOMENT,
+    KIND_DESCRIPTOR,
+    KIND_LOCK,
+    KIND_CHILD,
+    KIND_SIGNAL,
+    KIND_INTERPRETER,
+    KIND_KERNEL /* a lock of a file, a queue, a semaphore that only the kernel knows */
+};
 
+/* First what each decision looks at, of all. */
 struct slot {
     _Atomic uint32_t go; /* the word that it sleeps on: how often it was given the turn */
     _Atomic uint32_t state;
     _Atomic uint32_t flags;
-    _Atomic uint32_t pid, tid;
-    uint32_t parent;     /* of a process that is born */
     uint32_t rank;       /* of those that can go on in one moment, the lowest goes first */
     uint32_t generation; /* of its wait for descriptors */
     uint32_t kind;
+    uint32_t tries; /* before the clock goes on it looks once more, as nobody wakes it */
+    _Atomic uint32_t pid;
+    _Atomic uint64_t deadline; /* nanoseconds of the run, or NEVER */
+    _Atomic uint64_t key;      /* of the lock, child or thread that it waits for */
+    uint64_t ticket;           /* its place among those that can go on, 0 before it has one */
+    uint64_t number;           /* of its birth, or of its age where a test began: what is drawn for it hangs on this, */
+    uint64_t waits, reads;     /* and on how often it has waited, and read what is random, since then */
+    uint64_t since;            /* the number of its wait in the run: who waits longer is woken first */
+    uint64_t tried;            /* `progress` when it last looked */
+    uint64_t thread;           /* pthread_self */
+    uint64_t go_at;            /* where its process has `go` */
+    _Atomic uint32_t tid;
+    uint32_t parent;             /* of a process that is born */
+    uint32_t bits;               /* of its wait on a word: FUTEX_WAIT_BITSET */
     _Atomic uint32_t is_foreign; /* a program that does not load this library */
-    _Atomic uint64_t deadline;   /* nanoseconds of the run, or NEVER */
-    _Atomic uint64_t key;        /* of the lock, child or thread that it waits for */
-    uint64_t since;              /* the number of its wait: who waits longer is woken first */
-    uint64_t ticket;             /* its place among those that can go on, 0 before it has one */
-    uint64_t thread;             /* pthread_self */
-    uint64_t go_at;              /* where its process has `go` */
 } __attribute__((aligned(128)));
 
-/* A timer that sends a signal: alarm, setitimer, timer_create. */
+/* A timer that sends a signal: alarm, setitimer, timer_create. Of the process, alarm and setitimer have this id, and
+ * those of timer_create others. */
+#define INTERVAL_TIMER 1
 struct alarm {
     _Atomic uint32_t pid; /* 0: free */
     uint32_t tid;         /* 0: to the process */
@@ -73,6 +99,26 @@ struct alarm {
     _Atomic uint64_t deadline;
     uint64_t period;
     uint32_t overrun;
+};
+
+/* What a process asks the coordinator for, which sees by the connection who asks: that it sends the signals of this
+ * alarm, or NO_ALARM: the epoll of the run. */
+#define NO_ALARM ALARMS
+struct request {
+    uint32_t alarm, tid;
+    int32_t number;
+};
+
+/* A timer that is read: timerfd. Its descriptor is a timer of the kernel, which never runs there, and whose interval is
+ * this number; so each process that has a descriptor of it finds it here. */
+#define TIMERS 1024
+struct timer {
+    _Atomic uint32_t number; /* 0: free; its place is the remainder by TIMERS */
+    uint32_t owner;          /* the process that made it */
+    uint32_t is_shared;      /* others may have it */
+    int32_t clock;
+    uint64_t deadline, period;
+    uint64_t unread; /* how often it had come when it last came */
 };
 
 /* What one of the run has the coordinator say: see tell.h. */
@@ -92,9 +138,9 @@ struct run {
     uint64_t magic;
     uint64_t epoch; /* CLOCK_REALTIME at the start */
     uint64_t until;
-    uint64_t seed, random; /* 0: the order is that of the slots */
-    uint64_t jitter;       /* nanoseconds that a timed wait is longer at most */
-    int32_t coordinator;
+    uint64_t seed;   /* 0: the order is that of their births */
+    uint64_t test;   /* what the name of the test at hand adds to the seed */
+    uint64_t jitter; /* nanoseconds that a timed wait is longer at most */
     uint32_t has_ended;
     _Atomic uint32_t has_failed; /* a line has said why the run can't go on */
     _Atomic uint64_t now __attribute__((aligned(64)));
@@ -103,11 +149,19 @@ struct run {
     _Atomic uint32_t pause;
     _Atomic uint32_t births; /* a word to wait on for one that is born */
     _Atomic uint64_t waits, tickets;
+    _Atomic uint64_t ending;          /* process << 32 and thread of the one that handed the turn on as it ended */
+    _Atomic uint64_t progress;        /* how often one waited for something new, or ended */
+    _Atomic uint32_t tries;           /* threads that wait for what nobody wakes them for */
+    _Atomic uint64_t born;            /* how many have been */
     _Atomic uint64_t moments;         /* how often the clock went on */
     _Atomic uint64_t spun;            /* nanoseconds that went by as threads looked at the clock again and again */
     _Atomic uint8_t ports[PORTS / 8]; /* a bit for each TCP port that a program of the run has listened at */
     struct slot slots[SLOTS];
     struct alarm alarms[ALARMS];
+    _Atomic uint32_t alarm_count; /* those that were ever used */
+    _Atomic uint32_t timer_count; /* timers that were ever made */
+    struct timer timers[TIMERS];
+    _Atomic uint32_t has_signalfds;
     struct notice notices[NOTICES];
 };
 

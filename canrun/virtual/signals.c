@@ -20,12 +20,14 @@ static __thread struct {
 
 /* What a wait says in its slot, which a handler that waits itself replaces. */
 struct kept {
-    uint32_t state, flags, kind;
+    uint32_t state, flags, kind, tries, bits;
     uint64_t deadline, key, since;
+    enum tries mine;
 };
 
 static struct kept keep(const struct slot *slot) {
-    return (struct kept){slot->state, slot->flags, slot->kind, slot->deadline, slot->key, slot->since};
+    return (struct kept){slot->state,    slot->flags, slot->kind,  slot->tries, slot->bits,
+                         slot->deadline, slot->key,   slot->since, my.tries};
 }
 
 static void put_back(struct slot *slot, const struct kept *kept) {
@@ -33,6 +35,9 @@ static void put_back(struct slot *slot, const struct kept *kept) {
     slot->key = kept->key;
     slot->kind = kept->kind;
     slot->since = kept->since;
+    slot->tries = kept->tries;
+    slot->bits = kept->bits;
+    my.tries = kept->mine;
     slot->flags = kept->flags | IS_INTERRUPTED;
     slot->state = kept->state;
 }
@@ -53,9 +58,9 @@ static void run_handler(int number, siginfo_t *info, void *context) {
     slot->state = SLOT_RUNS;
     slot->deadline = NEVER;
     slot->key = 0;
-    my.has_to_return = !(action->sa_flags & SA_RESTART);
+    slot->tries = my.tries = 0;
     my.handled++;
-    bool returns = my.has_to_return;
+    bool returns = my.has_to_return || !(action->sa_flags & SA_RESTART);
     ((handler *)(void *)action->sa_sigaction)(number, info, context);
     my.has_to_return = returns;
     put_back(slot, &kept);
@@ -126,21 +131,34 @@ static __sighandler_t set_handler(int number, __sighandler_t to, int flags) {
     return sigaction(number, &action, &old) ? SIG_ERR : old.sa_handler;
 }
 
+ALSO(__sigaction, sigaction)
+
 EXPORT __sighandler_t signal(int number, __sighandler_t to) {
     return set_handler(number, to, SA_RESTART);
 }
 
-EXPORT __sighandler_t bsd_signal(int number, __sighandler_t to);
-__sighandler_t bsd_signal(int number, __sighandler_t to) {
-    return set_handler(number, to, SA_RESTART);
-}
+ALSO(bsd_signal, signal)
+ALSO(ssignal, signal)
 
 EXPORT __sighandler_t sysv_signal(int number, __sighandler_t to) {
     return set_handler(number, to, SA_RESETHAND | SA_NODEFER);
 }
 
-EXPORT __sighandler_t __sysv_signal(int number, __sighandler_t to) {
-    return set_handler(number, to, SA_RESETHAND | SA_NODEFER);
+ALSO(__sysv_signal, sysv_signal)
+
+/* As the C library's, whose own does not see handlers of this one: SIG_HOLD blocks the signal, all else unblocks it. */
+EXPORT __sighandler_t sigset(int number, __sighandler_t to) {
+    struct sigaction old;
+    sigset_t one, before;
+    sigemptyset(&one);
+    if (sigaddset(&one, number) || sigprocmask(to == SIG_HOLD ? SIG_BLOCK : SIG_UNBLOCK, &one, &before)) {
+        return SIG_ERR;
+    }
+    if (to == SIG_HOLD ? sigaction(number, NULL, &old)
+                       : sigaction(number, &(struct sigaction){.sa_handler = to}, &old)) {
+        return SIG_ERR;
+    }
+    return sigismember(&before, number) ? SIG_HOLD : old.sa_handler;
 }
 
 EXPORT int siginterrupt(int number, int is_interrupting) {
@@ -172,7 +190,7 @@ void put_mask_back(const struct masked *masked) {
 static int wait_for_handler(uint32_t handled) {
     regain_turn();
     while (my.handled == handled) {
-        wait_turn(NEVER, key_of_signals(my_slot()->pid), KIND_SIGNAL);
+        wait_turn_or_cancel(NEVER, key_of_signals(my_slot()->pid), KIND_SIGNAL);
     }
     return errno = EINTR, -1;
 }
@@ -190,11 +208,36 @@ EXPORT int sigsuspend(const sigset_t *mask) {
     put_mask_back(&masked);
     return result;
 }
+ALSO(__sigsuspend, sigsuspend)
+
+EXPORT int __sigpause(int mask_or_number, int is_number);
+int __sigpause(int mask_or_number, int is_number) {
+    sigset_t mask = {{(unsigned long)(unsigned)mask_or_number}};
+    if (is_number) {
+        sigprocmask(SIG_BLOCK, NULL, &mask);
+        if (sigdelset(&mask, mask_or_number)) {
+            return -1;
+        }
+    }
+    return sigsuspend(&mask);
+}
+
+/* The header gives this name to the other one. */
+EXPORT int sigpause_of_mask(int mask) __asm__("sigpause");
+int sigpause_of_mask(int mask) {
+    return __sigpause(mask, 0);
+}
+
+EXPORT int __xpg_sigpause(int number);
+int __xpg_sigpause(int number) {
+    return __sigpause(number, 1);
+}
 
 static int wait_for_signal(const sigset_t *set, siginfo_t *info, uint64_t deadline) {
     uint32_t flags = 0;
+    cancel_point();
     regain_turn();
-    for (;;) {
+    for (enum tries tries = TRIES;; tries = TRIES_ON) {
         long result = RAW(SYS_rt_sigtimedwait, set, info, &no_time, 8);
         if (result != -EAGAIN) {
             return (int)answer(result);
@@ -202,13 +245,17 @@ static int wait_for_signal(const sigset_t *set, siginfo_t *info, uint64_t deadli
         if (flags & IS_INTERRUPTED || deadline <= run->now) {
             return errno = flags & IS_INTERRUPTED ? EINTR : EAGAIN, -1;
         }
+        my.tries = tries; /* Nobody says what the kernel sends by itself. */
         flags = wait_turn(deadline, key_of_signals(my_slot()->pid), KIND_SIGNAL);
+        cancel_point();
     }
 }
 
 EXPORT int sigtimedwait(const sigset_t *restrict set, siginfo_t *restrict info, const struct timespec *restrict t) {
-    return run ? wait_for_signal(set, info, t ? after(length_of(t)) : NEVER)
-               : (int)answer(RAW(SYS_rt_sigtimedwait, set, info, t, 8));
+    if (!run) {
+        return (int)answer(RAW(SYS_rt_sigtimedwait, set, info, t, 8));
+    }
+    return t && !is_proper(t) ? (errno = EINVAL, -1) : wait_for_signal(set, info, t ? after(length_of(t)) : NEVER);
 }
 
 EXPORT int sigwaitinfo(const sigset_t *restrict set, siginfo_t *restrict info) {
@@ -235,10 +282,9 @@ static void sent_to(uint32_t pid) {
     wake_descriptors(pid);
 }
 
-/* To a process, a group (a negative number, 0), or all that this one may send to (-1). */
-static void sent(pid_t pid, int number) {
+void signal_sent(pid_t pid, int number) {
     uint32_t told[64], count = 0;
-    for (uint32_t i = 0; i < run->used && count < 64; i++) {
+    for (uint32_t i = 0; i < slots_used() && count < 64; i++) {
         uint32_t of = run->slots[i].pid;
         bool is_new = of != 0 && of != (uint32_t)RAW(SYS_getpid, 0) && (pid <= 0 || of == (uint32_t)pid);
         for (uint32_t k = 0; k < count; k++) {
@@ -252,7 +298,7 @@ static void sent(pid_t pid, int number) {
         sent_to(told[k]);
     }
     if (number == SIGSTOP || number == SIGTSTP || number == SIGCONT) {
-        for (uint32_t i = 0; i < run->used; i++) {
+        for (uint32_t i = 0; i < slots_used(); i++) {
             struct slot *slot = &run->slots[i];
             slot->flags |= slot->state == SLOT_WAITS && slot->kind == KIND_CHILD ? IS_WOKEN : 0;
         }
@@ -266,7 +312,7 @@ static void sent(pid_t pid, int number) {
 EXPORT int kill(pid_t pid, int number) {
     long result = RAW(SYS_kill, pid, number);
     if (run && !result && number) {
-        sent(pid, number);
+        signal_sent(pid, number);
     }
     return (int)answer(result);
 }
@@ -279,9 +325,35 @@ EXPORT int sigqueue(pid_t pid, int number, const union sigval value) {
     REAL(sigqueue);
     int result = real(pid, number, value);
     if (run && !result && number) {
-        sent(pid, number);
+        signal_sent(pid, number);
     }
     return result;
+}
+
+EXPORT int tgkill(pid_t pid, pid_t tid, int number) {
+    long result = RAW(SYS_tgkill, pid, tid, number);
+    if (run && !result && number && tid != (pid_t)RAW(SYS_gettid, 0)) {
+        sent_to((uint32_t)pid);
+    }
+    return (int)answer(result);
+}
+
+EXPORT int pidfd_send_signal(int fd, int number, siginfo_t *info, unsigned flags);
+int pidfd_send_signal(int fd, int number, siginfo_t *info, unsigned flags) {
+    long result = RAW(SYS_pidfd_send_signal, fd, number, info, flags);
+    if (run && !result && number) {
+        signal_sent(-1, number); /* Whose it is is not known: those that took nothing are looked at only. */
+    }
+    return (int)answer(result);
+}
+
+EXPORT int pthread_sigqueue(pthread_t thread, int number, const union sigval value) {
+    REAL(pthread_sigqueue);
+    int error = real(thread, number, value);
+    if (run && !error && number && thread != pthread_self()) {
+        sent_to((uint32_t)RAW(SYS_getpid, 0));
+    }
+    return error;
 }
 
 EXPORT int pthread_kill(pthread_t thread, int number) {

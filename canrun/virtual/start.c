@@ -1,7 +1,9 @@
 /* A program, or a bridge, becomes part of the run. */
 #define _GNU_SOURCE
 #include "calls.h"
+#include "random.h"
 #include "rights.h"
+#include "../command/program.h"
 #include "tell.h"
 
 #include <fcntl.h>
@@ -17,7 +19,7 @@
 /* The least number of the run's descriptor in a program, so that it is in nobody's way. */
 #define HIGH_DESCRIPTOR 900
 
-/* The coordinator, which sees who asks by the connection, sends the epoll. */
+/* The descriptor that comes with the coordinator's reply, -1 where there is none. */
 static int take_epoll(int fd) {
     struct rights rights;
     struct msghdr *message = rights_message(&rights, -1);
@@ -35,15 +37,27 @@ static int take_epoll(int fd) {
     return epoll;
 }
 
-bool register_process(void) {
+/* Asks the coordinator, which sees by the connection who asks; a connection with its reply, or -1. */
+static int ask_coordinator(const struct request *request) {
     struct sockaddr_un name = {.sun_family = AF_UNIX};
-    int length = snprintf(name.sun_path + 1, sizeof name.sun_path - 1, RUN_SOCKET, run->coordinator);
+    int length = snprintf(name.sun_path + 1, sizeof name.sun_path - 1, RUN_SOCKET, coordinator_pid);
     int fd = (int)RAW(SYS_socket, AF_UNIX, SOCK_SEQPACKET | SOCK_CLOEXEC, 0);
+    socklen_t size = (socklen_t)(offsetof(struct sockaddr_un, sun_path) + 1 + (size_t)length);
+    if (fd >= 0 && (RAW(SYS_connect, fd, &name, size) ||
+                    RAW(SYS_sendto, fd, request, sizeof *request, MSG_NOSIGNAL, NULL, 0) != sizeof *request)) {
+        RAW(SYS_close, fd);
+        return -1;
+    }
+    return fd;
+}
+
+bool register_process(void) {
+    const struct request request = {.alarm = NO_ALARM};
+    int fd = ask_coordinator(&request);
     if (fd < 0) {
         return false;
     }
-    socklen_t size = (socklen_t)(offsetof(struct sockaddr_un, sun_path) + 1 + (size_t)length);
-    int epoll = RAW(SYS_connect, fd, &name, size) ? -1 : take_epoll(fd);
+    int epoll = take_epoll(fd);
     RAW(SYS_close, fd);
     if (epoll >= 0) {
         if (run_epoll >= 0) {
@@ -52,6 +66,20 @@ bool register_process(void) {
         run_epoll = epoll;
     }
     return epoll >= 0;
+}
+
+bool register_alarm(const struct alarm *alarm) {
+    const struct request request = {(uint32_t)(alarm - run->alarms), alarm->tid, alarm->number};
+    int fd = ask_coordinator(&request);
+    char reply;
+    long length = fd >= 0 ? RAW(SYS_recvfrom, fd, &reply, 1, 0, NULL, NULL) : -1;
+    while (length == -EINTR) {
+        length = RAW(SYS_recvfrom, fd, &reply, 1, 0, NULL, NULL);
+    }
+    if (fd >= 0) {
+        RAW(SYS_close, fd);
+    }
+    return length == 1;
 }
 
 static struct run *map_run(const char *path) {
@@ -72,7 +100,7 @@ static uint32_t find_slot(void) {
         uint32_t index = (uint32_t)atoi(given) % SLOTS;
         return run->slots[index].state == SLOT_BORN ? index : take_slot();
     }
-    for (uint32_t i = 0; i < run->used; i++) {
+    for (uint32_t i = 0; i < slots_used(); i++) {
         struct slot *slot = &run->slots[i];
         bool is_old = slot->pid == pid && slot->tid && slot->state != SLOT_FREE && slot->state != SLOT_BORN;
         bool has_it = i == turn_owner();
@@ -80,12 +108,12 @@ static uint32_t find_slot(void) {
             found = i;
         }
     }
-    for (uint32_t i = 0; i < run->used && found != NOBODY; i++) {
+    for (uint32_t i = 0; i < slots_used() && found != NOBODY; i++) {
         if (i != found && run->slots[i].pid == pid && run->slots[i].state != SLOT_BORN) {
             free_slot(&run->slots[i]); /* The other threads ended with execve. */
         }
     }
-    for (uint32_t i = 0; i < run->used && found == NOBODY; i++) {
+    for (uint32_t i = 0; i < slots_used() && found == NOBODY; i++) {
         struct slot *slot = &run->slots[i];
         if (slot->state == SLOT_BORN && slot->parent && (slot->pid == pid || (!slot->pid && slot->parent == parent))) {
             found = i;
@@ -94,9 +122,11 @@ static uint32_t find_slot(void) {
     return found == NOBODY ? take_slot() : found;
 }
 
+#define SELF "/proc/self/exe"
+
 static void recognize(void) {
     char path[PATH_MAX];
-    long length = RAW(SYS_readlinkat, AT_FDCWD, "/proc/self/exe", path, sizeof path - 1);
+    long length = RAW(SYS_readlinkat, AT_FDCWD, SELF, path, sizeof path - 1);
     path[length > 0 ? length : 0] = 0;
     const char *name = strrchr(path, '/');
     is_server = name && !strcmp(name, "/canbusd");
@@ -105,6 +135,19 @@ static void recognize(void) {
 #endif
 }
 
+#ifndef FOR_BRIDGE
+/* What calls the kernel itself, as programs of Go do also where they load libraries, waits unseen: so the run ends at
+ * once. */
+static void end_bypassing(void) {
+    const char *obstacle = is_server ? NULL : program_bypass(SELF);
+    char test[TEST_ROOM];
+    if (obstacle) {
+        tell(true, "%.60s (process %ld) %s, so its waits are not seen%s; start it outside of the run",
+             program_invocation_short_name, RAW(SYS_getpid, 0), obstacle, tell_test(test));
+    }
+}
+#endif
+
 __attribute__((constructor(103))) static void start(void) {
     const char *path = getenv(RUN_SETTING);
     struct run *at = path && *path ? map_run(path) : NULL;
@@ -112,6 +155,7 @@ __attribute__((constructor(103))) static void start(void) {
         return;
     }
     run = at;
+    coordinator_pid = atoi(path + sizeof "/proc/" - 1);
     recognize();
     if (!register_process()) {
         char test[TEST_ROOM];
@@ -125,4 +169,8 @@ __attribute__((constructor(103))) static void start(void) {
     start_signals();
 #endif
     begin_slot(index);
+#ifndef FOR_BRIDGE
+    start_random();
+    end_bypassing();
+#endif
 }

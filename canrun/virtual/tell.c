@@ -37,7 +37,7 @@ static bool put_notice(bool ends_run, const char *text) {
     memcpy(notice->text, text, sizeof notice->text);
     notice->ends_run = ends_run;
     notice->state = NOTICE_READY;
-    return RAW(SYS_kill, run->coordinator, SIGURG) == 0;
+    return RAW(SYS_kill, coordinator_pid, SIGURG) == 0;
 }
 
 static void write_here(const char *text) {
@@ -59,7 +59,7 @@ void tell(bool ends_run, const char *format, ...) {
     }
     while (ends_run) {
         check_coordinator();
-        RAW(SYS_kill, run->coordinator, SIGURG);
+        RAW(SYS_kill, coordinator_pid, SIGURG);
         RAW(SYS_nanosleep, &second, NULL);
     }
 }

@@ -1,47 +1,14 @@
-/* Timers. A timerfd is an eventfd that the process itself adds to, once one of its threads looks after the moment; what
- * sends a signal is in the memory of the run, and the coordinator sends it. */
+/* Timers that send signals, or call: alarm, setitimer, timer_create. They are in the memory of the run, and the
+ * coordinator sends their signals. */
 #define _GNU_SOURCE
 #include "calls.h"
 
 #include <pthread.h>
 #include <stdlib.h>
-#include <sys/eventfd.h>
 #include <sys/time.h>
-#include <sys/timerfd.h>
 #include <unistd.h>
 
-#define TIMERS 256
-
-static struct timer {
-    int fd; /* 0: none */
-    clockid_t clock;
-    uint64_t deadline, period;
-} timers[TIMERS];
-static int timer_count;
-
-bool has_timers(void) {
-    return timer_count > 0;
-}
-
-static struct timer *timer_of(int fd) {
-    for (int i = 0; i < timer_count; i++) {
-        if (timers[i].fd == fd && fd > 0) {
-            return &timers[i];
-        }
-    }
-    return NULL;
-}
-
-uint64_t timers_due(void) {
-    uint64_t due = NEVER;
-    for (int i = 0; i < timer_count; i++) {
-        due = timers[i].fd && timers[i].deadline < due ? timers[i].deadline : due;
-    }
-    return due;
-}
-
-/* How often a timer has come by now; its deadline is the next one. */
-static uint64_t take_due(uint64_t *deadline, uint64_t period) {
+uint64_t take_due(uint64_t *deadline, uint64_t period) {
     uint64_t now = run->now, times = 1;
     if (*deadline > now) {
         return 0;
@@ -53,89 +20,17 @@ static uint64_t take_due(uint64_t *deadline, uint64_t period) {
     return times;
 }
 
-void timers_fire(void) {
-    for (int i = 0; i < timer_count; i++) {
-        if (timers[i].fd) {
-            uint64_t times = take_due(&timers[i].deadline, timers[i].period);
-            if (times) {
-                RAW(SYS_write, timers[i].fd, &times, sizeof times);
-            }
-        }
-    }
-}
-
-void timer_closed(int fd) {
-    struct timer *timer = timer_of(fd);
-    if (timer) {
-        timer->fd = 0;
-    }
-}
-
-EXPORT int timerfd_create(clockid_t id, int flags) {
-    if (!run) {
-        return (int)answer(RAW(SYS_timerfd_create, id, flags));
-    }
-    int at = 0;
-    for (; at < timer_count && timers[at].fd; at++) {
-    }
-    if (at == TIMERS) {
-        return errno = EMFILE, -1;
-    }
-    int fd = eventfd(0, (flags & TFD_CLOEXEC ? EFD_CLOEXEC : 0) | (flags & TFD_NONBLOCK ? EFD_NONBLOCK : 0));
-    if (fd > 0) {
-        timers[at] = (struct timer){fd, id, NEVER, 0};
-        timer_count = at == timer_count ? at + 1 : timer_count;
-    }
-    return fd;
-}
-
-static struct itimerspec left_of(uint64_t deadline, uint64_t period) {
+struct itimerspec left_of(uint64_t deadline, uint64_t period) {
     uint64_t left = deadline == NEVER ? 0 : deadline > run->now ? deadline - run->now : 1;
     return (struct itimerspec){spec_of(period), spec_of(left)};
 }
 
-static uint64_t deadline_for(clockid_t id, const struct itimerspec *value, bool is_absolute) {
+uint64_t deadline_for(clockid_t id, const struct itimerspec *value, bool is_absolute) {
     if (!length_of(&value->it_value)) {
         return NEVER;
     }
     return is_absolute ? moment_of(id, &value->it_value) : after(length_of(&value->it_value));
 }
-
-EXPORT int timerfd_settime(int fd, int flags, const struct itimerspec *value, struct itimerspec *old) {
-    struct timer *timer = run ? timer_of(fd) : NULL;
-    struct pollfd polled = {fd, POLLIN, 0};
-    uint64_t times;
-    if (!timer) {
-        return (int)answer(RAW(SYS_timerfd_settime, fd, flags, value, old));
-    }
-    if (!is_proper(&value->it_value) || !is_proper(&value->it_interval)) {
-        return errno = EINVAL, -1;
-    }
-    if (old) {
-        *old = left_of(timer->deadline, timer->period);
-    }
-    if (RAW(SYS_ppoll, &polled, 1, &no_time, NULL, 8) > 0) {
-        RAW(SYS_read, fd, &times, sizeof times); /* What has come of the old one is over. */
-    }
-    timer->period = length_of(&value->it_interval);
-    timer->deadline = deadline_for(timer->clock, value, flags & TFD_TIMER_ABSTIME);
-    wake_descriptors(my_slot()->pid);
-    return 0;
-}
-
-EXPORT int timerfd_gettime(int fd, struct itimerspec *value) {
-    struct timer *timer = run ? timer_of(fd) : NULL;
-    if (!timer) {
-        return (int)answer(RAW(SYS_timerfd_gettime, fd, value));
-    }
-    *value = left_of(timer->deadline, timer->period);
-    return 0;
-}
-
-/* ---- timers that send signals ---- */
-
-/* Of the process, setitimer and alarm have this number, and those of timer_create others. */
-#define INTERVAL_TIMER 1
 
 static struct alarm *alarm_of(uint32_t id) {
     uint32_t pid = (uint32_t)RAW(SYS_getpid, 0);
@@ -147,19 +42,22 @@ static struct alarm *alarm_of(uint32_t id) {
     return NULL;
 }
 
-static struct alarm *new_alarm(uint32_t id, int number) {
+/* `number` is 0 where the coordinator sends no signal; NULL where there is no place, or it does not take it. */
+static struct alarm *new_alarm(uint32_t id, int number, uint32_t tid) {
     for (uint32_t i = 0; i < ALARMS; i++) {
         struct alarm *alarm = &run->alarms[i];
         uint32_t none = 0;
         if (!alarm->pid && __atomic_compare_exchange_n((uint32_t *)&alarm->pid, &none, UINT32_MAX, 0, __ATOMIC_SEQ_CST,
                                                        __ATOMIC_SEQ_CST)) {
-            alarm->tid = 0;
+            run->alarm_count = run->alarm_count > i + 1 ? run->alarm_count : i + 1;
+            alarm->tid = tid;
             alarm->number = number;
             alarm->id = id ? id : i + 2;
             alarm->value = alarm->period = alarm->overrun = 0;
             alarm->deadline = NEVER;
-            alarm->pid = (uint32_t)RAW(SYS_getpid, 0);
-            return alarm;
+            bool is_taken = !number || register_alarm(alarm);
+            alarm->pid = is_taken ? (uint32_t)RAW(SYS_getpid, 0) : 0;
+            return is_taken ? alarm : NULL;
         }
     }
     return NULL;
@@ -183,7 +81,7 @@ EXPORT int setitimer(__itimer_which_t which, const struct itimerval *restrict va
     if (old) {
         *old = interval_left(alarm);
     }
-    alarm = alarm ? alarm : new_alarm(INTERVAL_TIMER, SIGALRM);
+    alarm = alarm ? alarm : new_alarm(INTERVAL_TIMER, SIGALRM, 0);
     if (!alarm) {
         return errno = EAGAIN, -1;
     }
@@ -276,12 +174,12 @@ EXPORT int timer_create(clockid_t id, struct sigevent *restrict event, timer_t *
     }
     int how = event ? event->sigev_notify : SIGEV_SIGNAL;
     bool sends = how == SIGEV_SIGNAL || how == SIGEV_THREAD_ID;
-    struct alarm *alarm = new_alarm(0, !sends ? 0 : event ? event->sigev_signo : SIGALRM);
+    uint32_t tid = how == SIGEV_THREAD_ID ? (uint32_t)event->_sigev_un._tid : 0;
+    struct alarm *alarm = new_alarm(0, !sends ? 0 : event ? event->sigev_signo : SIGALRM, tid);
     if (!alarm) {
         return errno = EAGAIN, -1;
     }
     uintptr_t place = (uintptr_t)(alarm - run->alarms);
-    alarm->tid = how == SIGEV_THREAD_ID ? (uint32_t)event->_sigev_un._tid : 0;
     alarm->value = event ? (uint64_t)(uintptr_t)event->sigev_value.sival_ptr : place;
     int error = how == SIGEV_THREAD ? start_caller(alarm, event) : 0;
     if (error) {
@@ -338,13 +236,4 @@ EXPORT int timer_delete(timer_t timer) {
     wake(key_of(alarm, 0), 1);
     alarm->pid = 0;
     return 0;
-}
-
-/* The child of a fork has no timers; its copies of descriptors are the parent's. */
-static void forget(void) {
-    timer_count = 0;
-}
-
-__attribute__((constructor(102))) static void forget_in_children(void) {
-    pthread_atfork(NULL, NULL, forget);
 }

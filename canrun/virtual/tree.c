@@ -1,6 +1,7 @@
 /* All processes below this one: see tree.h. */
 #define _GNU_SOURCE
 #include "tree.h"
+#include "grants.h"
 #include "proc.h"
 
 #include <dirent.h>
@@ -49,7 +50,7 @@ void tree_kill(void) {
     for (int round = 0; round < 5000; round++) {
         size_t count = tree_below((uint32_t)getpid(), pids, TREE_MOST);
         for (size_t i = 0; i < count; i++) {
-            kill((pid_t)pids[i], SIGKILL);
+            descendant_signal(pids[i], SIGKILL);
         }
         while (waitpid(-1, NULL, WNOHANG) > 0) {
         }

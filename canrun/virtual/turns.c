@@ -10,21 +10,60 @@
 
 struct run *run;
 int run_epoll = -1;
+int coordinator_pid;
 bool is_server, is_bridge;
 __thread struct my my;
 void (*handle_deferred)(void);
+void (*hold_cancel)(bool is_held);
 
 /* How long a thread sleeps before it looks whether the coordinator is still there, in real time. */
 #define LIVE_SECONDS 1
 #define BIRTH_NANOSECONDS 20000000
+/* How many events are taken at once, and how often: more than slots and descriptors of each are ready together. */
+#define EVENTS 32
+#define MOST_LOOKS 2000
+/* How often it is looked whether a thread has ended, first without a pause, and the nanoseconds between; a minute. */
+#define END_YIELDS 20
+#define END_PAUSE 100000
+#define END_LOOKS 600000
 
-static uint64_t next_random(void) {
-    uint64_t x = run->random;
-    x ^= x << 13;
-    x ^= x >> 7;
-    x ^= x << 17;
-    run->random = x;
-    return x;
+/* ---- what is random ---- */
+
+static uint64_t scrambled(uint64_t x) {
+    x = (x ^ x >> 30) * 0xbf58476d1ce4e5b9ull;
+    x = (x ^ x >> 27) * 0x94d049bb133111ebull;
+    return x ^ x >> 31;
+}
+
+uint64_t draw(const struct slot *slot, enum chance what, uint64_t times) {
+    uint64_t of_thread = scrambled(scrambled(run->seed ^ run->test) + slot->number);
+    return scrambled(of_thread + times * CHANCES + what);
+}
+
+void begin_test(const char *name) {
+    uint64_t test = 0xcbf29ce484222325ull, below = 0;
+    for (; *name; name++) {
+        test = (test ^ (uint8_t)*name) * 0x100000001b3ull;
+    }
+    run->test = test;
+    run->born = 0;
+    /* The next older one each time. */
+    for (struct slot *next;; run->born++) {
+        next = NULL;
+        for (uint32_t i = 0; i < slots_used(); i++) {
+            struct slot *slot = &run->slots[i];
+            bool is_next = slot->state != SLOT_FREE && slot->number > below && (!next || slot->number < next->number);
+            next = is_next ? slot : next;
+        }
+        if (!next) {
+            break;
+        }
+        below = next->number;
+        next->number = run->born + 1;
+        next->waits = next->reads = 0;
+    }
+    /* What the test before has left, such as sessions that are about to end, does not count for those that are born now. */
+    run->born = SLOTS;
 }
 
 /* ---- slots ---- */
@@ -39,10 +78,12 @@ uint32_t take_slot(void) {
         }
         slot->flags = slot->is_foreign = 0;
         slot->pid = slot->tid = slot->parent = 0;
-        slot->rank = slot->kind = 0;
+        slot->rank = slot->kind = slot->tries = 0;
         slot->deadline = NEVER;
         slot->key = slot->ticket = slot->thread = slot->go_at = 0;
         slot->generation++;
+        slot->number = ++run->born;
+        slot->waits = slot->reads = 0;
         uint32_t used = run->used;
         while (used < i + 1 && !__atomic_compare_exchange_n((uint32_t *)&run->used, &used, i + 1, 0, __ATOMIC_SEQ_CST,
                                                             __ATOMIC_SEQ_CST)) {
@@ -61,10 +102,11 @@ void free_slot(struct slot *slot) {
     slot->deadline = NEVER;
     slot->key = 0;
     slot->state = SLOT_FREE;
+    run->progress++;
 }
 
 void begin_slot(uint32_t index) {
-    struct slot *slot = &run->slots[index];
+    struct slot *slot = slot_at(index);
     my.slot = slot;
     my.index = index;
     slot->pid = (uint32_t)RAW(SYS_getpid, 0);
@@ -94,22 +136,23 @@ struct slot *my_slot(void) {
 /* ---- who can go on ---- */
 
 static void collect_events(void) {
-    struct epoll_event events[32];
-    long count;
-    do {
-        count = RAW(SYS_epoll_pwait, run_epoll, events, 32, 0, NULL, 8);
+    struct epoll_event events[EVENTS];
+    long count = EVENTS;
+    /* Who waits is told of each descriptor once. What else a program has put there may be ready for ever. */
+    for (int i = 0; count == EVENTS && i < MOST_LOOKS; i++) {
+        count = RAW(SYS_epoll_pwait, run_epoll, events, EVENTS, 0, NULL, 8);
         if (count == -EBADF && register_process()) {
-            count = 32; /* A program that closes all descriptors has closed this one. */
+            count = EVENTS; /* A program that closes all descriptors has closed this one. */
             continue;
         }
         for (long i = 0; i < count; i++) {
             uint32_t index = (uint32_t)events[i].data.u64, generation = (uint32_t)(events[i].data.u64 >> 32);
-            struct slot *slot = &run->slots[index % SLOTS];
+            struct slot *slot = slot_at(index);
             if (slot->generation == generation && slot->state == SLOT_WAITS && slot->kind == KIND_DESCRIPTOR) {
                 slot->flags |= HAS_EVENT;
             }
         }
-    } while (count == 32);
+    }
 }
 
 struct look {
@@ -122,12 +165,18 @@ static bool can_go_on(const struct slot *slot, uint64_t now) {
     return slot->state == SLOT_READY || (slot->state == SLOT_WAITS && (slot->flags || slot->deadline <= now));
 }
 
+static bool goes_before(const struct slot *one, const struct slot *other) {
+    return one->rank != other->rank       ? one->rank < other->rank
+           : one->ticket != other->ticket ? one->ticket < other->ticket
+                                          : one->number < other->number;
+}
+
 /* Gives a place to each that can go on now and could not before, and finds the first. */
 static struct look look_round(void) {
     struct look look = {.best = NOBODY, .next = NEVER};
     uint64_t now = run->now, round = 0;
-    for (uint32_t i = 0; i < run->used; i++) {
-        struct slot *slot = &run->slots[i], *best = &run->slots[look.best % SLOTS];
+    for (uint32_t i = 0; i < slots_used(); i++) {
+        struct slot *slot = &run->slots[i], *best = slot_at(look.best);
         uint32_t state = slot->state;
         look.has_outside |= state == SLOT_OUTSIDE;
         if (!can_go_on(slot, now)) {
@@ -138,20 +187,32 @@ static struct look look_round(void) {
         }
         if (!slot->ticket) {
             round = round ? round : ++run->tickets;
-            slot->ticket = round << 16 | (run->seed ? next_random() & 0xffff : i);
+            uint64_t place = run->seed ? draw(slot, CHANCE_ORDER, slot->waits) : slot->number;
+            slot->ticket = round << 32 | (place & UINT32_MAX);
         }
-        if (look.best == NOBODY || slot->rank < best->rank ||
-            (slot->rank == best->rank && slot->ticket < best->ticket)) {
-            look.best = i;
-        }
+        look.best = look.best == NOBODY || goes_before(slot, best) ? i : look.best;
     }
     return look;
+}
+
+/* Lets those look once more that nobody wakes, where another has gone on since they did; false where there is none. */
+static bool try_again(void) {
+    bool has_one = false;
+    for (uint32_t i = 0; run->tries && i < slots_used(); i++) {
+        struct slot *slot = &run->slots[i];
+        if (slot->state == SLOT_WAITS && slot->tries && slot->tried != run->progress) {
+            slot->tried = run->progress;
+            slot->flags |= TRIES_AGAIN;
+            has_one = true;
+        }
+    }
+    return has_one;
 }
 
 /* Sets the clock to the next moment that one waits for, where the coordinator has nothing to do before. */
 static bool go_on(uint64_t next) {
     uint64_t alarm = NEVER;
-    for (int i = 0; i < ALARMS; i++) {
+    for (uint32_t i = 0; i < run->alarm_count && i < ALARMS; i++) {
         if (run->alarms[i].pid && run->alarms[i].number && run->alarms[i].deadline < alarm) {
             alarm = run->alarms[i].deadline;
         }
@@ -167,7 +228,7 @@ static bool go_on(uint64_t next) {
 }
 
 static bool has_birth(void) {
-    for (uint32_t i = 0; i < run->used; i++) {
+    for (uint32_t i = 0; i < slots_used(); i++) {
         if (run->slots[i].state == SLOT_BORN) {
             return true;
         }
@@ -191,17 +252,26 @@ uint32_t next_turn(bool ignores_outside) {
         run->pause = PAUSE_BIRTH;
         return NOBODY;
     }
-    collect_events();
+    /* A turn in which a server's thread only looked at memory has made no descriptor ready. */
+    bool is_quiet = is_server && !my.has_acted;
+    if (!is_quiet) {
+        collect_events();
+    }
     for (;;) {
         struct look look = look_round();
         if (look.best != NOBODY) {
             return look.best;
         }
+        if (is_quiet) {
+            is_quiet = false;
+            collect_events();
+            continue;
+        }
         if (look.has_outside && !ignores_outside) {
             run->pause = PAUSE_OUTSIDE;
             return NOBODY;
         }
-        if (!go_on(look.next)) {
+        if (!try_again() && !go_on(look.next)) {
             return NOBODY;
         }
     }
@@ -220,7 +290,7 @@ bool turn_change(uint64_t turn, uint32_t to) {
 
 void ring(void) {
     if (turn_owner() == NOBODY) {
-        RAW(SYS_kill, run->coordinator, SIGURG);
+        RAW(SYS_kill, coordinator_pid, SIGURG);
     }
 }
 
@@ -230,8 +300,8 @@ bool begin_deciding(void) {
 }
 
 void wake_owner(uint32_t index) {
-    run->slots[index].go++;
-    RAW(SYS_futex, &run->slots[index].go, FUTEX_WAKE, 1);
+    slot_at(index)->go++;
+    RAW(SYS_futex, &slot_at(index)->go, FUTEX_WAKE, 1);
 }
 
 void hand_turn(uint32_t index) {
@@ -248,20 +318,37 @@ bool has_turn(void) {
 }
 
 void check_coordinator(void) {
-    if (run->has_ended || RAW(SYS_kill, run->coordinator, 0) == -ESRCH) {
+    if (run->has_ended || RAW(SYS_kill, coordinator_pid, 0) == -ESRCH) {
         RAW(SYS_exit_group, 125); /* Nothing is left of a run whose coordinator is gone. */
     }
 }
 
+/* A thread that handed the turn on as it ended is gone before the next one goes on, which may get its stack. */
+static void await_end(void) {
+    struct timespec pause = {0, END_PAUSE};
+    uint64_t ending = run->ending;
+    for (int i = 0; ending && i < END_LOOKS && !RAW(SYS_tgkill, ending >> 32, (uint32_t)ending, 0); i++) {
+        if (i < END_YIELDS) {
+            RAW(SYS_sched_yield, 0);
+        } else {
+            RAW(SYS_nanosleep, &pause, NULL);
+        }
+    }
+    run->ending = 0;
+}
+
 void await_turn(void) {
-    struct timespec patience = {LIVE_SECONDS, 0};
+    struct timespec second = {LIVE_SECONDS, 0};
+    /* Of a server its first thread looks, and no thread has a handler. */
+    struct timespec *patience = is_server && my.slot->tid != my.slot->pid ? NULL : &second;
     for (;;) {
         uint32_t seen = my.slot->go;
         if (has_turn()) {
+            await_end();
             return;
         }
         /* With a timeout it returns EINTR after any handler, also of SA_RESTART. */
-        long result = RAW(SYS_futex, &my.slot->go, FUTEX_WAIT, seen, &patience);
+        long result = RAW(SYS_futex, &my.slot->go, FUTEX_WAIT, seen, patience);
         if (result == -ETIMEDOUT) {
             check_coordinator();
         } else if (result == -EINTR && !has_turn()) {
@@ -271,8 +358,23 @@ void await_turn(void) {
     }
 }
 
+/* Waits for the turn, in which it can't be cancelled anywhere, and goes on. */
+static void await_and_run(void) {
+    if (my.is_asynchronous) {
+        hold_cancel(true);
+    }
+    await_turn();
+    my.slot->state = SLOT_RUNS;
+    my.slot->ticket = 0;
+    my.has_acted = false;
+    if (my.is_asynchronous) {
+        hold_cancel(false);
+    }
+}
+
 /* Hands the turn on, and waits for the next one; the slot says what for. */
 static void give_turn(void) {
+    run->progress += my.tries != TRIES_ON;
     my.is_deciding++;
     if (begin_deciding()) {
         uint32_t next = next_turn(false);
@@ -288,42 +390,45 @@ static void give_turn(void) {
     if (handle_deferred) {
         handle_deferred();
     }
-    await_turn();
-    my.slot->state = SLOT_RUNS;
-    my.slot->ticket = 0;
+    await_and_run();
 }
 
 void regain_turn(void) {
     if (!has_turn()) {
         my_slot()->state = SLOT_READY;
         ring();
-        await_turn();
-        my.slot->state = SLOT_RUNS;
-        my.slot->ticket = 0;
+        await_and_run();
     }
 }
 
 uint32_t wait_turn(uint64_t deadline, uint64_t key, enum kind kind) {
     struct slot *slot = my_slot();
+    slot->waits++;
     if (deadline != NEVER && run->jitter) {
-        deadline += next_random() % (run->jitter / 1000 + 1) * 1000;
+        deadline += draw(slot, CHANCE_JITTER, slot->waits) % (run->jitter / 1000 + 1) * 1000;
     }
     slot->flags = 0;
     slot->deadline = deadline;
     slot->key = key;
     slot->kind = kind;
     slot->since = ++run->waits;
+    my.has_to_return = false;
+    slot->tries = my.tries != TRIES_NOT;
+    run->tries += slot->tries;
     if (is_server) {
         slot->rank = my.has_talked ? RANK_SESSION : RANK_DRIVER;
     }
     slot->state = SLOT_WAITS;
     give_turn();
+    run->tries -= slot->tries;
+    my.tries = slot->tries = 0;
     slot->deadline = NEVER;
     slot->key = 0;
     return slot->flags;
 }
 
 void yield_turn(void) {
+    my_slot()->waits++;
     my_slot()->state = SLOT_READY;
     give_turn();
 }
@@ -345,9 +450,9 @@ uint64_t key_of(const volatile void *at, uint64_t salt) {
     return mixed((uint64_t)(uintptr_t)at + salt, my_slot()->pid);
 }
 
-/* The same in each process that maps it: only the place in its page is known. */
-uint64_t key_of_any(const volatile void *at, uint64_t salt) {
-    return mixed(((uint64_t)(uintptr_t)at & 4095) + salt, 0);
+/* The same in each process that maps the file. */
+uint64_t key_of_file(uint64_t device, uint64_t inode, uint64_t offset) {
+    return mixed(mixed(device, inode), offset);
 }
 
 uint64_t key_of_number(uint64_t number) {
@@ -365,7 +470,7 @@ uint64_t key_of_signals(uint32_t pid) {
 void wake(uint64_t key, int most) {
     while (most-- > 0) {
         struct slot *first = NULL;
-        for (uint32_t i = 0; i < run->used; i++) {
+        for (uint32_t i = 0; i < slots_used(); i++) {
             struct slot *slot = &run->slots[i];
             if (slot->state == SLOT_WAITS && slot->key == key && !(slot->flags & IS_WOKEN) &&
                 (!first || slot->since < first->since)) {
@@ -381,10 +486,10 @@ void wake(uint64_t key, int most) {
 }
 
 void wake_descriptors(uint32_t pid) {
-    for (uint32_t i = 0; i < run->used; i++) {
+    for (uint32_t i = 0; i < slots_used(); i++) {
         struct slot *slot = &run->slots[i];
-        if (slot->state == SLOT_WAITS && slot->pid == pid && slot->kind == KIND_DESCRIPTOR) {
-            slot->flags |= HAS_EVENT;
+        if (slot->state == SLOT_WAITS && (!pid || slot->pid == pid) && slot->kind == KIND_DESCRIPTOR) {
+            slot->flags |= LOOKS_AGAIN;
         }
     }
 }

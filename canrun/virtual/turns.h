@@ -10,6 +10,21 @@
 /* NULL: there is no virtual time, and all calls are the kernel's. */
 extern struct run *run;
 extern int run_epoll;
+/* The process of the coordinator. */
+extern int coordinator_pid;
+
+/* How many slots were ever used. */
+static inline uint32_t slots_used(void) {
+    uint32_t used = run->used;
+    return used < SLOTS ? used : SLOTS;
+}
+/* One whose number comes from the memory of the run. */
+static inline struct slot *slot_at(uint32_t index) {
+    return &run->slots[index % SLOTS];
+}
+
+/* Whether a wait is for what nobody of the run wakes its thread for, and whether it is one more of the same. */
+enum tries { TRIES_NOT, TRIES, TRIES_ON };
 
 /* What a thread of a program knows of itself. */
 struct my {
@@ -17,16 +32,27 @@ struct my {
     uint32_t index;
     uint32_t is_deciding; /* a signal that comes now is handled after it */
     uint32_t handled;     /* signals that a handler had */
-    bool has_to_return;   /* the last one had no SA_RESTART */
+    bool has_to_return;   /* one that came during this wait had no SA_RESTART */
+    bool is_asynchronous; /* pthread_cancel is to end it anywhere */
+    enum tries tries;     /* whether its next wait is one that nobody wakes */
+    uint32_t born;        /* the slot of a child that is about to be made */
     uint32_t looks;
     uint64_t looked_at, step;
     bool has_talked;
+    bool has_acted; /* made a call in this turn by which a descriptor may be ready */
 };
 extern __thread struct my my __attribute__((tls_model("initial-exec")));
 
 /* The rank of this program's threads, and of a server's that use sockets or only drive a bus. */
 enum { RANK_PROGRAM, RANK_BRIDGE, RANK_SESSION, RANK_DRIVER };
 extern bool is_server, is_bridge;
+
+/* What is random for a thread: the same for each seed, test, birth and number of times. */
+enum chance { CHANCE_ORDER, CHANCE_JITTER, CHANCE_BYTES, CHANCES };
+uint64_t draw(const struct slot *slot, enum chance what, uint64_t times);
+
+/* A test begins: what is random hangs on its name, and on who is there now by age, but on nothing before. */
+void begin_test(const char *name);
 
 /* The slot of this thread, which gets one if need be. */
 struct slot *my_slot(void);
@@ -55,8 +81,11 @@ void check_coordinator(void);
 /* Lets those go on that wait for this key, the longest first. */
 void wake(uint64_t key, int most);
 
-/* Lets all of a process's threads look again that wait for descriptors. */
+/* Lets all of a process's threads look again that wait for descriptors; 0: of all processes. */
 void wake_descriptors(uint32_t pid);
+
+/* Turns, for a thread that pthread_cancel is to end anywhere, off and on that it does so now; NULL where none is. */
+extern void (*hold_cancel)(bool is_held);
 
 /* A moment from now, and the moment at which a clock shows this. */
 uint64_t after(uint64_t nanoseconds);
@@ -85,7 +114,7 @@ void settle(uint32_t pid);
 
 /* Keys of what is waited for in one process, and in any. */
 uint64_t key_of(const volatile void *at, uint64_t salt);
-uint64_t key_of_any(const volatile void *at, uint64_t salt);
+uint64_t key_of_file(uint64_t device, uint64_t inode, uint64_t offset);
 uint64_t key_of_number(uint64_t number);
 uint64_t key_of_children(uint32_t pid);
 uint64_t key_of_signals(uint32_t pid);
@@ -94,5 +123,7 @@ uint64_t key_of_signals(uint32_t pid);
 extern void (*handle_deferred)(void);
 /* Asks the coordinator for the epoll. Returns false where there is none. */
 bool register_process(void);
+/* Asks it to send the signals of an alarm of this process. */
+bool register_alarm(const struct alarm *alarm);
 
 #endif

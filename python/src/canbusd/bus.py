@@ -46,6 +46,8 @@ if TYPE_CHECKING:
 Self = TypeVar("Self", bound="CanbusdBus")
 
 LOG = logging.getLogger("can.canbusd")
+# What python-can itself says of each bus.
+BUS_LOG = logging.getLogger("can.bus")
 BUS_STATES = {
     "active": BusState.ACTIVE,
     "warning": BusState.ACTIVE,
@@ -300,6 +302,16 @@ class CanbusdBus(InjectsFaults, NamesWhatThereIs, BusABC):
             return [{"interface": "canbusd", "channel": name} for name in interfaces(timeout=DETECTION)]
         except (CanInitializationError, ValueError):
             return []
+
+    def recv(self, timeout: Optional[float] = None) -> Optional[Message]:
+        """Returns the next message; None where none comes within these seconds.
+
+        python-can's own asks again for what is left by `time.time`, whose numbers are a quarter of a microsecond apart.
+        """
+        message, _ = self._recv_internal(timeout)
+        if message is not None:
+            BUS_LOG.log(self.RECV_LOGGING_LEVEL, "Received: %s", message)
+        return message
 
     def _recv_internal(self, timeout: Optional[float]) -> tuple[Optional[Message], bool]:
         deadline = None if timeout is None else time.monotonic() + timeout

@@ -23,6 +23,7 @@ from typing import TYPE_CHECKING, Any, Optional
 from canbusd._calls import NamesWhatThereIs
 from canbusd._process.program import ProgramNotFound, find_program
 from canbusd._session.observing_session import ObservingSession
+from canbusd._session.waits import seconds_until
 from canbusd._text import seconds_words
 from canbusd.frames import data_bytes
 
@@ -148,12 +149,12 @@ class CanIsoTp(IsoTp):
     def recv(self, timeout: Optional[float] = None) -> Optional[bytes]:
         deadline = None if timeout is None else time.monotonic() + timeout
         while True:
-            left = 0.05 if deadline is None else max(0.0, min(0.05, deadline - time.monotonic()))
+            left = 0.05 if deadline is None else min(0.05, seconds_until(deadline))
             data = self._stack.recv(block=True, timeout=left)
             if data is not None:
                 return bytes(data)
             self._raise()
-            if deadline is not None and time.monotonic() >= deadline:
+            if left == 0:
                 return None
 
     def close(self) -> None:
@@ -246,8 +247,8 @@ class SocketIsoTp(IsoTp):
                 if found is not None:
                     self._received.remove(found)
                     return found
-                left = None if deadline is None else deadline - time.monotonic()
-                if left is not None and left <= 0:
+                left = None if deadline is None else seconds_until(deadline)
+                if left == 0:
                     return None
                 if self._is_read:
                     self._news.wait(left)

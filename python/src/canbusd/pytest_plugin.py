@@ -28,7 +28,7 @@ from canbusd._run.live import left_by
 from canbusd.bench import Bench
 from canbusd.record import BadRecord, read_record
 from canbusd.rules import Rule
-from canbusd.virtual import is_virtual, python_words, repeated_by, virtual_words
+from canbusd.virtual import begin_test, is_virtual, python_words, repeated_by, virtual_words
 
 if TYPE_CHECKING:
     from canbusd.programs import Program
@@ -140,6 +140,8 @@ def pytest_runtest_setup(item: pytest.Item) -> None:
     marker = item.get_closest_marker("canbusd")
     if marker is not None and marker.kwargs.get("virtual") and not is_virtual():
         pytest.fail("this test is for virtual time: python3 -m pytest --canbusd-virtual", pytrace=False)
+    if is_virtual():
+        begin_test(item.nodeid)
     for run in list(RUNNING):
         # One that has crashed is a fault of those that use it.
         with contextlib.suppress(Exception):

@@ -2,6 +2,7 @@
 
 import functools
 import os
+import random
 import shlex
 import sys
 import warnings
@@ -42,6 +43,11 @@ def python_words(words: Sequence[str]) -> list[str]:
     """Returns the words by which this Python was started; before Python 3.10, those of pytest with its ``words``."""
     given: Sequence[str] = getattr(sys, "orig_argv", ())
     return [sys.executable, *given[1:]] if given else [sys.executable, "-m", "pytest", *words]
+
+
+def begin_test(test: str) -> None:
+    """Has `random` begin anew, as all that is random does as a test of pytest begins: by the run's seed and this name."""
+    random.seed(f"{os.environ.get(OPTIONS)} {test}")
 
 
 def repeated_by(test: str) -> str:

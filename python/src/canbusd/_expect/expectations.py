@@ -19,6 +19,7 @@ from canbusd._expect.supervision import Supervision
 from canbusd._session.arguments import check_within
 from canbusd._session.connection import LONGEST_POLL, POLL
 from canbusd._session.protocol import STATES, ErrorCounters, State, Stats, in_words
+from canbusd._session.waits import seconds_until
 from canbusd._text import seconds_words
 from canbusd.faults import Faults, Script
 from canbusd.signals import Value
@@ -45,8 +46,8 @@ def wait_for(predicate: Callable[[], T], timeout: float) -> Optional[T]:
         found = predicate()
         if found:
             return found
-        left = deadline - time.monotonic()
-        if left <= 0:
+        left = seconds_until(deadline)
+        if left == 0:
             return None
         time.sleep(min(pause, left))
         pause = min(2 * pause, LONGEST_POLL)

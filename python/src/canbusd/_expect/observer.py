@@ -14,6 +14,7 @@ from canbusd._session.injection import TIMEOUT
 from canbusd._session.observing_session import ObservingSession, Reader, wait_for_input
 from canbusd._session.protocol import in_words
 from canbusd._session.raw_session import fault
+from canbusd._session.waits import seconds_until
 from canbusd._text import seconds_words, times
 from canbusd.frames import Frame, described_line
 from canbusd.signals import Database
@@ -107,10 +108,10 @@ class Observer:
             queued = session.stats().queued
             while True:
                 self._gather()
-                left = deadline - time.monotonic()
+                left = seconds_until(deadline)
                 if session.taken >= queued:
                     break
-                if left <= 0:
+                if left == 0:
                     late = f"{session.channel}: frames did not come within {seconds_words(TIMEOUT)}"
                     raise fault("CanTimeoutError", ": ".join(filter(None, [late, self._full(session.channel)])))
                 wait_for_input([session], left)
@@ -126,8 +127,7 @@ class Observer:
                 self.settle()
                 with self._lock:
                     found, arrived = look(), self.received.arrived
-                left = deadline - time.monotonic()
-                if found is not None or left <= 0:
+                if found is not None or seconds_until(deadline) == 0:
                     return found
                 self._await(may_be, arrived, deadline)
 
@@ -138,8 +138,8 @@ class Observer:
                 if any(may_be(seen) for seen in self.received.arrived_since(arrived)):
                     return
                 arrived = self.received.arrived
-            left = deadline - time.monotonic()
-            if left <= 0:
+            left = seconds_until(deadline)
+            if left == 0:
                 return
             wait_for_input(list(self._sessions.values()), left)
             self._gather()

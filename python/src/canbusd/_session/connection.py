@@ -24,14 +24,13 @@ from canbusd._session.address import connect
 from canbusd._session.pending_questions import ECHO, VERDICT, Asked, OwnNumbers
 from canbusd._session.protocol import LONGEST_ANSWER
 from canbusd._session.readiness import PIECE, Readiness
+from canbusd._session.waits import seconds_until, wait_for_ready
 from canbusd._text import seconds_words
 
 # Seconds that a server is given to end a session.
 CLOSE_TIMEOUT = 1.0
 # Seconds between two looks at what a server has no news of, such as a full transmit queue: at first, and at most.
 POLL, LONGEST_POLL = 0.0002, 0.01
-# What no limit of the system's calls is below.
-LONGEST_WAIT = 3600.0
 # Seconds after which a thread looks for what another one has read, if that was interrupted before it woke it.
 LONGEST_NAP = 1.0
 # Who listens at an address may be anybody, and terminals carry out what they take for a command: other characters than those
@@ -80,7 +79,7 @@ class Connection:
         self._readiness: Optional[Readiness] = None
         self._process = os.getpid()
         self._socket = connect(address, timeout)
-        self._polls = {events: self._poll(events) for events in (select.POLLIN, select.POLLIN | select.POLLOUT)}
+        self._number = self._socket.fileno()
         try:
             self._greet()
         except BaseException:
@@ -137,13 +136,26 @@ class Connection:
                     self._readiness.show(False)
             raise
 
+    def take_frames(self, to: deque[str]) -> int:
+        """Reads once what the socket has, without waiting, and moves the frames that were read to the end of `to`.
+
+        Returns how many there were. One call for many: an exception of a signal's handler finds them here or there.
+        """
+        before = len(to)
+        try:
+            self._read(self._never, 0.0, select.POLLIN)
+        finally:
+            with contextlib.suppress(IndexError):
+                to.extend(iter(self._frames.popleft, None))
+        return len(to) - before
+
     def frames_at_hand(self) -> int:
         """Returns how many frames were read already, and wait to be taken."""
         return len(self._frames)
 
     def socket_fileno(self) -> int:
         """Returns the file descriptor of the socket. It is readable where the server has sent something, if only an answer."""
-        return self._socket.fileno()
+        return self._number
 
     def fileno(self) -> int:
         """Returns a file descriptor that is readable where `frame` would return at once; NotImplementedError if
@@ -267,7 +279,7 @@ class Connection:
         `ready` is called again after each change. What came before the end of the connection is still returned.
         """
         while True:
-            left = None if deadline is None else min(max(0.0, deadline - time.monotonic()), LONGEST_WAIT)
+            left = None if deadline is None else seconds_until(deadline)
             has_read, found = self._read(ready, left, events)
             if not has_read:
                 found = self._await_reader(ready, left, events)
@@ -341,7 +353,7 @@ class Connection:
 
     def _receive(self, seconds: Optional[float], events: int) -> None:
         try:
-            if self._polls[events].poll(None if seconds is None else seconds * 1000):
+            if wait_for_ready((self._number,), events, seconds):
                 self._pieces.extend(map(self._socket.recv, (PIECE,)))
         except BlockingIOError:
             pass
@@ -383,8 +395,3 @@ class Connection:
     def _raise_end(self) -> NoReturn:
         assert self._end is not None
         raise ConnectionError(self._end)
-
-    def _poll(self, events: int) -> "select.poll":
-        poll = select.poll()
-        poll.register(self._socket, events)
-        return poll

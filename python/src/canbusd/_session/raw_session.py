@@ -6,12 +6,14 @@ installed, faults are its exceptions.
 
 import errno
 import time
+from collections import deque
 from collections.abc import Sequence
 from typing import Optional
 
 from canbusd._session.connection import LONGEST_POLL, POLL, Connection, NoAnswer, SessionRefused
 from canbusd._session.injection import NO_INTERFACE, InjectsFaults, no_interface
 from canbusd._session.protocol import ErrorCounters, Load, Stats, counters_of, load_of, refusal_in, stats_of
+from canbusd._session.waits import seconds_until
 from canbusd._text import times
 
 NO_BUFFERS, BUS_OFF, NOT_BUS_OFF, RECORD_FULL = "no buffers", "bus off", "not bus off", "record full"
@@ -106,6 +108,13 @@ class RawSession(InjectsFaults):
         """Returns the next message that hands over a frame, from `<` on; None where none came in this time, in seconds."""
         try:
             return self._connection.frame(timeout)
+        except ConnectionError as reason:
+            raise self._failed("CanOperationError", str(reason)) from None
+
+    def take_frames(self, to: deque[str]) -> int:
+        """Reads once what has come, without waiting, and moves the frames to the end of `to`; returns how many there were."""
+        try:
+            return self._connection.take_frames(to)
         except ConnectionError as reason:
             raise self._failed("CanOperationError", str(reason)) from None
 
@@ -204,8 +213,8 @@ class RawSession(InjectsFaults):
         """
         pause = POLL
         while True:
-            now, is_late = self.stats(), time.monotonic() >= deadline
-            if is_late or before is None or now.done + now.lost != before.done + before.lost:
-                return now, is_late
-            time.sleep(min(pause, max(0.0, deadline - time.monotonic())))
+            now, left = self.stats(), seconds_until(deadline)
+            if left == 0 or before is None or now.done + now.lost != before.done + before.lost:
+                return now, left == 0
+            time.sleep(min(pause, left))
             pause = min(2 * pause, LONGEST_POLL)

@@ -1,0 +1,88 @@
+"""Virtual time: what is said where something can't work, and nothing that is not so."""
+
+import os
+import re
+import subprocess
+import time
+
+import pytest
+
+from running import FLAGS, command, needs, needs_gcc
+from virtual_runs import fails, virtual
+
+
+@needs("candump")
+def test_no_server():
+    """a program with CAN sockets and nothing else is told what it lacks, once, with a command"""
+    ended = virtual("candump", "can0")
+    assert ended.returncode == 1
+    (said,) = (line for line in ended.stderr.splitlines() if line.startswith("canbusd-run: "))
+    assert re.search(
+        r"candump \(process \d+\) has no CAN sockets.*: they take a server and canbusd-run inside", said
+    ), said
+    assert "canbusd-run --virtual sh -c 'canbusd serve --bitrate 500000 can0 & sleep 1; canbusd-run candump ..'" in said
+
+
+#: A program with the note by which Go marks its programs, after another.
+NOTED = """
+#include <stdio.h>
+#define NOTE(name, owner) \\
+    __attribute__((section(name), used, aligned(4))) static const struct { \\
+        unsigned length, rest, type; \\
+        char of[4], text[8]; \\
+    }
+NOTE(".note.a", "GNU") first = {4, 5, 7, "GNU", "abcd"};
+NOTE(".note.go.buildid", "Go") second = {4, 8, 4, "Go", "abcdefg"};
+
+int main(void) {
+    puts("ran");
+    return 0;
+}
+"""
+
+
+@needs_gcc
+def test_go_with_c(tmp_path):
+    """a program of Go that loads libraries ends the run as it begins, and not where nothing goes on"""
+    (tmp_path / "noted.c").write_text(NOTED, encoding="utf-8")
+    path = str(tmp_path / "noted")
+    subprocess.run(["gcc", *FLAGS, "-Wno-unused-macros", "-o", path, path + ".c"], check=True)
+    ended = virtual(path)
+    fails(ended, r"noted \(process \d+\) is a Go program, which calls the kernel itself, so its waits are not seen.*; start it outside")
+    assert ended.stdout == ""
+
+
+@needs_gcc
+def test_short_ones(tmp_path):
+    """a program without the library that neither waits nor stays is none that the run has to speak of"""
+    source = str(tmp_path / "short.c")
+    with open(source, "w", encoding="utf-8") as file:
+        file.write("int main(void) { for (volatile long i = 0; i < 50000000; i++) {} return 0; }\n")
+    subprocess.run(["gcc", "-O1", "-o", str(tmp_path / "short"), source], check=True)
+    script = f"env -i {tmp_path}/short; env -i {tmp_path}/short; sleep 1; date +%s"
+    ended = virtual("sh", "-c", script)
+    assert (ended.returncode, ended.stdout, ended.stderr) == (0, "1767225601\n", ""), ended
+
+
+@needs("valgrind")
+def test_valgrind():
+    """a program within valgrind is in virtual time, and nothing else is said"""
+    ended = virtual("valgrind", "-q", "sh", "-c", "date +%s; sleep 30; date +%s")
+    assert (ended.returncode, ended.stdout, ended.stderr) == (0, "1767225600\n1767225630\n", ""), ended
+
+
+@needs("parallel")
+def test_parallel(tmp_path):
+    """GNU parallel, which first tries how long its commands may be, with an environment of its own"""
+    env = {**os.environ, "HOME": str(tmp_path), "PARALLEL_HOME": str(tmp_path)}
+    begun = time.monotonic()
+    ended = virtual("parallel", "-j1", "sleep 20; echo", ":::", "a", "b", env=env)
+    assert (ended.returncode, ended.stdout, ended.stderr) == (0, "a\nb\n", ""), ended
+    assert time.monotonic() - begun < 30
+
+
+@pytest.mark.parametrize("word", ["--seed", "--jitter"])
+def test_help(word):
+    """the help says how far the jitter has to go"""
+    shown = subprocess.run([command(), "--help"], stdout=subprocess.PIPE, text=True, check=True).stdout
+    assert word in shown and "to exceed the time between the events" in shown

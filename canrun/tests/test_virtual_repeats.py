@@ -1,0 +1,278 @@
+"""Virtual time: a run is the same each time, by its seed, and each test of pytest is so by its name."""
+
+import os
+import re
+import shutil
+import subprocess
+import sys
+
+import pytest
+
+from running import command, needs_gcc
+from serving import ROOT, program
+from virtual_runs import case, needs_can, needs_tools, nodes, virtual
+
+__all__ = ["nodes"]
+
+#: How often a case is run in the suite.
+RUNS = 5
+SEED = ("--seed", "5", "--jitter", "300")
+
+SAME = [
+    *(("nodes", ""), ("tools", ""), ("isotp", ""), ("bcm", ""), ("worst_case", ""), ("senders", "")),
+    ("bus_off", "auto"),
+    *(pytest.param(*words, marks=needs_can) for words in (("bus_off", "program"), ("pytest", ""))),
+    *(pytest.param("python", kind, marks=needs_can) for kind in ("socketcan", "canbusd")),
+]
+
+
+def all_same(name, kind, folder, nodes, runs, options=()):
+    """Runs a case so often in one folder, whose name may be part of what it writes, and compares what each run left."""
+    first = case(name, folder / "run", nodes, options, KIND=kind)
+    (folder / "run").rename(folder / "first")
+    for number in range(1, runs):
+        left = case(name, folder / "run", nodes, options, KIND=kind)
+        differ = [key for key in {*first, *left} if first.get(key) != left.get(key)]
+        assert not differ, f"run {number}: {differ}"
+        shutil.rmtree(folder / "run")
+
+
+@needs_gcc
+@needs_tools
+@pytest.mark.parametrize("name, kind", SAME)
+@pytest.mark.parametrize("runs", [RUNS, pytest.param(100, marks=pytest.mark.slow)])
+def test_same_bytes(tmp_path, nodes, name, kind, runs):
+    """logs, records and all outputs are the same each time"""
+    all_same(name, kind, tmp_path, nodes, runs)
+
+
+@needs_gcc
+@needs_tools
+@pytest.mark.parametrize("name, kind", SAME)
+def test_same_bytes_of_a_seed(tmp_path, nodes, name, kind):
+    """the same with a seed and jitter"""
+    all_same(name, kind, tmp_path, nodes, 2, SEED)
+
+
+@pytest.mark.slow
+@needs_gcc
+@needs_tools
+@pytest.mark.parametrize("options", [(), SEED])
+@pytest.mark.parametrize("name, kind", SAME)
+def test_same_bytes_beside_others(tmp_path, nodes, name, kind, options):
+    """the same beside four processes that burn the processors"""
+    burners = [subprocess.Popen(["nice", "-n", "19", "sh", "-c", "while :; do :; done"]) for _ in range(4)]
+    try:
+        all_same(name, kind, tmp_path, nodes, 100, options)
+    finally:
+        for burner in burners:
+            burner.kill()
+            burner.wait()
+
+
+@needs_gcc
+@needs_tools
+def test_seeds(tmp_path, nodes):
+    """another seed has runs of its own, which are the same each time"""
+    left = [case("nodes", tmp_path / name, nodes, words, FRAMES="20") for name, words in zip("abc", (SEED, SEED, ()))]
+    assert left[0] == left[1] != left[2]
+
+
+@needs_gcc
+def test_race(nodes):
+    """a race that the usual order never shows is found by a seed, and repeated by it"""
+    assert virtual(nodes / "race").stdout == "all are unique\n"
+    found = [virtual(nodes / "race", options=("--seed", str(seed), "--jitter", "500")).stdout for seed in range(12)]
+    assert 1 <= sum("given out twice" in text for text in found) <= 11, found
+    again = [virtual(nodes / "race", options=("--seed", str(seed), "--jitter", "500")).stdout for seed in range(12)]
+    assert again == found
+
+
+@needs_gcc
+@pytest.mark.parametrize("options", [(), ("--seed", "7")])
+def test_what_is_random(nodes, options):
+    """bytes that are random, addresses, and who leaves a barrier first are those of the seed"""
+    runs = [virtual(nodes / "drawn", options=options) for _ in range(5)]
+    assert {(run.returncode, run.stderr) for run in runs} == {(0, "")}
+    assert len({run.stdout for run in runs}) == 1, [run.stdout for run in runs]
+    drawn = dict(line.rsplit(" ", 1) for line in runs[0].stdout.splitlines() if not line.startswith("addresses"))
+    assert all(drawn.values()) and len(set(drawn.values())) == len(drawn), drawn
+    other = virtual(nodes / "drawn", options=("--seed", "8")).stdout
+    assert not set(drawn.items()) & {tuple(line.rsplit(" ", 1)) for line in other.splitlines()}
+
+
+def test_what_is_random_of_a_shell():
+    """a device may be the input of a program"""
+    text = "head -c 8 /dev/urandom; head -c 8 </dev/urandom"
+    line = [command(), "--virtual", "sh", "-c", text]
+    first, second = (subprocess.run(line, stdout=subprocess.PIPE, check=True).stdout for _ in range(2))
+    assert len(first) == 16 and first == second and first[:8] != first[8:]
+
+
+#: A server and a client of TCP that write twice before they read, beside a thread that sleeps: when each reply came.
+WRITES = """
+import socket, threading, time
+
+def serve():
+    with server.accept()[0] as end:
+        for _ in range(50):
+            while len(end.recv(1)) and not end.recv(1):
+                pass
+            end.sendall(b"a")
+            end.sendall(b"b")
+
+def tick():
+    while True:
+        time.sleep(0.001)
+
+server = socket.create_server(("127.0.0.1", 0))
+threading.Thread(target=serve).start()
+threading.Thread(target=tick, daemon=True).start()
+with socket.create_connection(server.getsockname()) as client:
+    for _ in range(50):
+        client.sendall(b"c")
+        client.sendall(b"d")
+        assert client.recv(1) + client.recv(1) == b"ab"
+        print(f"{time.monotonic():.3f}")
+        time.sleep(0.05)
+"""
+
+
+def test_writes_to_tcp():
+    """no byte waits for the kernel's timers of TCP, which run by the real clock"""
+    ended = virtual(sys.executable, "-c", WRITES)
+    assert ended.returncode == 0, ended
+    assert ended.stdout.split() == [f"{1000 + number * 0.05:.3f}" for number in range(50)]
+
+
+def test_seed_of_a_failed_script():
+    """a script that fails says by which seed it does so again"""
+    for words, options in ((("--seed", "7"), "--seed 7 --jitter 0"), (("--jitter", "50"), "--seed 0 --jitter 50")):
+        ended = virtual("sh", "-c", "sleep 1; exit 3", options=words)
+        line = f"canbusd-run: virtual time: at 1.000000 s status 3; {options} repeats it\n"
+        assert (ended.returncode, re.sub(r"1\.0000\d\d", "1.000000", ended.stderr)) == (3, line)
+    assert virtual("sh", "-c", "exit 3").stderr == virtual("true", options=SEED).stderr == ""
+
+
+#: Tests of which seeds make some fail: what each says hangs on waits, threads, a server of several tests, and numbers.
+RACES = """
+import random
+import threading
+import time
+import uuid
+
+import can
+import pytest
+
+import canbusd as package
+
+
+@pytest.fixture(scope="module")
+def shared():
+    with package.Server("a,b", bitrate=500000) as server:
+        yield server
+
+
+def order_of(buses):
+    \"\"\"In which order the frames of two threads come.\"\"\"
+
+    def send(bus, identifier):
+        for _ in range(5):
+            time.sleep(0.01)
+            bus.send(can.Message(arbitration_id=identifier, is_extended_id=False))
+
+    threads = [threading.Thread(target=send, args=(bus, number)) for number, bus in enumerate(buses, 1)]
+    for thread in threads:
+        thread.start()
+    order = "".join(str(buses[2].recv(timeout=1).arbitration_id) for _ in range(10))
+    for thread in threads:
+        thread.join()
+    return order
+
+
+@pytest.mark.canbusd("one,two,three", bitrate=500000)
+@pytest.mark.parametrize("number", range(2))
+def test_own(canbusd, number):
+    with canbusd.bus("one") as one, canbusd.bus("two") as two, canbusd.bus("three") as three:
+        order = order_of([one, two, three])
+    assert order == "", f"{random.random()} {uuid.uuid4()}"
+
+
+@pytest.mark.parametrize("number", range(2))
+def test_shared(shared, number):
+    with shared.bus("a") as one, shared.bus("a") as two, shared.bus("b") as three:
+        order = order_of([one, two, three])
+    assert order == "", f"{random.random()} {uuid.uuid4()}"
+"""
+
+
+def reasons(text):
+    """What pytest says of each test that failed: the lines with E."""
+    parts = re.findall(r"^_+ (test_\S+) _+$(.*?)(?=^_+ test_|^=+ short)", text, re.M | re.S)
+    return {name: re.findall("^E .*$", body, re.M) for name, body in parts}
+
+
+@needs_can
+@pytest.mark.parametrize("seeds", [2, pytest.param(50, marks=pytest.mark.slow)])
+def test_repeated_tests(tmp_path, seeds):
+    """the command that a failed test of a file prints fails as it did, though it runs that test without the others"""
+    (tmp_path / "test_it.py").write_text(RACES, encoding="utf-8")
+    env = {**os.environ, "CANBUSD_RUN": command(), "CANBUSD": program(), "PYTHONPATH": os.path.join(ROOT, "python/src")}
+    env["PYTEST_ADDOPTS"] = "-p canbusd.pytest_plugin -p no:cacheprovider --tb=short"
+    how = {"cwd": tmp_path, "env": env, "stdout": subprocess.PIPE, "text": True, "check": False}
+    orders = set()
+    for seed in range(1, seeds + 1):
+        options = ["--canbusd-virtual", "--canbusd-seed", str(seed), "--canbusd-jitter", "300"]
+        whole = subprocess.run([sys.executable, "-m", "pytest", "test_it.py", *options], **how).stdout
+        failed = reasons(whole)
+        commands = re.findall("^repeat: python3 (.*)$", whole, re.M)
+        assert len(failed) == len(commands) == 4, whole
+        orders.update(re.findall("assert '([12]+)' == ''", whole))
+        for line in commands[seed % 2 :: 2] if seeds == 2 else commands:
+            again = subprocess.run(f"{sys.executable} {line}", shell=True, **how).stdout
+            (name,) = reasons(again)
+            assert reasons(again)[name] == failed[name], (seed, whole, again)
+    assert len(orders) > seeds, orders
+
+
+#: Each wait of the package that comes to nothing, of several lengths and begun at several moments: those that are not exact.
+WAITS = """
+import contextlib, time
+import canbusd
+
+def exact(call, micros):
+    before = time.monotonic_ns()
+    with contextlib.suppress(AssertionError):
+        call(micros / 1e6)
+    return time.monotonic_ns() - before == micros * 1000
+
+with canbusd.Server("ecu,tester", bitrate=500000) as server:
+    with server.bus("tester") as bus, server.isotp("ecu", tx=0x7E0, rx=0x7E8) as end:
+        calls = {
+            "recv": lambda seconds: bus.recv(timeout=seconds),
+            "isotp": lambda seconds: end.recv(timeout=seconds),
+            "expect": lambda seconds: server.expect(0x123, within=seconds),
+            "state": lambda seconds: server.expect_state("ecu", "off", within=seconds),
+        }
+        for start in (0, 0.01927, 0.01627, 0.000001, 1.3, 0.000027, 12345.678901, 86400 * 365):
+            time.sleep(start)
+            for micros in (100000, 1, 1000, 123456, 300000, 333333):
+                print(*(f"{name} {micros} {time.monotonic()}" for name in calls if not exact(calls[name], micros)))
+"""
+
+
+@needs_can
+def test_waits_of_the_package():
+    """they are as long as they say, at whatever moment they begin"""
+    env = {**os.environ, "CANBUSD": program(), "PYTHONPATH": os.path.join(ROOT, "python", "src")}
+    ended = virtual(sys.executable, "-c", WAITS, env=env)
+    assert (ended.returncode, set(ended.stdout.split("\n"))) == (0, {""}), ended
+
+
+def test_start_of_python(tmp_path):
+    """a test begins at the moment at which the run does, however much Python has to read and to translate before"""
+    (tmp_path / "test_it.py").write_text("import time\ndef test_it():\n    print(time.monotonic())\n", encoding="utf-8")
+    words = [sys.executable, "-m", "pytest", "-q", "-s", "-p", "no:cacheprovider", "test_it.py"]
+    for env in ({}, {"PYTHONPYCACHEPREFIX": str(tmp_path / "new")}, {"PYTHONDONTWRITEBYTECODE": "1"}):
+        ended = virtual(*words, cwd=tmp_path, env={**os.environ, **env})
+        assert ended.stdout.startswith("1000.0\n"), ended

@@ -1,0 +1,66 @@
+"""Runs in virtual time for tests: programs, and cases whose output and files are compared."""
+
+import os
+import re
+import subprocess
+import sys
+
+import pytest
+
+from running import FLAGS, command, needs
+from serving import ROOT, program
+
+SOURCES = os.path.join(ROOT, "canrun", "tests", "virtual_c")
+CASES = os.path.join(ROOT, "canrun", "tests", "virtual_cases")
+
+has_can = subprocess.run([sys.executable, "-c", "import can"], check=False, capture_output=True).returncode == 0
+needs_can = pytest.mark.skipif(not has_can, reason="no python-can")
+needs_tools = needs("candump", "cangen", "canplayer")
+
+
+@pytest.fixture(scope="module")
+def nodes(tmp_path_factory):
+    """The folder of the C programs."""
+    folder = tmp_path_factory.mktemp("nodes")
+    for name in ("bcm", "cyclic", "drawn", "forger", "full", "isotp", "lent", "race", "respond", "slow_end", "unseen", "waits"):
+        source = os.path.join(SOURCES, f"{name}.c")
+        subprocess.run(["gcc", *FLAGS, "-o", str(folder / name), source], check=True)
+    return folder
+
+
+def virtual(*words, options=(), patience=300, **how):
+    """Runs a program in virtual time; how it ended, and what it wrote."""
+    line = [command(), "--virtual", *options, "--", *map(str, words)]
+    return subprocess.run(line, capture_output=True, text=True, timeout=patience, check=False, **how)
+
+
+def files_below(folder):
+    """What the files of a folder have, by their names."""
+    return {
+        str(path.relative_to(folder)): path.read_bytes()
+        for path in sorted(folder.rglob("*"))
+        if path.is_file() and path.name != "address"
+    }
+
+
+def case(name, folder, nodes, options=(), **settings):
+    """Runs a case of virtual_cases/; what it wrote, and the files that it left."""
+    env = {
+        **os.environ,
+        "RUN": command(),
+        "CANBUSD": program(),
+        "NODES": str(nodes),
+        "CASES": CASES,
+        "OUT": str(folder),
+    }
+    env.update(PYTHON=sys.executable, PYTHONPATH=os.path.join(ROOT, "python", "src"), PYTHONDONTWRITEBYTECODE="1")
+    env.pop("PYTEST_ADDOPTS", None)
+    script = os.path.join(CASES, f"{name}.sh")
+    ended = virtual("bash", script, options=options, env={**env, "KIND": "", **settings})
+    assert ended.returncode == 0, ended
+    return {"stdout": ended.stdout, "stderr": ended.stderr, **files_below(folder)}
+
+
+def fails(ended, pattern):
+    """Whether a run has ended with status 125 and a line that names program and reason."""
+    assert ended.returncode == 125 and re.search(pattern, ended.stderr), ended

@@ -1,0 +1,132 @@
+/* Servers that are no part of the run. */
+#define _GNU_SOURCE
+#include "calls.h"
+#include "proc.h"
+#include "tell.h"
+
+#include <arpa/inet.h>
+#include <netinet/in.h>
+#include <netinet/tcp.h>
+#include <stdio.h>
+#include <stdlib.h>
+#include <string.h>
+#include <sys/socket.h>
+#include <sys/un.h>
+
+#define NAME_SERVICES "/run/systemd/"
+
+/* The run ends: for that server time goes on as ever. `host` is where it is, after `, at `, or empty. */
+static void fail_outside(const char *what, const char *host) {
+    char test[TEST_ROOM];
+    tell(
+        true,
+        "%.60s (thread %ld of process %ld) connects to %s, which is no program of this run%s%s; start it inside of the "
+        "run",
+        program_invocation_short_name, RAW(SYS_gettid, 0), RAW(SYS_getpid, 0), what, host, tell_test(test));
+}
+
+/* All of a run are below its coordinator. Of one that has ended it is not known. */
+static bool is_of_run(uint32_t pid) {
+    return proc_is_below(pid, (uint32_t)coordinator_pid) || !proc_parent(pid);
+}
+
+static bool has_port(uint32_t port) {
+    return run->ports[port / 8] >> port % 8 & 1;
+}
+
+/* `, at HOST`, of an address of IP. */
+static const char *host_of(const struct sockaddr *address, char room[80]) {
+    char host[INET6_ADDRSTRLEN] = "?";
+    const void *number = address->sa_family == AF_INET ? (const void *)&((const struct sockaddr_in *)address)->sin_addr
+                                                       : &((const struct sockaddr_in6 *)address)->sin6_addr;
+    inet_ntop(address->sa_family, number, host, sizeof host);
+    snprintf(room, 80, ", at %s", host);
+    return room;
+}
+
+static uint32_t port_of(const struct sockaddr *address) {
+    return address->sa_family == AF_INET    ? ntohs(((const struct sockaddr_in *)address)->sin_port)
+           : address->sa_family == AF_INET6 ? ntohs(((const struct sockaddr_in6 *)address)->sin6_port)
+                                            : 0;
+}
+
+/* TCP sends at once: what it holds back otherwise it sends by the real clock. Of one that listens its connections have
+ * it. */
+static void send_at_once(int fd) {
+    int on = 1;
+    RAW(SYS_setsockopt, fd, IPPROTO_TCP, TCP_NODELAY, &on, sizeof on);
+}
+
+EXPORT int listen(int fd, int backlog) {
+    struct sockaddr_storage address;
+    socklen_t length = sizeof address;
+    if (run) {
+        send_at_once(fd);
+    }
+    long result = RAW(SYS_listen, fd, backlog);
+    if (run && !result && !RAW(SYS_getsockname, fd, &address, &length)) {
+        uint32_t port = port_of((struct sockaddr *)&address);
+        run->ports[port / 8] |= (uint8_t)(1 << port % 8);
+    }
+    return (int)answer(result);
+}
+
+/* Fails where the other end of a connection is outside of the run; what looks up names of users and hosts may be there.
+ */
+static void check_peer(int fd, const struct sockaddr *to) {
+    char text[160];
+    int type = 0;
+    struct ucred peer = {0};
+    socklen_t length = sizeof peer, size = sizeof type;
+    uint32_t port = port_of(to);
+    RAW(SYS_getsockopt, fd, SOL_SOCKET, SO_TYPE, &type, &size);
+    if (type != SOCK_STREAM && type != SOCK_SEQPACKET) {
+        return;
+    }
+    if (to->sa_family == AF_UNIX) {
+        const struct sockaddr_un *path = (const struct sockaddr_un *)to;
+        bool is_known = !RAW(SYS_getsockopt, fd, SOL_SOCKET, SO_PEERCRED, &peer, &length);
+        bool is_of_names = !strncmp(path->sun_path, NAME_SERVICES, sizeof NAME_SERVICES - 1);
+        if (is_known && !is_of_names && peer.pid > 0 && !is_of_run((uint32_t)peer.pid)) {
+            snprintf(text, sizeof text, "%.*s of process %d", (int)sizeof path->sun_path,
+                     path->sun_path[0] ? path->sun_path : "a socket", peer.pid);
+            fail_outside(text, "");
+        }
+    } else if (port && !has_port(port)) {
+        char host[80];
+        snprintf(text, sizeof text, "TCP port %u", port);
+        fail_outside(text, host_of(to, host));
+    }
+}
+
+/* The kernel's CAN sockets have its clock; those of the run are had by canbusd-run inside of it, which sets this. */
+#define HAS_INTERFACES "CANBUSD_INTERFACES"
+
+EXPORT int socket(int domain, int type, int protocol) {
+    static _Atomic bool is_said;
+    char test[TEST_ROOM];
+    if (!run || domain != PF_CAN || getenv(HAS_INTERFACES)) {
+        return (int)answer(RAW(SYS_socket, domain, type, protocol));
+    }
+    if (!is_said) {
+        is_said = true;
+        tell(false,
+             "%.60s (process %ld) has no CAN sockets%s: they take a server and canbusd-run inside of the run, as in "
+             "canbusd-run --virtual sh -c 'canbusd serve --bitrate 500000 can0 & sleep 1; canbusd-run %.60s ..'; "
+             "examples/scenario.sh is a whole one",
+             program_invocation_short_name, RAW(SYS_getpid, 0), tell_test(test), program_invocation_short_name);
+    }
+    return errno = EAFNOSUPPORT, -1;
+}
+
+EXPORT int connect(int fd, const struct sockaddr *to, socklen_t length) {
+    my.has_talked = true;
+    if (run && port_of(to)) {
+        send_at_once(fd);
+    }
+    long result = RAW(SYS_connect, fd, to, length);
+    if (run && (!result || result == -EINPROGRESS)) {
+        check_peer(fd, to);
+    }
+    return (int)answer(result);
+}

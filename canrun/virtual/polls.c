@@ -1,0 +1,178 @@
+/* Waits for many descriptors: select and epoll. */
+#define _GNU_SOURCE
+#include "calls.h"
+
+#include <string.h>
+#include <sys/epoll.h>
+#include <sys/select.h>
+#include <sys/time.h>
+
+#define POLL_MOST 1024
+
+/* ---- select ---- */
+
+struct sets {
+    int count;
+    fd_set *of[3];
+};
+static const short EVENTS[3] = {POLLIN, POLLOUT, POLLPRI};
+
+/* What is ready now, in place of what was asked for; the sets are kept in `before`. */
+static int select_now(struct sets *sets, fd_set before[3]) {
+    fd_set room[3];
+    fd_set *at[3];
+    for (int i = 0; i < 3; i++) {
+        at[i] = sets->of[i] ? &room[i] : NULL;
+        room[i] = before[i];
+    }
+    long result = RAW(SYS_pselect6, sets->count, at[0], at[1], at[2], &no_time, NULL);
+    size_t bytes = ((size_t)sets->count + 63) / 64 * 8;
+    for (int i = 0; i < 3 && result >= 0; i++) {
+        if (sets->of[i]) {
+            memcpy(sets->of[i], &room[i], bytes);
+        }
+    }
+    return (int)answer(result);
+}
+
+static nfds_t polled_of(const struct sets *sets, const fd_set before[3], struct pollfd *fds) {
+    nfds_t count = 0;
+    for (int fd = 0; fd < sets->count && count < POLL_MOST; fd++) {
+        short events = 0;
+        for (int i = 0; i < 3; i++) {
+            events |= sets->of[i] && FD_ISSET(fd, &before[i]) ? EVENTS[i] : 0;
+        }
+        if (events) {
+            fds[count++] = (struct pollfd){fd, events, 0};
+        }
+    }
+    return count;
+}
+
+static int select_until(struct sets *sets, uint64_t deadline, const sigset_t *mask) {
+    fd_set before[3];
+    struct pollfd fds[POLL_MOST];
+    uint32_t flags = 0;
+    cancel_point();
+    if (sets->count < 0 || sets->count > FD_SETSIZE) {
+        return errno = EINVAL, -1;
+    }
+    for (int i = 0; i < 3; i++) {
+        memset(&before[i], 0, sizeof before[i]);
+        if (sets->of[i]) {
+            memcpy(&before[i], sets->of[i], ((size_t)sets->count + 63) / 64 * 8);
+        }
+    }
+    nfds_t count = polled_of(sets, before, fds);
+    struct masked masked = set_mask(mask);
+    if (deadline <= run->now) {
+        looked();
+    }
+    int result;
+    for (;;) {
+        timers_fire();
+        bool is_over = (flags & (IS_INTERRUPTED | HAS_EVENT)) == IS_INTERRUPTED;
+        result = is_over ? 0 : select_now(sets, before);
+        if (result) {
+            break;
+        }
+        if (flags & IS_INTERRUPTED || (masked.is_set && my.handled != masked.handled)) {
+            errno = EINTR;
+            result = -1;
+            break;
+        }
+        if (deadline <= run->now) {
+            break;
+        }
+        flags = wait_for(fds, count, deadline);
+    }
+    put_mask_back(&masked);
+    return result;
+}
+
+EXPORT int select(int count, fd_set *restrict r, fd_set *restrict w, fd_set *restrict x, struct timeval *restrict t) {
+    if (!run) {
+        return (int)answer(RAW(SYS_select, count, r, w, x, t));
+    }
+    struct sets sets = {count, {r, w, x}};
+    if (t && (t->tv_sec < 0 || t->tv_usec < 0)) {
+        return errno = EINVAL, -1;
+    }
+    uint64_t deadline = t ? after((uint64_t)t->tv_sec * SECOND + (uint64_t)t->tv_usec * 1000) : NEVER;
+    int result = select_until(&sets, deadline, NULL);
+    if (t) {
+        uint64_t left = deadline > run->now ? deadline - run->now : 0;
+        *t = (struct timeval){(time_t)(left / SECOND), (suseconds_t)(left % SECOND / 1000)};
+    }
+    return result;
+}
+
+EXPORT int pselect(int count, fd_set *restrict r, fd_set *restrict w, fd_set *restrict x,
+                   const struct timespec *restrict t, const sigset_t *restrict mask) {
+    struct timespec copy = t ? *t : no_time;
+    struct {
+        const void *set;
+        size_t size;
+    } sixth = {mask, 8};
+    struct sets sets = {count, {r, w, x}};
+    if (!run) {
+        return (int)answer(RAW(SYS_pselect6, count, r, w, x, t ? &copy : NULL, &sixth));
+    }
+    if (t && !is_proper(t)) {
+        return errno = EINVAL, -1;
+    }
+    return select_until(&sets, t ? after(length_of(t)) : NEVER, mask);
+}
+
+/* ---- epoll: the epoll of the run has that of the program in it ---- */
+
+static int epoll_until(int fd, struct epoll_event *events, int most, uint64_t deadline, const sigset_t *mask) {
+    struct pollfd polled = {fd, POLLIN, 0};
+    cancel_point();
+    struct masked masked = set_mask(mask);
+    uint32_t flags = 0;
+    long result;
+    if (deadline <= run->now) {
+        looked();
+    }
+    for (;;) {
+        timers_fire();
+        if (flags & LOOKS_AGAIN) {
+            signalfds_look(fd);
+        }
+        bool is_over = (flags & (IS_INTERRUPTED | HAS_EVENT)) == IS_INTERRUPTED;
+        result = is_over ? 0 : RAW(SYS_epoll_pwait, fd, events, most, 0, NULL, 8);
+        if (result) {
+            break;
+        }
+        if (flags & IS_INTERRUPTED || (masked.is_set && my.handled != masked.handled)) {
+            result = -EINTR;
+            break;
+        }
+        if (deadline <= run->now) {
+            break;
+        }
+        flags = wait_for(&polled, 1, deadline);
+    }
+    put_mask_back(&masked);
+    return (int)answer(result);
+}
+
+EXPORT int epoll_pwait(int fd, struct epoll_event *events, int most, int ms, const sigset_t *mask) {
+    return run ? epoll_until(fd, events, most, after_ms(ms), mask)
+               : (int)answer(RAW(SYS_epoll_pwait, fd, events, most, ms, mask, 8));
+}
+
+EXPORT int epoll_wait(int fd, struct epoll_event *events, int most, int ms) {
+    return epoll_pwait(fd, events, most, ms, NULL);
+}
+
+EXPORT int epoll_pwait2(int fd, struct epoll_event *events, int most, const struct timespec *t, const sigset_t *mask) {
+    if (!run) {
+        return (int)answer(RAW(SYS_epoll_pwait2, fd, events, most, t, mask, 8));
+    }
+    if (t && !is_proper(t)) {
+        return errno = EINVAL, -1;
+    }
+    return epoll_until(fd, events, most, t ? after(length_of(t)) : NEVER, mask);
+}

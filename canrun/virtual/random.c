@@ -1,0 +1,135 @@
+/* What is random in a program: the same in each run, by the seed. */
+#define _GNU_SOURCE
+#include "random.h"
+#include "calls.h"
+
+#include <fcntl.h>
+#include <stdlib.h>
+#include <string.h>
+#include <sys/auxv.h>
+#include <sys/stat.h>
+#include <sys/sysmacros.h>
+
+/* What pytest sets as each part of a test begins. */
+#define TEST "PYTEST_CURRENT_TEST"
+/* Descriptors below this may be /dev/random or /dev/urandom. */
+#define DEVICES 1024
+/* The devices with these numbers, as in devices.txt of Linux. */
+enum { MEMORY_DEVICES = 1, RANDOM_DEVICE = 8, URANDOM_DEVICE = 9 };
+/* The most that getentropy gives. */
+#define MOST_ENTROPY 256
+
+static void fill(void *data, size_t length) {
+    char *at = data;
+    struct slot *slot = my_slot();
+    for (size_t part; length; length -= part, at += part) {
+        uint64_t bytes = draw(slot, CHANCE_BYTES, ++slot->reads);
+        part = length < sizeof bytes ? length : sizeof bytes;
+        memcpy(at, &bytes, part);
+    }
+}
+
+/* What the kernel does with these arguments, and then bytes of this run. */
+EXPORT ssize_t getrandom(void *data, size_t length, unsigned flags) {
+    ssize_t result = answer(RAW(SYS_getrandom, data, length, flags));
+    if (run && result > 0) {
+        fill(data, (size_t)result);
+    }
+    return result;
+}
+
+EXPORT int getentropy(void *data, size_t length) {
+    if (length > MOST_ENTROPY) {
+        return errno = EIO, -1;
+    }
+    return getrandom(data, length, 0) == (ssize_t)length ? 0 : -1;
+}
+
+EXPORT void arc4random_buf(void *data, size_t length);
+void arc4random_buf(void *data, size_t length) {
+    for (size_t done = 0; done < length;) {
+        ssize_t part = getrandom((char *)data + done, length - done, 0);
+        done += part > 0 ? (size_t)part : 0;
+    }
+}
+
+EXPORT uint32_t arc4random(void);
+uint32_t arc4random(void) {
+    uint32_t number;
+    arc4random_buf(&number, sizeof number);
+    return number;
+}
+
+/* Numbers past the last multiple of `bound` are drawn again. */
+EXPORT uint32_t arc4random_uniform(uint32_t bound);
+uint32_t arc4random_uniform(uint32_t bound) {
+    uint32_t number, least = bound ? -bound % bound : 0;
+    do {
+        number = arc4random();
+    } while (number < least);
+    return bound ? number % bound : 0;
+}
+
+/* ---- /dev/urandom ---- */
+
+static bool may_be_device[DEVICES];
+
+static bool is_device(int fd) {
+    struct stat status;
+    return !RAW(SYS_newfstatat, fd, "", &status, AT_EMPTY_PATH) && S_ISCHR(status.st_mode) &&
+           major(status.st_rdev) == MEMORY_DEVICES &&
+           (minor(status.st_rdev) == RANDOM_DEVICE || minor(status.st_rdev) == URANDOM_DEVICE);
+}
+
+void random_opened(int fd, const char *path) {
+    if (run && fd >= 0 && fd < DEVICES && (!strcmp(path, "/dev/urandom") || !strcmp(path, "/dev/random"))) {
+        may_be_device[fd] = true;
+    }
+}
+
+void random_read(int fd, const struct iovec *parts, int count, ssize_t length) {
+    if (length <= 0 || fd < 0 || fd >= DEVICES || !may_be_device[fd] || !is_device(fd)) {
+        return;
+    }
+    for (int i = 0; i < count && length > 0; i++) {
+        size_t part = parts[i].iov_len < (size_t)length ? parts[i].iov_len : (size_t)length;
+        fill(parts[i].iov_base, part);
+        length -= (ssize_t)part;
+    }
+}
+
+/* ---- a test of pytest begins ---- */
+
+static void note_setting(const char *name, const char *value) {
+    if (run && !strcmp(name, TEST)) {
+        regain_turn();
+        begin_test(value);
+    }
+}
+
+EXPORT int setenv(const char *name, const char *value, int replaces) {
+    REAL(setenv);
+    int result = real(name, value, replaces);
+    if (!result) {
+        note_setting(name, value);
+    }
+    return result;
+}
+
+EXPORT int putenv(char *text) {
+    REAL(putenv);
+    int result = real(text);
+    if (!result && !strncmp(text, TEST "=", sizeof TEST)) {
+        note_setting(TEST, text + sizeof TEST);
+    }
+    return result;
+}
+
+/* The kernel gives 16 bytes to each program, and a device may be its standard input. */
+void start_random(void) {
+    void *bytes = (void *)(uintptr_t)getauxval(AT_RANDOM);
+    if (bytes) {
+        fill(bytes, 16);
+    }
+    may_be_device[0] = true;
+}
