@@ -62,10 +62,11 @@ static int check_control(const struct msghdr *message) {
 static ssize_t refuse_control(const struct socket *sock, int index) {
     int error = errno;
     char name[IFNAMSIZ];
-    struct answer answer = {0};
+    struct sockaddr_can can = {0};
+    struct answer answer = {.data = &can, .room = sizeof can};
     if (index == WIRE_BOUND) {
-        index =
-            ask(sock->fd, "sendmsg", &(struct wire_request){.kind = WIRE_ADDRESS}, NULL, 0, &answer) ? 0 : answer.value;
+        ask(sock->fd, "sendmsg", &(struct wire_request){.kind = WIRE_ADDRESS}, NULL, 0, &answer);
+        index = can.can_ifindex;
     }
     return fail(index && !name_of_index(index, name) ? error : ENXIO);
 }

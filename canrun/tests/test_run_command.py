@@ -387,7 +387,8 @@ def test_pipes():
             assert child.stdout.readline() == "done\n"
             for number in bridges(environment(server)["CANBUSD_ADDRESS"]):
                 held = {os.readlink(f"/proc/{number}/fd/{fd}") for fd in os.listdir(f"/proc/{number}/fd")}
-                assert {re.sub(r"\d+", "N", one) for one in held} == {"/dev/null", "socket:[N]"}, held
+                memory = "/memfd:canbusd-socket (deleted)"
+                assert {re.sub(r"\d+", "N", one) for one in held} == {"/dev/null", "socket:[N]", memory}, held
                 assert os.readlink(f"/proc/{number}/cwd") == "/"
         assert none_left(server)
         server.end()
@@ -816,11 +817,12 @@ except OSError as fault:
 
 
 def test_no_descriptors():
-    """at the limit of descriptors a write is refused (EMFILE), and the socket goes on"""
+    """at the limit of descriptors frames are written and read, and what the bridge is asked for is refused (EMFILE)"""
     text = """
 import errno, os, resource, socket, struct
-s = socket.socket(29, 3, 1)
+s, t = socket.socket(29, 3, 1), socket.socket(29, 3, 1)
 s.bind(("can0",))
+t.bind(("can1",))
 resource.setrlimit(resource.RLIMIT_NOFILE, (20, 20))
 held = []
 try:
@@ -829,15 +831,19 @@ try:
 except OSError:
     pass
 frame = struct.pack("=IB3x8s", 0x123, 1, b"1")
-try:
-    s.send(frame)
-except OSError as fault:
-    assert fault.errno == errno.EMFILE, fault
-else:
-    raise AssertionError("sent")
+assert s.send(frame) == 16
+assert t.recvfrom(16) == (frame, ("can1",))
+assert t.getsockopt(socket.SOL_SOCKET, socket.SO_TYPE) == socket.SOCK_RAW
+for name in socket.CAN_RAW_LOOPBACK, socket.CAN_RAW_FD_FRAMES:
+    try:
+        s.getsockopt(socket.SOL_CAN_RAW, name)
+    except OSError as fault:
+        assert fault.errno == errno.EMFILE, fault
+    else:
+        raise AssertionError(name)
 for fd in held:
     os.close(fd)
-assert s.send(frame) == 16
+assert s.getsockopt(socket.SOL_CAN_RAW, socket.CAN_RAW_LOOPBACK) == 1
 """
     with serving("can0,can1") as server:
         passes(server, "/usr/bin/python3", "-c", text)
