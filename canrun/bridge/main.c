@@ -135,5 +135,6 @@ int main(void) {
     }
     serve();
     sessions_leave();
+    memory->is_over = 1;
     return 0;
 }

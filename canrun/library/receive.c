@@ -103,7 +103,7 @@ static ssize_t take(int fd, struct msghdr *message, int flags) {
             return length < 0 && errno == ECONNRESET ? no_device() : length;
         }
         if (flags & MSG_PEEK) {
-            real()->recvmsg(fd, message, MSG_DONTWAIT);
+            drop_error(fd);
         }
         if (take_shown(fd)) {
             return -1;

@@ -16,9 +16,9 @@
 #include <sys/syscall.h>
 
 /* A socket has one of these: one of the few from the hash of its name on. */
-#define KNOWN_BITS 6
+#define KNOWN_BITS 8
 #define KNOWN (1u << KNOWN_BITS)
-#define FEW 8
+#define FEW 16
 /* Nobody can use it now: it becomes that of another socket. */
 #define IS_CHANGING (1u << 31)
 
@@ -67,6 +67,20 @@ static bool change(struct shared *one, const char *name, struct wire_memory *mem
     memcpy(one->name, name, sizeof one->name);
     __atomic_fetch_sub(&one->users, IS_CHANGING, __ATOMIC_RELEASE);
     return true;
+}
+
+/* Gives up the memory of sockets that are closed. */
+static void forget_closed(void) {
+    static const char nobody[WIRE_NAME_ROOM];
+    for (struct shared *one = known; one < known + KNOWN; one++) {
+        uint32_t users = __atomic_add_fetch(&one->users, 1, __ATOMIC_ACQUIRE);
+        bool is_over =
+            !(users & IS_CHANGING) && one->memory && __atomic_load_n(&one->memory->is_over, __ATOMIC_RELAXED);
+        share_leave(one);
+        if (is_over) {
+            change(one, nobody, NULL);
+        }
+    }
 }
 
 /* Makes one of the few that of this socket. */
@@ -196,6 +210,7 @@ int share_make(const char *name) {
         }
         return fail(error);
     }
+    forget_closed();
     memcpy(memory->name, name, sizeof memory->name);
     syscall(SYS_getrandom, &memory->key, sizeof memory->key, 0L);
     if (!keep(name, memory)) {

@@ -133,6 +133,7 @@ struct wire_notes {
 struct wire_memory {
     uint64_t key;
     char name[WIRE_NAME_ROOM]; /* of the socket */
+    uint32_t is_over;          /* the bridge has ended, as nobody has the socket any more */
     struct wire_loan loan;
     struct wire_place places[WIRE_PLACES];
     struct wire_notes received;

@@ -97,6 +97,8 @@ bool await_ready(int fd, short events, int flags);
 bool await_until(int fd, short events, uint64_t deadline);
 /* recvfrom. */
 ssize_t receive(int fd, void *data, size_t length, int flags, struct sockaddr *from, socklen_t *room);
+/* The deadline of SO_RCVTIMEO or SO_SNDTIMEO, which the kernel keeps. */
+uint64_t timeout_of(int fd, short events);
 /* The child of a fork has nothing in the epoll. */
 void descriptors_forget(void);
 /* No epoll of a program stays in that of the run while nobody waits for it. */
@@ -143,6 +145,8 @@ void signalfds_look(int epoll);
 /* The next moment at which a timerfd of this process is due, and the same once it has come. */
 uint64_t timers_due(void);
 void timers_fire(void);
+/* A descriptor is about to be read, which may be one. */
+void timers_read(int fd);
 /* A descriptor has been closed, which may have been one. */
 void timers_closed(int fd);
 /* Looks which descriptors are timers or read signals: those that were there before a program began, or came by a
@@ -165,6 +169,8 @@ long futex(long word, long operation, long value, long fourth, long fifth, long 
 
 /* What a C library function does that waits in the kernel unseen. */
 long wait_for_child(int number, long pid, int *status, int options, void *usage);
+/* The first thread of a program is known as others are. */
+void begin_first_thread(void);
 /* A thread of this process ends with mutexes that tell the next owner so. */
 void leave_mutexes(void);
 /* Makes a child by this system call, or with -1 by _Fork. */

@@ -10,7 +10,7 @@ uint32_t wait_turn_or_cancel(uint64_t deadline, uint64_t key, enum kind kind) {
     do {
         cancel_point();
         flags = wait_turn(deadline, key, kind);
-    } while (flags == IS_CANCELLED && (cancel_point(), true) && run->now < deadline);
+    } while (flags == IS_CANCELLED && run->now < deadline);
     cancel_point();
     return flags;
 }
@@ -45,13 +45,4 @@ EXPORT int pthread_setcanceltype(int type, int *old) {
         my.is_asynchronous = type == PTHREAD_CANCEL_ASYNCHRONOUS;
     }
     return real(type, old);
-}
-
-EXPORT int pthread_setcancelstate(int state, int *old) {
-    REAL(pthread_setcancelstate);
-    int error = real(state, old);
-    if (run && !error && state == PTHREAD_CANCEL_ENABLE && my.is_asynchronous) {
-        cancel_point();
-    }
-    return error;
 }

@@ -156,6 +156,9 @@ static bool sleep_until(uint64_t deadline) {
 }
 
 EXPORT int clock_nanosleep(clockid_t id, int flags, const struct timespec *t, struct timespec *left) {
+    if (id == CLOCK_THREAD_CPUTIME_ID) {
+        return EINVAL;
+    }
     if (!run || is_of_processor(id)) {
         return (int)-RAW(SYS_clock_nanosleep, id, flags, t, left);
     }
@@ -190,7 +193,7 @@ EXPORT int usleep(useconds_t n) {
 
 EXPORT unsigned sleep(unsigned n) {
     struct timespec left = {0, 0};
-    return nanosleep(&(struct timespec){n, 0}, &left) ? (unsigned)left.tv_sec + (left.tv_nsec > 0) : 0;
+    return nanosleep(&(struct timespec){n, 0}, &left) ? (unsigned)left.tv_sec : 0;
 }
 
 EXPORT int thrd_sleep(const struct timespec *t, struct timespec *left) {

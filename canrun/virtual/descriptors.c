@@ -116,8 +116,8 @@ static void unwatch(int fd, int watched) {
     }
 }
 
-/* Waits until one of these may be ready, or the key is woken; the flags of wait_turn. */
-static uint32_t wait_with_key(const struct pollfd *fds, nfds_t count, uint64_t deadline, uint64_t key) {
+/* Waits until one of these may be ready, or the key is woken; the flags of wait_turn. `tries`: nobody may wake it. */
+static uint32_t wait_with_key(const struct pollfd *fds, nfds_t count, uint64_t deadline, uint64_t key, bool tries) {
     int watched[POLL_MOST];
     uint64_t timers = timers_due();
     bool may_stay = count <= FEW && !has_signalfds();
@@ -128,23 +128,26 @@ static uint32_t wait_with_key(const struct pollfd *fds, nfds_t count, uint64_t d
         short events = may_stay ? events_of(fds, count, fds[i].fd) : fds[i].events;
         watched[i] = fds[i].fd < 0 ? -1 : watch(fds[i].fd, events, may_stay);
     }
-    /* Signals that the kernel sends by itself wake nobody. */
-    my.tries = has_signalfds() ? TRIES : TRIES_NOT;
+    my.tries = !tries ? TRIES_NOT : my.has_tried ? TRIES_ON : TRIES;
     uint32_t flags = wait_turn(deadline < timers ? deadline : timers, key, KIND_DESCRIPTOR);
     for (nfds_t i = 0; i < count; i++) {
         unwatch(fds[i].fd, watched[i]);
     }
+    my.has_tried = flags == TRIES_AGAIN;
     cancel_point();
     return flags;
 }
 
 uint32_t wait_for(const struct pollfd *fds, nfds_t count, uint64_t deadline) {
-    return wait_with_key(fds, count, deadline, 0);
+    /* Signals that the kernel sends by itself wake nobody. */
+    return wait_with_key(fds, count, deadline, 0, has_signalfds());
 }
 
 long look_at(struct pollfd *fds, nfds_t count) {
     timers_fire();
-    return RAW(SYS_ppoll, fds, count, &no_time, NULL, 8);
+    long result = RAW(SYS_ppoll, fds, count, &no_time, NULL, 8);
+    my.has_tried &= !result;
+    return result;
 }
 
 /* Waits until one of these is ready; what poll returns. What a handler has done is not seen any more. */
@@ -202,8 +205,7 @@ EXPORT int CALL(ppoll)(struct pollfd *fds, nfds_t count, const struct timespec *
 
 /* ---- calls that block ---- */
 
-/* The deadline of SO_RCVTIMEO or SO_SNDTIMEO, which the kernel keeps. */
-static uint64_t deadline_of(int fd, short events) {
+uint64_t timeout_of(int fd, short events) {
     struct timeval t = {0, 0};
     socklen_t length = sizeof t;
     int option = events & POLLIN ? SO_RCVTIMEO : SO_SNDTIMEO;
@@ -223,7 +225,7 @@ bool await_later(int fd, short events, uint64_t *deadline) {
             looked();
             return errno = EAGAIN, false;
         }
-        *deadline = deadline_of(fd, events);
+        *deadline = timeout_of(fd, events);
     }
     struct pollfd polled = {fd, events, 0};
     uint32_t flags = wait_for(&polled, 1, *deadline);
@@ -325,7 +327,7 @@ long canbusd_virtual_talk(int fd, char *text, size_t length, size_t room, uint32
         return -1;
     }
     for (;;) {
-        wait_with_key(&(struct pollfd){fd, POLLIN, 0}, 1, deadline, key_of_number(key));
+        wait_with_key(&(struct pollfd){fd, POLLIN, 0}, 1, deadline, key_of_number(key), false);
         long result =
             *(volatile uint32_t *)word != expected ? 0 : RAW(SYS_recvfrom, fd, text, room, MSG_DONTWAIT, NULL, NULL);
         if (result != -EAGAIN || run->now >= deadline) {

@@ -186,25 +186,29 @@ static long mq_until(long (*call)(void *), struct message_of_mq *it, const struc
                               : try_until(call, it, ETIMEDOUT, t ? moment_of(CLOCK_REALTIME, t) : NEVER, true);
 }
 
-EXPORT ssize_t mq_timedreceive(mqd_t queue, char *restrict data, size_t length, unsigned *restrict priority,
-                               const struct timespec *restrict t) {
+static ssize_t receive_message(mqd_t queue, char *data, size_t length, unsigned *priority, const struct timespec *t) {
     struct message_of_mq it = {queue, data, length, priority, 0};
     return answer(run ? mq_until(try_mq_receive, &it, t) : RAW(SYS_mq_timedreceive, queue, data, length, priority, t));
 }
 
-EXPORT ssize_t mq_receive(mqd_t queue, char *data, size_t length, unsigned *priority) {
-    struct message_of_mq it = {queue, data, length, priority, 0};
-    return answer(run ? mq_until(try_mq_receive, &it, NULL)
-                      : RAW(SYS_mq_timedreceive, queue, data, length, priority, NULL));
+EXPORT ssize_t mq_timedreceive(mqd_t queue, char *restrict data, size_t length, unsigned *restrict priority,
+                               const struct timespec *restrict t) {
+    return receive_message(queue, data, length, priority, t);
 }
 
-EXPORT int mq_timedsend(mqd_t queue, const char *data, size_t length, unsigned priority, const struct timespec *t) {
+EXPORT ssize_t mq_receive(mqd_t queue, char *data, size_t length, unsigned *priority) {
+    return receive_message(queue, data, length, priority, NULL);
+}
+
+static int send_message(mqd_t queue, const char *data, size_t length, unsigned priority, const struct timespec *t) {
     struct message_of_mq it = {queue, (char *)data, length, NULL, priority};
     return (int)answer(run ? mq_until(try_mq_send, &it, t) : RAW(SYS_mq_timedsend, queue, data, length, priority, t));
 }
 
+EXPORT int mq_timedsend(mqd_t queue, const char *data, size_t length, unsigned priority, const struct timespec *t) {
+    return send_message(queue, data, length, priority, t);
+}
+
 EXPORT int mq_send(mqd_t queue, const char *data, size_t length, unsigned priority) {
-    struct message_of_mq it = {queue, (char *)data, length, NULL, priority};
-    return (int)answer(run ? mq_until(try_mq_send, &it, NULL)
-                           : RAW(SYS_mq_timedsend, queue, data, length, priority, NULL));
+    return send_message(queue, data, length, priority, NULL);
 }

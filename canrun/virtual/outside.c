@@ -8,6 +8,7 @@
 #include "turns.h"
 
 #include <dirent.h>
+#include <errno.h>
 #include <stdio.h>
 #include <stdlib.h>
 #include <string.h>
@@ -31,29 +32,37 @@
 
 /* ---- programs that do not load the library ---- */
 
-/* What a process has loaded: what is ours, the loader, the C library. Of one that ends the list may be cut; the stack
- * comes after the libraries. */
-struct loaded {
-    bool has_ours, has_loader, has_c;
+/* What a process has mapped: the library, the run's memory, the loader, the C library. */
+struct mapped {
+    bool library, memory, loader, c_library, is_hidden;
 };
 
-static struct loaded libraries_of(uint32_t pid) {
+/* Of one that ends the list may be cut; the stack comes after the libraries. */
+static struct mapped mapped_by(uint32_t pid) {
     char path[32], line[PATH_MAX + 200];
+    struct mapped mapped = {false, false, false, false, false};
     bool is_whole = false;
-    struct loaded loaded = {false, false, false};
     snprintf(path, sizeof path, "/proc/%u/maps", pid);
     FILE *maps = fopen(path, "re");
+    mapped.is_hidden = !maps && errno == EACCES;
     while (maps && fgets(line, sizeof line, maps)) {
-        loaded.has_ours |= strstr(line, LIBRARY) || strstr(line, MEMORY);
-        loaded.has_loader |= strstr(line, LOADER) != NULL;
-        loaded.has_c |= strstr(line, C_LIBRARY) != NULL;
+        mapped.library |= strstr(line, LIBRARY) != NULL;
+        mapped.memory |= strstr(line, MEMORY) != NULL;
+        mapped.loader |= strstr(line, LOADER) != NULL;
+        mapped.c_library |= strstr(line, C_LIBRARY) != NULL;
         is_whole |= strstr(line, "[stack]") != NULL;
     }
-    loaded.has_c &= is_whole;
+    mapped.c_library &= is_whole;
     if (maps) {
         fclose(maps);
     }
-    return loaded;
+    return mapped;
+}
+
+/* Whether the loader loads nothing into a process, since its file gives it rights, or it may not open the run's memory.
+ */
+static bool has_other_rights(uint32_t pid, const struct mapped *mapped) {
+    return mapped->is_hidden || (!mapped->memory && !proc_is_of_user(pid, geteuid()));
 }
 
 /* Why a process is not in virtual time, NULL where it is, or has not begun. */
@@ -63,14 +72,20 @@ static const char *obstacle_of(uint32_t pid) {
     ssize_t length = readlink(path, name, sizeof name - 1);
     name[length > 0 ? length : 0] = 0;
     const char *slash = strrchr(name, '/');
-    struct loaded loaded = libraries_of(pid);
-    if (length <= 0 || (slash && !strcmp(slash, "/canbusd-bridge")) || loaded.has_ours) {
+    struct mapped mapped = mapped_by(pid);
+    if (has_other_rights(pid, &mapped)) {
+        fail("%s has other rights than the run (another user, setuid, setgid or capabilities), so it can't be in "
+             "virtual time",
+             who(pid, 0));
+        return NULL;
+    }
+    if (length <= 0 || (slash && !strcmp(slash, "/canbusd-bridge")) || mapped.library || mapped.memory) {
         return NULL;
     }
     const char *obstacle = program_obstacle(path);
     /* One that runs another program within it, as valgrind does, has that one's loader, which loads what is ours. */
-    bool is_host = obstacle && loaded.has_loader && !loaded.has_c;
-    return is_host ? NULL : obstacle ? obstacle : loaded.has_c ? "has lost LD_PRELOAD, as by env -i" : NULL;
+    bool is_host = obstacle && mapped.loader && !mapped.c_library;
+    return is_host ? NULL : obstacle ? obstacle : mapped.c_library ? "has lost LD_PRELOAD, as by env -i" : NULL;
 }
 
 static void say_foreign(uint32_t pid, const char *obstacle) {
@@ -166,12 +181,23 @@ static bool waits_for_turn(uint32_t pid, uint32_t tid, const struct called *call
     return false;
 }
 
+/* A tracer stops it at its calls, and waits for turns itself. */
+static bool is_traced(uint32_t pid, uint32_t tid, char state) {
+    if (state == 't') {
+        fail("%s is traced, as by strace or gdb, so it can't be in virtual time", who(pid, tid));
+    }
+    return state == 't';
+}
+
 /* Whether a thread sleeps until another one does something. */
 static bool sleeps(uint32_t pid, uint32_t tid) {
     char state = proc_state(pid, tid);
-    if (state == 'T' || state == 't') {
+    if (state == 'T') {
         say_once(pid, "%s is stopped; the run goes on without it", who(pid, 0));
         return true;
+    }
+    if (is_traced(pid, tid, state)) {
+        return false;
     }
     if (state == 'Z' || state == 'X') {
         return true;
@@ -308,7 +334,7 @@ bool outside_watch(uint64_t turn, int looks, bool (*is_asked)(void)) {
         if ((pid != tid || state == 'Z') && !process_runs(pid) && turn_change(turn, NOBODY)) {
             free_slot(slot);
         }
-    } else if (find_foreign(slot, looks)) {
+    } else if (!is_traced(pid, tid, state) && find_foreign(slot, looks)) {
         take_back(turn, false);
     } else if (is_asleep_for_long(index, state, times_run(pid, tid)) && !is_asked() && !outside_any_runs()) {
         outside_strangers();
@@ -367,7 +393,7 @@ void outside_births(int looks) {
         char state = proc_state(slot->pid, 0);
         if (state == 'X' || state == 'Z' || (slot->parent == STRANGER && has_begun(slot->pid))) {
             free_slot(slot);
-        } else if (state == 'T' || find_foreign(slot, looks)) {
+        } else if (!is_traced(slot->pid, 0, state) && (state == 'T' || find_foreign(slot, looks))) {
             slot->tid = slot->pid;
             slot->state = SLOT_OUTSIDE;
         }

@@ -1,10 +1,12 @@
 /* Servers that are no part of the run. */
 #define _GNU_SOURCE
 #include "calls.h"
+#include "peers.h"
 #include "proc.h"
 #include "tell.h"
 
 #include <arpa/inet.h>
+#include <fcntl.h>
 #include <netinet/in.h>
 #include <netinet/tcp.h>
 #include <stdio.h>
@@ -15,14 +17,22 @@
 
 #define NAME_SERVICES "/run/systemd/"
 
-/* The run ends: for that server time goes on as ever. `host` is where it is, after `, at `, or empty. */
-static void fail_outside(const char *what, const char *host) {
+/* For what is there time goes on as ever. */
+static void fail_with(const char *does, const char *what, const char *host) {
     char test[TEST_ROOM];
-    tell(
-        true,
-        "%.60s (thread %ld of process %ld) connects to %s, which is no program of this run%s%s; start it inside of the "
-        "run",
-        program_invocation_short_name, RAW(SYS_gettid, 0), RAW(SYS_getpid, 0), what, host, tell_test(test));
+    tell(true,
+         "%.60s (thread %ld of process %ld) %s %s%s, which is no program of this run%s; start it inside of the run",
+         program_invocation_short_name, RAW(SYS_gettid, 0), RAW(SYS_getpid, 0), does, what, host, tell_test(test));
+}
+
+void fail_outside(const char *does, const char *kind, const struct sockaddr *to) {
+    char host[INET6_ADDRSTRLEN] = "?", what[60], at[80];
+    const void *number = to->sa_family == AF_INET ? (const void *)&((const struct sockaddr_in *)to)->sin_addr
+                                                  : &((const struct sockaddr_in6 *)to)->sin6_addr;
+    inet_ntop(to->sa_family, number, host, sizeof host);
+    snprintf(what, sizeof what, "%s %u", kind, port_of(to));
+    snprintf(at, sizeof at, " at %s", host);
+    fail_with(does, what, at);
 }
 
 /* All of a run are below its coordinator. Of one that has ended it is not known. */
@@ -34,17 +44,7 @@ static bool has_port(uint32_t port) {
     return run->ports[port / 8] >> port % 8 & 1;
 }
 
-/* `, at HOST`, of an address of IP. */
-static const char *host_of(const struct sockaddr *address, char room[80]) {
-    char host[INET6_ADDRSTRLEN] = "?";
-    const void *number = address->sa_family == AF_INET ? (const void *)&((const struct sockaddr_in *)address)->sin_addr
-                                                       : &((const struct sockaddr_in6 *)address)->sin6_addr;
-    inet_ntop(address->sa_family, number, host, sizeof host);
-    snprintf(room, 80, ", at %s", host);
-    return room;
-}
-
-static uint32_t port_of(const struct sockaddr *address) {
+uint32_t port_of(const struct sockaddr *address) {
     return address->sa_family == AF_INET    ? ntohs(((const struct sockaddr_in *)address)->sin_port)
            : address->sa_family == AF_INET6 ? ntohs(((const struct sockaddr_in6 *)address)->sin6_port)
                                             : 0;
@@ -81,6 +81,7 @@ static void check_peer(int fd, const struct sockaddr *to) {
     uint32_t port = port_of(to);
     RAW(SYS_getsockopt, fd, SOL_SOCKET, SO_TYPE, &type, &size);
     if (type != SOCK_STREAM && type != SOCK_SEQPACKET) {
+        datagram_connected(fd, to);
         return;
     }
     if (to->sa_family == AF_UNIX) {
@@ -90,13 +91,38 @@ static void check_peer(int fd, const struct sockaddr *to) {
         if (is_known && !is_of_names && peer.pid > 0 && !is_of_run((uint32_t)peer.pid)) {
             snprintf(text, sizeof text, "%.*s of process %d", (int)sizeof path->sun_path,
                      path->sun_path[0] ? path->sun_path : "a socket", peer.pid);
-            fail_outside(text, "");
+            fail_with("connects to", text, "");
         }
     } else if (port && !has_port(port)) {
-        char host[80];
-        snprintf(text, sizeof text, "TCP port %u", port);
-        fail_outside(text, host_of(to, host));
+        fail_outside("connects to", "TCP port", to);
     }
+}
+
+struct connection {
+    int fd;
+    const struct sockaddr *to;
+    socklen_t length;
+};
+
+/* For this call alone it does not block. */
+static long try_connect(void *given) {
+    struct connection *it = given;
+    int flags = (int)RAW(SYS_fcntl, it->fd, F_GETFL);
+    RAW(SYS_fcntl, it->fd, F_SETFL, flags | O_NONBLOCK);
+    long result = RAW(SYS_connect, it->fd, it->to, it->length);
+    RAW(SYS_fcntl, it->fd, F_SETFL, flags);
+    return result;
+}
+
+/* A listener may have no room for one more. */
+static long connect_unix(int fd, const struct sockaddr *to, socklen_t length) {
+    struct connection it = {fd, to, length};
+    if (RAW(SYS_fcntl, fd, F_GETFL) & O_NONBLOCK) {
+        return RAW(SYS_connect, fd, to, length);
+    }
+    uint64_t deadline = timeout_of(fd, POLLOUT);
+    long result = try_until(try_connect, &it, EAGAIN, deadline, deadline == NEVER);
+    return result == -ETIMEDOUT ? -EAGAIN : result;
 }
 
 /* The kernel's CAN sockets have its clock; those of the run are had by canbusd-run inside of it, which sets this. */
@@ -121,10 +147,11 @@ EXPORT int socket(int domain, int type, int protocol) {
 
 EXPORT int connect(int fd, const struct sockaddr *to, socklen_t length) {
     my.has_talked = true;
+    cancel_point();
     if (run && port_of(to)) {
         send_at_once(fd);
     }
-    long result = RAW(SYS_connect, fd, to, length);
+    long result = run && to->sa_family == AF_UNIX ? connect_unix(fd, to, length) : RAW(SYS_connect, fd, to, length);
     if (run && (!result || result == -EINPROGRESS)) {
         check_peer(fd, to);
     }

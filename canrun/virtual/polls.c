@@ -14,33 +14,38 @@
 struct sets {
     int count;
     fd_set *of[3];
+    fd_set asked[3], found[3];
 };
 static const short EVENTS[3] = {POLLIN, POLLOUT, POLLPRI};
 
-/* What is ready now, in place of what was asked for; the sets are kept in `before`. */
-static int select_now(struct sets *sets, fd_set before[3]) {
-    fd_set room[3];
-    fd_set *at[3];
-    for (int i = 0; i < 3; i++) {
-        at[i] = sets->of[i] ? &room[i] : NULL;
-        room[i] = before[i];
-    }
-    long result = RAW(SYS_pselect6, sets->count, at[0], at[1], at[2], &no_time, NULL);
-    size_t bytes = ((size_t)sets->count + 63) / 64 * 8;
-    for (int i = 0; i < 3 && result >= 0; i++) {
-        if (sets->of[i]) {
-            memcpy(sets->of[i], &room[i], bytes);
-        }
-    }
-    return (int)answer(result);
+static size_t bytes_of(const struct sets *sets) {
+    return ((size_t)sets->count + 63) / 64 * 8;
 }
 
-static nfds_t polled_of(const struct sets *sets, const fd_set before[3], struct pollfd *fds) {
+/* What is ready now. */
+static int select_now(struct sets *sets) {
+    fd_set *at[3];
+    timers_fire();
+    for (int i = 0; i < 3; i++) {
+        at[i] = sets->of[i] ? &sets->found[i] : NULL;
+        sets->found[i] = sets->asked[i];
+    }
+    return (int)answer(RAW(SYS_pselect6, sets->count, at[0], at[1], at[2], &no_time, NULL));
+}
+
+/* What is asked for; how many descriptors. */
+static nfds_t take_sets(struct sets *sets, struct pollfd *fds) {
     nfds_t count = 0;
+    for (int i = 0; i < 3; i++) {
+        memset(&sets->asked[i], 0, sizeof sets->asked[i]);
+        if (sets->of[i]) {
+            memcpy(&sets->asked[i], sets->of[i], bytes_of(sets));
+        }
+    }
     for (int fd = 0; fd < sets->count && count < POLL_MOST; fd++) {
         short events = 0;
         for (int i = 0; i < 3; i++) {
-            events |= sets->of[i] && FD_ISSET(fd, &before[i]) ? EVENTS[i] : 0;
+            events |= FD_ISSET(fd, &sets->asked[i]) ? EVENTS[i] : 0;
         }
         if (events) {
             fds[count++] = (struct pollfd){fd, events, 0};
@@ -49,36 +54,40 @@ static nfds_t polled_of(const struct sets *sets, const fd_set before[3], struct 
     return count;
 }
 
+/* Where it fails the sets are as they were. */
+static void give_sets(const struct sets *sets, int result) {
+    for (int i = 0; i < 3 && result >= 0; i++) {
+        if (sets->of[i]) {
+            memcpy(sets->of[i], &sets->found[i], bytes_of(sets));
+        }
+    }
+}
+
+/* Whether a wait has ended by a handler, and what that has done is not seen any more. */
+static bool is_ended(uint32_t flags) {
+    return (flags & (IS_INTERRUPTED | HAS_EVENT)) == IS_INTERRUPTED;
+}
+
+static bool is_interrupted(uint32_t flags, const struct masked *masked) {
+    return flags & IS_INTERRUPTED || (masked->is_set && my.handled != masked->handled);
+}
+
 static int select_until(struct sets *sets, uint64_t deadline, const sigset_t *mask) {
-    fd_set before[3];
     struct pollfd fds[POLL_MOST];
     uint32_t flags = 0;
     cancel_point();
     if (sets->count < 0 || sets->count > FD_SETSIZE) {
         return errno = EINVAL, -1;
     }
-    for (int i = 0; i < 3; i++) {
-        memset(&before[i], 0, sizeof before[i]);
-        if (sets->of[i]) {
-            memcpy(&before[i], sets->of[i], ((size_t)sets->count + 63) / 64 * 8);
-        }
-    }
-    nfds_t count = polled_of(sets, before, fds);
+    nfds_t count = take_sets(sets, fds);
     struct masked masked = set_mask(mask);
     if (deadline <= run->now) {
         looked();
     }
     int result;
-    for (;;) {
-        timers_fire();
-        bool is_over = (flags & (IS_INTERRUPTED | HAS_EVENT)) == IS_INTERRUPTED;
-        result = is_over ? 0 : select_now(sets, before);
-        if (result) {
-            break;
-        }
-        if (flags & IS_INTERRUPTED || (masked.is_set && my.handled != masked.handled)) {
-            errno = EINTR;
-            result = -1;
+    while (!(result = is_ended(flags) ? 0 : select_now(sets))) {
+        if (is_interrupted(flags, &masked)) {
+            result = (int)answer(-EINTR);
             break;
         }
         if (deadline <= run->now) {
@@ -86,7 +95,9 @@ static int select_until(struct sets *sets, uint64_t deadline, const sigset_t *ma
         }
         flags = wait_for(fds, count, deadline);
     }
+    my.has_tried &= !result;
     put_mask_back(&masked);
+    give_sets(sets, result);
     return result;
 }
 
@@ -94,7 +105,7 @@ EXPORT int select(int count, fd_set *restrict r, fd_set *restrict w, fd_set *res
     if (!run) {
         return (int)answer(RAW(SYS_select, count, r, w, x, t));
     }
-    struct sets sets = {count, {r, w, x}};
+    struct sets sets = {.count = count, .of = {r, w, x}};
     if (t && (t->tv_sec < 0 || t->tv_usec < 0)) {
         return errno = EINVAL, -1;
     }
@@ -114,7 +125,7 @@ EXPORT int pselect(int count, fd_set *restrict r, fd_set *restrict w, fd_set *re
         const void *set;
         size_t size;
     } sixth = {mask, 8};
-    struct sets sets = {count, {r, w, x}};
+    struct sets sets = {.count = count, .of = {r, w, x}};
     if (!run) {
         return (int)answer(RAW(SYS_pselect6, count, r, w, x, t ? &copy : NULL, &sixth));
     }
@@ -126,6 +137,15 @@ EXPORT int pselect(int count, fd_set *restrict r, fd_set *restrict w, fd_set *re
 
 /* ---- epoll: the epoll of the run has that of the program in it ---- */
 
+/* `flags`: what has come meanwhile. */
+static long epoll_now(int fd, struct epoll_event *events, int most, uint32_t flags) {
+    timers_fire();
+    if (flags & LOOKS_AGAIN) {
+        signalfds_look(fd);
+    }
+    return RAW(SYS_epoll_pwait, fd, events, most, 0, NULL, 8);
+}
+
 static int epoll_until(int fd, struct epoll_event *events, int most, uint64_t deadline, const sigset_t *mask) {
     struct pollfd polled = {fd, POLLIN, 0};
     cancel_point();
@@ -135,17 +155,8 @@ static int epoll_until(int fd, struct epoll_event *events, int most, uint64_t de
     if (deadline <= run->now) {
         looked();
     }
-    for (;;) {
-        timers_fire();
-        if (flags & LOOKS_AGAIN) {
-            signalfds_look(fd);
-        }
-        bool is_over = (flags & (IS_INTERRUPTED | HAS_EVENT)) == IS_INTERRUPTED;
-        result = is_over ? 0 : RAW(SYS_epoll_pwait, fd, events, most, 0, NULL, 8);
-        if (result) {
-            break;
-        }
-        if (flags & IS_INTERRUPTED || (masked.is_set && my.handled != masked.handled)) {
+    while (!(result = is_ended(flags) ? 0 : epoll_now(fd, events, most, flags))) {
+        if (is_interrupted(flags, &masked)) {
             result = -EINTR;
             break;
         }
@@ -154,6 +165,7 @@ static int epoll_until(int fd, struct epoll_event *events, int most, uint64_t de
         }
         flags = wait_for(&polled, 1, deadline);
     }
+    my.has_tried &= !result;
     put_mask_back(&masked);
     return (int)answer(result);
 }

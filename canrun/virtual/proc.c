@@ -85,9 +85,29 @@ struct usage proc_usage(uint32_t pid, uint32_t tid) {
     return usage;
 }
 
-static uint64_t mask_in(const char *text, const char *name) {
+/* A number of a process's status. */
+static uint64_t number_in(const char *text, const char *name, int base) {
     const char *at = strstr(text, name);
-    return at ? strtoull(at + strlen(name), NULL, 16) : 0;
+    return at ? strtoull(at + strlen(name), NULL, base) : 0;
+}
+
+static uint64_t mask_in(const char *text, const char *name) {
+    return number_in(text, name, 16);
+}
+
+uint32_t proc_tracer(uint32_t pid) {
+    char text[4096];
+    return proc_read(pid, 0, "status", text, sizeof text) ? (uint32_t)number_in(text, "\nTracerPid:\t", 10) : 0;
+}
+
+/* The second of four numbers: real, effective, saved, of files. */
+bool proc_is_of_user(uint32_t pid, uint32_t user) {
+    char text[4096], *at;
+    if (!proc_read(pid, 0, "status", text, sizeof text) || !(at = strstr(text, "\nUid:\t"))) {
+        return true;
+    }
+    at += sizeof "\nUid:\t" - 1;
+    return strtoul(at, &at, 10) == user && strtoul(at, &at, 10) == user;
 }
 
 bool proc_has_signal(uint32_t pid) {

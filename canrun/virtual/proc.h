@@ -24,6 +24,10 @@ struct usage {
 };
 struct usage proc_usage(uint32_t pid, uint32_t tid);
 
+/* The process that traces this one, or 0; whether a process is of this user, and has its rights. */
+uint32_t proc_tracer(uint32_t pid);
+bool proc_is_of_user(uint32_t pid, uint32_t user);
+
 /* Whether a signal that is not blocked still waits for this process. */
 bool proc_has_signal(uint32_t pid);
 

@@ -38,6 +38,7 @@ static void in_child(void) {
     descriptors_forget();
     register_process();
     begin_slot(index);
+    my.slot->thread = pthread_self();
 }
 
 /* In the parent: what the fork returned. */

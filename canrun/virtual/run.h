@@ -156,6 +156,7 @@ struct run {
     _Atomic uint64_t moments;         /* how often the clock went on */
     _Atomic uint64_t spun;            /* nanoseconds that went by as threads looked at the clock again and again */
     _Atomic uint8_t ports[PORTS / 8]; /* a bit for each TCP port that a program of the run has listened at */
+    _Atomic uint8_t datagram_ports[PORTS / 8]; /* of UDP, those that are known to be a program's of the run */
     struct slot slots[SLOTS];
     struct alarm alarms[ALARMS];
     _Atomic uint32_t alarm_count; /* those that were ever used */

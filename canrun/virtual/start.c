@@ -1,6 +1,7 @@
 /* A program, or a bridge, becomes part of the run. */
 #define _GNU_SOURCE
 #include "calls.h"
+#include "proc.h"
 #include "random.h"
 #include "rights.h"
 #include "../command/program.h"
@@ -68,6 +69,16 @@ bool register_process(void) {
     return epoll >= 0;
 }
 
+/* A program of another user may not take part: the coordinator sees it, and ends the run, which ends this one. */
+static void await_end_of_run(const char *path) {
+    const struct timespec second = {1, 0};
+    int coordinator = atoi(path + sizeof "/proc/" - 1);
+    while (coordinator > 0 && RAW(SYS_kill, coordinator, 0) != -ESRCH) {
+        RAW(SYS_nanosleep, &second, NULL);
+    }
+    RAW(SYS_exit_group, 125);
+}
+
 bool register_alarm(const struct alarm *alarm) {
     const struct request request = {(uint32_t)(alarm - run->alarms), alarm->tid, alarm->number};
     int fd = ask_coordinator(&request);
@@ -84,6 +95,9 @@ bool register_alarm(const struct alarm *alarm) {
 
 static struct run *map_run(const char *path) {
     int fd = (int)RAW(SYS_openat, AT_FDCWD, path, O_RDWR | O_CLOEXEC);
+    if (fd == -EACCES || fd == -EPERM) {
+        await_end_of_run(path);
+    }
     if (fd < 0) {
         return NULL;
     }
@@ -136,6 +150,15 @@ static void recognize(void) {
 }
 
 #ifndef FOR_BRIDGE
+/* A tracer stops it at its calls, and waits for turns itself. */
+static void end_traced(void) {
+    char test[TEST_ROOM];
+    if (proc_tracer((uint32_t)RAW(SYS_getpid, 0))) {
+        tell(true, "%.60s (process %ld) is traced, as by strace or gdb, so it can't be in virtual time%s",
+             program_invocation_short_name, RAW(SYS_getpid, 0), tell_test(test));
+    }
+}
+
 /* What calls the kernel itself, as programs of Go do also where they load libraries, waits unseen: so the run ends at
  * once. */
 static void end_bypassing(void) {
@@ -157,6 +180,9 @@ __attribute__((constructor(103))) static void start(void) {
     run = at;
     coordinator_pid = atoi(path + sizeof "/proc/" - 1);
     recognize();
+#ifndef FOR_BRIDGE
+    end_traced();
+#endif
     if (!register_process()) {
         char test[TEST_ROOM];
         tell(false, "the coordinator does not reply to %.60s (process %ld)%s", program_invocation_short_name,
@@ -171,6 +197,8 @@ __attribute__((constructor(103))) static void start(void) {
     begin_slot(index);
 #ifndef FOR_BRIDGE
     start_random();
+    begin_first_thread();
+    timers_find();
     end_bypassing();
 #endif
 }

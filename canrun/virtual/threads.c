@@ -63,7 +63,8 @@ static void thread_ends(void *count) {
     } while (!begin_deciding());
     leave_mutexes();
     wake(key_of((void *)(uintptr_t)pthread_self(), OF_END), INT_MAX);
-    run->ending = (uint64_t)slot->pid << 32 | slot->tid;
+    /* The first thread is there as long as the process. */
+    run->ending = slot->tid != slot->pid ? (uint64_t)slot->pid << 32 | slot->tid : 0;
     free_slot(slot);
     uint32_t next = next_turn(false);
     my.slot = NULL;
@@ -95,6 +96,8 @@ EXPORT int pthread_create(pthread_t *restrict thread, const pthread_attr_t *rest
     if (error) {
         free_slot(&run->slots[slot]);
         free(it);
+    } else {
+        run->slots[slot].thread = *thread; /* It waits for its turn, and may not have come to say so. */
     }
     return error;
 }
@@ -185,6 +188,11 @@ EXPORT int thrd_join(thrd_t thread, int *result) {
         *result = (int)(intptr_t)returned;
     }
     return thrd_success;
+}
+
+void begin_first_thread(void) {
+    my_slot()->thread = pthread_self();
+    pthread_setspecific(at_end, (void *)(uintptr_t)(PTHREAD_DESTRUCTOR_ITERATIONS - 1));
 }
 
 __attribute__((constructor(101))) static void make_key(void) {

@@ -85,15 +85,20 @@ uint64_t timers_due(void) {
     uint64_t due = NEVER;
     for (int i = 0; i < known_count; i++) {
         struct timer *timer = timer_of_number(known[i].number);
-        due = timer && timer->deadline < due ? timer->deadline : due;
+        /* One that is over has not been read, and has no event before. */
+        due = timer && timer->deadline > run->now && timer->deadline < due ? timer->deadline : due;
     }
     return due;
 }
 
-static void fire(int fd, struct timer *timer) {
+static bool is_unread(int fd) {
     struct pollfd polled = {fd, POLLIN, 0};
+    return RAW(SYS_ppoll, &polled, 1, &no_time, NULL, 8) > 0;
+}
+
+static void fire(int fd, struct timer *timer, bool is_more) {
     uint64_t times = take_due(&timer->deadline, timer->period);
-    timer->unread = times + (RAW(SYS_ppoll, &polled, 1, &no_time, NULL, 8) > 0 ? timer->unread : 0);
+    timer->unread = times + (is_more ? timer->unread : 0);
     if (RAW(SYS_ioctl, fd, TFD_IOC_SET_TICKS, &timer->unread)) {
         tell(true, "%.60s (process %ld) has a timerfd, for which the kernel has no TFD_IOC_SET_TICKS",
              program_invocation_short_name, RAW(SYS_getpid, 0));
@@ -108,10 +113,25 @@ void timers_fire(void) {
         }
         if (!timer || !is_there(i)) {
             forget(i--);
-        } else {
-            fire(known[i].fd, timer);
+        } else if (!is_unread(known[i].fd)) {
+            fire(known[i].fd, timer, false);
         }
     }
+}
+
+void timers_read(int fd) {
+    struct timer *timer = known_count ? timer_of_number(number_of(fd)) : NULL;
+    if (timer && timer->deadline <= run->now) {
+        fire(fd, timer, is_unread(fd));
+        wake_descriptors(timer->is_shared ? 0 : my_slot()->pid);
+    }
+}
+
+/* When it comes next, and how often. */
+static struct itimerspec next_of(const struct timer *timer) {
+    uint64_t deadline = timer->deadline;
+    take_due(&deadline, timer->period);
+    return left_of(deadline, timer->period);
 }
 
 void timers_closed(int fd) {
@@ -199,9 +219,8 @@ EXPORT int timerfd_settime(int fd, int flags, const struct itimerspec *value, st
         return errno = EINVAL, -1;
     }
     know(fd, timer->number);
-    timers_fire();
     if (old) {
-        *old = left_of(timer->deadline, timer->period);
+        *old = next_of(timer);
     }
     make_still(fd, timer->number);
     timer->period = length_of(&value->it_interval);
@@ -215,8 +234,7 @@ EXPORT int timerfd_gettime(int fd, struct itimerspec *value) {
     if (!timer) {
         return (int)answer(RAW(SYS_timerfd_gettime, fd, value));
     }
-    timers_fire();
-    *value = left_of(timer->deadline, timer->period);
+    *value = next_of(timer);
     return 0;
 }
 

@@ -1,6 +1,7 @@
 /* Calls that read, write, send, receive and accept. */
 #define _GNU_SOURCE
 #include "calls.h"
+#include "peers.h"
 #include "random.h"
 
 #include <fcntl.h>
@@ -122,6 +123,7 @@ EXPORT ssize_t sendto(int fd, const void *data, size_t length, int flags, const 
     size_t done = 0;
     my.has_talked = my.has_acted = true;
     cancel_point();
+    check_datagram(fd, to);
     if (!run || flags & MSG_DONTWAIT) {
         return answer(RAW(SYS_sendto, fd, data, length, flags, to, room));
     }
@@ -151,6 +153,7 @@ EXPORT ssize_t sendmsg(int fd, const struct msghdr *message, int flags) {
     struct rest rest;
     my.has_talked = my.has_acted = true;
     cancel_point();
+    check_datagram(fd, message->msg_name);
     if (!run || flags & MSG_DONTWAIT || message->msg_iovlen > PARTS) {
         return await_ready(fd, POLLOUT, flags) ? answer(RAW(SYS_sendmsg, fd, message, flags)) : -1;
     }
@@ -239,6 +242,9 @@ EXPORT ssize_t read(int fd, void *data, size_t length) {
             return -1;
         }
     }
+    if (run) {
+        timers_read(fd);
+    }
     ssize_t result = answer(RAW(SYS_read, fd, data, length));
     random_read(fd, &(struct iovec){data, length}, 1, result);
     return result;
@@ -246,7 +252,11 @@ EXPORT ssize_t read(int fd, void *data, size_t length) {
 ALSO(__read, read)
 
 EXPORT ssize_t readv(int fd, const struct iovec *parts, int count) {
-    ssize_t result = await_ready(fd, POLLIN, 0) ? answer(RAW(SYS_readv, fd, parts, count)) : -1;
+    bool is_ready = await_ready(fd, POLLIN, 0);
+    if (run && is_ready) {
+        timers_read(fd);
+    }
+    ssize_t result = is_ready ? answer(RAW(SYS_readv, fd, parts, count)) : -1;
     random_read(fd, parts, count, result);
     return result;
 }
@@ -297,24 +307,38 @@ static ssize_t write_pieces(int fd, const char *data, size_t length) {
     return (ssize_t)done;
 }
 
+/* The mode of a file that is not to be written at once: it blocks, and has no room or is given more than a pipe takes.
+ */
+static mode_t mode_of_blocking(int fd, size_t length) {
+    struct pollfd polled = {fd, POLLOUT, 0};
+    struct stat status;
+    bool waits = run && (length > PIECE || !look_at(&polled, 1));
+    return waits && !(RAW(SYS_fcntl, fd, F_GETFL) & O_NONBLOCK) && !RAW(SYS_fstat, fd, &status) ? status.st_mode : 0;
+}
+
 EXPORT ssize_t write(int fd, const void *data, size_t length) {
     my.has_acted = true;
-    struct stat status;
-    if (run && length > PIECE && !RAW(SYS_fstat, fd, &status) && !(RAW(SYS_fcntl, fd, F_GETFL) & O_NONBLOCK)) {
-        if (S_ISFIFO(status.st_mode)) {
-            return write_pieces(fd, data, length);
-        }
-        if (S_ISSOCK(status.st_mode)) {
-            return sendto(fd, data, length, 0, NULL, 0);
-        }
+    cancel_point();
+    check_datagram(fd, NULL);
+    mode_t mode = mode_of_blocking(fd, length);
+    if (length > PIECE && S_ISFIFO(mode)) {
+        return write_pieces(fd, data, length);
     }
-    return await_ready(fd, POLLOUT, 0) ? answer(RAW(SYS_write, fd, data, length)) : -1;
+    if (S_ISSOCK(mode)) {
+        return sendto(fd, data, length, 0, NULL, 0);
+    }
+    return !mode || await_ready(fd, POLLOUT, 0) ? answer(RAW(SYS_write, fd, data, length)) : -1;
 }
 ALSO(__write, write)
 
 EXPORT ssize_t writev(int fd, const struct iovec *parts, int count) {
     my.has_acted = true;
-    return await_ready(fd, POLLOUT, 0) ? answer(RAW(SYS_writev, fd, parts, count)) : -1;
+    cancel_point();
+    mode_t mode = mode_of_blocking(fd, 0);
+    if (S_ISSOCK(mode)) {
+        return sendmsg(fd, &(struct msghdr){.msg_iov = (struct iovec *)parts, .msg_iovlen = (size_t)count}, 0);
+    }
+    return !mode || await_ready(fd, POLLOUT, 0) ? answer(RAW(SYS_writev, fd, parts, count)) : -1;
 }
 
 EXPORT ssize_t pwritev2(int fd, const struct iovec *parts, int count, off_t offset, int flags) {

@@ -35,6 +35,7 @@ struct my {
     bool has_to_return;   /* one that came during this wait had no SA_RESTART */
     bool is_asynchronous; /* pthread_cancel is to end it anywhere */
     enum tries tries;     /* whether its next wait is one that nobody wakes */
+    bool has_tried;       /* the last one ended by nothing else, and nothing was found */
     uint32_t born;        /* the slot of a child that is about to be made */
     uint32_t looks;
     uint64_t looked_at, step;

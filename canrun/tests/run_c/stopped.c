@@ -40,13 +40,14 @@ static int child(bool has_thread, int flags) {
     int error = flags ? ENOBUFS : EINTR;
     struct sigaction tick = {.sa_handler = on_tick, .sa_flags = SA_RESTART};
     CHECK(sigaction(number, &end, NULL) == 0 && sigaction(SIGALRM, &tick, NULL) == 0);
-    CHECK(setitimer(ITIMER_REAL, &often, NULL) == 0);
+    /* Of two signals at once the kernel asks the first whether the call is to begin anew. */
+    CHECK(!flags || setitimer(ITIMER_REAL, &often, NULL) == 0);
     if (has_thread) {
         pthread_t thread;
         CHECK(pthread_create(&thread, NULL, write_in_vain, &error) == 0 && pthread_join(thread, NULL) == 0);
     } else {
         write_in_vain(&error);
-        CHECK(ticks > 0);
+        CHECK(!flags || ticks > 0);
     }
     CHECK(sigaction(number, NULL, &after) == 0 && after.sa_handler == on_end &&
           (after.sa_flags & (SA_RESTART | SA_SIGINFO)) == flags);

@@ -1,0 +1,141 @@
+"""What can't be in virtual time ends the run at once, with status 125 and a line that names program, thread and reason."""
+
+import os
+import shutil
+import socket
+import subprocess
+import sys
+import time
+
+import pytest
+
+from running import command, needs
+from virtual_runs import fails, virtual
+
+needs_root = pytest.mark.skipif(os.geteuid() != 0, reason="only root can run as another user")
+#: One that is neither the run's user nor in any group, as nobody is.
+OTHER = ["setpriv", "--reuid=65534", "--regid=65534", "--clear-groups"]
+RIGHTS = r"\w+ \(process \d+\) has other rights than the run"
+
+
+def soon(pattern, *words, before=()):
+    """Whether a run of a program that would take a minute ends so within seconds."""
+    begun = time.monotonic()
+    line = [*before, command(), "--virtual", "--", *map(str, words)]
+    ended = subprocess.run(line, capture_output=True, text=True, timeout=100, check=False)
+    fails(ended, pattern)
+    assert time.monotonic() - begun < 20
+
+
+@needs_root
+@needs("setpriv")
+def test_another_user():
+    """root's run, in which a program becomes another user's and executes one more"""
+    soon(RIGHTS, *OTHER, "sleep", "60")
+    soon(RIGHTS, "sh", "-c", f"{' '.join(OTHER)} sleep 60; echo never")
+
+
+@needs_root
+@needs("setpriv")
+def test_same_program_goes_on():
+    """one that only gives up its rights stays in the run"""
+    text = "import os, time; os.setuid(65534); time.sleep(60); print(time.time())"
+    ended = virtual(sys.executable, "-c", text)
+    assert (ended.returncode, ended.stdout) == (0, "1767225660.0\n"), ended
+
+
+@pytest.fixture(name="open_folder")
+def make_open_folder():
+    """A folder that all users may look into."""
+    folder = subprocess.check_output(["mktemp", "-d", "/tmp/refused.XXXXXX"], text=True).strip()
+    os.chmod(folder, 0o755)
+    yield folder
+    shutil.rmtree(folder)
+
+
+@needs_root
+@needs("setpriv", "setcap")
+def test_own_rights(open_folder):
+    """another user's run, in which a program is setuid, or has capabilities"""
+    for name, words in (("setuid", ["chmod", "4755"]), ("setcap", ["setcap", "cap_net_raw+ep"])):
+        path = shutil.copy(shutil.which("sleep"), os.path.join(open_folder, name))
+        subprocess.run([*words, path], check=True)
+        soon(RIGHTS, path, "60", before=OTHER)
+        soon(RIGHTS, "sh", "-c", f"{path} 60; echo never", before=OTHER)
+
+
+TRACED = r"\w+ \(process \d+\) is traced, as by strace or gdb"
+
+
+@needs("strace")
+def test_traced():
+    """a program that strace starts, and a run that it started"""
+    soon(TRACED, "strace", "-f", "-o", "/dev/null", "sleep", "60")
+    soon(TRACED, "sleep", "60", before=("strace", "-f", "-o", "/dev/null"))
+
+
+SENDS = "import socket, time; s = socket.socket(socket.AF_INET, socket.SOCK_DGRAM)"
+
+
+def test_datagrams():
+    """UDP to what is outside, on this machine or another"""
+    sent = r"\(thread \d+ of process \d+\) sends to UDP port {} at {}, which is no program of this run"
+    with socket.socket(socket.AF_INET, socket.SOCK_DGRAM) as server:
+        server.bind(("127.0.0.1", 0))
+        port = server.getsockname()[1]
+        to = f"('127.0.0.1', {port})"
+        for text in (f"s.sendto(b'x', {to})", f"s.connect({to}); s.send(b'x')", f"s.sendmsg([b'x'], [], 0, {to})"):
+            soon(sent.format(port, "127.0.0.1"), sys.executable, "-c", f"{SENDS}; {text}; time.sleep(60)")
+    soon(
+        sent.format(53, "192.0.2.1"),
+        sys.executable,
+        "-c",
+        f"{SENDS}; s.sendto(b'x', ('192.0.2.1', 53)); time.sleep(60)",
+    )
+    # Nobody is there, which the kernel says; a peer that is only asked for which way leads to it; to many; within the run.
+    for text in (
+        "s.sendto(b'x', ('127.0.0.1', 9))",
+        "s.connect(('127.0.0.1', 9))",
+        "s.sendto(b'x', ('239.1.1.1', 5353))",
+        "r = socket.socket(socket.AF_INET6, socket.SOCK_DGRAM); r.bind(('::', 0)); s.settimeout(5)\n"
+        "s.sendto(b'x', ('127.0.0.1', r.getsockname()[1])); r.sendto(b'y', r.recvfrom(5)[1]); assert s.recv(5) == b'y'",
+    ):
+        ended = virtual(sys.executable, "-c", f"{SENDS}; {text}")
+        assert (ended.returncode, ended.stderr) == (0, ""), ended
+
+
+CALLS = """
+#define _GNU_SOURCE
+#include <linux/futex.h>
+#include <sched.h>
+#include <signal.h>
+#include <stdlib.h>
+#include <sys/syscall.h>
+#include <unistd.h>
+static char stack[65536];
+static int run(void *nothing) { return nothing != 0; }
+int main(int count, char **words) {
+    static int word;
+    switch (atoi(words[count - 1])) {
+    case 0: return syscall(SYS_futex, &word, FUTEX_WAIT_REQUEUE_PI, 0, 0, &word, 0);
+    case 1: return syscall(449, 0, 0, 0, 0, 0);
+    case 2: return syscall(SYS_io_getevents, 0, 1, 1, 0, 0);
+    default: clone(run, stack + sizeof stack, CLONE_VM | SIGCHLD, 0); return 0;
+    }
+}
+"""
+
+
+@needs("gcc")
+def test_calls(tmp_path):
+    """calls that wait and are not known, and a process that shares its parent's memory"""
+    (tmp_path / "calls.c").write_text(CALLS, encoding="ascii")
+    subprocess.run(["gcc", "-o", str(tmp_path / "calls"), str(tmp_path / "calls.c")], check=True)
+    reasons = (
+        "makes operation 11 of futex",
+        "makes system call 449",
+        "makes system call 208",
+        "shares its memory by clone",
+    )
+    for number, reason in enumerate(reasons):
+        soon(rf"calls \((thread \d+ of )?process \d+\) {reason}", tmp_path / "calls", number)
