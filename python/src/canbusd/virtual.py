@@ -9,13 +9,13 @@ import warnings
 from collections.abc import Sequence
 from typing import Optional
 
-from canbusd._process.program import find_program
-from canbusd._session.waits import is_virtual
+#: What canbusd-run sets for programs in virtual time: where its memory is, and the options that repeat the run.
+SETTING, OPTIONS = "CANBUSD_RUN_VIRTUAL", "CANBUSD_RUN_OPTIONS"
 
-__all__ = ["is_virtual"]
 
-#: What canbusd-run sets for programs in virtual time: the options that repeat the run.
-OPTIONS = "CANBUSD_RUN_OPTIONS"
+def is_virtual() -> bool:
+    """Returns whether this program runs in virtual time, as of ``canbusd-run --virtual`` or ``--canbusd-virtual``."""
+    return bool(os.environ.get(SETTING))
 
 
 @functools.lru_cache(maxsize=None)
@@ -32,6 +32,8 @@ def note_rate(bitrate: Optional[int]) -> None:
 
 def virtual_words(words: Sequence[str], seed: Optional[int] = None, jitter: Optional[int] = None) -> list[str]:
     """Returns the words that run a program in virtual time."""
+    from canbusd._process.program import find_program
+
     options = [] if seed is None else ["--seed", str(seed)]
     options += [] if jitter is None else ["--jitter", str(jitter)]
     return [find_program("canbusd-run"), "--virtual", *options, "--", *words]
