@@ -48,7 +48,10 @@ def test_go_with_c(tmp_path):
     path = str(tmp_path / "noted")
     subprocess.run(["gcc", *FLAGS, "-Wno-unused-macros", "-o", path, path + ".c"], check=True)
     ended = virtual(path)
-    fails(ended, r"noted \(process \d+\) is a Go program, which calls the kernel itself, so its waits are not seen.*; start it outside")
+    fails(
+        ended,
+        r"noted \(process \d+\) is a Go program, which calls the kernel itself, so its waits are not seen.*; start it outside",
+    )
     assert ended.stdout == ""
 
 
@@ -62,6 +65,22 @@ def test_short_ones(tmp_path):
     script = f"env -i {tmp_path}/short; env -i {tmp_path}/short; sleep 1; date +%s"
     ended = virtual("sh", "-c", script)
     assert (ended.returncode, ended.stdout, ended.stderr) == (0, "1767225601\n", ""), ended
+
+
+@needs_gcc
+@pytest.mark.parametrize("does", ["for (volatile long i = 0; i < 3000000000; i++) {}", "getchar();"])
+def test_long_ones(tmp_path, does):
+    """one that goes on is named, also where it only waits for what is outside of the run: it sees the real time"""
+    source = str(tmp_path / "long.c")
+    with open(source, "w", encoding="utf-8") as file:
+        file.write(f"#include <stdio.h>\nint main(void) {{ {does} return 0; }}\n")
+    subprocess.run(["gcc", "-O1", "-o", str(tmp_path / "long"), source], check=True)
+    line = [command(), "--virtual", "env", "-i", str(tmp_path / "long")]
+    with subprocess.Popen(line, stdin=subprocess.PIPE, stderr=subprocess.PIPE, text=True) as child:
+        said = child.stderr.readline()
+        child.stdin.close()
+        assert re.search(r"long \(process \d+\) has lost LD_PRELOAD, as by env -i, so it sees the real time", said)
+        assert child.wait(60) == 0 and child.stderr.read() == ""
 
 
 @needs("valgrind")

@@ -138,3 +138,10 @@ def test_user_given_up():
     """
     ended = virtual(sys.executable, "-c", textwrap.dedent(text))
     assert (ended.returncode, ended.stdout) == (0, "3 1002.0\n"), ended
+
+
+@needs_gcc
+def test_orphans(nodes):
+    """a process of the run is known to be one also where its parent ends as it says that it is there"""
+    ended = virtual(nodes / "orphans", "1000")
+    assert (ended.returncode, ended.stdout, ended.stderr) == (0, "over\n", ""), ended

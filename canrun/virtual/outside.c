@@ -21,8 +21,10 @@
 /* What a program has loaded once it has loaded what is preloaded. */
 #define C_LIBRARY "/libc.so."
 #define LOADER "/ld-linux"
-/* How long a program without the library goes on in real time before that is said. */
-#define FOREIGN_SECONDS 0.3
+/* How long a program without the library goes on before that is said: nanoseconds of a processor, and real seconds of
+ * one that sleeps. */
+#define FOREIGN_RUN 300000000
+#define FOREIGN_SECONDS 1.0
 /* After how many looks it is seen whether a program loads the library at all. */
 #define FOREIGN_LOOKS 4
 /* After how many more looks a thread that has the turn is known to sleep. */
@@ -93,8 +95,8 @@ static void say_foreign(uint32_t pid, const char *obstacle) {
              obstacle);
 }
 
-/* Says of a program without the library that it is one, once it has been there for so long that the run waits for it.
- */
+/* Says of a program without the library that it is one, once it has run for long, or sleeps for long: it may look at
+ * the real clock then. */
 static void note_foreign(uint32_t index) {
     static struct {
         uint32_t pid;
@@ -104,11 +106,13 @@ static void note_foreign(uint32_t index) {
     if (found[index].pid != pid) {
         found[index].pid = pid;
         found[index].since = real_now();
-    } else if (real_now() - found[index].since > FOREIGN_SECONDS) {
-        const char *obstacle = obstacle_of(pid);
-        if (obstacle) {
-            say_foreign(pid, obstacle);
-        }
+        return;
+    }
+    bool is_long = proc_usage(pid, pid).run > FOREIGN_RUN ||
+                   (proc_state(pid, 0) == 'S' && real_now() - found[index].since > FOREIGN_SECONDS);
+    const char *obstacle = is_long ? obstacle_of(pid) : NULL;
+    if (obstacle) {
+        say_foreign(pid, obstacle);
     }
 }
 

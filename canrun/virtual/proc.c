@@ -16,6 +16,8 @@
 #define SETTLE_PAUSE 200000
 /* How many processes there may be between one of the run and its coordinator. */
 #define DEEPEST 1000
+/* How often it is looked anew for these, where one of them ended meanwhile. */
+#define CLIMBS 100
 
 static char *put_number(char *at, uint32_t number) {
     char digits[12];
@@ -65,13 +67,26 @@ uint32_t proc_parent(uint32_t pid) {
     return at && at[1] ? (uint32_t)atoi(at + 4) : 0;
 }
 
-bool proc_is_below(uint32_t pid, uint32_t top) {
-    for (int i = 0; i < DEEPEST && pid > 1; i++, pid = proc_parent(pid)) {
-        if (pid == top) {
-            return true;
+enum climb { IS_BELOW, IS_NOT_BELOW, HAS_CHANGED };
+
+static enum climb climb(uint32_t pid, uint32_t top) {
+    uint32_t at = pid;
+    for (int i = 0; i < DEEPEST && at > 1 && at != top; i++) {
+        uint32_t parent = proc_parent(at);
+        if (!parent && at != pid) {
+            return HAS_CHANGED; /* It has ended meanwhile, and its children have another parent now. */
         }
+        at = parent;
     }
-    return false;
+    return at == top ? IS_BELOW : IS_NOT_BELOW;
+}
+
+bool proc_is_below(uint32_t pid, uint32_t top) {
+    enum climb found = HAS_CHANGED;
+    for (int i = 0; i < CLIMBS && found == HAS_CHANGED; i++) {
+        found = climb(pid, top);
+    }
+    return found == IS_BELOW;
 }
 
 struct usage proc_usage(uint32_t pid, uint32_t tid) {

@@ -1,0 +1,22 @@
+/* orphans COUNT: so many processes whose parent, which nobody waits for, ends as they begin. */
+#define _GNU_SOURCE
+#include <signal.h>
+#include <stdio.h>
+#include <stdlib.h>
+#include <unistd.h>
+
+int main(int count, char **words) {
+    signal(SIGCHLD, SIG_IGN);
+    for (int i = 0; count == 2 && i < atoi(words[1]); i++) {
+        if (fork() == 0) {
+            if (fork() == 0) {
+                usleep(10);
+            }
+            _exit(0);
+        }
+        usleep(100);
+    }
+    sleep(1);
+    puts("over");
+    return 0;
+}
