@@ -1,11 +1,10 @@
 # make              proves and builds the program, and builds canbusd-run where there is a gcc
 # make run          builds canbusd-run only (canrun/)
-# make test         the test command: every proof, edit, test and example, and all that is outside of Rattle; `scripts/setup`
-#                   installs what it needs
-# make quick        every test and example of Rattle without proofs, in a few minutes, for work in between
-# make python-test  the tests of the Python package, on the program; needs python-can and pytest
-# make check        the program, its documents and tools from outside, by pytest; slow tests are left out (tests/), and what
-#                   else is skipped is listed with what it lacks. It takes some 5 minutes
+# make check        all that needs no kit: tests of the program, of canbusd-run and of the Python package, examples, types, form
+#                   and linters. Slow tests are left out, and what else is skipped is listed with what it lacks. PART=bench runs
+#                   one part of it; `scripts/outside --list` prints them
+# make test         the test command: all of that, and each proof, edit and test of Rattle. PART=unproved runs what a change of
+#                   Rattle needs in between, scripts/test says which parts there are; `scripts/setup` installs what it needs
 # make dist         puts the proved program into dist/, with what it was built from
 # make dist-run     puts canbusd-run into dist/, with what it was built from
 # make verify-dist  proves and builds it again from scratch, and compares it with dist/ byte for byte
@@ -14,10 +13,14 @@
 #                   folder below PREFIX in which python3 looks for packages
 # make uninstall    removes them
 # make deb          makes a package for Debian of what make install installs
-# make wheel        makes a wheel of the Python package with the program of dist/, for pip
+# make wheel        makes a wheel of the Python package with the programs that make install takes, for pip
 # make clean        removes what was built here
 
 PREFIX ?= /usr/local
+# Some shells leave ~ in PREFIX=~/inst as it is.
+ifneq ($(filter ~/%,$(PREFIX)),)
+override PREFIX := $(patsubst ~/%,$(HOME)/%,$(PREFIX))
+endif
 DESTDIR ?=
 BINDIR = $(DESTDIR)$(PREFIX)/bin
 LIBEXECDIR = $(DESTDIR)$(PREFIX)/libexec/canbusd
@@ -28,7 +31,7 @@ FISH = $(DESTDIR)$(PREFIX)/share/fish/vendor_completions.d
 # Where python3 looks for packages, below PREFIX.
 PYTHONDIR ?= $(shell ./scripts/python-package place "$(PREFIX)")
 # Tools that need python3 and the package: in bin/ each is a link.
-TOOLS = canbusd-report candump2bench
+TOOLS = candump2bench
 
 # The compiler of canbusd-run.
 CC_OF_RUN = $(if $(filter default,$(origin CC)),gcc,$(CC))
@@ -42,13 +45,7 @@ run:
 	else echo "canbusd: there is no $(CC_OF_RUN), so canbusd-run is not built"; fi
 
 test:
-	./scripts/test
-
-quick:
-	./scripts/quick
-
-python-test:
-	./scripts/python-package test
+	./scripts/test $(if $(PART),"$(PART)")
 
 # Debian's python3 where there is one, since python-can is installed there.
 PYTHON ?= $(shell command -v /usr/bin/python3 || command -v python3)
@@ -56,7 +53,7 @@ PYTHON ?= $(shell command -v /usr/bin/python3 || command -v python3)
 check:
 	@$(PYTHON) -c 'import can, pytest' || { echo 'make check: $(PYTHON) has no python-can or no pytest;' \
 		'`apt-get install python3-can python3-pytest` for /usr/bin/python3, else PYTHON=.. names another' >&2; exit 1; }
-	$(PYTHON) -m pytest -q -rs -m "not slow and not sanitized" tests canrun/tests
+	@PYTHON="$(PYTHON)" ./scripts/outside $(if $(PART),"$(PART)")
 
 dist:
 	./scripts/program dist
@@ -74,6 +71,8 @@ install:
 	install -m 755 tools/serve "$(LIBEXECDIR)/serve"
 	install -m 644 tools/commands "$(LIBEXECDIR)/commands"
 	./scripts/python-package install "$(DESTDIR)$(PYTHONDIR)"
+	ln -sfn "$$(realpath -m --relative-to="$(PYTHONDIR)/canbusd" "$(PREFIX)/libexec/canbusd")" \
+		"$(DESTDIR)$(PYTHONDIR)/canbusd/program"
 	package=$$(realpath -m --relative-to="$(PREFIX)/libexec/canbusd" "$(PYTHONDIR)") && \
 	sed "s|^package=.*|package=\$$place/\"$$package\"|" tools/canbusd.sh >"$(BINDIR)/canbusd" && chmod 755 "$(BINDIR)/canbusd" && \
 	for tool in $(TOOLS); do \
@@ -85,6 +84,7 @@ install:
 	install -m 644 tools/completions/canbusd.bash "$(COMPLETIONS)/canbusd"
 	install -m 644 tools/completions/canbusd.zsh "$(ZSH)/_canbusd"
 	install -m 644 tools/completions/canbusd.fish "$(FISH)/canbusd.fish"
+	@[ -n "$(DESTDIR)" ] || ./scripts/python-package note "$(PYTHONDIR)"
 
 uninstall:
 	rm -f "$(BINDIR)/canbusd" "$(MANDIR)/canbusd.1" "$(COMPLETIONS)/canbusd" "$(ZSH)/_canbusd" "$(FISH)/canbusd.fish"
@@ -116,13 +116,11 @@ uninstall-extras:
 	rm -rf "$(DOCDIR)"
 
 # canbusd-run, where there is one that fits the sources or a gcc to build it: the command finds libraries and bridge beside it.
-RUN_FILES = canbusd-run canbusd-bridge libcanbusd-run.so libcanbusd-virtual.so
-
 install: install-run
 install-run:
 	install -d "$(BINDIR)" "$(LIBEXECDIR)" "$(MANDIR)" "$(COMPLETIONS)" "$(ZSH)" "$(FISH)"
-	if program=$$(./scripts/run-program choose); then \
-		for file in $(RUN_FILES); do install -m 755 "$$(dirname "$$program")/$$file" "$(LIBEXECDIR)/$$file" || exit; done && \
+	if files=$$(./scripts/run-program files); then \
+		install -m 755 $$files "$(LIBEXECDIR)" && \
 		ln -sf ../libexec/canbusd/canbusd-run "$(BINDIR)/canbusd-run" && \
 		install -m 644 canbusd-run.1 "$(MANDIR)/canbusd-run.1" && \
 		install -m 644 tools/completions/canbusd-run.bash "$(COMPLETIONS)/canbusd-run" && \
@@ -144,5 +142,5 @@ wheel:
 clean:
 	rm -rf crates/*/out canrun/out python/build python/src/canbusd.egg-info
 
-.PHONY: all run test quick python-test check dist dist-run verify-dist install install-extras install-run uninstall \
+.PHONY: all run test check dist dist-run verify-dist install install-extras install-run uninstall \
 	uninstall-extras uninstall-run deb wheel clean

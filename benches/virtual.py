@@ -1,5 +1,5 @@
 #!/usr/bin/env python3
-"""How fast virtual time is: an idle hour, two nodes at 10 ms with candump, ten nodes at 10 ms, ten with an empty filter.
+"""How fast virtual time is: a start, an idle hour, nodes in C that read nothing or all, and tests of pytest.
 
     benches/virtual.py [SECONDS]    so many seconds of bus time (20), from which the rest is computed
 
@@ -9,6 +9,7 @@ of the run, the server's too."""
 import os
 import re
 import resource
+import shutil
 import subprocess
 import sys
 import tempfile
@@ -28,21 +29,59 @@ TEN = SERVER + (
     'for k in 1 2 3 4 5 6 7 8 9; do aside "$NODES/cyclic" can$k 10$k 10000 $FRAMES; done; '
     'inside "$NODES/cyclic" can0 100 10000 $FRAMES; stop'
 )
+START = '. "$CASES/server.sh"; start can0,can1; inside "$NODES/cyclic" can0 100 10000 1; stop'
+STARTS = 20
 #: Seconds until all queues are full.
 FIRST = 10
 #: Its name, its source and a flag.
-NODES = (("cyclic", "cyclic", "-g0"), ("respond", "respond", "-g0"), ("sender", "cyclic", "-DSENDS_ONLY"))
-SENDERS = TEN.replace("cyclic", "sender")
+NODES = (
+    *(("cyclic", "cyclic", "-g0"), ("respond", "respond", "-g0")),
+    *(("sender", "cyclic", "-DSENDS_ONLY"), ("reader", "cyclic", "-DREADS")),
+)
+SENDERS, READERS = TEN.replace("cyclic", "sender"), TEN.replace("cyclic", "reader")
+#: Two nodes at 10 ms in C, which are programs of the test, and in Python, one of which answers the other.
+TESTS = """
+import os, threading, time
+import can, pytest
+
+FRAMES, NODES = int(os.environ["FRAMES"]), os.environ["NODES"]
+
+@pytest.mark.canbusd("can0,can1", bitrate=500000)
+def test_c(canbusd):
+    nodes = ([f"{NODES}/respond", "can1", "100", "200", str(FRAMES)], [f"{NODES}/cyclic", "can0", "100", "10000", str(FRAMES)])
+    for node in [canbusd.start(words, may_end=True) for words in nodes]:
+        node.wait(FRAMES)
+
+@pytest.mark.canbusd("can0,can1", bitrate=500000)
+def test_python(canbusd):
+    def respond():
+        for _ in range(FRAMES):
+            data = other.recv(timeout=1).data
+            other.send(can.Message(arbitration_id=0x200, data=data, is_extended_id=False))
+
+    with canbusd.bus("can0") as node, canbusd.bus("can1") as other:
+        thread = threading.Thread(target=respond)
+        thread.start()
+        begun = time.monotonic()
+        for k in range(FRAMES):
+            time.sleep(max(0, begun + k * 0.01 - time.monotonic()))
+            node.send(can.Message(arbitration_id=0x100, data=[k & 255], is_extended_id=False))
+            assert node.recv(timeout=1).arbitration_id == 0x200
+        thread.join()
+"""
+PYTEST = 'mkdir "$OUT"; cd "$OUT"; "$PYTHON" -m pytest -q -p canbusd.pytest_plugin -p no:cacheprovider "$NODES/test_nodes.py" -k {} >&2'
 
 
 def run(name, script, seconds, folder):
     """Runs a script of so many seconds: the time of a processor, and the turns."""
     env = {**os.environ, "RUN": RUN, "CASES": CASES, "NODES": folder, "FRAMES": str(seconds * 100)}
     env.setdefault("CANBUSD", os.path.join(ROOT, "dist", "canbusd"))
+    env.update(PYTHON=sys.executable, PYTHONPATH=os.path.join(ROOT, "python", "src"), CANBUSD_RUN=RUN)
     env.update(OUT=os.path.join(folder, f"{name.split()[0]}.{seconds}"), CANBUSD_RUN_DEBUG="1")
     before = resource.getrusage(resource.RUSAGE_CHILDREN)
     words = [RUN, "--virtual", "--", "bash", "-c", script]
     ended = subprocess.run(words, env=env, stderr=subprocess.PIPE, text=True, check=True)
+    shutil.rmtree(env["OUT"])
     after = resource.getrusage(resource.RUSAGE_CHILDREN)
     used = after.ru_utime + after.ru_stime - before.ru_utime - before.ru_stime
     return used, int(re.search(r"(\d+) turns", ended.stderr).group(1))
@@ -57,7 +96,8 @@ def measure(name, script, seconds, frames, whole, folder):
         return
     used, all_turns = run(name, script, FIRST + seconds, folder)
     used, turns = (used - first) / seconds, (all_turns - turns) / seconds
-    rate = f"{turns / frames:.1f} turns and {used / frames * 1e6:.1f} us a frame, {used / turns * 1e6:.1f} us a turn"
+    rate = f"{turns / frames:.1f} turns, {used / frames * 1e6:.1f} us a frame"
+    rate += f", {used / turns * 1e6:.1f} us a turn"
     print(
         f"{name}: {rate}, {first + used * (whole - FIRST):.1f} s of a processor for {whole} s of bus time", flush=True
     )
@@ -69,10 +109,17 @@ def main():
         for node, name, flag in NODES:
             source = os.path.join(ROOT, "canrun", "tests", "virtual_c", f"{name}.c")
             subprocess.run(["gcc", "-O1", flag, "-o", os.path.join(folder, node), source], check=True)
+        with open(os.path.join(folder, "test_nodes.py"), "w", encoding="utf-8") as file:
+            file.write(TESTS)
+        used = sum(run("start", START, 0, folder)[0] for _ in range(STARTS)) / STARTS
+        print(f"start, a frame, end: {used * 1e3:.0f} ms of a processor", flush=True)
         measure("idle, with candump", IDLE, 3600, 0, 3600, folder)
         measure("two nodes and candump", TWO, seconds, 200, 600, folder)
         measure("ten nodes", TEN, seconds, 1000, 3600, folder)
         measure("senders, ten", SENDERS, seconds, 1000, 3600, folder)
+        measure("readers, ten", READERS, seconds, 1000, 3600, folder)
+        measure("pytest, two C nodes", PYTEST.format("test_c"), seconds, 200, 600, folder)
+        measure("Python, two nodes", PYTEST.format("test_python"), seconds, 200, 60, folder)
 
 
 if __name__ == "__main__":

@@ -1,9 +1,12 @@
-"""Puts the program of dist/ into wheels, with the launcher of its servers; pyproject.toml says all else.
+"""Puts the programs into wheels, as `make install` takes them, with the launcher of servers; pyproject.toml says all else.
 
-A source distribution has no dist/ beside it, so a wheel that is made of one has no program, and is for any platform.
+A source distribution has no clone around it, so a wheel that is made of one has no program, and is for any platform.
 """
 
+import contextlib
+import functools
 import shutil
+import subprocess
 from pathlib import Path
 
 from setuptools import setup
@@ -15,17 +18,28 @@ except ImportError:
     # Before setuptools 70.1.
     from wheel.bdist_wheel import bdist_wheel
 
-CLONE = Path(__file__).resolve().parent.parent
-# The program takes no symbols of a later glibc (`scripts/program glibc`).
-PLATFORM = "manylinux_2_34_x86_64"
+# Where a copy of this folder is built, beside it is a link to the scripts of the clone.
+SCRIPTS = (Path(__file__).resolve().parents[1] / "scripts").resolve()
+CLONE = SCRIPTS.parent
+# The proved program, and canbusd-run of dist/, take no symbols of a later glibc than 2.34 (`scripts/program glibc`).
+LEAST_GLIBC = 34
 
 
+def said(script, verb):
+    """The lines that a script of the clone prints of the program that fits the sources at hand, built or of dist/."""
+    return subprocess.check_output([SCRIPTS / script, verb], text=True).splitlines()
+
+
+@functools.lru_cache(maxsize=None)
 def program_files():
-    """What goes into the folder `program` of the package; nothing where there is no program."""
-    if not (CLONE / "dist" / "canbusd").is_file():
+    """What goes into the folder `program` of the package; nothing outside of a clone."""
+    if not (SCRIPTS / "program").is_file():
         return []
-    built = [file for file in (CLONE / "dist").iterdir() if file.is_file() and file.suffix != ".tmp"]
-    return sorted([*built, CLONE / "tools" / "serve"])
+    programs = said("program", "choose")
+    # Without a gcc, as it has said then, there may be no canbusd-run, as with `make install`.
+    with contextlib.suppress(subprocess.CalledProcessError):
+        programs += said("run-program", "files")
+    return sorted(CLONE / name for name in [*programs, "tools/serve"])
 
 
 class BuildWithProgram(build_py):
@@ -40,14 +54,18 @@ class BuildWithProgram(build_py):
         for file in program_files():
             folder.mkdir(exist_ok=True)
             copy = shutil.copyfile(file, folder / file.name)
-            copy.chmod(file.stat().st_mode & 0o111 | 0o644)
+            copy.chmod(0o755 if file.stat().st_mode & 0o100 else 0o644)
 
 
 class PlatformWheel(bdist_wheel):
     """Any Python 3, on the platform of the program."""
 
     def get_tag(self):
-        return ("py3", "none", PLATFORM) if program_files() else super().get_tag()
+        names = {file.name for file in program_files()}
+        if not names:
+            return super().get_tag()
+        (needed,) = said("run-program", "glibc") if "canbusd-run" in names else ["2.0"]
+        return "py3", "none", f"manylinux_2_{max(LEAST_GLIBC, int(needed.split('.')[1]))}_x86_64"
 
 
 setup(cmdclass={"build_py": BuildWithProgram, "bdist_wheel": PlatformWheel})

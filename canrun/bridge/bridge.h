@@ -14,21 +14,20 @@
 #include <stdbool.h>
 #include <stddef.h>
 #include <stdint.h>
+#include <sys/param.h>
 #include <sys/types.h>
 
 /* The bridge's end of the pair. */
-#define PROGRAM 3
+#define PROGRAM WIRE_PROGRAM
 /* How many numbers of frames a session looks back: a frame that it sent before has left every queue long ago. */
 #define NUMBERS_KEPT (1u << 24)
 /* Seconds that a server is given for a reply. */
 #define PATIENCE 5
-#define MIN(a, b) ((a) < (b) ? (a) : (b))
-#define MAX(a, b) ((a) > (b) ? (a) : (b))
 
 /* ---- main.c ---- */
 
-/* The name of the program's end. */
-extern char program_name[WIRE_NAME_ROOM];
+/* The memory that it shares with the programs of the socket. */
+extern struct wire_memory *memory;
 
 /* Keeps the text of a refusal for the program's debugging, and returns the error. */
 int refused(int error, const char *why);
@@ -304,6 +303,9 @@ void request_reply(int to, int error, int value);
 /* The same for a write that has waited; and how that waits. */
 void request_done(const struct later *later, int error);
 struct later request_later(const struct wire_request *request, int to, int value);
+
+/* Whether that write waits for room. */
+bool request_waits(const struct wire_request *request, int to);
 
 /* Whether these are ends of one pipe. */
 bool is_same_pipe(int one, int other);

@@ -191,9 +191,10 @@ static int isotp_bind(const struct sockaddr_can *address) {
     return error ? error : sessions_bind(address->can_ifindex);
 }
 
-static void isotp_getname(struct sockaddr_can *address) {
+static int isotp_getname(struct sockaddr_can *address, bool is_peer) {
     address->can_addr.tp.rx_id = isotp.rx_id;
     address->can_addr.tp.tx_id = isotp.tx_id;
+    return is_peer ? refused(EOPNOTSUPP, "a socket of CAN_ISOTP has no peer") : 0;
 }
 
 /* ---- messages ---- */

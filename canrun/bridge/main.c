@@ -6,6 +6,8 @@
 #include <fcntl.h>
 #include <poll.h>
 #include <signal.h>
+#include <sys/mman.h>
+#include <sys/resource.h>
 #include <sys/socket.h>
 #include <sys/un.h>
 #include <unistd.h>
@@ -17,7 +19,7 @@ static const struct protocol *const protocols[CAN_NPROTO] = {
     [CAN_ISOTP] = &isotp_protocol,
 };
 const struct protocol *protocol;
-char program_name[WIRE_NAME_ROOM];
+struct wire_memory *memory;
 const char *refusal = "";
 
 int refused(int error, const char *why) {
@@ -32,6 +34,7 @@ bool protocol_is_busy(void) {
 /* Nobody waits for a bridge: not who reads the program's output, nor who waits for its children, nor the terminal. */
 static void leave_program(void) {
     sigset_t none;
+    struct rlimit limit;
     int null = open("/dev/null", O_RDWR);
     for (int fd = 0; fd < PROGRAM; fd++) {
         if (null >= 0) {
@@ -40,8 +43,13 @@ static void leave_program(void) {
             close(fd);
         }
     }
-    if (null > PROGRAM) {
+    if (null > WIRE_MEMORY) {
         close(null);
+    }
+    /* The program's limit is for its own descriptors. */
+    if (!getrlimit(RLIMIT_NOFILE, &limit)) {
+        limit.rlim_cur = limit.rlim_max;
+        setrlimit(RLIMIT_NOFILE, &limit);
     }
     setsid();
     if (chdir("/")) {
@@ -59,7 +67,7 @@ static int64_t sooner(int64_t one, int64_t other) {
     return one < 0 ? other : other < 0 ? one : MIN(one, other);
 }
 
-/* Who sends something may be brought items, which are asked about before the wait. */
+/* Items may come with the verdict on a frame that is sent here: the sessions are asked about them before the wait. */
 static int64_t do_due(void) {
     int64_t due;
     do {
@@ -117,13 +125,16 @@ int main(void) {
             "canbusd-bridge: this is started by programs under canbusd-run, see canbusd-run(1)\n";
         return write(STDERR_FILENO, text, sizeof text - 1) < 0 ? 1 : 125;
     }
-    length -= (socklen_t)offsetof(struct sockaddr_un, sun_path) + 1;
-    memcpy(program_name, name.sun_path + 1, MIN(length, sizeof program_name - 1));
+    memory = mmap(NULL, sizeof *memory, PROT_READ | PROT_WRITE, MAP_SHARED, WIRE_MEMORY, 0);
+    if (memory == MAP_FAILED) {
+        return 125;
+    }
     leave_program();
     if (protocol->open) {
         protocol->open();
     }
     serve();
     sessions_leave();
+    memory->is_over = 1;
     return 0;
 }

@@ -8,27 +8,31 @@
 #include <string.h>
 #include <sys/socket.h>
 
-#define RING 524288
+#define RING 1048576
 /* Messages that wait for a program which has not said how many should: as many again wait in its socket, or fewer. */
 #define USUAL_ROOM 4096
 /* From here on the server keeps what comes; the rest of the room is for what comes with the replies to commands. */
 #define CROWDED 2048
 /* The room for a program that has set SO_RCVBUF, and that is to lose frames as it asked. */
 #define SMALL_ROOM 64
+/* Half of what the kernel counts for a frame, as SO_RCVBUF has it. */
+#define FRAME_ROOM 384
 /* Messages that are handed over by one call. */
 #define BATCH 32
 /* When the server is asked what it lost: after a number of frames, and of nanoseconds after the first of them. */
 #define COUNT_FRAMES 256
 #define COUNT_PAUSE 20000000
 
-/* A message is its length, and after HEAD its data. */
-#define HEAD 8
-static char ring[RING];
+/* A message is its note and its data, which begin at such a place. */
+#define PLACE 8
+static char ring[RING] __attribute__((aligned(PLACE)));
 /* Messages are from `first` on; where `end` is not after it, they go on at 0 after `wrap`. */
 static size_t first, end, wrap;
 static unsigned count, room = USUAL_ROOM;
 static uint32_t dropped, dropped_before;
-static bool is_full;
+static bool is_full, is_small;
+/* Datagrams that are in the program's socket, or were read; and their bytes. */
+static uint64_t put_count, put_bytes;
 /* In virtual time: the program's socket has no room, until poll says so; looking again is a call of the kernel. */
 static bool is_blocked;
 static bool is_counted, is_stamped;
@@ -36,17 +40,15 @@ static unsigned uncounted;
 static uint64_t count_at;
 
 static size_t size_of(size_t length) {
-    return HEAD + ((length + HEAD - 1) & ~(size_t)(HEAD - 1));
+    return sizeof(struct wire_note) + ((length + PLACE - 1) & ~(size_t)(PLACE - 1));
 }
 
-static uint32_t length_at(size_t at) {
-    uint32_t length;
-    memcpy(&length, ring + at, sizeof length);
-    return length;
+static struct wire_note *note_at(size_t at) {
+    return (struct wire_note *)(void *)(ring + at);
 }
 
-/* Takes a place for these bytes; NULL where there is none. */
-static char *place_for(size_t length) {
+/* Takes a place for a message of this length; NULL where there is none. */
+static struct wire_note *place_for(size_t length) {
     size_t size = size_of(length), at = end;
     if (count == 0) {
         at = first = 0;
@@ -59,16 +61,15 @@ static char *place_for(size_t length) {
         return NULL;
     }
     end = at + size;
-    memcpy(ring + at, &(uint32_t){(uint32_t)length}, sizeof(uint32_t));
     count++;
-    return ring + at + HEAD;
+    return note_at(at);
 }
 
-static void put(const void *data, size_t length, const struct wire_trailer *trailer) {
-    char *place = place_for(length + sizeof *trailer);
+static void put(const void *data, size_t length, const struct wire_note *note) {
+    struct wire_note *place = place_for(length);
     if (!place) {
         outbox_flush();
-        place = place_for(length + sizeof *trailer);
+        place = place_for(length);
     }
     if (is_counted && !uncounted++) {
         count_at = clock_now() + COUNT_PAUSE;
@@ -77,24 +78,29 @@ static void put(const void *data, size_t length, const struct wire_trailer *trai
         dropped++;
         return;
     }
-    size_t front = protocol->has_frames ? 0 : sizeof *trailer;
-    memcpy(place + front, data, length);
-    memcpy(place + (front ? 0 : length), trailer, sizeof *trailer);
+    *place = *note;
+    place->length = (uint32_t)length;
+    place->head_length = (uint16_t)MIN(length, sizeof place->head);
+    memcpy(place->head, data, place->head_length);
+    memcpy(place + 1, data, length);
 }
 
 void outbox_put(const void *data, size_t length, uint64_t moment, int index, uint32_t message_flags) {
-    struct wire_trailer trailer = {moment, index, is_counted ? dropped : 0, message_flags, is_stamped, 0};
-    put(data, length, &trailer);
+    struct wire_note note = {.nanoseconds = moment,
+                             .ifindex = index,
+                             .dropped = is_counted ? dropped : 0,
+                             .message_flags = message_flags,
+                             .is_stamped = is_stamped};
+    put(data, length, &note);
 }
 
 void outbox_ring(void) {
-    struct wire_trailer trailer = {.is_error = 1};
-    put("", 0, &trailer);
+    put("", 0, &(struct wire_note){0});
     outbox_flush();
 }
 
 static size_t after(size_t at) {
-    size_t next = at + size_of(length_at(at));
+    size_t next = at + size_of(note_at(at)->length);
     return next == wrap && end <= first ? 0 : next;
 }
 
@@ -102,24 +108,54 @@ void outbox_has_room(void) {
     is_blocked = false;
 }
 
+/* Writes the note of a message that comes after so many others, where it has bytes; returns their number. */
+static uint64_t write_note(struct wire_note *note, uint64_t *notes, uint64_t bytes) {
+    note->from = bytes;
+    if (note->length) {
+        memory->received.notes[(*notes)++ % WIRE_NOTES] = *note;
+    }
+    return bytes + note->length;
+}
+
+/* Lays out the messages that are handed over next, and writes their notes; returns how many there are. */
+static unsigned lay_out(struct mmsghdr messages[BATCH], struct iovec parts[BATCH]) {
+    uint64_t notes = put_count, bytes = put_bytes;
+    unsigned batch = MIN(count, BATCH);
+    size_t at = first;
+    for (unsigned i = 0; i < batch; i++, at = after(at)) {
+        struct wire_note *note = note_at(at);
+        parts[i] = (struct iovec){note + 1, note->length};
+        messages[i].msg_hdr = (struct msghdr){.msg_iov = &parts[i], .msg_iovlen = 1};
+        bytes = write_note(note, &notes, bytes);
+    }
+    __atomic_store_n(&memory->received.count, notes, __ATOMIC_RELEASE);
+    __atomic_store_n(&memory->received.meant, bytes, __ATOMIC_RELEASE);
+    return batch;
+}
+
+/* The first of them has been handed over. */
+static void take_first(void) {
+    put_count += note_at(first)->length > 0;
+    put_bytes += note_at(first)->length;
+    first = after(first);
+    count--;
+}
+
 void outbox_flush(void) {
     while (count && !is_blocked) {
         struct mmsghdr messages[BATCH] = {0};
         struct iovec parts[BATCH];
-        unsigned batch = MIN(count, BATCH);
-        size_t at = first;
-        for (unsigned i = 0; i < batch; i++, at = after(at)) {
-            parts[i] = (struct iovec){ring + at + HEAD, length_at(at)};
-            messages[i].msg_hdr = (struct msghdr){.msg_iov = &parts[i], .msg_iovlen = 1};
-        }
-        int sent = sendmmsg(PROGRAM, messages, batch, MSG_DONTWAIT | MSG_NOSIGNAL);
+        int batch = (int)lay_out(messages, parts);
+        int sent = sendmmsg(PROGRAM, messages, (unsigned)batch, MSG_DONTWAIT | MSG_NOSIGNAL);
         if (sent < 0 && errno != EAGAIN && errno != EINTR) {
             count = 0; /* The program is gone. */
         }
-        for (int i = 0; i < sent; i++, count--) {
-            first = after(first);
+        for (int i = 0; i < sent; i++) {
+            take_first();
         }
-        if (sent < (int)batch) {
+        __atomic_store_n(&memory->received.put, put_bytes, __ATOMIC_RELEASE);
+        __atomic_store_n(&memory->received.meant, put_bytes, __ATOMIC_RELEASE);
+        if (sent < batch) {
             is_blocked = count > 0 && is_virtual();
             return;
         }
@@ -127,7 +163,7 @@ void outbox_flush(void) {
 }
 
 bool outbox_is_crowded(void) {
-    return room == USUAL_ROOM && count >= CROWDED;
+    return !is_small && count >= CROWDED;
 }
 
 bool outbox_is_full(void) {
@@ -144,14 +180,18 @@ bool outbox_is_empty(void) {
     return count == 0;
 }
 
+/* What waits in a Unix socket is counted where it comes from. What the notes have no room for waits here. */
+static void set_room(int option, int number) {
+    int most = MIN(number, WIRE_ROOM / 2), beyond = (number - most) / FRAME_ROOM;
+    setsockopt(PROGRAM, SOL_SOCKET, option == SO_RCVBUF ? SO_SNDBUF : SO_SNDBUFFORCE, &most, sizeof most);
+    room = MIN(SMALL_ROOM + (unsigned)beyond, USUAL_ROOM);
+    is_small = true;
+}
+
 void outbox_set(int option, int number) {
     switch (option) {
     case SO_RCVBUF:
-    case SO_RCVBUFFORCE:
-        /* What waits in a Unix socket is counted where it comes from. */
-        setsockopt(PROGRAM, SOL_SOCKET, option == SO_RCVBUF ? SO_SNDBUF : SO_SNDBUFFORCE, &number, sizeof number);
-        room = SMALL_ROOM;
-        break;
+    case SO_RCVBUFFORCE: set_room(option, number); break;
     case SO_RXQ_OVFL: is_counted = number != 0; break;
     default: is_stamped = number & SOF_TIMESTAMPING_SOFTWARE;
     }

@@ -5,7 +5,6 @@
 #include <errno.h>
 #include <fcntl.h>
 #include <linux/futex.h>
-#include <stdio.h>
 #include <string.h>
 #include <sys/mman.h>
 #include <sys/random.h>
@@ -13,35 +12,15 @@
 #include <sys/syscall.h>
 #include <unistd.h>
 
-static struct wire_memory *memory;
-static int shared = -1;
-
-/* Makes the memory; where that fails writes are as without. */
-static void make_memory(void) {
-    void *place = MAP_FAILED;
-    shared = memfd_create("canbusd-replies", MFD_CLOEXEC);
-    if (shared >= 0 && !ftruncate(shared, sizeof *memory)) {
-        place = mmap(NULL, sizeof *memory, PROT_READ | PROT_WRITE, MAP_SHARED, shared, 0);
-    }
-    if (place == MAP_FAILED) {
-        return;
-    }
-    memory = place;
-    memcpy(memory->name, program_name, sizeof memory->name);
-    if (getrandom(&memory->key, sizeof memory->key, 0) != sizeof memory->key) {
-        memory->key = clock_now();
-    }
-}
-
 /* The one session that may be lent; NULL where there is none. */
 static struct session *session_to_lend(void) {
-    bool is_one = is_virtual() && memory && session_count == 1 && is_bound && sessions[0]->index == bound_index;
+    bool is_one = is_virtual() && session_count == 1 && is_bound && sessions[0]->index == bound_index;
     return is_one && sessions[0]->fd >= 0 && sessions[0]->is_local ? sessions[0] : NULL;
 }
 
 static void send_descriptors(int to) {
     struct session *session = session_to_lend();
-    int fds[2] = {shared, session ? session->fd : -1};
+    int fds[2] = {WIRE_MEMORY, session ? session->fd : -1};
     size_t size = session ? sizeof fds : sizeof *fds;
     union {
         char room[CMSG_SPACE(sizeof fds)];
@@ -65,19 +44,15 @@ static void send_descriptors(int to) {
 }
 
 int quick_share(int to) {
-    if (!memory) {
-        make_memory();
-    }
-    if (memory) {
-        send_descriptors(to);
-    }
+    send_descriptors(to);
     close(to);
     return SENT_LATER;
 }
 
 static void put_reply(struct wire_place *place, int error, int value, bool is_nowhere) {
     place->reply = (struct wire_reply){error, value, is_nowhere};
-    snprintf(place->text, sizeof place->text, "%s", error ? refusal : "");
+    place->text[0] = 0;
+    strncat(place->text, error ? refusal : "", sizeof place->text - 1);
     __atomic_store_n(&place->state, PLACE_REPLIED, __ATOMIC_RELEASE);
     if (is_virtual()) {
         wake_number(memory->key + (uint64_t)(place - memory->places));
@@ -96,8 +71,8 @@ bool quick_lend(void) {
 }
 
 void quick_take_back(void) {
-    struct wire_loan *loan = memory ? &memory->loan : NULL;
-    if (!loan || !loan->session) {
+    struct wire_loan *loan = &memory->loan;
+    if (!loan->session) {
         return;
     }
     struct session *session = sessions[0];
@@ -116,7 +91,7 @@ void quick_take_back(void) {
 
 bool quick_serve(const char *data, size_t length) {
     struct wire_quick quick;
-    if (!memory || length < sizeof quick) {
+    if (length < sizeof quick) {
         return false;
     }
     memcpy(&quick, data, sizeof quick);

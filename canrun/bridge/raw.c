@@ -191,8 +191,14 @@ void raw_want_own(void) {
 
 /* ---- frames ---- */
 
+static bool waits;
+
+__attribute__((constructor)) static void read_setting(void) {
+    waits = getenv("CANBUSD_RUN_WAIT");
+}
+
 bool raw_waits(void) {
-    return getenv("CANBUSD_RUN_WAIT");
+    return waits;
 }
 
 int raw_send(struct session *to, const struct canfd_frame *frame, bool is_fd, const struct later *later) {
@@ -241,14 +247,12 @@ static int raw_sendmsg(const struct wire_request *request, const char *data, siz
     struct later later = request_later(request, reply_to, (int)length);
     /* A byte of data has the library say that this frame goes nowhere. */
     reply->length = length >= CAN_MTU && raw_is_error(data);
-    return raw_write(request->ifindex, data, length, raw_waits() ? &later : NULL);
+    return raw_write(request->ifindex, data, length, request_waits(request, reply_to) ? &later : NULL);
 }
 
-/* A quick write, or the frame of a write that did not go through the library. */
-static void raw_take(const char *data, size_t length) {
-    if (!quick_serve(data, length)) {
-        raw_write(WIRE_BOUND, data, length, &(struct later){.reply_to = NOBODY});
-    }
+static int raw_getname(struct sockaddr_can *address, bool is_peer) {
+    (void)address;
+    return is_peer ? refused(EOPNOTSUPP, "a socket of CAN_RAW has no peer") : 0;
 }
 
 static int raw_bind(const struct sockaddr_can *address) {
@@ -278,12 +282,12 @@ static void raw_receive(const struct item *item, int index) {
 }
 
 const struct protocol raw_protocol = {
-    .has_frames = true,
     .bind = raw_bind,
+    .getname = raw_getname,
     .setsockopt = raw_setsockopt,
     .getsockopt = raw_getsockopt,
     .sendmsg = raw_sendmsg,
-    .write = raw_take,
+    .takes = quick_serve,
     .receive = raw_receive,
     .due = raw_due,
 };

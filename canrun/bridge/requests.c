@@ -3,7 +3,10 @@
 #include "bridge.h"
 
 #include <errno.h>
+#include <fcntl.h>
 #include <poll.h>
+#include <stdio.h>
+#include <stdlib.h>
 #include <string.h>
 #include <sys/epoll.h>
 #include <sys/socket.h>
@@ -36,9 +39,38 @@ void request_release(void) {
     kept_length = kept_count ? kept_length : 0;
 }
 
+/* Has a line come to the standard error of the process that made the socket, once; its number is in the name. */
+static void say(const char *what, int error) {
+    static bool is_said;
+    char path[64], line[400];
+    const char *maker = memchr(memory->name + sizeof WIRE_NAME, '/', WIRE_NAME_ROOM - sizeof WIRE_NAME);
+    snprintf(path, sizeof path, "/proc/%ld/fd/2", maker ? strtol(maker + 1, NULL, 10) : 0);
+    int fd = is_said ? -1 : open(path, O_WRONLY | O_APPEND | O_NOCTTY | O_NONBLOCK | O_CLOEXEC);
+    is_said = true;
+    if (fd >= 0) {
+        int length = snprintf(line, sizeof line, "canbusd-run: %s: %s: %s\n", what, strerror(error), refusal);
+        if (write(fd, line, MIN((size_t)length, sizeof line - 1)) < 0) {
+            /* Nobody reads it. */
+        }
+        close(fd);
+    }
+}
+
+/* A write that did not go through the library has returned, as if it were done: the socket has its error. */
+static void refuse_bare(int error) {
+    say("a write that went past canbusd-run, as by io_uring, was refused", error);
+    error_set(error);
+}
+
 /* Who has the reply finds the socket ready to be written, where it is. */
 static void put_reply(int to, int error, struct reply *reply) {
     request_release();
+    if (to == NOBODY) {
+        if (error) {
+            refuse_bare(error);
+        }
+        return;
+    }
     reply->head.error = error;
     if (error) {
         reply->head.length = (uint32_t)MIN(strlen(refusal), sizeof reply->data);
@@ -65,6 +97,10 @@ struct later request_later(const struct wire_request *request, int to, int value
                           .value = value,
                           .until = request->number == WIRE_SHORT_WAIT ? clock_now() + SHORT_WAIT : 0,
                           .is_refused = request->option};
+}
+
+bool request_waits(const struct wire_request *request, int to) {
+    return to == NOBODY || (raw_waits() && request->number != WIRE_NO_WAIT);
 }
 
 bool is_same_pipe(int one, int other) {
@@ -121,15 +157,12 @@ static int get_option(int option, struct reply *reply) {
     return protocol->getsockopt ? protocol->getsockopt(option, reply->data, &reply->head.length) : no_call();
 }
 
-static int get_address(struct reply *reply) {
+static int get_address(bool is_peer, struct reply *reply) {
     struct sockaddr_can address = {.can_family = AF_CAN, .can_ifindex = bound_index};
-    if (protocol->getname) {
-        protocol->getname(&address);
-    }
+    int error = protocol->getname ? protocol->getname(&address, is_peer) : no_call();
     memcpy(reply->data, &address, sizeof address);
-    reply->head.value = bound_index;
     reply->head.length = sizeof address;
-    return 0;
+    return error;
 }
 
 /* The interface that the socket is bound to as a device, of which CAN takes no notice. */
@@ -146,7 +179,7 @@ static int carry_out(const struct wire_request *request, const char *data, size_
     case WIRE_SOCKET_SET: outbox_set(request->option, request->number); return 0;
     case WIRE_SET_DEVICE: device = request->ifindex; return 0;
     case WIRE_GET_DEVICE: reply->head.value = device; return 0;
-    case WIRE_ADDRESS: return get_address(reply);
+    case WIRE_ADDRESS: return get_address(request->option, reply);
     case WIRE_ERROR: reply->head.value = error_take(); return 0;
     case WIRE_CLOSE: return begin_close(to);
     case WIRE_CANCEL: return cancel(to);
@@ -184,6 +217,20 @@ bool request_is_kept(void) {
     return recv(PROGRAM, &(char){0}, 1, MSG_DONTWAIT | MSG_PEEK | MSG_TRUNC) > 0;
 }
 
+/* Carries out a quick write, or one that did not go through the library. This waits for room, as there is no reply that
+ * could say that there is none. */
+static void serve_bare(const char *data, size_t length) {
+    struct wire_request request = {.kind = WIRE_SEND, .ifindex = WIRE_BOUND, .length = (uint32_t)length};
+    struct reply reply = {.head = {0}};
+    if (protocol->takes && protocol->takes(data, length)) {
+        return;
+    }
+    int error = protocol->sendmsg(&request, data, length, NOBODY, &reply.head);
+    if (error != SENT_LATER) {
+        put_reply(NOBODY, error, &reply);
+    }
+}
+
 bool request_serve(void) {
     static char data[sizeof(struct wire_request) + WIRE_LARGEST];
     union {
@@ -204,9 +251,7 @@ bool request_serve(void) {
     length = MIN(length, (ssize_t)sizeof data);
     struct cmsghdr *rights = CMSG_FIRSTHDR(&message);
     if (!rights) {
-        if (protocol->write) {
-            protocol->write(data, (size_t)length);
-        }
+        serve_bare(data, (size_t)length);
         return true;
     }
     memcpy(&to, CMSG_DATA(rights), sizeof to);

@@ -212,7 +212,7 @@ void room_leave(int index) {
 
 bool room_has_unasked(void) {
     for (unsigned at = 0; at < count; at++) {
-        if (!waiters[at].later.done) {
+        if (waiters[at].later.reply_to == NOBODY) {
             return true;
         }
     }

@@ -19,7 +19,7 @@ static int error_of(const char *reply) {
     static const struct {
         const char *text;
         int error;
-    } known[] = {{"no buffers", ENOBUFS},       {"bus off", ENETDOWN},         {"record full", ENETDOWN},
+    } known[] = {{"no buffers", ENOBUFS},       {"bus off", ENETDOWN},         {"record full", ENOSPC},
                  {"no such interface", ENODEV}, {"too many sessions", EUSERS}, {"no memory", ENOMEM}};
     static char kept[sizeof((struct session *)0)->reply + 20];
     if (strncmp(reply, "error ", 6) != 0) {
@@ -102,7 +102,8 @@ static uint32_t message_flags(const struct session *session, const struct item *
 /* Takes the counts; false where the text is another. */
 static bool note_counts(struct session *session, const char *text, unsigned long *queued, unsigned *dropped) {
     unsigned long done, waiting, lost;
-    if (sscanf(text, "stats %lu %u %*u %*u %lu %lu %lu", queued, dropped, &done, &waiting, &lost) != 5) {
+    if (strncmp(text, "stats ", 6) ||
+        sscanf(text, "stats %lu %u %*u %*u %lu %lu %lu", queued, dropped, &done, &waiting, &lost) != 5) {
         return false;
     }
     session->gone = done + lost;
@@ -307,7 +308,9 @@ struct session *session_start(int *error) {
     if (!address_read(text && *text ? text : ADDRESS_DEFAULT, &address)) {
         *error = refused(ENODEV, "CANBUSD_ADDRESS is no address");
     } else if ((session->fd = address_connect(&address)) < 0) {
-        *error = refused(ENODEV, "there is no server at CANBUSD_ADDRESS");
+        bool is_limit = errno == EMFILE || errno == ENFILE || errno == ENOMEM;
+        *error = is_limit ? refused(errno, "the bridge of the socket has no descriptor, or memory, for the server")
+                          : refused(ENODEV, "there is no server at CANBUSD_ADDRESS");
     } else {
         static uint32_t count;
         int domain = 0;

@@ -4,12 +4,27 @@
 
 #include <errno.h>
 #include <stdio.h>
+#include <stdlib.h>
 #include <string.h>
 
 struct session *sessions[INTERFACE_MOST];
 int session_count;
 bool is_bound;
 int bound_index;
+
+/* Says which interface it was, where the server has no room for one session more. */
+static int explain(int error, const char *name) {
+    static char why[240];
+    const char *address = getenv("CANBUSD_ADDRESS");
+    if (error != EUSERS) {
+        return error;
+    }
+    snprintf(
+        why, sizeof why,
+        "%s: the server at %.108s has 64 sessions, as many as it can; each CAN socket takes one for each interface",
+        name, address ? address : "CANBUSD_ADDRESS");
+    return refused(error, why);
+}
 
 /* Opens the interface of this index in raw mode, and returns its session, which is the caller's. */
 static int start_raw(int index, bool is_receiving, struct session **started) {
@@ -22,7 +37,7 @@ static int start_raw(int index, bool is_receiving, struct session **started) {
     int error = 0;
     struct session *session = session_start(&error);
     if (!session) {
-        return error;
+        return explain(error, name);
     }
     session->index = index;
     session->is_receiving = is_receiving;
@@ -32,7 +47,7 @@ static int start_raw(int index, bool is_receiving, struct session **started) {
     session->is_receiving = is_receiving;
     if (error) {
         session_end(session);
-        return error;
+        return explain(error, name);
     }
     *started = session;
     return 0;

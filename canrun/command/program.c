@@ -103,7 +103,23 @@ static bool is_privileged(const char *path) {
            (geteuid() != 0 && getxattr(path, "security.capability", NULL, 0) > 0);
 }
 
+/* Whether a program is linked statically, but its CAN sockets would not be the kernel's: ldconfig makes none, and
+ * valgrind and the loader run another program, with the library. */
+static bool is_harmless(const char *path) {
+    static const char *const names[] = {"ldconfig", "sln", "ld-linux", "ld.so", "ld64.so"};
+    const char *slash = strrchr(path, '/'), *name = slash ? slash + 1 : path;
+    for (size_t i = 0; i < sizeof names / sizeof *names; i++) {
+        if (!strncmp(name, names[i], strlen(names[i]))) {
+            return true;
+        }
+    }
+    return strstr(path, "/valgrind/");
+}
+
 const char *program_bypass(const char *path) {
+    if (is_harmless(path)) {
+        return NULL;
+    }
     int fd = open(path, O_RDONLY | O_CLOEXEC);
     const char *obstacle = fd >= 0 ? elf_obstacle(fd) : NULL;
     if (fd >= 0) {

@@ -90,7 +90,7 @@ static const char *other_greeting(char *greeting) {
     return said;
 }
 
-/* Asks for the names of all interfaces; false where the server does not know the question. */
+/* Asks for the names of all interfaces; false where the server does not know the question, or a terminal could not show them. */
 static bool ask_interfaces(int fd, struct server *server) {
     static const char question[] = "< interfaces >", before[] = "< interfaces ", after[] = " >";
     char message[sizeof before + INTERFACE_NAMES + sizeof after];
@@ -103,8 +103,11 @@ static bool ask_interfaces(int fd, struct server *server) {
         return false;
     }
     *end = 0;
-    for (char *at = names; (at = strchr(at, ' '));) {
-        *at = ',';
+    for (char *at = names; *at; at++) {
+        if (!isprint((unsigned char)*at)) {
+            return false;
+        }
+        *at = *at == ' ' ? ',' : *at;
     }
     memcpy(server->interfaces, names, (size_t)(end - names) + 1);
     return true;

@@ -41,7 +41,8 @@ int put_request(int fd, int with, const struct wire_request *request, const stru
 struct asked {
     int fd, reply_from;
     const char *what;
-    bool may_end; /* a signal ends the wait */
+    bool may_end;        /* a signal ends the wait */
+    bool is_interrupted; /* one has, whose handler has no SA_RESTART */
 };
 
 /* Has the bridge end the wait of a write; the reply says whether that came too late. */
@@ -63,6 +64,7 @@ static size_t read_whole(struct asked *asked, void *data, size_t length) {
         } else if (part == 0 || errno != EINTR) {
             break;
         } else if (asked->may_end) {
+            asked->is_interrupted = true;
             cancel(asked);
         }
     }
@@ -93,13 +95,19 @@ int ask(int fd, const char *what, const struct wire_request *request, const stru
     if (syscall(SYS_pipe2, ends, O_CLOEXEC)) {
         return refuse(what, errno, "there is no descriptor for the reply");
     }
-    struct asked asked = {fd, ends[0], what, request->kind == WIRE_SEND};
+    struct asked asked = {.fd = fd, .reply_from = ends[0], .what = what, .may_end = request->kind == WIRE_SEND};
+    struct wait *wait = asked.may_end && request->number == WIRE_WAIT ? wait_begin(fd, ends[0]) : NULL;
     int error;
     while ((error = put_request(fd, ends[1], request, data, pieces)) == EINTR && !asked.may_end) {
     }
     syscall(SYS_close, ends[1]);
+    if (!error && wait_is_over(wait)) {
+        cancel(&asked);
+    }
     int result = error ? refuse_unsent(what, error) : get_reply(&asked, answer);
     error = result ? errno : before;
+    /* Who has SA_RESTART does not know of EINTR: then there is no room, as without --wait. */
+    error = wait_end(wait) && result && error == EINTR && !asked.is_interrupted ? ENOBUFS : error;
     syscall(SYS_close, ends[0]);
     errno = error;
     return result;

@@ -17,13 +17,6 @@ static int bcm_connect(const struct socket *sock, const struct sockaddr *address
     return copy_address(sock, "connect", address, length, &can) ? -1 : ask_to_bind(sock, "connect", WIRE_CONNECT, &can);
 }
 
-static int bcm_getname(const struct socket *sock, struct sockaddr *address, socklen_t *length, bool is_peer) {
-    (void)sock;
-    (void)address;
-    (void)length;
-    return refuse(is_peer ? "getpeername" : "getsockname", EOPNOTSUPP, "CAN_BCM has no such call");
-}
-
 static ssize_t bcm_sendmsg(const struct socket *sock, const struct msghdr *message, int flags) {
     struct wire_request request;
     struct answer answer = {0};
@@ -34,15 +27,22 @@ static ssize_t bcm_sendmsg(const struct socket *sock, const struct msghdr *messa
                : answer.value;
 }
 
+/* As in the kernel, nothing says that there was no room for all of a message. */
+static ssize_t bcm_recvmsg(const struct socket *sock, struct msghdr *message, int flags) {
+    ssize_t done = can_recvmsg(sock, message, flags);
+    message->msg_flags &= ~MSG_TRUNC;
+    return done;
+}
+
 const struct protocol bcm_protocol = {
     .family = PF_CAN,
     .type = SOCK_DGRAM,
     .address_size = CAN_REQUIRED_SIZE(struct sockaddr_can, can_ifindex),
     .bind = bcm_bind,
     .connect = bcm_connect,
-    .getname = bcm_getname,
+    .getname = can_getname,
     .setsockopt = can_setsockopt,
     .getsockopt = can_getsockopt,
     .sendmsg = bcm_sendmsg,
-    .recvmsg = can_recvmsg,
+    .recvmsg = bcm_recvmsg,
 };

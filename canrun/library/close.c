@@ -1,4 +1,4 @@
-/* close, dup2 and dup3: who closes a socket whose protocol lingers waits for the end of what is being sent, as in the
+/* close, dup2 and dup3: the close of a socket whose protocol lingers waits until its message has been sent, as in the
  * kernel. */
 #define _GNU_SOURCE
 #include "library.h"

@@ -9,23 +9,7 @@
 #include <stdarg.h>
 #include <string.h>
 
-/* The length of a transmit queue, as canbusd has it by default. */
-#define TXQUEUE 10
 #define SECOND 1000000000u
-
-/* SIOCGSTAMP has to know which frame a descriptor received last, and the kernel does not keep it for Unix sockets. */
-#define STAMPS 1024
-static uint64_t stamps[STAMPS];
-
-void keep_stamp(int fd, uint64_t nanoseconds) {
-    if (fd >= 0 && fd < STAMPS) {
-        __atomic_store_n(&stamps[fd], nanoseconds, __ATOMIC_RELAXED);
-    }
-}
-
-uint64_t kept_stamp(int fd) {
-    return fd >= 0 && fd < STAMPS ? __atomic_load_n(&stamps[fd], __ATOMIC_RELAXED) : 0;
-}
 
 static bool is_of_interface(unsigned long request) {
     return request == SIOCGIFNAME || request == SIOCGIFINDEX || request == SIOCGIFMTU || request == SIOCGIFFLAGS ||
@@ -56,7 +40,7 @@ static int fact_of_interface(unsigned long request, struct ifreq *interface) {
     case SIOCGIFINDEX: interface->ifr_ifindex = index; break;
     case SIOCGIFMTU: interface->ifr_mtu = CANFD_MTU; break;
     case SIOCGIFFLAGS: interface->ifr_flags = IFF_UP | IFF_RUNNING | IFF_NOARP; break;
-    case SIOCGIFTXQLEN: interface->ifr_qlen = TXQUEUE; break;
+    case SIOCGIFTXQLEN: interface->ifr_qlen = queue_length(); break;
     case SIOCGIFMETRIC: interface->ifr_metric = 0; break;
     case SIOCGIFMAP: memset(&interface->ifr_map, 0, sizeof interface->ifr_map); break;
     case SIOCSIFFLAGS: return interface->ifr_flags & IFF_UP ? 0 : refuse("ioctl", EPERM, "interfaces are always up");
@@ -76,11 +60,16 @@ static int interface_ioctl(unsigned long request, void *argument) {
     return result || copy_to(argument, &interface, sizeof interface) ? result : fail(EFAULT);
 }
 
-static int stamp_ioctl(int fd, unsigned long request, void *argument) {
-    uint64_t stamp = kept_stamp(fd);
+/* The moment of the frame that was read last. */
+static int stamp_ioctl(const struct socket *sock, unsigned long request, void *argument) {
+    struct shared *one = share_enter(sock);
+    uint64_t stamp = one ? last_moment(one->memory, sock->fd) : 0;
     bool is_micro = request == SIOCGSTAMP_OLD || request == SIOCGSTAMP_NEW;
+    if (one) {
+        share_leave(one);
+    }
     if (!stamp) {
-        return refuse("ioctl", ENOENT, "no frame has been received by this descriptor");
+        return refuse("ioctl", ENOENT, "no frame has been received");
     }
     int64_t parts[2] = {(int64_t)(stamp / SECOND), (int64_t)(stamp % SECOND / (is_micro ? 1000 : 1))};
     return copy_to(argument, parts, sizeof parts) ? 0 : fail(EFAULT);
@@ -93,9 +82,13 @@ EXPORT int ioctl(int fd, unsigned long request, ...) {
     va_end(list);
     bool is_ours = is_of_interface(request) || is_of_stamp(request) || request == FIONREAD || request == TIOCOUTQ ||
                    request == SIOCATMARK;
-    bool is_can = is_ours && is_can_socket(fd);
+    struct socket sock = {0};
+    if (is_ours) {
+        sock = socket_of(fd);
+    }
+    bool is_can = sock.protocol && sock.protocol->family == PF_CAN;
     if (is_can && is_of_stamp(request)) {
-        return stamp_ioctl(fd, request, argument);
+        return stamp_ioctl(&sock, request, argument);
     }
     if (is_can && !is_of_interface(request)) {
         return refuse("ioctl", ENOTTY, "a CAN socket does not count bytes");

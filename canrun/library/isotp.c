@@ -55,7 +55,8 @@ static ssize_t isotp_sendmsg(const struct socket *sock, const struct msghdr *mes
 
 /* What the kernel refuses: other flags, and a socket that is not bound, to which nothing can have come. */
 static int check_read(const struct socket *sock, int flags) {
-    struct answer answer = {0};
+    struct sockaddr_can can = {0};
+    struct answer answer = {.data = &can, .room = sizeof can};
     if (flags & ~(MSG_DONTWAIT | MSG_TRUNC | MSG_PEEK)) {
         return refuse("read", EINVAL, "CAN_ISOTP has no such flag");
     }
@@ -63,7 +64,7 @@ static int check_read(const struct socket *sock, int flags) {
     bool has_any = syscall(SYS_recvfrom, sock->fd, NULL, 0L, MSG_PEEK | MSG_DONTWAIT, NULL, NULL) >= 0;
     errno = before;
     if (!has_any && !ask(sock->fd, "read", &(struct wire_request){.kind = WIRE_ADDRESS}, NULL, 0, &answer) &&
-        !answer.value) {
+        !can.can_ifindex) {
         return refuse("read", EADDRNOTAVAIL, "bind comes first");
     }
     return 0;

@@ -10,18 +10,22 @@
 
 #include <ifaddrs.h>
 #include <net/if.h>
+#include <fcntl.h>
 #include <poll.h>
 #include <spawn.h>
 #include <stdbool.h>
 #include <stddef.h>
+#include <stdio.h>
 #include <sys/epoll.h>
 #include <sys/ioctl.h>
+#include <sys/param.h>
+#include <sys/sendfile.h>
 #include <sys/socket.h>
+#include <sys/stat.h>
 #include <sys/uio.h>
 #include <unistd.h>
 
 #define EXPORT __attribute__((visibility("default")))
-#define MIN(a, b) ((a) < (b) ? (a) : (b))
 
 /* The functions of the C library that are called by those of this one. */
 #define REAL_FUNCTIONS(X) \
@@ -69,6 +73,13 @@
     X(send)               \
     X(sendto)             \
     X(sendmsg)            \
+    X(preadv2)            \
+    X(pwritev2)           \
+    X(splice)             \
+    X(sendfile)           \
+    X(fdopen)             \
+    X(fileno)             \
+    X(syscall)            \
     X(sendmmsg)
 
 struct real {
@@ -79,6 +90,9 @@ struct real {
 
 /* They are found when the library is loaded, or by the first call where another library calls before that. */
 const struct real *real(void);
+
+/* System calls of this library are not its own. */
+#define syscall(...) real()->syscall(__VA_ARGS__)
 
 /* dlsym of the C library, in place of that of this one. */
 void *(*real_dlsym(void))(void *restrict, const char *restrict);
@@ -121,20 +135,66 @@ int put_request(int fd, int with, const struct wire_request *request, const stru
 /* The result of a call whose request failed with this errno: -1, and errno. */
 int refuse_unsent(const char *what, int error);
 
+/* ---- stop.c: with --wait, signals that end a write which waits for room ---- */
+
+/* A write begins to wait for a reply by this pipe; NULL without --wait, or where too many wait. */
+struct wait *wait_begin(int fd, int reply_from);
+/* Its request has been sent; true where a signal came before that, and nothing has ended the wait yet. */
+bool wait_is_over(struct wait *wait);
+/* The reply is there; whether such a signal came before. */
+bool wait_end(struct wait *wait);
+/* Whether such a signal has ended a wait, and no write found room since then. */
+bool waits_are_over(void);
+/* A write has found room. */
+void waits_begin(void);
+
 /* Asks the bridge of a socket of CAN_RAW for a quick write, and returns what became of it: it was done; it was refused,
  * and errno says why; it is to wait for room; or none can be had, and it is to be asked for by a pipe, too. */
 enum quick { QUICK_DONE, QUICK_REFUSED, QUICK_NO_ROOM, QUICK_NONE };
 enum quick ask_quickly(const struct socket *sock, const struct wire_request *request, const struct msghdr *message,
                        struct answer *answer);
 
-/* ---- loan.c: in virtual time, writes by a session that the bridge lends ---- */
+/* ---- share.c: the memory that a bridge shares with the programs of its socket ---- */
 
-/* A copy of its descriptor. */
 struct loaned {
     int fd; /* 0: none */
     uint32_t session;
     uint64_t inode;
 };
+struct shared {
+    uint32_t users;  /* how many threads use it */
+    uint32_t writes; /* of this process */
+    char name[WIRE_NAME_ROOM];
+    struct wire_memory *memory;
+    struct loaned copy;
+};
+
+/* That of a socket, until share_leave; NULL where it can't be had. */
+struct shared *share_enter(const struct socket *sock);
+void share_leave(struct shared *one);
+
+/* Asks for the descriptor of the session that is lent now. */
+void share_borrow(struct shared *one, int fd);
+
+/* Makes that of a socket that is being made; returns its descriptor, or -1 and errno. */
+int share_make(const char *name);
+
+/* ---- notes.c: what is known of a datagram besides its bytes ---- */
+
+/* Finds the note of a datagram that has just been read, or looked at (`is_peeked`), and that begins with these bytes.
+ * False where there are no notes. */
+bool note_of(struct wire_memory *memory, int fd, bool is_peeked, const void *head, size_t length,
+             struct wire_note *note);
+
+/* Whether this process looks for notes, and that one was read from this socket without. */
+bool notes_are_looked_for(void);
+void note_plain_read(struct wire_notes *received);
+
+/* The moment of the datagram that was read last, by whomever; 0 before that. */
+uint64_t last_moment(const struct wire_memory *memory, int fd);
+
+/* ---- loan.c: in virtual time, writes by a session that the bridge lends ---- */
+
 void loan_keep(struct loaned *copy, int fd, uint32_t session);
 void loan_forget(struct loaned *copy);
 /* Whether a session is lent of which this is no copy. */
@@ -148,6 +208,9 @@ enum talk loan_talk(struct wire_memory *memory, const struct loaned *copy, const
 
 /* Takes the error that a socket has by itself, as SO_ERROR does; 0 where it has none. It leaves errno as it was. */
 int take_error(int fd);
+
+/* Takes the error of a socket of which a read got no bytes: -1 and errno, or 0 where another call has taken it. */
+int take_shown(int fd);
 
 /* Notes that this is a socket that may have an error which poll shows. */
 void note_error_of(int fd);
@@ -163,15 +226,14 @@ void __chk_fail(void) __attribute__((noreturn));
 /* Makes a CAN socket. */
 int can_socket(int type, int protocol);
 
-/* Starts the bridge of a socket whose other end is this. Returns 0, or an errno. */
-int start_bridge(int end);
+/* Starts the bridge of a socket whose other end is this, with the memory of this descriptor. Returns 0, or an errno. */
+int start_bridge(int end, int memory);
+
+/* The length of the server's transmit queues, as far as it can be seen. */
+int queue_length(void);
 
 /* The index of the interface of this name, or -1 and errno; the name of this index, or -1 and errno. */
 int index_of_name(const char *name);
 int name_of_index(int index, char name[IFNAMSIZ]);
-
-/* The moment of the frame that was received last by this descriptor, for SIOCGSTAMP; 0 before that. */
-void keep_stamp(int fd, uint64_t nanoseconds);
-uint64_t kept_stamp(int fd);
 
 #endif

@@ -6,14 +6,36 @@
 
 #include <errno.h>
 #include <linux/if_link.h>
+#include <stdio.h>
 #include <stdlib.h>
 #include <string.h>
+#include <sys/syscall.h>
+#include <unistd.h>
 
-int index_of_name(const char *name) {
+/* The server has no interface of this name: said once, with the names that it has. */
+static void note_names(const char *name) {
+    static int is_said;
+    char line[256];
+    const char *names = interface_names();
+    if (*names && !__atomic_exchange_n(&is_said, 1, __ATOMIC_RELAXED)) {
+        int length = snprintf(line, sizeof line, "canbusd-run: note: the server has no interface %s; it has %.160s%s\n",
+                              name, names, strlen(names) > 160 ? ".." : "");
+        syscall(SYS_write, STDERR_FILENO, line, (size_t)length);
+    }
+}
+
+static int find_index(const char *name, bool is_can) {
     char copy[IFNAMSIZ] = {0};
     memcpy(copy, name, strnlen(name, IFNAMSIZ - 1));
     int index = interface_index(copy);
+    if (!index && is_can) {
+        note_names(copy);
+    }
     return index ? index : refuse("interface", ENODEV, "no interface of the server has this name");
+}
+
+int index_of_name(const char *name) {
+    return find_index(name, true);
 }
 
 int name_of_index(int index, char name[IFNAMSIZ]) {
@@ -25,7 +47,8 @@ EXPORT unsigned if_nametoindex(const char *name) {
     if (index) {
         return index;
     }
-    int found = index_of_name(name);
+    /* Who has no CAN socket asks for others. */
+    int found = find_index(name, strstr(name, "can"));
     return found < 0 ? 0 : (unsigned)found;
 }
 

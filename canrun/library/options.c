@@ -70,10 +70,8 @@ static int copy_value(void *room, socklen_t *room_length, const void *value, soc
 int can_getname(const struct socket *sock, struct sockaddr *address, socklen_t *length, bool is_peer) {
     struct sockaddr_can can = {0};
     struct answer answer = {.data = &can, .room = sizeof can};
-    if (is_peer) {
-        return refuse("getpeername", EOPNOTSUPP, "a CAN socket has no such call");
-    }
-    if (ask(sock->fd, "getsockname", &(struct wire_request){.kind = WIRE_ADDRESS}, NULL, 0, &answer)) {
+    struct wire_request request = {.kind = WIRE_ADDRESS, .option = is_peer};
+    if (ask(sock->fd, is_peer ? "getpeername" : "getsockname", &request, NULL, 0, &answer)) {
         return -1;
     }
     return copy_value(address, length, &can, sock->protocol->address_size, true);

@@ -1,5 +1,5 @@
-/* What the sockets of a protocol do in their own way, as struct proto_ops of the kernel has it. Each protocol is a file
- * of this folder, and a line of the table in sockets.c; what is the same for all CAN sockets is with the calls. */
+/* The calls that each protocol carries out in its own way, as struct proto_ops of the kernel. A protocol is a file of
+ * this folder, and a line of the table in sockets.c. */
 #ifndef PROTOCOL_H
 #define PROTOCOL_H
 
@@ -11,10 +11,10 @@
 #include <sys/socket.h>
 #include <sys/types.h>
 
-/* What a descriptor is. */
+/* A descriptor, as a call finds it. */
 struct socket {
     int fd;
-    const struct protocol *protocol; /* NULL: that of another socket, or it is none */
+    const struct protocol *protocol; /* NULL: it is another socket, or none */
     char name[WIRE_NAME_ROOM];       /* of a CAN socket; no other one has it */
 };
 
@@ -22,13 +22,11 @@ struct protocol {
     int family, type;       /* PF_CAN or PF_NETLINK; SOCK_RAW or SOCK_DGRAM */
     socklen_t address_size; /* the least length of an address */
     int level;              /* of its own options; 0: it has none */
-    int uncut_option;       /* that whose value is returned whole, or not at all; 0: there is none */
-    bool has_frames;  /* what it receives are frames, with a trailer after each; else a trailer before each message */
-    bool lingers;     /* close waits until what was accepted has been sent */
-    bool shows_error; /* a socket may have an error of its own, which poll shows */
+    int uncut_option;       /* the one whose value is returned whole, or not at all; 0: there is none */
+    bool lingers;           /* close waits until what was accepted has been sent */
+    bool shows_error;       /* a socket may have an error of its own, which poll shows */
 
-    /* The calls. NULL: the kernel's own. Memory that they name is the program's, but for that of a message itself and
-     * of the list of its pieces. */
+    /* NULL: the kernel's own call. All memory is the program's, but for a message and the list of its pieces. */
     int (*bind)(const struct socket *sock, const struct sockaddr *address, socklen_t length);
     int (*connect)(const struct socket *sock, const struct sockaddr *address, socklen_t length);
     int (*getname)(const struct socket *sock, struct sockaddr *address, socklen_t *length, bool is_peer);
@@ -49,7 +47,7 @@ bool is_can_socket(int fd);
 /* The least length of an address whose last part this is, as the kernel has it. */
 #define CAN_REQUIRED_SIZE(type, member) (offsetof(type, member) + sizeof(((type *)NULL)->member))
 
-/* ---- options.c: what bind and options of CAN sockets are for most protocols ---- */
+/* ---- options.c: addresses and options, for most protocols of CAN ---- */
 
 int can_bind(const struct socket *sock, const struct sockaddr *address, socklen_t length);
 int can_getname(const struct socket *sock, struct sockaddr *address, socklen_t *length, bool is_peer);
@@ -79,7 +77,7 @@ int read_target(const struct msghdr *message, int32_t *index);
 
 ssize_t can_recvmsg(const struct socket *sock, struct msghdr *message, int flags);
 
-/* The same; `length` is that of the message, which may have more than there was room for. */
+/* The same. A message may be longer than the room for it: `length` is its own. */
 ssize_t receive_message(const struct socket *sock, struct msghdr *message, int flags, ssize_t *length);
 
 #endif

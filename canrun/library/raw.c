@@ -2,9 +2,17 @@
 #define _GNU_SOURCE
 #include "library.h"
 
+#include <errno.h>
 #include <linux/can/raw.h>
+#include <linux/net_tstamp.h>
 #include <string.h>
 #include <sys/syscall.h>
+
+/* What SO_TIMESTAMPING of one frame can ask for. */
+#define STAMPS_OF_SENT \
+    (SOF_TIMESTAMPING_TX_HARDWARE | SOF_TIMESTAMPING_TX_SOFTWARE | SOF_TIMESTAMPING_TX_SCHED | SOF_TIMESTAMPING_TX_ACK)
+/* The most bytes of control messages that the kernel has memory for. */
+#define MOST_CONTROL 20480
 
 /* An error message frame was accepted, and goes nowhere: said once. */
 static void note_error_frame(void) {
@@ -17,12 +25,60 @@ static void note_error_frame(void) {
     }
 }
 
+/* Whether the kernel takes this control message; it does nothing here. */
+static bool is_proper(const struct cmsghdr *control) {
+    uint32_t flags = 0;
+    if (control->cmsg_level != SOL_SOCKET || control->cmsg_type == SCM_RIGHTS ||
+        control->cmsg_type == SCM_CREDENTIALS) {
+        return true;
+    }
+    if (control->cmsg_len != CMSG_LEN(sizeof flags)) {
+        return false;
+    }
+    memcpy(&flags, CMSG_DATA(control), sizeof flags);
+    return control->cmsg_type == SO_MARK || (control->cmsg_type == SO_TIMESTAMPING && !(flags & ~STAMPS_OF_SENT));
+}
+
+/* Looks at the control messages of a frame, as sock_cmsg_send of the kernel. Returns 0, or -1 and errno. */
+static int check_control(const struct msghdr *message) {
+    if (message->msg_controllen > MOST_CONTROL) {
+        return fail(ENOBUFS);
+    }
+    char control[message->msg_controllen + 1] __attribute__((aligned(8)));
+    struct msghdr copy = {.msg_control = control, .msg_controllen = message->msg_controllen};
+    if (!copy_from(control, message->msg_control, message->msg_controllen)) {
+        return fail(EFAULT);
+    }
+    for (struct cmsghdr *one = CMSG_FIRSTHDR(&copy); one; one = CMSG_NXTHDR(&copy, one)) {
+        size_t left = (size_t)(control + copy.msg_controllen - (char *)one);
+        if (one->cmsg_len < sizeof *one || one->cmsg_len > left || !is_proper(one)) {
+            return refuse("sendmsg", EINVAL, "a control message is none that a frame can have");
+        }
+    }
+    return 0;
+}
+
+/* The kernel looks for the interface before it looks at control messages. */
+static ssize_t refuse_control(const struct socket *sock, int index) {
+    int error = errno;
+    char name[IFNAMSIZ];
+    struct answer answer = {0};
+    if (index == WIRE_BOUND) {
+        index =
+            ask(sock->fd, "sendmsg", &(struct wire_request){.kind = WIRE_ADDRESS}, NULL, 0, &answer) ? 0 : answer.value;
+    }
+    return fail(index && !name_of_index(index, name) ? error : ENXIO);
+}
+
 static ssize_t raw_sendmsg(const struct socket *sock, const struct msghdr *message, int flags) {
     struct wire_request request;
     struct answer answer = {0};
     (void)flags;
     if (begin_write(message, &request) || read_target(message, &request.ifindex)) {
         return -1;
+    }
+    if (message->msg_controllen && check_control(message)) {
+        return refuse_control(sock, request.ifindex);
     }
     enum quick quick = ask_quickly(sock, &request, message, &answer);
     if (quick == QUICK_NONE || quick == QUICK_NO_ROOM) {
@@ -32,6 +88,7 @@ static ssize_t raw_sendmsg(const struct socket *sock, const struct msghdr *messa
     if (quick == QUICK_REFUSED) {
         return -1;
     }
+    waits_begin();
     if (answer.length) {
         note_error_frame();
     }
@@ -44,7 +101,6 @@ const struct protocol raw_protocol = {
     .address_size = CAN_REQUIRED_SIZE(struct sockaddr_can, can_ifindex),
     .level = SOL_CAN_RAW,
     .uncut_option = CAN_RAW_FILTER,
-    .has_frames = true,
     .bind = can_bind,
     .connect = no_connect,
     .getname = can_getname,

@@ -33,8 +33,15 @@ int fail(int error) {
     return -1;
 }
 
+/* Whether this is the first refusal that only a limit of the server explains, so that a line says so in any case. */
+static bool is_news(int error) {
+    static bool is_said[2];
+    return (error == EUSERS || error == ENOSPC) &&
+           !__atomic_exchange_n(&is_said[error == ENOSPC], true, __ATOMIC_RELAXED);
+}
+
 int refuse(const char *what, int error, const char *why) {
-    if (is_debugged) {
+    if (is_news(error) || is_debugged) {
         char line[512];
         int length = snprintf(line, sizeof line, "canbusd-run: %s: %s: %s\n", what, strerror(error), why);
         syscall(SYS_write, STDERR_FILENO, line, MIN((size_t)length, sizeof line - 1));

@@ -13,6 +13,8 @@
 #include <time.h>
 
 #define SECOND 1000000000u
+/* In msg_flags, before a message is received: nobody asks what is known of it besides its bytes. */
+#define BYTES_ONLY MSG_NOSIGNAL
 
 /* The kernel makes the messages of SO_TIMESTAMP and SO_TIMESTAMPNS for Unix sockets too; the moment is the server's. */
 static bool correct_stamps(struct msghdr *message, uint64_t nanoseconds) {
@@ -47,28 +49,15 @@ static void add_control(struct msghdr *message, size_t room, int type, const voi
     message->msg_controllen = MIN(used + CMSG_SPACE(length), room);
 }
 
-static void make_control(struct msghdr *message, size_t room, const struct wire_trailer *trailer) {
-    bool has_three = correct_stamps(message, trailer->nanoseconds);
-    if (trailer->is_stamped && !has_three) {
-        int64_t three[6] = {(int64_t)(trailer->nanoseconds / SECOND), (int64_t)(trailer->nanoseconds % SECOND)};
+static void make_control(struct msghdr *message, size_t room, const struct wire_note *note) {
+    bool has_three = correct_stamps(message, note->nanoseconds);
+    if (note->is_stamped && !has_three) {
+        int64_t three[6] = {(int64_t)(note->nanoseconds / SECOND), (int64_t)(note->nanoseconds % SECOND)};
         add_control(message, room, SO_TIMESTAMPING_OLD, three, sizeof three);
     }
-    if (trailer->dropped) {
-        add_control(message, room, SO_RXQ_OVFL, &trailer->dropped, sizeof trailer->dropped);
+    if (note->dropped) {
+        add_control(message, room, SO_RXQ_OVFL, &note->dropped, sizeof note->dropped);
     }
-}
-
-/* Copies data into the pieces that a program lends; returns how many bytes found room, or -1 and EFAULT. */
-static ssize_t scatter(const struct msghdr *message, const char *data, size_t length) {
-    size_t done = 0;
-    for (size_t i = 0; i < message->msg_iovlen && done < length; i++) {
-        size_t part = MIN(message->msg_iov[i].iov_len, length - done);
-        if (!copy_to(message->msg_iov[i].iov_base, data + done, part)) {
-            return fail(EFAULT);
-        }
-        done += part;
-    }
-    return (ssize_t)done;
 }
 
 /* The address of who sent it; of ISO-TP it has no identifiers, as in the kernel. */
@@ -84,50 +73,44 @@ static ssize_t no_device(void) {
     return refuse("read", ENODEV, "the server is gone, and its interfaces with it");
 }
 
-/* Where a datagram goes: one that is a frame into room of its own, with its trailer after the frame, but for the first
- * bytes, which the kernel writes to the program where that has room for them in a piece; the others into the pieces of
- * the program, after the trailer. */
-struct datagram {
-    struct wire_trailer trailer;
-    char frame[CANFD_MTU + sizeof(struct wire_trailer)];
-};
-
-/* The next datagram, as it comes: its message's length, and its trailer; -1 and errno where there is none. */
-static ssize_t take_any(const struct socket *sock, struct msghdr *message, int flags, struct datagram *datagram) {
-    bool has_frames = sock->protocol->has_frames;
-    ssize_t length = real()->recvmsg(sock->fd, message, (flags & ~MSG_OOB) | (has_frames ? 0 : MSG_TRUNC));
-    if (length < 0) {
-        return errno == ECONNRESET ? no_device() : -1;
-    }
-    if (length < (ssize_t)sizeof datagram->trailer) {
-        return no_device();
-    }
-    if (has_frames && message->msg_iovlen == 2) {
-        memcpy(datagram->frame, message->msg_iov->iov_base, CAN_MTU);
-    }
-    length -= (ssize_t)sizeof datagram->trailer;
-    if (has_frames) {
-        memcpy(&datagram->trailer, datagram->frame + length, sizeof datagram->trailer);
-    }
-    return length;
+/* The error of a socket whose next datagram says that it has one; 0 where another call has taken that. The bridge of a
+ * socket ends only with it, or by a fault. */
+static int error_of(int fd) {
+    struct answer answer = {0};
+    return ask(fd, "read", &(struct wire_request){.kind = WIRE_ERROR}, NULL, 0, &answer) ? ENODEV : answer.value;
 }
 
-/* The next datagram that is a message. One that says that the socket has an error is followed by the next where another
- * call has taken the error. */
-static ssize_t take(const struct socket *sock, struct msghdr *message, int flags, struct datagram *datagram) {
+static ssize_t refuse_read(int error) {
+    return error == ENODEV ? no_device()
+                           : refuse("read", error,
+                                    "a message has not come whole, or a write went past "
+                                    "canbusd-run and was refused");
+}
+
+int take_shown(int fd) {
+    int error = error_of(fd);
+    return error ? (int)refuse_read(error) : 0;
+}
+
+/* The next message; its length, or -1 and errno. A datagram without bytes says that the socket has an error; it is
+ * followed by the next where another call has taken the error. */
+static ssize_t take(int fd, struct msghdr *message, int flags) {
     size_t control = message->msg_controllen;
-    ssize_t length;
-    while ((length = take_any(sock, message, flags, datagram)) >= 0 && datagram->trailer.is_error) {
+    for (;;) {
+        int before = errno;
+        ssize_t length = real()->recvmsg(fd, message, (flags & ~MSG_OOB) | MSG_TRUNC);
+        if (length) {
+            return length < 0 && errno == ECONNRESET ? no_device() : length;
+        }
         if (flags & MSG_PEEK) {
-            take_any(sock, message, MSG_DONTWAIT, datagram);
+            drop_error(fd);
         }
-        int error = take_error(sock->fd);
-        if (error) {
-            return refuse("read", error, "a message has not come whole, or its interface is gone");
+        if (take_shown(fd)) {
+            return -1;
         }
+        errno = before;
         message->msg_controllen = control;
     }
-    return length;
 }
 
 size_t room_of(const struct msghdr *message, size_t length) {
@@ -138,64 +121,74 @@ size_t room_of(const struct msghdr *message, size_t length) {
     return room;
 }
 
-/* Writes the pieces of a datagram; returns how many there are. */
-static size_t lay_out(struct iovec *parts, const struct socket *sock, const struct msghdr *user,
-                      struct datagram *datagram) {
-    if (!sock->protocol->has_frames) {
-        parts[0] = (struct iovec){&datagram->trailer, sizeof datagram->trailer};
-        memcpy(parts + 1, user->msg_iov, user->msg_iovlen * sizeof *parts);
-        return 1 + user->msg_iovlen;
+/* Copies the first bytes that a program has received; returns how many. */
+static size_t copy_head(const struct msghdr *message, size_t length, char *head, size_t room) {
+    size_t done = 0;
+    length = MIN(length, room);
+    for (const struct iovec *part = message->msg_iov; done < length; done += part++->iov_len) {
+        if (!copy_from(head + done, part->iov_base, MIN(part->iov_len, length - done))) {
+            return done;
+        }
     }
-    if (user->msg_iovlen == 1 && user->msg_iov->iov_len >= CAN_MTU) {
-        parts[0] = (struct iovec){user->msg_iov->iov_base, CAN_MTU};
-        parts[1] = (struct iovec){datagram->frame + CAN_MTU, sizeof datagram->frame - CAN_MTU};
-        return 2;
+    return length;
+}
+
+/* What is known of a message that was received, besides its bytes. */
+static int describe(const struct socket *sock, struct msghdr *message, size_t control, const struct wire_note *note) {
+    if (message->msg_name && !make_name(sock, message, note->ifindex)) {
+        return fail(EFAULT);
     }
-    parts[0] = (struct iovec){datagram->frame, sizeof datagram->frame};
-    return 1;
+    if (message->msg_control) {
+        make_control(message, control, note);
+    }
+    message->msg_flags |= (int)note->message_flags;
+    return 0;
 }
 
-/* Copies what comes of a frame after the bytes that the kernel has written. */
-static ssize_t copy_rest(const struct iovec *part, const char *frame, size_t length) {
-    size_t done = MIN(part->iov_len, length);
-    return done <= CAN_MTU || copy_to((char *)part->iov_base + CAN_MTU, frame + CAN_MTU, done - CAN_MTU) ? (ssize_t)done
-                                                                                                         : fail(EFAULT);
+/* Receives a message, and finds its note in the memory of the socket. */
+static ssize_t receive_noted(const struct socket *sock, struct msghdr *message, int flags, struct wire_memory *memory) {
+    struct wire_note note = {0};
+    char head[sizeof note.head];
+    void *name = message->msg_name;
+    size_t control = message->msg_controllen;
+    message->msg_name = NULL;
+    ssize_t length = take(sock->fd, message, flags);
+    message->msg_name = name;
+    if (length < 0) {
+        return -1;
+    }
+    size_t known = copy_head(message, room_of(message, (size_t)length), head, sizeof head);
+    note_of(memory, sock->fd, flags & MSG_PEEK, head, known, &note);
+    return describe(sock, message, control, &note) ? -1 : length;
 }
 
-/* Copies what came into room of this library's own; returns how much the program has got, or -1 and errno. */
-static ssize_t hand_out(const struct msghdr *user, const struct msghdr *message, const struct datagram *datagram,
-                        bool has_frames, ssize_t length) {
-    return !has_frames                ? (ssize_t)room_of(user, (size_t)length)
-           : message->msg_iovlen == 2 ? copy_rest(user->msg_iov, datagram->frame, (size_t)length)
-                                      : scatter(user, datagram->frame, (size_t)length);
+/* Notes that a message is read whose note nobody looks for. */
+static void note_plain(const struct socket *sock) {
+    struct shared *one = share_enter(sock);
+    if (one) {
+        note_plain_read(&one->memory->received);
+        share_leave(one);
+    }
 }
 
-ssize_t receive_message(const struct socket *sock, struct msghdr *user, int flags, ssize_t *length) {
-    struct datagram datagram;
-    struct iovec parts[2 + user->msg_iovlen];
-    struct msghdr message = {.msg_iov = parts,
-                             .msg_iovlen = lay_out(parts, sock, user, &datagram),
-                             .msg_control = user->msg_control,
-                             .msg_controllen = user->msg_controllen};
+ssize_t receive_message(const struct socket *sock, struct msghdr *message, int flags, ssize_t *length) {
     if (flags & MSG_ERRQUEUE) {
         return fail(EAGAIN);
     }
-    *length = take(sock, &message, flags, &datagram);
-    ssize_t done = *length < 0 ? -1 : hand_out(user, &message, &datagram, sock->protocol->has_frames, *length);
-    if (done < 0) {
-        return -1;
+    if (message->msg_flags == BYTES_ONLY) {
+        if (notes_are_looked_for()) {
+            note_plain(sock);
+        }
+        *length = take(sock->fd, message, flags);
+    } else {
+        struct shared *one = share_enter(sock);
+        if (!one) {
+            return refuse("recvmsg", EMFILE, "there are no descriptors to ask for what is known of a frame");
+        }
+        *length = receive_noted(sock, message, flags, one->memory);
+        share_leave(one);
     }
-    keep_stamp(sock->fd, datagram.trailer.nanoseconds);
-    if (user->msg_name && !make_name(sock, user, datagram.trailer.ifindex)) {
-        return fail(EFAULT);
-    }
-    if (user->msg_control) {
-        make_control(&message, user->msg_controllen, &datagram.trailer);
-    }
-    user->msg_controllen = message.msg_controllen;
-    user->msg_flags = (message.msg_flags & ~MSG_TRUNC) | (int)datagram.trailer.message_flags;
-    user->msg_flags |= done < *length ? MSG_TRUNC : 0;
-    return done;
+    return *length < 0 ? -1 : (ssize_t)room_of(message, (size_t)*length);
 }
 
 /* The kernel's CAN_RAW and CAN_BCM return what was copied, whatever MSG_TRUNC asks for. */
@@ -223,8 +216,11 @@ static ssize_t receive(const struct socket *sock, void *data, size_t length, int
                        socklen_t *room) {
     struct sockaddr_can name;
     struct iovec part = {data, length};
-    struct msghdr message = {
-        .msg_iov = &part, .msg_iovlen = 1, .msg_name = from ? &name : NULL, .msg_namelen = sizeof name};
+    struct msghdr message = {.msg_iov = &part,
+                             .msg_iovlen = 1,
+                             .msg_name = from ? &name : NULL,
+                             .msg_namelen = sizeof name,
+                             .msg_flags = from ? 0 : BYTES_ONLY};
     ssize_t result = sock->protocol->recvmsg(sock, &message, flags);
     return result >= 0 && from && give_name(from, room, &message) ? -1 : result;
 }
@@ -243,6 +239,7 @@ static ssize_t receive_named(const struct socket *sock, struct msghdr *named, in
         return fail(EFAULT);
     }
     message.msg_iov = parts;
+    message.msg_flags = 0;
     ssize_t result = sock->protocol->recvmsg(sock, &message, flags);
     message.msg_iov = theirs;
     return result < 0 || copy_to(named, &message, sizeof message) ? result : fail(EFAULT);
@@ -280,7 +277,7 @@ EXPORT ssize_t readv(int fd, const struct iovec *parts, int count) {
         return real()->readv(fd, parts, count);
     }
     struct iovec copy[count + 1];
-    struct msghdr message = {.msg_iov = copy, .msg_iovlen = (size_t)count};
+    struct msghdr message = {.msg_iov = copy, .msg_iovlen = (size_t)count, .msg_flags = BYTES_ONLY};
     if (!copy_from(copy, parts, (size_t)count * sizeof *copy)) {
         return fail(EFAULT);
     }

@@ -23,10 +23,14 @@ static bool is_deaf(void) {
     return !pthread_sigmask(SIG_BLOCK, NULL, &mask) && sigismember(&mask, SIGTERM) == 1;
 }
 
+/* How long a write may wait for room. The mask of signals is looked at, which is a system call. */
+static enum wire_wait wait_for_room(void) {
+    return !waits_for_room ? WIRE_WAIT : waits_are_over() ? WIRE_NO_WAIT : is_deaf() ? WIRE_SHORT_WAIT : WIRE_WAIT;
+}
+
 int ask_patiently(const struct socket *sock, struct wire_request *request, const struct msghdr *message,
                   struct answer *answer) {
-    /* Only this may wait for room, so only here is the mask of signals looked at, which is a system call. */
-    request->number = waits_for_room && is_deaf() ? WIRE_SHORT_WAIT : WIRE_WAIT;
+    request->number = wait_for_room();
     return ask(sock->fd, "write", request, message->msg_iov, message->msg_iovlen, answer);
 }
 
@@ -60,7 +64,7 @@ int read_target(const struct msghdr *message, int32_t *index) {
 
 /* Has the protocol send a message; pieces that are too many for one call of the kernel with the request are joined. */
 static ssize_t send_message(const struct socket *sock, struct msghdr *message, int flags) {
-    size_t length = room_of(message, WIRE_LARGEST + 1);
+    size_t length = message->msg_iovlen <= PIECES ? 0 : room_of(message, WIRE_LARGEST + 1);
     if (message->msg_iovlen <= PIECES || length > WIRE_LARGEST) {
         return sock->protocol->sendmsg(sock, message, flags);
     }

@@ -70,25 +70,36 @@ static bool has_protocol(int type, int number) {
 }
 
 /* Gives a socket a name that no other one has. Returns 0, or an errno. */
-static int give_name(int fd, int protocol) {
+static int give_name(int fd, int protocol, struct sockaddr_un *name) {
     static unsigned number;
-    struct sockaddr_un name = {.sun_family = AF_UNIX};
     struct timespec now;
     clock_gettime(CLOCK_MONOTONIC, &now);
-    int length = snprintf(name.sun_path + 1, sizeof name.sun_path - 1, WIRE_NAME "%d/%ld.%u.%llx", protocol,
-                          syscall(SYS_gettid), __atomic_fetch_add(&number, 1, __ATOMIC_RELAXED),
+    int length = snprintf(name->sun_path + 1, WIRE_NAME_ROOM, WIRE_NAME "%d/%ld.%u.%llx", protocol, syscall(SYS_gettid),
+                          __atomic_fetch_add(&number, 1, __ATOMIC_RELAXED),
                           (unsigned long long)now.tv_sec * 1000000000 + (unsigned long long)now.tv_nsec);
     socklen_t whole = (socklen_t)(offsetof(struct sockaddr_un, sun_path) + 1 + (size_t)length);
-    return syscall(SYS_bind, fd, &name, whole) ? errno : 0;
+    return syscall(SYS_bind, fd, name, whole) ? errno : 0;
+}
+
+/* What is missing where there is no bridge. Limits of the process or the system are what they are of any socket. */
+static int refuse_bridge(int error) {
+    bool is_limit = error == EMFILE || error == ENFILE || error == ENOMEM || error == EAGAIN;
+    return refuse("socket", is_limit ? error : EPROTONOSUPPORT, strerror(error));
 }
 
 static int start_pair(int ends[2], int protocol) {
-    int error = give_name(ends[0], protocol);
+    struct sockaddr_un name = {.sun_family = AF_UNIX};
+    int error = give_name(ends[0], protocol, &name);
     if (error) {
         return refuse("socket", error, "the pair gets no name");
     }
-    error = start_bridge(ends[1]);
-    return error ? refuse("socket", EPROTONOSUPPORT, strerror(error)) : 0;
+    int memory = share_make(name.sun_path + 1);
+    if (memory < 0) {
+        return refuse("socket", errno, "there is no memory to share with the bridge");
+    }
+    error = start_bridge(ends[1], memory);
+    syscall(SYS_close, memory);
+    return error ? refuse_bridge(error) : 0;
 }
 
 int can_socket(int type, int protocol) {

@@ -17,8 +17,6 @@
 #include <sys/wait.h>
 #include <unistd.h>
 
-/* The descriptor that a bridge has its end of the pair at. */
-#define BRIDGE_END 3
 #define STACK 16384
 
 /* What the bridge has to know of the environment. */
@@ -59,7 +57,7 @@ static long copy_process(int (*function)(void *), void *stack, void *argument) {
 
 /* What a start needs, in memory of its own: a thread of the program may have a small stack. */
 struct start {
-    int end, failed;
+    int end, memory, failed;
     pid_t bridge;
     char program[PATH_MAX];
     char slot[40]; /* the setting that names the bridge's place in a run of virtual time */
@@ -77,12 +75,16 @@ struct start {
 NO_RETURN static int become_bridge(void *argument) {
     struct start *start = argument;
     char *words[] = {"canbusd-bridge", NULL};
-    if (start->end == BRIDGE_END) {
-        syscall(SYS_fcntl, BRIDGE_END, F_SETFD, 0);
+    /* It wants none of the first three, so there is room for one that is in the way. */
+    syscall(SYS_close_range, 0L, 2L, 0L);
+    long memory = syscall(SYS_fcntl, start->memory, F_DUPFD, 0L);
+    if (start->end == WIRE_PROGRAM) {
+        syscall(SYS_fcntl, WIRE_PROGRAM, F_SETFD, 0L);
     } else {
-        syscall(SYS_dup2, start->end, BRIDGE_END);
+        syscall(SYS_dup2, start->end, WIRE_PROGRAM);
     }
-    syscall(SYS_close_range, BRIDGE_END + 1U, ~0U, 0);
+    syscall(SYS_dup2, memory, WIRE_MEMORY);
+    syscall(SYS_close_range, WIRE_MEMORY + 1L, (long)~0U, 0L);
     syscall(SYS_execve, start->program, words, start->environment);
     start->failed = errno;
     syscall(SYS_exit, 127);
@@ -176,12 +178,13 @@ static int start_by(struct start *start) {
     return start->failed;
 }
 
-int start_bridge(int end) {
+int start_bridge(int end, int memory) {
     struct start *start = mmap(NULL, sizeof *start, PROT_READ | PROT_WRITE, MAP_PRIVATE | MAP_ANONYMOUS, -1, 0);
     if (start == MAP_FAILED) {
         return ENOMEM;
     }
     start->end = end;
+    start->memory = memory;
     int error = start_by(start);
     munmap(start, sizeof *start);
     return error;

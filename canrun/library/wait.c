@@ -34,11 +34,10 @@ static bool is_known(int fd) {
 }
 
 bool has_error(int fd) {
-    struct wire_trailer trailer;
     int before = errno;
-    long length = syscall(SYS_recvfrom, fd, &trailer, sizeof trailer, MSG_PEEK | MSG_DONTWAIT | MSG_TRUNC, NULL, NULL);
+    long length = syscall(SYS_recvfrom, fd, NULL, 0L, MSG_PEEK | MSG_DONTWAIT | MSG_TRUNC, NULL, NULL);
     errno = before;
-    return length == sizeof trailer && trailer.is_error && is_can_socket(fd);
+    return length == 0 && is_can_socket(fd);
 }
 
 void drop_error(int fd) {
@@ -55,7 +54,7 @@ static uint32_t events_of(int fd, uint32_t events) {
     syscall(SYS_ioctl, fd, FIONREAD, &waiting);
     errno = before;
     events |= POLLERR;
-    return waiting > (int)sizeof(struct wire_trailer) ? events : events & ~(uint32_t)(POLLIN | POLLRDNORM);
+    return waiting > 0 ? events : events & ~(uint32_t)(POLLIN | POLLRDNORM);
 }
 
 /* Whether a socket is one to look at: it is ready to be read. */

@@ -22,13 +22,13 @@ __attribute__((constructor)) static void keep_names(void) {
     strncpy(names_before, list ? list : "", sizeof names_before - 1);
 }
 
-static const char *all_names(void) {
+const char *interface_names(void) {
     const char *list = getenv("CANBUSD_INTERFACES");
     return list ? list : names_before;
 }
 
 int interface_index(const char *name) {
-    const char *list = all_names();
+    const char *list = interface_names();
     char listed[IFNAMSIZ];
     for (int index = INTERFACE_FIRST; *list && index < PAST_LAST; index++) {
         next_name(&list, listed);
@@ -40,7 +40,7 @@ int interface_index(const char *name) {
 }
 
 bool interface_name(int index, char name[IFNAMSIZ]) {
-    const char *list = all_names();
+    const char *list = interface_names();
     int at = INTERFACE_FIRST - 1;
     for (; *list && at < index; at++) {
         next_name(&list, name);

@@ -12,6 +12,9 @@
  * 65536 for standard output. */
 #define INTERFACE_FIRST 0x100000
 
+/* Their names, joined by commas. */
+const char *interface_names(void);
+
 /* The index of the interface of this name; 0 where the server has none. */
 int interface_index(const char *name);
 

@@ -7,8 +7,10 @@
  * comes without a pipe is a quick write, whose reply comes in memory that library and bridge share; or the frame of a
  * write that did not go through the library, and gets no reply.
  *
- * Bridge to library: a frame and a trailer, so that a read that does not go through the library gets a whole frame too,
- * as one of its size cuts the trailer off; or the same trailer and a message of the broadcast manager or of ISO-TP. */
+ * Bridge to library: each datagram is a frame of CAN_RAW, or a message of another protocol, and nothing else, so that
+ * any read gets the bytes that the kernel's own CAN socket would give, also one that does not go through the library.
+ * What else is known of it is a note in the memory that library and bridge share. A datagram without bytes says that
+ * the socket has an error, which WIRE_ERROR takes. */
 #ifndef WIRE_H
 #define WIRE_H
 
@@ -33,7 +35,7 @@ enum wire_kind {
     WIRE_SOCKET_SET, /* `option` of SOL_SOCKET, which the kernel has set, so that the bridge knows of it */
     WIRE_SET_DEVICE, /* SO_BINDTODEVICE, which the kernel does not keep; the index is `ifindex` */
     WIRE_GET_DEVICE, /* the same; it is the reply's value */
-    WIRE_ADDRESS,    /* the reply's data are the address that the socket is bound to, its value the index of that */
+    WIRE_ADDRESS,    /* the reply's data are the address of the socket; with an `option`, of its peer */
     WIRE_ERROR,      /* takes the socket's error, which is the reply's value; 0 where another has taken it */
     WIRE_CLOSE,      /* the socket is closed once a byte comes by what is no pipe, but one end of a pair; the end of a
                       * message is waited for until another comes, or the other end is gone */
@@ -96,22 +98,45 @@ struct wire_loan {
 /* In place of an index: no write, but the bridge is to look at what is left. */
 #define WIRE_LEFT INT32_MIN
 
-/* What they share: one for each socket. */
-#define WIRE_PLACES 15
-struct wire_memory {
-    uint64_t key;
-    char name[WIRE_NAME_ROOM]; /* of the socket */
-    struct wire_loan loan;
-    struct wire_place places[WIRE_PLACES];
-};
-
-struct wire_trailer {
+/* What is known of a datagram besides its bytes. */
+struct wire_note {
+    uint64_t from;        /* how many bytes the datagrams before it have, since the socket was made */
     uint64_t nanoseconds; /* the server's moment, since 1970 */
     int32_t ifindex;
     uint32_t dropped;       /* frames lost before this one, where SO_RXQ_OVFL asks for it */
     uint32_t message_flags; /* MSG_DONTROUTE, MSG_CONFIRM */
     uint16_t is_stamped;    /* SO_TIMESTAMPING asks for the moment */
-    uint16_t is_error;      /* there is no message, but the socket had an error; WIRE_ERROR takes it */
+    uint16_t head_length;
+    uint32_t length;
+    uint8_t head[20]; /* its first bytes */
+};
+/* More than a socket has room for: the bridge gives it no more than WIRE_ROOM, and the kernel counts more than 512
+ * bytes for each datagram. */
+#define WIRE_NOTES 8192
+#define WIRE_ROOM (WIRE_NOTES / 4 * 512)
+
+/* The notes of the last datagrams. Which one is that of a datagram that was read is seen by how much is left in the
+ * socket; so it does not matter who has read the others, or how. */
+struct wire_notes {
+    uint64_t put;      /* bytes of all datagrams that are in the socket, or were read */
+    uint64_t meant;    /* the same, with those that are being put there */
+    uint64_t count;    /* of datagrams that have notes */
+    uint64_t found;    /* of these, up to the last whose note was found */
+    uint32_t is_mixed; /* some are read without a look for their notes */
+    struct wire_note notes[WIRE_NOTES];
+};
+
+/* What they share: one for each socket. The library makes it, and a bridge has it at descriptor WIRE_MEMORY. */
+#define WIRE_PROGRAM 3
+#define WIRE_MEMORY 4
+#define WIRE_PLACES 15
+struct wire_memory {
+    uint64_t key;
+    char name[WIRE_NAME_ROOM]; /* of the socket */
+    uint32_t is_over;          /* the bridge has ended, as nobody has the socket any more */
+    struct wire_loan loan;
+    struct wire_place places[WIRE_PLACES];
+    struct wire_notes received;
 };
 
 #endif

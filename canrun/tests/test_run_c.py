@@ -3,6 +3,7 @@
 import os
 import re
 import shutil
+import signal
 import subprocess
 import tempfile
 
@@ -46,6 +47,8 @@ PLAIN = (
     "rows",
     "handles",
     "quick",
+    "passed_by",
+    "wrote_past",
 )
 
 
@@ -156,6 +159,18 @@ def test_waiting_signal():
     with serving("--pace", "60000", "--txqueue", "1", "can0,can1") as server, tempfile.TemporaryDirectory() as folder:
         assert passes(server, compiled("waiting", folder), options=["--wait"]) == "2 accepted\n"
         server.end()
+
+
+@pytest.mark.parametrize("number", [signal.SIGINT, signal.SIGTERM, signal.SIGHUP])
+@pytest.mark.parametrize("lots", [1, pytest.param(20, marks=pytest.mark.slow)])
+def test_stopped(number, lots, tmp_path):
+    """with --wait a signal that ends programs ends a write that waits, also where its handler has SA_RESTART"""
+    path = compiled("stopped", str(tmp_path))
+    for _ in range(lots):
+        # Its bus sends a frame a minute, before which all tries of a lot are over.
+        with serving("--pace", "60000", "--txqueue", "1", "can0,can1") as server:
+            passes(server, path, str(int(number)), "50", options=["--wait"])
+            server.end()
 
 
 @pytest.mark.parametrize("room", ["1", "10"])

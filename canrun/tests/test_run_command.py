@@ -171,6 +171,33 @@ def test_numbers_of_a_long_run():
         server.close()
 
 
+#: Has two frames sent, the second by a timer, and shows of each that it receives its number.
+TIMED_FRAMES = """
+import socket, struct
+with socket.socket(socket.PF_CAN, socket.SOCK_DGRAM, socket.CAN_BCM) as can:
+    can.settimeout(20)
+    can.connect(("",))
+    def task(opcode, flags, count, frames):
+        return struct.pack("IIIqqqqII", opcode, flags, count, 0, 1000, 0, 0, 0x123, len(frames)) + b"".join(frames)
+    can.send(task(socket.CAN_BCM_RX_SETUP, socket.CAN_BCM_RX_FILTER_ID | socket.CAN_BCM_RX_NO_AUTOTIMER, 0, []))
+    start = socket.CAN_BCM_SETTIMER | socket.CAN_BCM_STARTTIMER
+    can.sendto(task(socket.CAN_BCM_TX_SETUP, start, 2, [struct.pack("=IB3x8s", 0x123, 0, b"")]), ("can0",))
+    for _ in range(4):
+        print(struct.unpack_from("I", can.recv(200))[0] == socket.CAN_BCM_RX_CHANGED)
+"""
+
+
+def test_frames_that_come_with_a_verdict():
+    """what comes with the verdict on a frame that a timer has sent is handed over, though nothing comes after it"""
+    with socket.create_server(("127.0.0.1", 0)) as server:
+        address = f"127.0.0.1:{server.getsockname()[1]}"
+        numbers = [(1, 2), (3, 4)]
+        threading.Thread(target=answer_sessions, args=(server, numbers), daemon=True).start()
+        ended = alone("--address", address, "/usr/bin/python3", "-c", TIMED_FRAMES)
+        assert ended.stdout.split() == 4 * ["True"], ended
+        server.close()
+
+
 def answer_sessions(server, numbers):
     """Greets each session, and answers a frame with its number, and with the frame and another one of its interface."""
     with contextlib.suppress(OSError):
@@ -181,7 +208,7 @@ def answer_sessions(server, numbers):
 
 def answer_session(connection, numbers):
     connection.sendall(b"< hi >")
-    text = ""
+    text, handed_over = "", 0
     with connection:
         while piece := connection.recv(4096):
             *messages, text = (text + piece.decode()).split(">")
@@ -190,9 +217,15 @@ def answer_session(connection, numbers):
                 if word == "send":
                     own, other = numbers.pop(0)
                     handed = "".join(f"< frame 123 0.000000  same {number} >" for number in (own, other))
+                    handed_over += 2
                     answer = f"< ack {own} >{handed}"
                 else:
-                    answer = {"echo": "< echo >", "interfaces": "< interfaces can0 >"}.get(word, "< ok >")
+                    known = {
+                        "echo": "< echo >",
+                        "interfaces": "< interfaces can0,can1 >",
+                        "stats": f"< stats {handed_over} 0 0 0 0 0 0 >",
+                    }
+                    answer = known.get(word, "< ok >")
                 connection.sendall(answer.encode())
 
 
@@ -403,6 +436,20 @@ def test_nested():
         server.end()
 
 
+#: Two binds that the server refuses.
+TWICE = """
+import errno, socket
+with socket.socket(29, 3, 1) as s:
+    for _ in range(2):
+        try:
+            s.bind(("can0",))
+        except OSError as fault:
+            assert fault.errno == errno.ENOSPC, fault
+        else:
+            raise AssertionError("bound")
+"""
+
+
 def test_debug():
     """CANBUSD_RUN_DEBUG=1 writes each refusal and the server's reason"""
     text = SEND.replace("s.send(", "s.send(b'x' * 15) if 0 else s.send(")
@@ -412,10 +459,11 @@ def test_debug():
         ended = run(server, "/usr/bin/python3", "-c", text, env=environment(server, CANBUSD_RUN_DEBUG="1"))
         assert (
             ended.returncode == 1
-            and "canbusd-run: bind: Network is down: the server says: record full\n" in ended.stderr
+            and "canbusd-run: bind: No space left on device: the server says: record full\n" in ended.stderr
         ), ended
-        quiet = run(server, "/usr/bin/python3", "-c", text)
-        assert "canbusd-run" not in quiet.stderr
+        # A full record is told apart from bus off, and a line says so in any case, once.
+        again = run(server, "/usr/bin/python3", "-c", TWICE)
+        assert again.stderr == "canbusd-run: bind: No space left on device: the server says: record full\n", again
         client.close()
         server.finish()
     with serving("can0,can1") as server:
@@ -463,6 +511,15 @@ def test_obstacles(tmp_path):
             started = run(server, *(word.format(built["static"]) for word in words))
             assert started.stderr == static.stderr, words
         assert run(server, "sh", "-c", built["dynamic"]).stderr == ""
+        # Programs that are linked statically, but have no such sockets, or run others that have the library.
+        assert run(server, "/usr/bin/python3", "-c", "import ctypes.util; ctypes.util.find_library('c')").stderr == ""
+        loader = os.path.realpath("/lib64/ld-linux-x86-64.so.2")
+        if os.path.exists(loader):
+            assert run(server, "sh", "-c", f"{loader} {built['dynamic']}").stderr == ""
+            assert run(server, loader, built["dynamic"]).stderr == ""
+        (tmp_path / "valgrind").mkdir()
+        shutil.copy(built["static"], tmp_path / "valgrind" / "memcheck-amd64-linux")
+        assert run(server, "sh", "-c", str(tmp_path / "valgrind" / "memcheck-amd64-linux")).stderr == ""
         small = run(server, str(tmp_path / "small"))
         assert small.stderr.startswith(note.format(tmp_path / "small", "is a 32-bit program"))
         if os.geteuid() == 0:
@@ -510,7 +567,7 @@ def test_unprivileged(tmp_path):
 
 
 def test_64_sockets():
-    """as many as the server has room for; one more is EUSERS (87), and again fine once one is closed"""
+    """as many as the server has room for; one more is EUSERS (87), which a line explains, and again fine once one is closed"""
     text = """
 import errno, socket
 def one():
@@ -536,8 +593,80 @@ else:
     raise AssertionError("no room")
 """
     with serving("can0,can1") as server:
+        ended = run(server, "/usr/bin/python3", "-c", text)
+        address = environment(server)["CANBUSD_ADDRESS"]
+        why = f"can0: the server at {address} has 64 sessions, as many as it can"
+        each = "each CAN socket takes one for each interface"
+        assert ended.stderr == f"canbusd-run: bind: Too many users: {why}; {each}\n", ended
+        assert ended.returncode == 0 and none_left(server)
+        server.end()
+
+
+def test_limit_of_descriptors():
+    """a socket that finds no descriptor is EMFILE, whichever of those that it takes is missing, and leaves none"""
+    text = """
+import errno, os, resource, socket
+before = len(os.listdir("/proc/self/fd"))
+hard = resource.getrlimit(resource.RLIMIT_NOFILE)[1]
+seen = set()
+for limit in range(3, 14):
+    resource.setrlimit(resource.RLIMIT_NOFILE, (limit, hard))
+    made = []
+    try:
+        while len(made) < 8:
+            made.append(socket.socket(29, 3, 1))
+            made[-1].bind(("can0",))
+    except OSError as fault:
+        seen.add(errno.errorcode[fault.errno])
+    for one in made:
+        one.close()
+resource.setrlimit(resource.RLIMIT_NOFILE, (hard, hard))
+assert len(os.listdir("/proc/self/fd")) == before
+print(*seen)
+"""
+    with serving("can0,can1") as server:
+        assert passes(server, "/usr/bin/python3", "-c", text) == "EMFILE\n"
+        server.end()
+
+
+def test_limit_of_files():
+    """a program that may write no file has sockets all the same, and its limit stays"""
+    text = f"import resource; resource.setrlimit(resource.RLIMIT_FSIZE, (0, 1 << 30)); {SEND}"
+    text += "; assert resource.getrlimit(resource.RLIMIT_FSIZE) == (0, 1 << 30)"
+    with serving("can0,can1") as server:
         passes(server, "/usr/bin/python3", "-c", text)
-        assert none_left(server)
+        server.end()
+
+
+@pytest.mark.skipif(os.geteuid() != 0, reason="another user has to be this one's")
+def test_limit_of_processes():
+    """a socket for which no process can be started is EAGAIN, as the process itself would be"""
+    text = """
+import os, resource, socket
+os.setgid(65534); os.setuid(65534)
+resource.setrlimit(resource.RLIMIT_NPROC, (0, 0))
+try:
+    socket.socket(29, 3, 1)
+except BlockingIOError as fault:
+    print("EAGAIN")
+"""
+    with serving("can0,can1") as server:
+        assert passes(server, "/usr/bin/python3", "-c", text) == "EAGAIN\n"
+        server.end()
+
+
+@pytest.mark.parametrize("address", ["127.0.0.1:0", "[::1]:0", "./run.socket"])
+@pytest.mark.parametrize("words, length", [((), 10), (("--txqueue", "77"), 77), (("--txqueue=1024",), 1024)])
+def test_length_of_queue(address, words, length):
+    """SIOCGIFTXQLEN is that of the server"""
+    text = """
+import fcntl, socket, struct
+with socket.socket() as any:
+    asked = struct.pack("16sI12x", b"can0", 0)
+    print(struct.unpack("16sI12x", fcntl.ioctl(any, 0x8942, asked))[1])
+"""
+    with serving(*words, "can0,can1", address=address) as server:
+        assert passes(server, "/usr/bin/python3", "-c", text) == f"{length}\n"
         server.end()
 
 
@@ -587,7 +716,8 @@ with socket.socket(29, 3, 1) as s:
         ended = subprocess.run(words, env=env, capture_output=True, text=True, timeout=60, check=False)
         assert (ended.stdout, ended.stderr) == (
             "EUSERS\n",
-            "canbusd-run: bind: Too many users: the server says: too many sessions\n",
+            f"canbusd-run: bind: Too many users: can0: the server at {address} has 64 sessions, as many as it can; "
+            "each CAN socket takes one for each interface\n",
         )
 
 

@@ -30,6 +30,8 @@ SAME = (
     "edges",
     "devices",
     "rows",
+    "passed_by",
+    "wrote_past",
 )
 #: Servers among which the cases are divided; most of their time is waits.
 LOTS = 12

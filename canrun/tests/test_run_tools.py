@@ -61,6 +61,8 @@ def test_cansend_refused():
     with serving("--pace", "60000", "can0,can1@" + f"{ROOT}/examples/bus_off_attack.script") as server:
         wrong = run(server, "cansend", "can7", "123#")
         assert wrong.returncode == 1 and "No such device" in wrong.stderr, wrong
+        note = "canbusd-run: note: the server has no interface can7; it has can0,can1\n"
+        assert wrong.stderr.count(note) == 1, wrong
         full = [run(server, "cansend", "can0", "123#") for _ in range(12)][-1]
         assert full.returncode == 1 and full.stderr == "write: No buffer space available\n", full
         server.end()

@@ -180,8 +180,12 @@ long look_at(struct pollfd *fds, nfds_t count) {
 /* Waits until one of these is ready; what poll returns. What a handler has done is not seen any more. */
 static int poll_until(struct pollfd *fds, nfds_t count, uint64_t deadline) {
     uint32_t flags = 0;
-    for (;;) {
-        long result = (flags & (IS_INTERRUPTED | HAS_EVENT)) == IS_INTERRUPTED ? -EINTR : look_at(fds, count);
+    /* A bridge mostly waits: it looks once there may be something. */
+    bool looks = !is_bridge || deadline <= run->now;
+    for (;; looks = true) {
+        long result = (flags & (IS_INTERRUPTED | HAS_EVENT)) == IS_INTERRUPTED ? -EINTR
+                      : looks                                                  ? look_at(fds, count)
+                                                                               : 0;
         if (result) {
             return (int)answer(result);
         }
@@ -288,7 +292,7 @@ ssize_t receive(int fd, void *data, size_t length, int flags, struct sockaddr *f
     /* The sockets of a server block, and have no timeouts. */
     uint64_t deadline = is_server ? NEVER : 0;
     size_t done = 0;
-    my.has_talked = true;
+    my.has_talked = my.has_acted = true;
     cancel_point();
     if (!run || flags & MSG_DONTWAIT || (flags & MSG_WAITALL && flags & MSG_PEEK)) {
         return await_ready(fd, POLLIN, flags) ? answer(RAW(SYS_recvfrom, fd, data, length, flags, from, room)) : -1;

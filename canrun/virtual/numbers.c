@@ -214,6 +214,7 @@ EXPORT long syscall(long number, ...) {
         of[i] = va_arg(list, long);
     }
     va_end(list);
+    my.has_acted |= number != SYS_futex && number != SYS_clock_gettime;
     for (size_t i = 0; run && i < sizeof calls / sizeof *calls; i++) {
         bool is_known = true;
         long result = calls[i](number, of, &is_known);

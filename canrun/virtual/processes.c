@@ -270,6 +270,7 @@ EXPORT int system(const char *command) {
 /* ---- the descriptor of the run ---- */
 
 EXPORT int close(int fd) {
+    my.has_acted = true;
     cancel_point();
     if (run && fd == run_epoll) {
         return errno = EBADF, -1;

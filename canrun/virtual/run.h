@@ -62,27 +62,29 @@ enum kind {
     KIND_KERNEL /* a lock of a file, a queue, a semaphore that only the kernel knows */
 };
 
+/* First what each decision looks at, of all. */
 struct slot {
     _Atomic uint32_t go; /* the word that it sleeps on: how often it was given the turn */
     _Atomic uint32_t state;
     _Atomic uint32_t flags;
-    _Atomic uint32_t pid, tid;
-    uint32_t parent;     /* of a process that is born */
     uint32_t rank;       /* of those that can go on in one moment, the lowest goes first */
     uint32_t generation; /* of its wait for descriptors */
     uint32_t kind;
-    uint32_t tries;              /* before the clock goes on it looks once more, as nobody wakes it */
+    uint32_t tries; /* before the clock goes on it looks once more, as nobody wakes it */
+    _Atomic uint32_t pid;
+    _Atomic uint64_t deadline; /* nanoseconds of the run, or NEVER */
+    _Atomic uint64_t key;      /* of the lock, child or thread that it waits for */
+    uint64_t ticket;           /* its place among those that can go on, 0 before it has one */
+    uint64_t number;           /* of its birth, or of its age where a test began: what is drawn for it hangs on this, */
+    uint64_t waits, reads;     /* and on how often it has waited, and read what is random, since then */
+    uint64_t since;            /* the number of its wait in the run: who waits longer is woken first */
+    uint64_t tried;            /* `progress` when it last looked */
+    uint64_t thread;           /* pthread_self */
+    uint64_t go_at;            /* where its process has `go` */
+    _Atomic uint32_t tid;
+    uint32_t parent;             /* of a process that is born */
     uint32_t bits;               /* of its wait on a word: FUTEX_WAIT_BITSET */
-    uint64_t tried;              /* `progress` when it last looked */
     _Atomic uint32_t is_foreign; /* a program that does not load this library */
-    _Atomic uint64_t deadline;   /* nanoseconds of the run, or NEVER */
-    _Atomic uint64_t key;        /* of the lock, child or thread that it waits for */
-    uint64_t since;              /* the number of its wait in the run: who waits longer is woken first */
-    uint64_t ticket;             /* its place among those that can go on, 0 before it has one */
-    uint64_t number;       /* of its birth, or of its age where a test began: what is drawn for it hangs on this, */
-    uint64_t waits, reads; /* and on how often it has waited, and read what is random, since then */
-    uint64_t thread;       /* pthread_self */
-    uint64_t go_at;        /* where its process has `go` */
 } __attribute__((aligned(128)));
 
 /* A timer that sends a signal: alarm, setitimer, timer_create. Of the process, alarm and setitimer have this id, and
@@ -158,6 +160,7 @@ struct run {
     _Atomic uint8_t datagram_ports[PORTS / 8]; /* of UDP, those that are known to be a program's of the run */
     struct slot slots[SLOTS];
     struct alarm alarms[ALARMS];
+    _Atomic uint32_t alarm_count; /* those that were ever used */
     _Atomic uint32_t timer_count; /* timers that were ever made */
     struct timer timers[TIMERS];
     _Atomic uint32_t has_signalfds;

@@ -49,6 +49,7 @@ static struct alarm *new_alarm(uint32_t id, int number, uint32_t tid) {
         uint32_t none = 0;
         if (!alarm->pid && __atomic_compare_exchange_n((uint32_t *)&alarm->pid, &none, UINT32_MAX, 0, __ATOMIC_SEQ_CST,
                                                        __ATOMIC_SEQ_CST)) {
+            run->alarm_count = run->alarm_count > i + 1 ? run->alarm_count : i + 1;
             alarm->tid = tid;
             alarm->number = number;
             alarm->id = id ? id : i + 2;

@@ -121,7 +121,7 @@ EXPORT int recvmmsg(int fd, struct mmsghdr *messages, unsigned count, int flags,
 EXPORT ssize_t sendto(int fd, const void *data, size_t length, int flags, const struct sockaddr *to, socklen_t room) {
     uint64_t deadline = 0;
     size_t done = 0;
-    my.has_talked = true;
+    my.has_talked = my.has_acted = true;
     cancel_point();
     check_datagram(fd, to);
     if (!run || flags & MSG_DONTWAIT) {
@@ -151,7 +151,7 @@ EXPORT ssize_t sendmsg(int fd, const struct msghdr *message, int flags) {
     uint64_t deadline = 0;
     size_t done = 0;
     struct rest rest;
-    my.has_talked = true;
+    my.has_talked = my.has_acted = true;
     cancel_point();
     check_datagram(fd, message->msg_name);
     if (!run || flags & MSG_DONTWAIT || message->msg_iovlen > PARTS) {
@@ -190,7 +190,7 @@ EXPORT int sendmmsg(int fd, struct mmsghdr *messages, unsigned count, int flags)
 }
 
 EXPORT int accept4(int fd, struct sockaddr *restrict from, socklen_t *restrict room, int flags) {
-    my.has_talked = true;
+    my.has_talked = my.has_acted = true;
     return await_ready(fd, POLLIN, 0) ? (int)answer(RAW(SYS_accept4, fd, from, room, flags)) : -1;
 }
 
@@ -317,6 +317,7 @@ static mode_t mode_of_blocking(int fd, size_t length) {
 }
 
 EXPORT ssize_t write(int fd, const void *data, size_t length) {
+    my.has_acted = true;
     cancel_point();
     check_datagram(fd, NULL);
     mode_t mode = mode_of_blocking(fd, length);
@@ -331,6 +332,7 @@ EXPORT ssize_t write(int fd, const void *data, size_t length) {
 ALSO(__write, write)
 
 EXPORT ssize_t writev(int fd, const struct iovec *parts, int count) {
+    my.has_acted = true;
     cancel_point();
     mode_t mode = mode_of_blocking(fd, 0);
     if (S_ISSOCK(mode)) {

@@ -56,12 +56,14 @@ void begin_test(const char *name) {
             next = is_next ? slot : next;
         }
         if (!next) {
-            return;
+            break;
         }
         below = next->number;
         next->number = run->born + 1;
         next->waits = next->reads = 0;
     }
+    /* What the test before has left, such as sessions that are about to end, does not count for those that are born now. */
+    run->born = SLOTS;
 }
 
 /* ---- slots ---- */
@@ -210,7 +212,7 @@ static bool try_again(void) {
 /* Sets the clock to the next moment that one waits for, where the coordinator has nothing to do before. */
 static bool go_on(uint64_t next) {
     uint64_t alarm = NEVER;
-    for (int i = 0; i < ALARMS; i++) {
+    for (uint32_t i = 0; i < run->alarm_count && i < ALARMS; i++) {
         if (run->alarms[i].pid && run->alarms[i].number && run->alarms[i].deadline < alarm) {
             alarm = run->alarms[i].deadline;
         }
@@ -250,11 +252,20 @@ uint32_t next_turn(bool ignores_outside) {
         run->pause = PAUSE_BIRTH;
         return NOBODY;
     }
-    collect_events();
+    /* A turn in which a server's thread only looked at memory has made no descriptor ready. */
+    bool is_quiet = is_server && !my.has_acted;
+    if (!is_quiet) {
+        collect_events();
+    }
     for (;;) {
         struct look look = look_round();
         if (look.best != NOBODY) {
             return look.best;
+        }
+        if (is_quiet) {
+            is_quiet = false;
+            collect_events();
+            continue;
         }
         if (look.has_outside && !ignores_outside) {
             run->pause = PAUSE_OUTSIDE;
@@ -327,7 +338,9 @@ static void await_end(void) {
 }
 
 void await_turn(void) {
-    struct timespec patience = {LIVE_SECONDS, 0};
+    struct timespec second = {LIVE_SECONDS, 0};
+    /* Of a server its first thread looks, and no thread has a handler. */
+    struct timespec *patience = is_server && my.slot->tid != my.slot->pid ? NULL : &second;
     for (;;) {
         uint32_t seen = my.slot->go;
         if (has_turn()) {
@@ -335,7 +348,7 @@ void await_turn(void) {
             return;
         }
         /* With a timeout it returns EINTR after any handler, also of SA_RESTART. */
-        long result = RAW(SYS_futex, &my.slot->go, FUTEX_WAIT, seen, &patience);
+        long result = RAW(SYS_futex, &my.slot->go, FUTEX_WAIT, seen, patience);
         if (result == -ETIMEDOUT) {
             check_coordinator();
         } else if (result == -EINTR && !has_turn()) {
@@ -353,6 +366,7 @@ static void await_and_run(void) {
     await_turn();
     my.slot->state = SLOT_RUNS;
     my.slot->ticket = 0;
+    my.has_acted = false;
     if (my.is_asynchronous) {
         hold_cancel(false);
     }

@@ -40,6 +40,7 @@ struct my {
     uint32_t looks;
     uint64_t looked_at, step;
     bool has_talked;
+    bool has_acted; /* made a call in this turn by which a descriptor may be ready */
 };
 extern __thread struct my my __attribute__((tls_model("initial-exec")));
 

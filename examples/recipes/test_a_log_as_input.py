@@ -1,19 +1,22 @@
 """A log as input.
 
-A log of candump is read by python-can, and sent as fast as the node can take it, or by `can.MessageSync` at its own
-pace. Here all frames go by one interface; candump2bench keeps that of each.
+A log of candump is read by python-can, and sent by `can.MessageSync` at its own pace, each frame as it is due; `send_many`
+would read all of it first, and send it as fast as the bus can take it. Here all frames go by one interface; candump2bench
+keeps that of each.
 """
 
 import can
 import pytest
 
-LOG = "(1.000000) can0 123#1122\n(1.000100) can0 124#33\n(1.250000) can0 123#1123\n"
+LOG = "(1.000000) can0 123#1122\n(1.000100) can0 124#33\n(1.500000) can0 123#1123\n"
 
 
 @pytest.mark.canbusd("car,node", observe="node")
 def test_a_drive(canbusd, tmp_path):
     (tmp_path / "drive.log").write_text(LOG)
     with canbusd.bus("car") as car, can.LogReader(tmp_path / "drive.log") as log:
-        car.send_many(can.MessageSync(log, timestamps=True, gap=0.0001))
-    assert canbusd.expect(id=0x124, within=5).data == b"\x33"
-    assert canbusd.expect(id=0x123, within=5).data == b"\x11\x23"
+        for message in can.MessageSync(log, timestamps=True, gap=0.0001):
+            car.send(message, timeout=5)
+    first, last = canbusd.expect(id=0x124, within=5), canbusd.expect(id=0x123, within=5)
+    assert (first.data, last.data) == (b"\x33", b"\x11\x23")
+    assert last.timestamp - first.timestamp > 0.25

@@ -18,13 +18,13 @@ LAUNCH = 'exec "$0" "$@" 3<&{} 4>&{}'
 class Browser:
     """One page of a browser."""
 
-    def __init__(self, folder):
+    def __init__(self, folder, *words):
         read, self.writer = os.pipe()
         self.reader, write = os.pipe()
         self.child = subprocess.Popen(
             ["bash", "-c", LAUNCH.format(read, write), PROGRAM, "--headless=new", "--no-sandbox", "--disable-gpu",
              "--hide-scrollbars", "--no-first-run", f"--user-data-dir={folder}", "--remote-debugging-pipe",
-             "about:blank"],
+             *words, "about:blank"],
             pass_fds=(read, write), stdin=subprocess.DEVNULL, stdout=subprocess.DEVNULL, stderr=subprocess.DEVNULL,
         )  # fmt: skip
         os.close(read)

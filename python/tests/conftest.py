@@ -1,39 +1,23 @@
-"""What the tests of buses and servers share."""
+"""The fixtures of the tests of buses and servers."""
 
+import importlib.util
 import os
 import shutil
 import subprocess
 import sys
-from pathlib import Path
 
-import can
 import pytest
 
-from canbusd._process.program import find_program
 from canbusd.server import Server
+from common import PYTHON
 
-PYTHON = Path(__file__).resolve().parents[1]
-WAIT = 20
-
-
-def writes_live():
-    """Whether the program writes records while it runs."""
-    words = [find_program(), "serve", "--help"]
-    return b"--record" in subprocess.run(words, stdout=subprocess.PIPE, check=True).stdout
+# What the tests start has the package that they have.
+os.environ["PYTHONPATH"] = os.path.dirname(importlib.util.find_spec("canbusd").submodule_search_locations[0])
 
 
-needs_live = pytest.mark.skipif(not writes_live(), reason="the program is older than `serve --record`")
-
-
-def message(identifier, data=b"", extended=False, **more):
-    """A message of python-can, of 11 bits unless asked otherwise."""
-    return can.Message(arbitration_id=identifier, data=data, is_extended_id=extended, **more)
-
-
-def shape(received):
-    """What makes two messages the same, apart from their moments."""
-    kinds = received.is_extended_id, received.is_remote_frame, received.is_error_frame, received.is_fd
-    return received.arbitration_id, bytes(received.data), received.dlc, *kinds
+def pytest_addoption(pluginmanager):
+    """Where the package is not installed, pytest has not found its plugin."""
+    pluginmanager.import_plugin("canbusd.pytest_plugin")
 
 
 @pytest.fixture

@@ -129,7 +129,7 @@ def test_bus_off_and_restart():
         assert (frame.arbitration_id, frame.timestamp, frame.meaning) == (0x100, 0.00004, "restarted")
         assert sender.status() == ("active", 0, 0)
         assert sender.stats() == (4, 0, 4, 3, 0, 0, 3, 0)
-        with pytest.raises(Refused, match="^not bus off$"):
+        with pytest.raises(Refused, match="^can0: not bus off, but active$"):
             sender.restart()
         sender.send(0x123)
         assert (bench.attempt().number, bench.attempt()) == (3, None)

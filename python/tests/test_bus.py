@@ -10,7 +10,7 @@ import threading
 
 import can
 import pytest
-from conftest import WAIT, message, shape
+from common import WAIT, message, shape
 
 from canbusd.bus import CanbusdBus, Self, interfaces
 from canbusd.faults import Faults

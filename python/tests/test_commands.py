@@ -292,7 +292,7 @@ def test_send_of_several_frames_and_flags():
     "words, fault",
     [
         (("can0", "123"), "canbusd send: 123: no frame such as"),
-        (("can0", "800#"), "canbusd send: 800#: no identifier"),
+        (("can0", "800#"), "canbusd send: 800#: an identifier has 11 bits in 3 digits"),
         (("can0", "20000040#0000000000000000"), "nobody sends"),
         (("can7", "123#"), "no such interface; the server has can0, can1"),
     ],
@@ -382,7 +382,7 @@ def test_restart_of_interfaces():
             assert call("send", "can0", "123#", server=server) == (1, "", f"canbusd send: bus off: {cure}\n")
             assert call("restart", "can0", "can9", server=server)[0] == 1
             assert can0.error_counters().state == "off"
-            said = "canbusd restart: can1: not bus off\n"
+            said = "canbusd restart: can1: not bus off, but active\n"
             assert call("restart", "can1", "can0", server=server) == (1, "", said)
             assert (can0.error_counters(), can2.error_counters().state) == (("active", 0, 0), "off")
             assert call("restart", "can2", server=server) == (0, "", "")

@@ -9,7 +9,7 @@ import time
 
 import can
 import pytest
-from conftest import WAIT, message, shape
+from common import WAIT, message, shape
 
 from canbusd._session.pending_questions import MOST_PAGES, PAGE
 from canbusd.bus import CanbusdBus, interfaces
@@ -171,6 +171,11 @@ def test_an_older_server_has_no_list_of_interfaces(play, monkeypatch):
         (
             "load 0 0 500000 500000",
             {"bitrate": 500_000, "data_bitrate": 2_000_000},
+            ["data_bitrate 2000000 is left out: that of the server is 500000"],
+        ),
+        (
+            "load 0 0 500000 500000",
+            {"bitrate": 500_000, "dbitrate": 2_000_000},
             ["data_bitrate 2000000 is left out: that of the server is 500000"],
         ),
         (

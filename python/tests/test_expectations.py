@@ -8,8 +8,8 @@ import pytest
 
 from canbusd._run.summary import end_of_log
 from canbusd.faults import Faults
-from canbusd.server import Server
-from conftest import WAIT, message
+from canbusd.server import Server, ServerError
+from common import WAIT, message
 
 OFF = Faults().destroyed(range(32))
 
@@ -227,8 +227,8 @@ def test_more_frames_than_a_socket_holds_are_seen(tmp_path):
 
 def test_what_nobody_expects_is_kept_piece_by_piece(monkeypatch):
     # What is kept as it came is 7 frames; the rest goes on in pieces of 2, and the order is that of the bus.
-    monkeypatch.setattr("canbusd._expect.observer.MOST_UNREAD", 7)
-    monkeypatch.setattr("canbusd._expect.observer.SOME", 2)
+    monkeypatch.setattr("canbusd._expect.observer.MOST_UNREAD_FRAMES", 7)
+    monkeypatch.setattr("canbusd._expect.observer.FRAMES_AT_ONCE", 2)
     with Server("can0,can1", txqueue=100) as server, server.bus("can0") as can0:
         can0.send_many([message(number) for number in range(100)])
         received = server._observing().received
@@ -343,5 +343,5 @@ def test_an_observed_server_ends_in_order(observed, can0):
 def test_a_killed_server():
     with Server("can0,can1", observe="can1") as server:
         server.kill()
-        with pytest.raises(can.CanOperationError):
+        with pytest.raises(ServerError, match="^the server was killed: nothing can be expected of it$"):
             server.expect(id=1)

@@ -9,7 +9,7 @@ import pytest
 from canbusd.bench import Bench, Refused
 from canbusd.faults import Faults
 from canbusd.server import Server, ServerError
-from conftest import WAIT, message, needs_live
+from common import WAIT, message, needs_live
 from test_report import rules_on
 
 TESTER, ECU = 0x100, 0x200

@@ -6,7 +6,7 @@ import sys
 from pathlib import Path
 
 import pytest
-from conftest import WAIT
+from common import WAIT
 
 import canbusd
 from canbusd.server import Server

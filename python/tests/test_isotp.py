@@ -11,7 +11,7 @@ from canbusd._process.program import ProgramNotFound, find_program
 from canbusd.faults import Faults
 from canbusd.isotp import IsoTpError
 from canbusd.server import Server
-from conftest import WAIT
+from common import WAIT
 
 
 def is_there(library):

@@ -6,7 +6,7 @@ import threading
 
 import can
 import pytest
-from conftest import WAIT, message, needs_live, shape
+from common import WAIT, message, needs_live, shape
 from test_record import LIVE, LIVE_RESTARTED
 
 from canbusd._run.live import GrowingFile, LiveLog, LiveRecord, left_by
@@ -125,7 +125,7 @@ def test_an_entry_that_is_wrong_is_so_each_time(tmp_path):
         ({"sync": True}, "^flush and sync are of"),
         ({"record": "live", "limit": 100}, "^limit= needs record='end'"),
         ({"record": "none", "limit": 1_000_000}, "^limit= needs record='end'"),
-        ({"record": "live", "flush": -1}, "^flush is a whole number from 0 to 60000, not -1$"),
+        ({"record": "live", "flush": -1}, "^flush is a whole number of milliseconds from 0 to 60000, not -1$"),
         ({"record": "live", "flush": 60_001}, "^flush is"),
         ({"record": "none", "flush": 0.5}, "^flush is"),
     ],

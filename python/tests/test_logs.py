@@ -143,7 +143,7 @@ def test_the_log_of_a_run(tmp_path):
     "name, text, said",
     [
         ("run.log", "(1.000000) can0 123#1122\nhello\n", "run.log:2: not `(SECONDS.MICROS) INTERFACE FRAME`: hello"),
-        ("run.log", "(1.000000) can0 923#\n", "run.log:1: no identifier of 11 bits in 3 digits or of 29 bits in 8: "),
+        ("run.log", "(1.000000) can0 923#\n", "run.log:1: 923#: an identifier has 11 bits in 3 digits, as 123"),
         ("run.blf", "hello", "run.blf: "),
     ],
 )

@@ -1,9 +1,12 @@
 """The package as Python finds it: entry points without an installation, and one version everywhere."""
 
+import ast
 import configparser
 import email
+import graphlib
 import importlib
 import os
+import pydoc
 import re
 import subprocess
 import sys
@@ -82,6 +85,82 @@ def test_public_paths_can_be_imported():
         assert not name or hasattr(found, name), f"{module} has no {name}"
 
 
+#: Rooms of the package, each with the modules at the top that users have of it; one imports of itself and of those before it.
+LAYERS = """
+    _text+_python_can+frames+rules+faults
+    _session
+    _process
+    _database+signals
+    _run+record+replay
+    _expect
+    bus isotp programs virtual strategies
+    _restbus+rest_bus
+    bench server
+    _page
+    commands+candump2bench pytest_plugin
+    __main__
+"""
+
+
+def imported(body):
+    """The names of the modules that this code imports when it is imported itself."""
+    for statement in body:
+        if isinstance(statement, ast.Import):
+            yield from (alias.name for alias in statement.names)
+        elif isinstance(statement, ast.ImportFrom):
+            yield from (f"{statement.module}.{alias.name}" for alias in statement.names)
+            yield statement.module
+        elif isinstance(statement, (ast.Try, ast.With)):
+            yield from imported(statement.body)
+
+
+def package_imports():
+    """For each module of the package, below `canbusd.`, those of the package that it imports when it is imported itself."""
+    paths = (SOURCES / "canbusd").rglob("*.py")
+    names = {str(path.relative_to(SOURCES).with_suffix("")).replace("/", "."): path for path in paths}
+    trees = {name.removesuffix(".__init__"): ast.parse(path.read_bytes()) for name, path in names.items()}
+    return {
+        name: {one for one in imported(tree.body) if one in trees and one != "canbusd"}
+        for name, tree in trees.items()
+        if name != "canbusd"
+    }
+
+
+def test_layers():
+    rooms = {}
+    for number, line in enumerate(LAYERS.split("\n")):
+        rooms |= {module: (number, room) for room in line.split() for module in room.split("+")}
+    found = package_imports()
+    assert len(found) > 60 and {name.split(".")[1] for name in found} == set(rooms)
+    for name, others in found.items():
+        number, room = rooms[name.split(".")[1]]
+        for layer, other_room, other in ((*rooms[other.split(".")[1]], other) for other in others):
+            assert layer < number or other_room == room, f"{name} imports {other}, which is of a layer above it"
+    # CycleError where modules import one another.
+    graphlib.TopologicalSorter(found).prepare()
+
+
+def modules_after(statement):
+    """The modules that Python has after a statement."""
+    asks = f"{statement}; import sys; print(*sys.modules)"
+    return set(subprocess.check_output([sys.executable, "-c", asks], env=ENVIRONMENT, text=True).split())
+
+
+def test_imports_are_cheap():
+    """What takes long to import is imported by what needs it: `import canbusd` takes a few milliseconds."""
+    alone = modules_after("import canbusd") - modules_after("import importlib, typing")
+    assert alone == {"canbusd"}
+    most = modules_after("from canbusd import Bench, Faults, Frame, Server, load_database, read_record")
+    assert not most & set("asyncio can cantools concurrent hypothesis http json pytest xml".split())
+
+
+def test_help_begins_with_what_users_call():
+    text = pydoc.plain(pydoc.render_doc(canbusd))
+    called = ["Server", "Bench", "Faults", "CanbusdBus", "Frame", "IsoTp", "RestBus", "Program", "load_database"]
+    places = [text.index(f"    {name} ") for name in [*called, "read_record", "is_virtual"]]
+    assert places == sorted(places) and places[-1] < re.search(r"^ *_\w+", text, re.M).start()
+
+
 @pytest.mark.parametrize("words", [[], ["-p", "canbusd.pytest_plugin"]])
 def test_a_clone_without_an_installation(tmp_path, words):
     (tmp_path / "test_it.py").write_text(TEST)
@@ -105,6 +184,34 @@ def test_an_older_python():
     asks = "import sys; sys.version_info = (3, 8, 19, 'final', 0); import canbusd"
     done = subprocess.run([sys.executable, "-c", asks], env=ENVIRONMENT, capture_output=True, text=True, check=False)
     assert done.stderr.endswith("ImportError: canbusd needs Python 3.9 or later, and this is 3.8\n")
+
+
+MISTAKES = """
+from canbusd import Bench, Faults, Server
+with Server("a,b", ack="nobody") as server:
+    server.expect_state("a", "of")
+    print(server.state("a") == "bus off")
+    server.isotp("a", tx=1, rx=2, library="isotp")
+    print([attempt for attempt in server.attempts() if attempt.outcome == "failed"])
+Server("a", record="always")
+Bench("a", ack="nobody")
+Faults().next(1).destroyed("crc")
+Faults().destroyed(1, "crc")
+Faults().next(1).local("bit", "a")
+Faults().local("bit", "a", 1)
+Faults().last_bit()
+Server("a", pace=1)
+"""
+
+
+def test_a_type_checker_sees_words_that_are_none(tmp_path):
+    pytest.importorskip("mypy")
+    (tmp_path / "mistakes.py").write_text(MISTAKES)
+    words = [sys.executable, "-m", "mypy", "--strict", "--cache-dir", tmp_path / "cache", "mistakes.py"]
+    environment = {**ENVIRONMENT, "MYPYPATH": str(SOURCES)}
+    done = subprocess.run(words, cwd=tmp_path, env=environment, capture_output=True, text=True, check=False)
+    wrong = {int(line) for line in re.findall(r"^mistakes.py:(\d+): error: ", done.stdout, re.M)}
+    assert wrong == {*range(3, 16)}, done.stdout
 
 
 def test_one_version(installed):

@@ -1,16 +1,20 @@
 """Programs with CAN sockets on the buses of a server: run to their end, and started to stay."""
 
 import os
+import re
 import signal
 import subprocess
 import sys
+import threading
 import time
+from pathlib import Path
 
 import pytest
-from conftest import WAIT, message
+from common import WAIT, message
 
 from canbusd import Server, ServerError
-from canbusd.programs import words_of
+from canbusd._process.output import BLOCK, MOST, Output, Search
+from canbusd.programs import Program, words_of
 
 # A node for SocketCAN, which says what it receives.
 NODE = """
@@ -142,15 +146,160 @@ def test_a_server_that_is_killed():
     assert other.stop().status == -signal.SIGKILL
 
 
-def test_one_that_nobody_stops(installed):
-    """It ends with the process that started it, which does not stop the server either."""
-    program = "from canbusd import Server\nserver = Server('can0')\nprint(server.start('sleep 1000').pid)"
-    words = [sys.executable, "-c", program]
-    pid = int(subprocess.run(words, env=installed, stdout=subprocess.PIPE, text=True, check=True).stdout)
-    until = time.monotonic() + WAIT
-    while not has_ended(pid) and time.monotonic() < until:
+# Starts a program, writes its processes, and ends, or not.
+STARTS = """
+import os, signal, sys, threading, time
+from canbusd import Server
+server = Server("can0", listen=sys.argv[1])
+program = server.start(["sh", "-c", sys.argv[2]])
+print(program.pid, program.expect("\\n"), flush=True)
+"""
+# A process that ends at SIGTERM, one that does not, and one with another in its group.
+MEEK, STUBBORN_ONE, TWO = (
+    "echo; exec sleep 1000",
+    "trap '' TERM; echo; sleep 1000",
+    "sleep 1000 & echo $!; exec sleep 1000",
+)
+ENDS = {
+    "end": "",
+    "exception": "raise SystemExit(3)",
+    "_exit": "os._exit(3)",
+    "exec": "os.execv('/bin/true', ['true'])",
+    "SIGKILL": "os.kill(os.getpid(), signal.SIGKILL)",
+    "SIGTERM": "os.kill(os.getpid(), signal.SIGTERM)",
+    # Of a process that was forked and goes on, until its input ends.
+    "SIGKILL beside a child": "os.fork() or os.read(0, 1)\nos.kill(os.getpid(), signal.SIGKILL)",
+    "SIGKILL in a thread": "threading.Thread(target=lambda: os.kill(os.getpid(), signal.SIGKILL)).start()\ntime.sleep(100)",
+}
+
+
+def wait_until_ended(pids, seconds=WAIT):
+    """Waits until there is none of these processes; fails where there is one after these seconds."""
+    until = time.monotonic() + seconds
+    while not all(map(has_ended, pids)):
+        assert time.monotonic() < until, f"{pids} go on"
         time.sleep(0.02)
-    assert has_ended(pid)
+
+
+@pytest.mark.parametrize(
+    "program, end",
+    [
+        *((MEEK, end) for end in ENDS),
+        *((program, end) for program in (STUBBORN_ONE, TWO) for end in ("end", "SIGKILL")),
+    ],
+)
+def test_one_that_nobody_stops(program, end, tmp_path):
+    """It ends with the process that started it, however that ends, and so does what is left of its group."""
+    words = [sys.executable, "-c", STARTS + ENDS[end], f"{tmp_path}/socket", program]
+    read, write = os.pipe()
+    try:
+        # Its child may have the pipe, whose end is not waited for.
+        with open(tmp_path / "output", "w+b") as file:
+            child = subprocess.Popen(words, stdin=read, stdout=file, stderr=subprocess.STDOUT)
+            child.wait(WAIT)
+            file.seek(0)
+            pids = [int(word) for word in file.read().split()]
+        assert len(pids) == 1 + (program == TWO)
+        wait_until_ended(pids)
+    finally:
+        os.close(read)
+        os.close(write)
+
+
+def test_the_end_of_the_thread_that_started_it_is_none_of_its(server):
+    started = []
+    thread = threading.Thread(target=lambda: started.append(server.start(STAYS)))
+    thread.start()
+    thread.join(WAIT)
+    started[0].expect("ready", within=WAIT)
+    assert started[0].status is None and started[0].stop() == -signal.SIGTERM
+
+
+def children():
+    """The processes that this one has started and not waited for."""
+    found = set()
+    for task in Path("/proc/self/task").iterdir():
+        found.update((task / "children").read_text().split())
+    return found
+
+
+def test_nothing_is_left_of_one_that_has_ended(server):
+    """Else another process that gets its number would be ended."""
+    before = children()
+    for ended in (
+        lambda one: one.wait(WAIT),
+        lambda one: server.wait_for(lambda: one.status is not None),
+        Program.stop,
+    ):
+        program = server.start("sleep 0.01", may_end=True)
+        assert len(children() - before) == 2
+        ended(program)
+        assert children() == before and program.status is not None
+
+
+def test_nothing_is_left_of_one_that_did_not_start(server):
+    before = children()
+    with pytest.raises(NotADirectoryError):
+        server.start("true", cwd="/dev/null", may_end=True, executable="/dev/null/x")
+    assert children() == before
+
+
+def test_one_that_is_forgotten(server):
+    """It ends, as a server does that nobody refers to."""
+    pid = Program(["sleep", "1000"], [], server._folder / "forgotten", False).pid
+    until = time.monotonic() + WAIT
+    while os.waitpid(pid, os.WNOHANG) == (0, 0):
+        assert time.monotonic() < until
+        time.sleep(0.02)
+
+
+# More than is read within the time, and at the end without a line's end.
+ENDLESS = "import os\nwhile True: os.write(1, b'x' * 99_999 + b'\\n')"
+
+
+def peak():
+    """The most memory that this process had, in bytes."""
+    return int(re.search(r"VmHWM:\s+(\d+)", Path("/proc/self/status").read_text())[1]) * 1024
+
+
+@pytest.mark.parametrize("within", [0, 0.5, 2])
+def test_an_expectation_beside_one_that_writes_without_end(server, within):
+    """keeps its time, and takes no more memory than 10 MB"""
+    endless = server.start([sys.executable, "-c", ENDLESS])
+    endless.expect("x", within=WAIT)
+    # So that the most memory is that of now.
+    Path("/proc/self/clear_refs").write_text("5")
+    memory, start = peak(), time.monotonic()
+    with pytest.raises(
+        AssertionError, match=r"^no 'y' in the (first [0-9,]+ bytes of the )?output within .*\n"
+    ) as fault:
+        endless.expect("y", within=within)
+    assert time.monotonic() - start < within + 0.5
+    assert peak() - memory < 10_000_000 and len(str(fault.value)) < 20_000
+    endless.stop()
+
+
+def test_a_long_output(tmp_path):
+    """A text is found wherever it is, also between two blocks, and of what is returned the last megabyte is before its end."""
+    path = tmp_path / "output"
+    for place in (0, BLOCK - 3, 5 * MOST):
+        path.write_bytes(b"." * place + b"\xc3\xa4\r\nneedle" + b"," * MOST + b"\n")
+        with Search(path, "\u00e4\nneedle") as search:
+            assert search.goes_on(time.monotonic() + WAIT) and search.is_found
+        text = Output(path).text(search.place)
+        assert "\u00e4\nneedle" in text and len(text) <= MOST + 100
+        first = search.place - MOST
+        assert text.startswith(f".. {first:,} bytes before\n") == (first > 0)
+
+
+def test_a_search_that_goes_on(tmp_path):
+    """as the output is written, which may be in the middle of a character"""
+    path = tmp_path / "output"
+    with open(path, "wb", buffering=0) as file, Search(path, "b\u20acd\ne") as search:
+        for byte in "ab\u20acd\r\ne".encode():
+            assert search.goes_on(0) and not search.is_found
+            file.write(bytes([byte]))
+        assert search.goes_on(0) and search.is_found
 
 
 def test_an_expectation_that_fails(server):

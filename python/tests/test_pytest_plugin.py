@@ -7,7 +7,7 @@ from pathlib import Path
 from xml.etree import ElementTree
 
 import pytest
-from conftest import needs_live
+from common import needs_live
 from test_report import data_of
 
 import canbusd
@@ -378,18 +378,84 @@ def test_what_a_marker_may_not_say(run):
     result.assert_outcomes(errors=6)
     mark = "@pytest.mark.canbusd"
     result.stdout.fnmatch_lines(
-        [f"{mark}('a', colour='red'): there is no option colour; there are faults, ack, *, database and virtual"]
+        [f"{mark}('a', colour='red'): there is no option colour; there are faults, ack, *, database, virtual"]
     )
-    result.stdout.fnmatch_lines([f"{mark}('a,a'): names of a bus's interfaces are *, not 'a,a'"])
+    result.stdout.fnmatch_lines([f"{mark}('a,a'): names of a bus's interfaces are *, and 'a,a' has 'a' twice"])
     result.stdout.fnmatch_lines([f"{mark}('a', 'b'): canbusd_bench has one bus, not 2"])
     result.stdout.fnmatch_lines(
-        [f"{mark}('a', observe='a'): there is no option observe; there are faults, *, out and virtual"]
+        [f"{mark}('a', observe='a'): there is no option observe; there are faults, *, out, virtual"]
     )
     result.stdout.fnmatch_lines([f"{mark}('a', database='nowhere.dbc'): *No such file*"])
     result.stdout.fnmatch_lines([f"{mark}('a', faults='next 1 lost'): *script line 1: bad line"])
     # Only that is shown of each, and no source of the package.
     assert "def __init__" not in result.stdout.str() and "Traceback" not in result.stdout.str()
     assert result.stdout.str().count("pytest_plugin.py") == 0
+
+
+def test_a_marker_without_its_fixture_warns(run):
+    text = """
+    @pytest.mark.canbusd("a,b", pace_ms=0)
+    def test_without():
+        pass
+
+    @pytest.mark.canbusd("a,b")
+    def test_another_one(canbusd_server):
+        pass
+
+    @pytest.mark.canbusd("a,b")
+    def test_with(canbusd):
+        pass
+
+    @pytest.mark.canbusd("a,b")
+    def test_asked_for(request):
+        request.getfixturevalue("canbusd_bench")
+
+    @pytest.mark.canbusd("a,b")
+    @pytest.mark.skip
+    def test_skipped():
+        pass
+
+    @pytest.mark.canbusd("a,b")
+    class TestOfAClass:
+        def test_one(self, canbusd):
+            pass
+
+        def test_other(self):
+            pass
+    """
+    result = run(text)
+    result.assert_outcomes(passed=6, skipped=1)
+    assert result.stdout.str().count("UnusedMarker: ") == 2
+    for name, words in (("test_without", "'a,b', pace_ms=0"), ("test_another_one", "'a,b'")):
+        said = f"*UnusedMarker: *.py::{name}: @pytest.mark.canbusd({words}) does nothing: the test takes neither *"
+        result.stdout.fnmatch_lines([f"*.py::{name}", said])
+    run(text, "-W", "error::canbusd.pytest_plugin.UnusedMarker").assert_outcomes(passed=6, skipped=1, errors=2)
+
+
+def test_a_marker_for_virtual_time_needs_no_fixture(run):
+    result = run(
+        """
+    @pytest.mark.canbusd(virtual=True)
+    def test_it():
+        pass
+    """
+    )
+    result.assert_outcomes(errors=1)
+    result.stdout.fnmatch_lines(["*this test is for virtual time: python3 -m pytest --canbusd-virtual"])
+
+
+def test_a_marker_takes_both_names_of_the_bit_rate_for_data(run):
+    run(
+        """
+    @pytest.mark.canbusd("a", bitrate=500_000, dbitrate=2_000_000)
+    def test_one(canbusd):
+        assert canbusd.bus("a").load().data_bitrate == 2_000_000
+
+    @pytest.mark.canbusd("a", bitrate=500_000, data_bitrate=2_000_000)
+    def test_other(canbusd):
+        assert canbusd.bus("a").load().data_bitrate == 2_000_000
+    """
+    ).assert_outcomes(passed=2)
 
 
 def test_a_bench_that_is_not_ended_is_audited_too(run, pytester):

@@ -9,7 +9,7 @@ from pathlib import Path
 
 import pytest
 from can.exceptions import CanOperationError
-from conftest import WAIT
+from common import WAIT
 
 from canbusd._restbus.punctuality import INTERVAL, Punctuality
 from canbusd._restbus.schedule import Schedule, phases
@@ -396,6 +396,33 @@ def test_the_end_of_the_server_is_no_fault_and_a_lost_one_is(car):
                 lost._signal()
                 rest._thread.join(WAIT)
         lost.kill()
+
+
+def test_a_counter_counts_the_frames_that_were_sent(bench):
+    ecu, engine = bench.open("ecu"), bench.open("engine")
+    counted = []
+
+    def count(message):
+        counted.append(message.count)
+        message["Counter"] = message.count % 16
+
+    with rest_of(bench) as rest:
+        rest.on_send("EngineData", count)
+        rest.run(until=0.03)
+        # Its next 32 attempts take the engine off: what it sends then is refused.
+        bench.inject(Faults().next(32, sender="engine").destroyed())
+        rest.run(until=0.1)
+        assert engine.status().state == "off" and rest.counts("EngineData").refused > 3
+        lost = engine.stats().lost
+        engine.restart()
+        rest.run(until=0.15)
+        counts = rest.counts("EngineData")
+        assert counted[-1] == counts.accepted - 1 < len(counted) - 1
+    counters = [int(data[14:], 16) for data in sent(ecu, DATA)]
+    accepted = [number % 16 for number in range(counts.accepted)]
+    # Only what bus off took from the queue is missing.
+    assert 1 <= len(accepted) - len(counters) <= lost and set(counters) < set(accepted)
+    assert counters[-4:] == accepted[-4:]
 
 
 def test_threads_set_values(car):

@@ -14,14 +14,14 @@ from pathlib import Path
 
 import can
 import pytest
-from conftest import WAIT, message, needs_live, shape
+from common import WAIT, message, needs_live, shape
 from on_wire import nanos_of
 
 import canbusd
 from canbusd import Load
 from canbusd._process.program import find_program
 from canbusd._process.program_run import NUMBERS
-from canbusd.commands import NOTHING
+from canbusd._session.protocol import NO_FRAMES
 from canbusd.faults import Faults
 from canbusd.server import Server, ServerError
 
@@ -96,12 +96,13 @@ def test_ways_to_give_faults(tmp_path, form):
         (["can0,can1", "can0,can2"], {}, "buses"),
         (["can0", "can1,can0"], {}, "buses are of different interfaces, and two have 'can0'"),
         ([str(number) for number in range(17)], {}, "buses are 1 to 16"),
-        (["can0,can0"], {}, "names of a bus's interfaces are 1 to 16 different ones .* not 'can0,can0'"),
-        (["can 0"], {}, "names .* not 'can 0'"),
-        (["can0,"], {}, "names .* not 'can0,'"),
+        (["can0,can0"], {}, "names of a bus's interfaces are different, and 'can0,can0' has 'can0' twice"),
+        (["can 0"], {}, "names .* 'can,0', not 'can 0'"),
+        (["can0 can1"], {}, "joined by commas without spaces, 'can0,can1', not 'can0 can1'"),
+        (["can0,"], {}, "names .* not '', as in 'can0,'"),
         (["k\N{LATIN SMALL LETTER U WITH DIAERESIS}che"], {}, "names .* 1 to 15 ASCII letters, digits, _, - and .,"),
         (["a123456789012345"], {}, "names .* not 'a123456789012345'"),
-        ([",".join(f"can{number}" for number in range(17))], {}, "names .* 1 to 16 "),
+        ([",".join(f"can{number}" for number in range(17))], {}, "names .* 1 to 16, .* has 17"),
         (["can0"], {"out": "/no/such/folder"}, "out"),
         (["can0", "can1"], {"faults": Faults()}, "faults"),
         (["can0"], {"faults": {"can1": Faults()}}, "faults"),
@@ -111,8 +112,9 @@ def test_ways_to_give_faults(tmp_path, form):
         (["can0"], {"pace_ms": 0.5}, "pace_ms"),
         (["can0"], {"write_bytes": 255}, "write_bytes"),
         (["can0"], {"bitrate": 4999}, "bitrate"),
-        (["can0"], {"dbitrate": 500_000}, "dbitrate needs a bitrate"),
-        (["can0"], {"bitrate": 500_000, "dbitrate": 499_999}, "dbitrate needs a bitrate"),
+        (["can0"], {"dbitrate": 500_000}, "data_bitrate=500000 needs a bitrate too"),
+        (["can0"], {"bitrate": 500_000, "data_bitrate": 499_999}, "data_bitrate=499999 is below bitrate=500000"),
+        (["can0"], {"data_bitrate": 500_000, "dbitrate": 600_000}, "are one argument, not 500000 and 600000"),
         (["can0"], {"txqueue": "10"}, "txqueue"),
         (["can0"], {"limit": True}, "limit"),
         (["can0"], {"listen": "x"}, "listen is HOST:PORT, .* not 'x'"),
@@ -142,8 +144,8 @@ def test_a_start_that_fails_says_why(buses, options, said):
 
 @pytest.mark.parametrize("name", [pytest.param(name, marks=needs_live if name == "flush" else ()) for name in NUMBERS])
 def test_the_limits_of_numbers_are_those_of_the_program(name, tmp_path):
-    option, least, most = NUMBERS[name]
-    more = {"flush": {"record": "live"}, "dbitrate": {"bitrate": least}}.get(name, {})
+    option, least, most, _ = NUMBERS[name]
+    more = {"flush": {"record": "live"}, "data_bitrate": {"bitrate": least}}.get(name, {})
     for number, is_taken in ((least - 1, False), (least, True), (most, True), (most + 1, False)):
         words = [find_program(), "serve", "--until-eof", "--listen", "127.0.0.1:0", "--out", tmp_path]
         words += [f"--{option}={value}" for option, value in more.items()]
@@ -242,7 +244,7 @@ def test_the_load_of_a_bus():
     """A full bus is busy all the time, and an idle one never; each frame counts with the bits that follow it."""
     frame, size = message(1, bytes(8)), 500
     with Server("can0,can1", "car0", bitrate=50_000, txqueue=size) as server:
-        with server.bus("can0") as can0, server.bus("can1", can_filters=NOTHING) as can1, server.bus("car0") as car0:
+        with server.bus("can0") as can0, server.bus("can1", can_filters=NO_FRAMES) as can1, server.bus("car0") as car0:
 
             def is_full():
                 can0.send_many([frame] * (size - can0.stats().waiting), timeout=WAIT)
@@ -274,6 +276,31 @@ def test_what_a_server_says_of_a_full_record():
         with pytest.raises(can.CanInitializationError, match=f"^canbusd: channel 'can1' .*: {cure}"):
             server.bus("can1")
     assert "record full" in server.said
+
+
+class UntilFull:
+    """A clock for deadlines that goes on only once the record of a server is full."""
+
+    sleep = staticmethod(time.sleep)
+
+    def __init__(self, server):
+        self._server = server
+
+    def monotonic(self):
+        return 1000.0 if "record full" in self._server.said else 0.0
+
+
+@pytest.mark.parametrize("sends", ["one", "many"])
+def test_a_record_that_fills_while_a_send_waits(monkeypatch, sends):
+    """Without an acknowledgement no frame leaves the queue, and each attempt is an entry: the counts stay as they are."""
+    with Server("can0", ack="peers", limit=300, txqueue=2, observe=()) as server, server.bus("can0") as can0:
+        monkeypatch.setattr("canbusd._session.raw_session.time", UntilFull(server))
+        with pytest.raises(can.CanOperationError, match="^record full.*: start the server again with a higher limit="):
+            if sends == "one":
+                for number in range(3):
+                    can0.send(message(number), timeout=WAIT)
+            else:
+                can0.send_many([message(number) for number in range(3)], WAIT)
 
 
 def test_what_is_expected_where_the_record_is_full():

@@ -7,7 +7,7 @@ import pytest
 
 from canbusd.server import Server
 from canbusd.signals import DatabaseError, load_database
-from conftest import WAIT, message
+from common import WAIT, message
 from test_report import data_of
 from test_signals import CAR
 
@@ -101,8 +101,8 @@ def test_a_cyclic_message_of_29_bits_with_a_small_number(server, can0):
     "arguments, text",
     [
         ({"period": 0}, "period is a number of seconds above 0, not 0"),
-        ({"period": 1, "tolerance": -1}, "tolerance is a number of seconds, not -1"),
-        ({"period": 1, "tolerance": float("nan")}, "tolerance is a number of seconds, not nan"),
+        ({"period": 1, "tolerance": -1}, "tolerance is a number of seconds, 0 or more, not -1"),
+        ({"period": 1, "tolerance": float("nan")}, "tolerance is a number of seconds, 0 or more, not nan"),
         ({"period": 1, "count": 0}, "count is a number of gaps, 1 or more, not 0"),
         ({"period": 1, "count": 1.5}, "count is a number of gaps, 1 or more, not 1.5"),
     ],

@@ -11,7 +11,7 @@ import time
 import can
 import pytest
 from can.io import ASCReader, CanutilsLogReader, CanutilsLogWriter
-from conftest import WAIT, message, shape
+from common import WAIT, message, shape
 
 from canbusd.faults import Faults
 from canbusd.server import Server

@@ -1,4 +1,4 @@
-"""The wheel, and pip from the clone: the program comes with the package, and the same files give the same wheel."""
+"""The wheel, and pip from the clone: the programs come with the package, and the same sources give the same wheel."""
 
 import configparser
 import os
@@ -13,7 +13,7 @@ import zipfile
 import pytest
 
 import canbusd
-from conftest import PYTHON, WAIT
+from common import PYTHON, WAIT
 
 CLONE = PYTHON.parent
 NAME = f"canbusd-{canbusd.__version__}-py3-none-manylinux_2_34_x86_64.whl"
@@ -48,23 +48,60 @@ def environment(tmp_path):
     return run
 
 
-def test_the_same_files_give_the_same_wheel(wheel, tmp_path):
+def test_the_same_sources_give_the_same_wheel(wheel, tmp_path):
     done(*SCRIPT, tmp_path, env={**os.environ, "PYTHON": sys.executable, "TZ": "Asia/Tokyo"}, umask=0o077)
     assert (tmp_path / NAME).read_bytes() == wheel.read_bytes()
 
 
-def test_what_is_in_the_wheel(wheel):
+PROGRAMS = ["canbusd", "canbusd-bridge", "canbusd-run", "libcanbusd-run.so", "libcanbusd-virtual.so", "serve"]
+
+
+def test_what_is_in_the_wheel(wheel, tmp_path):
+    """The programs are those that `make install` takes."""
+    done("make", "-s", "-C", CLONE, "install", f"PREFIX={tmp_path}")
     with zipfile.ZipFile(wheel) as opened:
         names = opened.namelist()
-        for file in filter(os.path.isfile, [*(CLONE / "dist").iterdir(), CLONE / "tools" / "serve"]):
-            entry = opened.getinfo(f"canbusd/program/{file.name}")
-            assert opened.read(entry) == file.read_bytes()
-            assert entry.external_attr >> 16 & 0o777 == (0o755 if os.access(file, os.X_OK) else 0o644)
+        assert sorted(name for name in names if name.startswith("canbusd/program/")) == [
+            f"canbusd/program/{name}" for name in PROGRAMS
+        ]
+        for name in PROGRAMS:
+            entry = opened.getinfo(f"canbusd/program/{name}")
+            assert opened.read(entry) == (tmp_path / "libexec" / "canbusd" / name).read_bytes(), name
+            assert entry.external_attr >> 16 & 0o777 == 0o755
     modules = [
         f"canbusd/{path.relative_to(PYTHON / 'src' / 'canbusd')}" for path in PYTHON.rglob("src/canbusd/**/*.py")
     ]
     assert set(modules) == {name for name in names if name.endswith(".py")}
     assert {"canbusd/py.typed", "canbusd/_page/page.js"} <= set(names)
+
+
+@pytest.mark.skipif(shutil.which("gcc") is None, reason="no gcc to build canbusd-run with")
+def test_changed_sources_give_another_wheel(tmp_path):
+    """In a copy of the clone canbusd-run of dist/ is of other sources, and is not taken."""
+    copy = copy_of_clone(tmp_path / "clone")
+    with open(copy / "canrun" / "command" / "main.c", "a") as source:
+        source.write('const char changed[] = "changed by a test";\n')
+    done(copy / "scripts" / "python-package", "wheel", tmp_path, env={**os.environ, "PYTHON": sys.executable})
+    (wheel,) = tmp_path.glob("*.whl")
+    with zipfile.ZipFile(wheel) as opened:
+        assert b"changed by a test" in opened.read("canbusd/program/canbusd-run")
+        assert opened.read("canbusd/program/canbusd") == program_of(CLONE).read_bytes()
+
+
+def copy_of_clone(copy):
+    """A copy of what the wheel is made of; the proved sources are those of the clone itself."""
+    ignored = shutil.ignore_patterns("out", "tests", "build", "*.egg-info", "__pycache__", ".*")
+    for name in ("python", "scripts", "canrun", "dist", "tools"):
+        shutil.copytree(CLONE / name, copy / name, ignore=ignored)
+    for name in ("canbusd.1", "crates.txt"):
+        shutil.copy(CLONE / name, copy / name)
+    (copy / "crates").symlink_to(CLONE / "crates")
+    return copy
+
+
+def program_of(clone):
+    """The program that fits the sources of a clone."""
+    return clone / done(clone / "scripts" / "program", "choose").stdout.strip()
 
 
 def test_its_commands_are_those_of_make_install(wheel, tmp_path):
@@ -73,10 +110,7 @@ def test_its_commands_are_those_of_make_install(wheel, tmp_path):
         (name,) = (name for name in opened.namelist() if name.endswith("/entry_points.txt"))
         found = configparser.ConfigParser(delimiters="=")
         found.read_string(opened.read(name).decode())
-    commands = {*found["console_scripts"]}
-    assert commands == {"canbusd", "canbusd-run", "candump2bench"}
-    # What `canbusd-report` does is `canbusd report`.
-    assert commands | {"canbusd-report"} == {*os.listdir(tmp_path / "bin")}
+    assert {*found["console_scripts"]} == {"canbusd", "canbusd-run", "candump2bench"} == {*os.listdir(tmp_path / "bin")}
 
 
 @pytest.mark.skipif(shutil.which("objdump") is None, reason="no objdump (binutils) to look at symbols with")
@@ -153,10 +187,7 @@ def test_the_wheel_needs_no_clone(wheel, environment, tmp_path):
 
 
 def test_pip_installs_the_same_from_the_clone(wheel, environment, tmp_path):
-    clone = tmp_path / "clone"
-    for name in ("python", "dist", "tools"):
-        ignored = shutil.ignore_patterns("build", "*.egg-info", "__pycache__", ".*")
-        shutil.copytree(CLONE / name, clone / name, ignore=ignored)
+    clone = copy_of_clone(tmp_path / "clone")
     environment("-m", "pip", "install", "--quiet", "--no-index", "--no-deps", "--no-build-isolation", clone / "python")
     (package,) = (tmp_path / "venv" / "lib").glob("python3*/site-packages/canbusd")
     with zipfile.ZipFile(wheel) as opened:
@@ -174,7 +205,7 @@ def test_a_source_distribution_says_where_the_program_is(environment, tmp_path):
     (archive,) = (source / "dist").iterdir()
     with tarfile.open(archive) as opened:
         about = opened.extractfile(f"canbusd-{canbusd.__version__}/PKG-INFO").read().decode()
-    assert "comes from `dist/` of the clone" in about
+    assert "take the programs of the\nclone that `make install` takes: those that fit its sources" in about
     words = ["--quiet", "--no-index", "--no-deps", "--no-build-isolation", archive]
     environment("-m", "pip", "wheel", "--wheel-dir", tmp_path, *words)
     assert (tmp_path / f"canbusd-{canbusd.__version__}-py3-none-any.whl").exists()

@@ -1,9 +1,11 @@
 #!/bin/sh
-# What a newcomer does on the first day, on a fresh minimal Debian 12, as the documents print it: tests/gate/first_day.sh ROUTE,
-# at the top of a clone, as root. test_first_day.py runs it in such a Debian. ROUTE is
+# What a newcomer does on the first day, on a fresh minimal Debian 12 or 13, as the documents print it:
+# tests/gate/first_day.sh ROUTE, at the top of a clone, as root. test_first_day.py runs it in such Debians. ROUTE is
 #   path   README's route: a clone, PYTHONPATH, and Debian's packages
 #   here   the same without the installation of packages, which `make check` runs in a clone
 #   venv   that of docs/PYTHON.md: a virtual environment with Debian's packages, without a network
+#   pipx   the commands of the wheel by pipx, with Debian's python-can
+#   user   make install into a folder of the user
 #   pip    a virtual environment into which pip installs the package and what it needs; status 77 where it finds no packages
 #   check  the tests of the program, by the command of README
 set -eu
@@ -23,6 +25,17 @@ printed() {
         echo "+ $line"
         eval "$line"
     done
+}
+
+# Runs the command of a table of a document that begins so, exactly as it is printed there.
+in_table() {
+    line=$(grep -o "\`$2[^\`]*\`" "$1" | head -n 1 | tr -d '\`')
+    [ -n "$line" ] || {
+        echo "$1 has no command in a table that begins with: $2"
+        exit 1
+    }
+    echo "+ $line"
+    eval "$line"
 }
 
 # The only block of Python with this word in a document.
@@ -75,6 +88,22 @@ try_package() {
     $python -m pytest -q -p no:cacheprovider test_bus_off.py
 }
 
+# The commands that are installed, in a folder where there is no clone.
+try_commands() {
+    cd /
+    canbusd --version
+    canbusd-run --version
+    candump2bench --help >/dev/null
+    canbusd serve can0,can1 >/tmp/served 2>&1 &
+    server=$!
+    for _ in 1 2 3 4 5 6 7 8 9 10; do
+        grep -q listening /tmp/served || sleep 0.5
+    done
+    canbusd status | grep can1
+    kill -TERM $server
+    wait $server
+}
+
 # README's first command, which needs nothing, with what it prints.
 try_first() {
     printed README.md "./canbusd bench can0,can1 <" >first
@@ -98,11 +127,27 @@ path | here)
     ;;
 venv)
     install "$(packages_of docs/PYTHON.md python3-venv) python3-pytest"
-    printed docs/PYTHON.md "make wheel" "/usr/bin/python3 -m venv --system-site-packages venv" "pip install --no-index"
+    printed docs/PYTHON.md "make wheel" "/usr/bin/python3 -m venv --system-site-packages venv" "pip install --no-deps"
     try_package true
-    canbusd --version
-    canbusd-run --version
-    candump2bench --help >/dev/null
+    try_commands
+    ;;
+pipx)
+    install "$(packages_of docs/PYTHON.md python3-venv) pipx"
+    printed docs/PYTHON.md "make wheel"
+    # Without a network, too: pipx renews a pip of its own.
+    export PIP_FIND_LINKS=/usr/share/python-wheels
+    in_table docs/PYTHON.md "pipx install --system-site-packages"
+    export PATH="$HOME/.local/bin:$PATH"
+    try_commands
+    ;;
+user)
+    install "$(packages_of README.md python3-pytest) make"
+    in_table docs/PYTHON.md "make install PREFIX=" >installed
+    eval "$(grep export installed)"
+    block README.md test_bus_off >test_bus_off.py
+    $python -m pytest -q -p no:cacheprovider test_bus_off.py
+    export PATH="$HOME/inst/bin:$PATH"
+    try_commands
     ;;
 pip)
     install python3-venv

@@ -8,6 +8,7 @@ import pytest
 
 from running import ROOT
 
+pytestmark = pytest.mark.kit
 SCRIPTS = ("edits", "rattle_kit.py", "rust_functions.py")
 
 CRATE = """\

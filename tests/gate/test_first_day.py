@@ -1,8 +1,8 @@
 """From the first line of README to a passing test: first_day.sh, beside this file, in a clone, and once by each route on a fresh
-minimal Debian 12.
+minimal Debian 12 and 13.
 
-For that BASES names a folder with a debootstrap of bookworm (debootstrap --variant=minbase); without it one is made. A network
-is needed.
+For that BASES names a folder with a debootstrap of bookworm and of trixie (debootstrap --variant=minbase); without it they are
+made. A network is needed.
 """
 
 import os
@@ -18,13 +18,13 @@ from test_docs import Clone, needs_port
 ENTER = 'mount -t proc proc "$0/proc" && mount --rbind /dev "$0/dev" && exec chroot "$0" "$@"'
 
 
-@pytest.fixture(scope="module")
-def base(tmp_path_factory):
+@pytest.fixture(scope="module", params=["bookworm", "trixie"])
+def base(request, tmp_path_factory):
     """A Debian that nobody has used."""
     if "BASES" in os.environ:
-        return os.path.join(os.environ["BASES"], "bookworm")
-    folder = tmp_path_factory.mktemp("base") / "bookworm"
-    subprocess.run(["debootstrap", "--variant=minbase", "bookworm", folder], check=True)
+        return os.path.join(os.environ["BASES"], request.param)
+    folder = tmp_path_factory.mktemp("base") / request.param
+    subprocess.run(["debootstrap", "--variant=minbase", request.param, folder], check=True)
     return folder
 
 
@@ -42,7 +42,7 @@ def test_first_day_in_a_clone(tmp_path, fixed_ports):
 @pytest.mark.slow
 @pytest.mark.root
 @pytest.mark.skipif(not shutil.which("debootstrap"), reason="not installed: debootstrap")
-@pytest.mark.parametrize("route", ["path", "venv", "pip", "check"])
+@pytest.mark.parametrize("route", ["path", "venv", "pipx", "user", "pip", "check"])
 def test_first_day(base, route, tmp_path):
     debian = tmp_path / "debian"
     subprocess.run(["cp", "-a", base, debian], check=True)

@@ -1,4 +1,5 @@
-"""scripts/test: what it counts, and where the tests of the program run beside the proofs. Its parts are stand-ins that note each call."""
+"""scripts/test: what it counts, and where the tests of the program run beside the proofs. Its parts are stand-ins that note each
+call."""
 
 import os
 import shutil
@@ -49,10 +50,11 @@ def gate(tmp_path):
     (tmp_path / "calls").touch()
     (tmp_path / "wait").touch()
 
-    def run(**env):
+    def run(*parts, **env):
         path = f"{tmp_path}/bin:{os.environ['PATH']}"
-        words = {"cwd": tmp_path, "env": {**os.environ, "PATH": path, **env}, "text": True, "timeout": 60}
-        done = subprocess.run([tmp_path / "scripts" / "test"], capture_output=True, **words)
+        inherited = {name: value for name, value in os.environ.items() if name != "CANBUSD"}
+        words = {"cwd": tmp_path, "env": {**inherited, "PATH": path, **env}, "text": True, "timeout": 60}
+        done = subprocess.run([tmp_path / "scripts" / "test", *parts], capture_output=True, **words)
         calls = (tmp_path / "calls").read_text().splitlines()
         return done.returncode, done.stdout.splitlines(), [call for call in calls if "still" not in call]
 
@@ -82,6 +84,19 @@ def test_none_early(gate, env, tmp_path):
     skipped = 7 if "COMPARED" in env else 6
     assert (status, lines[-1]) == (0, f"{49 - skipped} passed, 0 failed, {skipped} skipped"), lines
     assert calls[:2] == ["mark", ON_PROVED]
+
+
+@pytest.mark.parametrize(
+    "part, last, calls",
+    [
+        ("edits", "3 passed, 0 failed", []),
+        ("tests", "5 passed, 0 failed", []),
+        ("canrun", "9 passed, 0 failed, 2 skipped", ["outside canrun"]),
+    ],
+)
+def test_one_part(gate, part, last, calls):
+    """of Rattle, or of what needs no kit"""
+    assert gate(part) == (0, [last], calls)
 
 
 @pytest.mark.parametrize("env", [{"PROVED": "6 passed, 1 failed"}, {"COMPARED": "1"}])

@@ -1,8 +1,9 @@
-"""scripts/outside: how it counts the tests of a suite, what it tries again, and which skips it takes for failures."""
+"""scripts/outside: how it counts tests, what it tries again, and which skips it takes for failures."""
 
 import importlib.machinery
 import importlib.util
 import os
+import re
 import sys
 
 import pytest
@@ -55,7 +56,7 @@ def test_late():
 def test_never():
     assert tries("never") == 0
 """
-INI = "[pytest]\nmarkers =\n    quiet: q\n    slow: s\n"
+INI = "[pytest]\nmarkers =\n    quiet: q\n    slow: s\n    sanitized: z\n"
 
 
 @pytest.fixture(scope="module")
@@ -71,40 +72,69 @@ def outside():
 def suite(outside, folder, text):
     (folder / "pytest.ini").write_text(INI)
     (folder / "test_some.py").write_text(text)
-    return outside.Suite(str(folder), (sys.executable, "-m", "pytest", "-q", "-p", "no:cacheprovider"))
+    return outside.Suite((sys.executable, "-m", "pytest", "-q", "-p", "no:cacheprovider"), str(folder))
 
 
-def test_counts(outside, tmp_path):
-    counts, failed, text = suite(outside, tmp_path, SUITE).run()
-    assert counts == (3, 2, (f"{tmp_path}/test_some.py: it rains",)), text
-    assert failed == ["test_some.py::test_fails", "test_some.py::test_fails_in_the_end"]
+def test_results(outside, tmp_path):
+    results, text = suite(outside, tmp_path, SUITE).run()
+    assert {name.partition("::")[2]: result for name, result in results.items()} == {
+        "test_passes[1]": "passed",
+        "test_passes[2]": "passed",
+        "test_passes[a b::c]": "passed",
+        "test_fails": "failed",
+        "test_fails_in_the_end": "failed",
+        "test_is_skipped": "it rains",
+    }, text
+    assert {name.partition("::")[0] for name in results} == {"test_some.py"}
 
 
-@pytest.mark.parametrize("text", ["", "import nothing_of_this_name\n", "import os\nos._exit(0)\n", "x = (\n"])
-def test_nothing_runs(outside, tmp_path, text):
-    """a suite without tests, or one that ends before it has counted them, has failed"""
-    assert suite(outside, tmp_path, text).run()[0] == (0, 1, ())
+@pytest.mark.parametrize("text", ["import nothing_of_this_name\n", "import os\nos._exit(0)\n", "x = (\n"])
+def test_a_run_that_breaks(outside, tmp_path, text):
+    """one that ends before it has counted its tests has failed"""
+    results, _ = suite(outside, tmp_path, text).run()
+    assert results and {*results.values()} == {"failed"}
 
 
-def test_a_suite_that_hangs(outside, tmp_path, monkeypatch):
+def test_nothing_runs(outside, tmp_path, monkeypatch):
+    """a part without tests has failed, unless it has none for a quiet machine"""
+    monkeypatch.setitem(outside.ROOMS, "bench", ("test_some.py",))
+    empty = suite(outside, tmp_path, "")
+    assert outside.side_by_side(empty, ["bench"], "") == {"pytest": "failed"}
+    assert outside.one_by_one(empty, ["bench"], "") == {}
+
+
+def test_without_what_may_be_missing(outside, tmp_path, monkeypatch):
+    """no pytest-xdist: the tests run one after the other; no tool: its part is skipped"""
+    monkeypatch.setattr(outside, "has_module", lambda name: False)
+    monkeypatch.setitem(outside.ROOMS, "bench", ("test_some.py",))
+    text = "def test_one(request):\n    assert not hasattr(request.config, 'workerinput')\n"
+    results = outside.side_by_side(suite(outside, tmp_path, text), ["bench"], "")
+    assert results == {"test_some.py::test_one": "passed"}
+    assert not [word for word in outside.pytest_suite().words if "timeout" in word]
+    assert outside.check("no-tool", ["no-tool"]) == "no-tool is not installed"
+
+
+def test_a_run_that_hangs(outside, tmp_path, monkeypatch):
     monkeypatch.setattr(outside, "LONGEST", 1)
     text = "import time\ndef test_hangs():\n    time.sleep(1000)\n"
-    counts, _, written = suite(outside, tmp_path, text).run()
-    assert counts == (0, 1, ()) and written.endswith("\nended after 1 seconds\n")
+    results, written = suite(outside, tmp_path, text).run()
+    assert results == {"pytest": "failed"} and written.endswith("\nended after 1 seconds\n")
 
 
 def test_a_test_that_hangs(outside, tmp_path):
     """it fails after its seconds, and those after it run"""
     pytest.importorskip("pytest_timeout", reason="no pytest-timeout (python3-pytest-timeout)")
-    assert outside.LIMIT in outside.OUTSIDE.words and outside.LIMIT in outside.PACKAGE.words
+    assert f"--timeout={outside.LONGEST_TEST}" in outside.pytest_suite().words
     text = "import time\ndef test_hangs():\n    time.sleep(1000)\ndef test_goes_on():\n    pass\n"
-    counts, failed, written = suite(outside, tmp_path, text).run("--timeout=1")
-    assert (counts, failed) == ((1, 1, ()), ["test_some.py::test_hangs"]), written
+    results, written = suite(outside, tmp_path, text).run("--timeout=1")
+    assert results == {"test_some.py::test_hangs": "failed", "test_some.py::test_goes_on": "passed"}, written
 
 
-def test_what_fails_is_tried_again(outside, tmp_path, capsys):
+def test_what_fails_is_tried_again(outside, tmp_path, monkeypatch, capsys):
     """alone, and each try is shown"""
-    assert outside.quiet(suite(outside, tmp_path, TRIED)) == (2, 1, ())
+    monkeypatch.setitem(outside.ROOMS, "bench", ("test_some.py",))
+    results = outside.one_by_one(suite(outside, tmp_path, TRIED), ["bench"], "")
+    assert [*results.values()] == ["passed", "passed", "failed"]
     assert {path.stem: len(path.read_text()) for path in tmp_path.glob("*.tries")} == {
         "at_once": 1,
         "late": 3,
@@ -115,15 +145,49 @@ def test_what_fails_is_tried_again(outside, tmp_path, capsys):
     assert told == [f"failed, try 2 of 3: {both}", f"failed, try 3 of 3: {both}"]
 
 
-def test_skips(outside, tmp_path, monkeypatch, capsys):
-    """each is listed; one that no line allows has failed"""
-    monkeypatch.setattr(outside, "may_be_skipped", lambda: ["tests/test_a.py: it rains"])
-    skips = ("tests/test_a.py: it rains", "tests/test_a.py: it rains", "tests/test_b.py: it rains")
-    assert outside.without_unknown_skips(outside.Counts(1, 0, skips)) == (1, 1, skips[:2])
+def test_skips(outside, monkeypatch, capsys):
+    """each is listed; where no other may be skipped, one that no line allows has failed"""
+    monkeypatch.setattr(outside, "may_be_skipped", lambda: ["tests/bench/test_a.py: it rains"])
+    results = {
+        "tests/bench/test_a.py::test_1": "passed",
+        "tests/bench/test_a.py::test_2": "it rains",
+        "tests/bench/test_a.py::test_3": "it rains",
+        "tests/gate/test_b.py::test_4": "it rains",
+        "types": "mypy is not installed",
+    }
+    allowed = outside.without_unknown_skips(results)
+    assert [*allowed.values()] == ["passed", "it rains", "it rains", "failed", "failed"]
+    outside.list_skips(results, allowed)
     assert capsys.readouterr().out.splitlines() == [
-        "skipped: 2 of tests/test_a.py: it rains",
-        "skipped, which scripts/may-be-skipped does not allow: 1 of tests/test_b.py: it rains",
+        "skipped: 2 of tests/bench/test_a.py: it rains",
+        "skipped, which scripts/may-be-skipped does not allow: 1 of tests/gate/test_b.py: it rains",
+        "skipped, which scripts/may-be-skipped does not allow: 1 of types: mypy is not installed",
     ]
+    outside.list_skips(results, results)
+    assert "does not allow" not in capsys.readouterr().out
+    assert outside.counts_of(allowed) == {"bench": (1, 0, 2), "gate": (0, 1, 0), "types": (0, 1, 0)}
+
+
+@pytest.mark.parametrize(
+    "name, part",
+    [
+        ("tests/server/test_load.py::test_load[1]", "server"),
+        ("canrun/tests/test_run_c.py::test_program[plain-calls]", "canrun"),
+        ("canrun/tests/test_run_c.py::test_program[sanitized-calls]", "sanitizers"),
+        ("examples/python/test_lamp.py::test_lamp", "python"),
+        ("python/tests/test_bus.py::test_send in virtual time", "virtual time"),
+    ],
+)
+def test_the_part_of_a_test(outside, name, part):
+    assert outside.part_of(name) == part
+
+
+def test_both_parts_of_a_folder(outside):
+    """together they are one run; one of them leaves out what the other has"""
+    both, each = outside.groups_of(["canrun", "sanitizers"]), outside.groups_of(["bench", "sanitizers"])
+    assert (both, each) == ([["canrun", "sanitizers"]], [["bench"], ["sanitizers"]])
+    marks = [outside.tests_of(parts, "quiet")[1] for parts in (*both, *each)]
+    assert marks == ["quiet and not slow", "quiet and not sanitized and not slow", "quiet and sanitized and not slow"]
 
 
 def test_each_line_that_allows_a_skip_names_a_test_file(outside):
@@ -132,16 +196,23 @@ def test_each_line_that_allows_a_skip_names_a_test_file(outside):
         assert reason and os.path.isfile(os.path.join(ROOT, file)), line
 
 
+def test_each_test_is_of_one_part(outside):
+    """no folder of tests is left out, and none is named that is not there"""
+    places = {path for paths in outside.ROOMS.values() for path in paths}
+    assert all(os.path.isdir(os.path.join(ROOT, place)) for place in places)
+    with_tests = {
+        os.path.relpath(folder, ROOT)
+        for top in ("tests", "canrun", "python", "examples")
+        for folder, _, names in os.walk(os.path.join(ROOT, top))
+        if any(re.fullmatch(r"test_.*\.py", name) for name in names)
+    }
+    # These are tried by tests of the package and of canbusd-run.
+    others = {f"examples/{name}" for name in ("c", "car", "recipes", "virtual_ecu")}
+    assert with_tests - others == places
+
+
 def test_words():
     status, listed, _ = call(SCRIPT, "--list")
-    assert status == 0 and "tests" in listed.splitlines()
+    assert status == 0 and "bench" in listed.splitlines()
     status, written, said = call(SCRIPT, "nothing")
     assert (status, written) == (2, "") and "no part nothing; there are " in said
-
-
-def test_kinds(outside):
-    """each part is of one kind, and no part is named beside a kind"""
-    assert [*outside.PARTS] == [name for parts in outside.KINDS.values() for name in parts]
-    assert {name for name in outside.PARTS if "quiet" in name} == {*outside.KINDS["quiet"]}
-    status, written, said = call(SCRIPT, "--only", "still", "types")
-    assert (status, written) == (2, "") and "--only takes no part beside it" in said

@@ -85,7 +85,7 @@ def test_no_terminal_to_ask_at(tmp_path):
 def test_another_distribution(tmp_path):
     machine = Machine(tmp_path, [], without=["dpkg-query", "apt-get"])
     status, written, said = machine.setup("--yes", "check")
-    names = "make git gcc libc6-dev python3-can python3-pytest"
+    names = "make git gcc libc6-dev python3-can python3-pytest python3-pytest-xdist"
     assert (status, written, said) == (3, "", f"scripts/setup: there is no apt-get; missing: {names}\n")
 
 

@@ -64,7 +64,7 @@ def is_clean(fault):
     return (
         status == 1
         and written == ""
-        and re.fullmatch(r"(?:canbusd-report|canbusd report|candump2bench): [^\n]+\n", errors)
+        and re.fullmatch(r"(?:canbusd report|candump2bench): [^\n]+\n", errors)
     )
 
 

@@ -1,11 +1,10 @@
-"""What a bus is made of, by the rules of docs/DEFINITIONS.md: sockets, interfaces, and the frames that they are to send."""
+"""What a bus is made of, by the rules of docs/DEFINITIONS.md: frames, sockets, interfaces, and what waits to be sent."""
 
 from collections import deque
 from typing import Optional
 
-from canbusd._run.steps import WireFrame
-from canbusd.frames import passes_filters
-
+# Bits of an identifier word (linux/can.h): an identifier with 29 bits, a remote frame, an inverted filter.
+EXTENDED, REMOTE, INVERTED = 1 << 31, 1 << 30, 1 << 29
 #: The least counts of an interface that is bus off, error passive, and warned.
 OFF, PASSIVE, WARNING = 256, 128, 96
 
@@ -13,6 +12,28 @@ OFF, PASSIVE, WARNING = 256, 128, 96
 def severity(count: int) -> int:
     """How bad a count is: 0 active, 1 warning, 2 passive, 3 off."""
     return (count >= WARNING) + (count >= PASSIVE) + (count >= OFF)
+
+
+class Frame:
+    """A data, remote or FD frame as a record spells it, with its identifier word and what arbitration compares."""
+
+    __slots__ = ("text", "is_fd", "word", "bits")
+
+    def __init__(self, text: str) -> None:
+        identifier, payload = text.split("#", 1)
+        number, is_extended, is_remote = int(identifier, 16), len(identifier) == 8, payload.startswith("R")
+        self.text, self.is_fd = text, payload.startswith("#")
+        self.word = number + is_extended * EXTENDED + is_remote * REMOTE
+        # From the first bit of the identifier on: RTR and IDE after 11 bits of it, or SRR, IDE, 18 bits more and RTR. An FD
+        # frame has a dominant bit in the place of RTR.
+        self.bits = f"{number:029b}{is_remote:b}" if is_extended else f"{number:011b}{is_remote:b}0"
+        if is_extended:
+            self.bits = f"{self.bits[:11]}11{self.bits[11:]}"
+
+
+def is_match(word: int, identifier: int, mask: int) -> bool:
+    """Whether an identifier word matches a filter of a raw socket (Documentation/networking/can.rst of Linux)."""
+    return (word & mask == identifier & ~INVERTED & mask) is not (identifier & INVERTED != 0)
 
 
 class Socket:
@@ -34,14 +55,14 @@ class Socket:
         """How many items wait."""
         return len(self.queue)
 
-    def passes(self, frame: WireFrame) -> bool:
-        """Whether a frame passes the filters, and an FD frame the option for such."""
+    def passes(self, frame: Frame) -> bool:
+        """Whether a frame passes the filters, and an FD frame the option for such. Without a filter nothing passes."""
         if frame.is_fd and not self.options["fd"]:
             return False
         found = self.passed.get(frame.word)
         if found is None:
-            found = passes_filters(frame.word, self.filters, bool(self.options["join"]))
-            self.passed[frame.word] = found
+            matches = [is_match(frame.word, *one) for one in self.filters]
+            found = self.passed[frame.word] = all(matches) and matches != [] if self.options["join"] else any(matches)
         return found
 
 
@@ -50,7 +71,7 @@ class Pending:
 
     __slots__ = ("number", "frame", "socket", "loops_back", "contender")
 
-    def __init__(self, number: int, frame: WireFrame, socket: Socket, loops_back: int) -> None:
+    def __init__(self, number: int, frame: Frame, socket: Socket, loops_back: int) -> None:
         self.number, self.frame, self.socket, self.loops_back = number, frame, socket, loops_back
         self.contender = socket.iface, frame
 

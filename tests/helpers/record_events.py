@@ -7,13 +7,12 @@ record is an audit.
 
 import collections
 from collections.abc import Iterator, Sequence
+from dataclasses import dataclass, field
 from typing import Optional
 
-from canbusd._run.steps import Counts, Step, WireFrame
-from canbusd.frames import error_frame
-from record_bus import Interface, Pending, Socket, severity
+from record_bus import Frame, Interface, Pending, Socket, severity
 from record_text import BadRecord, RecordText, parse_text
-from wire_model import Frame, bit_counts
+from wire_model import Frame as FrameOnWire, bit_counts
 from wire_times import Rates, ending_of
 
 FIRST_LINE = "canbus events 1"
@@ -24,6 +23,38 @@ AT_THE_WINNER = {"global-bit": (0x81, 0x0A), "global-form": (0x82, 0x1B), "local
 AT_THE_HIT = {"stuff": (0x04, 0x0A), "crc": (0x00, 0x08), "form": (0x02, 0x1B)}
 # A change of state's byte 1, by the severity of a side: active, warning, passive.
 TRANSMIT_CODES, RECEIVE_CODES = (0x40, 0x08, 0x20), (0x40, 0x04, 0x10)
+#: The transmit and the receive error count of an interface.
+Counts = tuple[int, int]
+
+
+@dataclass
+class Step:
+    """A tried attempt or a restart; an attempt that restarts interfaces is followed by a step for each."""
+
+    #: done, lastbit, destroyed, noack or restart.
+    kind: str
+    #: The number of its entry, and its moment there.
+    entry: int
+    moment: str
+    #: The winner, or the one that was restarted.
+    iface: int
+    #: How many attempts were tried before, and how many were idle since the last step.
+    attempt: int
+    idle: int
+    #: How many frames wait at each interface before it.
+    waiting: list[int]
+    #: Of an attempt: the number and the text of its frame, and what the script says.
+    number: int = 0
+    text: str = ""
+    verdict: str = ""
+    #: Those that accept the frame, that go off, and that have a fault of their own.
+    accepted: Sequence[int] = ()
+    off: Sequence[int] = ()
+    hit: Sequence[int] = ()
+    #: The frame of each interface that takes part.
+    contenders: list[tuple[int, Frame]] = field(default_factory=list)
+    #: The counts of each interface after it.
+    counts: Sequence[Counts] = ()
 
 
 class Replay:
@@ -34,7 +65,7 @@ class Replay:
         self.ifaces = [Interface() for _ in range(record.ifaces)]
         self.sockets: list[Socket] = []
         self.open_sockets: list[list[Socket]] = [[] for _ in self.ifaces]
-        self.frames: dict[str, WireFrame] = {}
+        self.frames: dict[str, Frame] = {}
         self.steps: list[Step] = []
         #: By the step the frames that bus off took out of a transmit queue.
         self.lost: dict[int, list[Pending]] = {}
@@ -89,10 +120,10 @@ class Replay:
             took = wire_part(line, rates) if rates is not None else ""
             yield "; ".join([line, *self.parts.get(entry, ()), *filter(None, [took])])
 
-    def frame(self, text: str) -> WireFrame:
+    def frame(self, text: str) -> Frame:
         """The frame of this text, one for all places where it is."""
         if text not in self.frames:
-            self.frames[text] = WireFrame(text)
+            self.frames[text] = Frame(text)
         return self.frames[text]
 
     def open_socket(self, number: str) -> Optional[Socket]:
@@ -331,7 +362,7 @@ class Replay:
 
     def post_error(self, number: int, error_class: int, data: Sequence[int]) -> None:
         """Puts an error message frame to the sockets that ask for its class."""
-        text = error_frame(error_class, data)
+        text = f"{0x20000000 | error_class:08X}#{bytes(data).hex().upper()}"
         for socket in self.open_sockets[number]:
             if socket.options["errmask"] & error_class:
                 self.put(socket, ["error", str(number), text, self.moment], text)
@@ -351,7 +382,7 @@ class Replay:
         self.moment = moment
         waiting = [len(one.waiting) for one in self.ifaces]
         idle, self.idle_since = self.idle_since, 0
-        return Step(kind, entry, moment, iface, self.attempts, 0, "", "", (), (), (), [], (), waiting, idle)
+        return Step(kind, entry, moment, iface, self.attempts, idle, waiting)
 
     def count_errors(self) -> bool:
         """Takes the error counts of the interfaces; whether one has changed."""
@@ -383,7 +414,7 @@ def wire_part(line: str, rates: Rates) -> str:
     words = line.split(" ")
     if words[0] != "attempt" or words[4] != "tried":
         return ""
-    frame = Frame.read(words[7])
+    frame = FrameOnWire.read(words[7])
     nominal, fast = bit_counts(frame)
     busy = rates.attempt_nanos(frame, ending_of(words[8], words[2]))
     return f"wire {rates.frame_nanos(frame)} {busy} {nominal} {fast}"

@@ -6,10 +6,6 @@ from collections.abc import Iterable, Iterator
 from dataclasses import dataclass
 from typing import Optional
 
-from canbusd._run.run_parts import Bus
-from canbusd._text import shown
-from canbusd.frames import ERROR_FRAME, FD_FRAME, FLAGGED_FRAME, FRAME, flags_in, is_fd
-
 
 def up_to(most: int) -> str:
     """Returns a regular expression of the numbers from 0 to `most`, at least 10, without leading zeros."""
@@ -31,6 +27,14 @@ MOMENT = r"(?:0|[1-9][0-9]{0,9})\.[0-9]{6}"
 VERDICT = f"(?:good|global-bit|global-form|lastbit|local-(?:stuff|crc|form):{SET})"
 REFUSALS = ["no-interface", "bad-capacity", "too-many-sockets", "no-socket", "bus-off", "no-buffers", "not-bus-off"]
 MOST_FILTERS = 512
+
+# Data and remote frames; FD frames without flags, and with or without; error message frames.
+IDENTIFIER = "(?:[0-7][0-9A-F]{2}|[01][0-9A-F]{7})"
+FRAME = f"{IDENTIFIER}#(?:(?:[0-9A-F]{{2}}){{0,8}}|R[1-8]?)"
+FD_BYTES = "|".join(f"[0-9A-F]{{{2 * length}}}" for length in (*range(9), 12, 16, 20, 24, 32, 48, 64))
+FD_FRAME = f"{IDENTIFIER}##0(?:{FD_BYTES})"
+FLAGGED_FRAME = f"{IDENTIFIER}##[0-3](?:{FD_BYTES})"
+ERROR_FRAME = "[23][0-9A-F]{7}#[0-9A-F]{16}"
 
 NUMBER = "(0|[1-9][0-9]*)"
 BUS = f"bus {NUMBER} (always|peers) ({SET}) {NUMBER} {NUMBER}"
@@ -101,9 +105,18 @@ def bad_line(number: int, message: str) -> BadRecord:
 
 
 @dataclass(frozen=True)
-class RecordText(Bus):
+class RecordText:
     """What the text of a record spells: the configuration of its bus, and the lines of its entries."""
 
+    ifaces: int
+    #: Whether a silent node acknowledges each frame.
+    always: bool
+    #: The set of interfaces that report faults, bit i for interface i.
+    reporting: int
+    tx_capacity: int
+    limit: int
+    #: In which attempt after bus off an interface is restarted; 0 if none is.
+    auto_restart: int
     lines: list[str]
     #: Whether the text ends before its line `end`.
     is_cut: bool
@@ -184,9 +197,9 @@ class TextReader:
         if entry is not None and entry.fullmatch(line) and (kind != "filters" or has_its_filters(line)):
             self.lines.append(line)
         elif not re.fullmatch("end (?:0|[1-9][0-9]*)", line):
-            raise bad_line(len(self.lines) + 3, f"no entry of a record: {shown(line)}")
+            raise bad_line(len(self.lines) + 3, f"no entry of a record: {line[:60]!a}")
         elif line != f"end {len(self.lines)}":
-            raise bad_line(len(self.lines) + 3, f"`{shown(line)}` after {len(self.lines)} entries")
+            raise bad_line(len(self.lines) + 3, f"{line[:60]!a} after {len(self.lines)} entries")
         else:
             self.is_ended = True
 
@@ -208,7 +221,7 @@ class TextReader:
             raise self._text_after_the_end()
         if self._version is VERSION_3 and not any(map(needs_fd, self.lines)):
             raise BadRecord("version 3, with neither an FD frame nor the option for such", "bad version")
-        if self._version is VERSION_5 and not any(map(flags_in, self.lines)):
+        if self._version is VERSION_5 and not any(map(has_flags, self.lines)):
             raise BadRecord("version 5, without a flag of an FD frame", "bad version")
         return self._bus
 
@@ -231,7 +244,12 @@ def version_of(line: str) -> Version:
 
 def needs_fd(line: str) -> bool:
     """Whether neither version 1 nor version 2 has such a line."""
-    return is_fd(line) or line.startswith("option ") and line.split(" ")[2] == "fd"
+    return "##" in line or line.startswith("option ") and line.split(" ")[2] == "fd"
+
+
+def has_flags(line: str) -> bool:
+    """Whether the line has an FD frame with a flag."""
+    return re.search("##[1-3]", line) is not None
 
 
 def has_its_filters(line: str) -> bool:
@@ -244,11 +262,11 @@ def bus_of(version: Version, line: str, entries: list[str]) -> RecordText:
     """Returns the bus that this line spells, with this list of entries."""
     words = version.bus.fullmatch(line)
     if not words:
-        raise bad_line(2, f"no bus: {shown(line)}")
+        raise bad_line(2, f"no bus: {line[:60]!a}")
     ifaces = int(words[1])
     # Version 1 has no third number.
     tx_capacity, limit, auto_restart = map(int, [*words.groups()[3:], "0"][:3])
     if not (1 <= ifaces <= 16 and 1 <= tx_capacity <= 1024 and limit in version.limits and auto_restart <= 1000000):
-        raise bad_line(2, f"a number out of range: {shown(line)}")
+        raise bad_line(2, f"a number out of range: {line[:60]!a}")
     reporting = int(words[3], 16)
     return RecordText(ifaces, words[2] == "always", reporting, tx_capacity, limit, auto_restart, entries, is_cut=False)

@@ -3,6 +3,7 @@
 CANBUSD names the program; as it is, the one that fits the sources. Where there is none, no test is run.
 """
 
+import importlib.util
 import os
 import random
 import signal
@@ -14,8 +15,8 @@ import commands
 import serving
 
 sys.dont_write_bytecode = True
-# The package from here, also in what the tests start.
-os.environ["PYTHONPATH"] = os.path.join(serving.ROOT, "python", "src")
+# What the tests start has the package that they have.
+os.environ["PYTHONPATH"] = os.path.dirname(importlib.util.find_spec("canbusd").submodule_search_locations[0])
 os.environ["PYTHONDONTWRITEBYTECODE"] = "1"
 # A job in the background, or under nohup, ignores these, and so would what the tests start: what is handled here is not
 # ignored there.
@@ -28,6 +29,8 @@ def share(pluginmanager):
     """Registers this module as a plugin, once however many folders of tests are run."""
     if not pluginmanager.has_plugin(__name__):
         pluginmanager.register(sys.modules[__name__], __name__)
+    # Where the tests of the package are run beside these, and it is not installed, pytest has not found it.
+    pluginmanager.import_plugin("canbusd.pytest_plugin")
 
 
 def pytest_addoption(parser):

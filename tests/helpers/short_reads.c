@@ -1,7 +1,22 @@
-/* Lets each read of standard input give one byte at most (LD_PRELOAD), as test_bench_lines.py says. */
+/* Lets each read of standard input, a file, give one byte at most (LD_PRELOAD), as test_bench_lines.py says. */
 #include <sys/syscall.h>
 #include <unistd.h>
 
 ssize_t read(int file, void *bytes, size_t count) {
-    return syscall(SYS_read, file, bytes, file == STDIN_FILENO && count ? 1 : count);
+    static char ahead[65536];
+    static ssize_t have, given;
+    if (file != STDIN_FILENO || !count) {
+        return syscall(SYS_read, file, bytes, count);
+    }
+    if (given == have) {
+        given = 0;
+        have = syscall(SYS_read, file, ahead, sizeof ahead);
+        if (have <= 0) {
+            ssize_t result = have;
+            have = 0;
+            return result;
+        }
+    }
+    *(char *)bytes = ahead[given++];
+    return 1;
 }

@@ -126,7 +126,7 @@ def try_tools(debian):
     )
     debian.does("python3", "-c", 'import can\nassert "canbusd" in can.interfaces.BACKENDS')
     debian.does("sh", "-c", "cd /tmp && python3 -m pytest -q -p no:cacheprovider /tmp/test_door.py")
-    debian.does("sh", "-c", 'canbusd-report /tmp/run.rec | grep -q "</html>"')
+    debian.does("sh", "-c", 'canbusd report /tmp/run.rec | grep -q "</html>"')
     debian.does("sh", "-c", 'echo "(1.000000) can0 123#11" | candump2bench | canbusd bench can0')
 
 

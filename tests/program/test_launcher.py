@@ -240,19 +240,33 @@ def test_installed_off_the_path(copy, tmp_path):
     copy.make("install", f"PREFIX={place}")
     record = tmp_path / "run.rec"
     assert copy.status(place / "bin" / "canbusd", "bench", "--record", record, "can0", cwd="/") == 0
-    for words in (["canbusd", "report"], ["canbusd-report"], ["canbusd", "replay"]):
-        command = [place / "bin" / words[0], *words[1:], "--names", "can0", record]
+    for word in ("report", "replay"):
+        command = [place / "bin" / "canbusd", word, "--names", "can0", record]
         done = copy.run(*command, cwd="/")
-        assert (done.returncode, done.stderr) == (0, ""), words
+        assert (done.returncode, done.stderr) == (0, ""), word
         assert copy.status(*command, cwd="/", env={**copy.environment, "CANBUSD": ""}) == 0
         done = copy.run(*command, cwd="/", env={**copy.environment, "CANBUSD": "/none"})
-        assert done.returncode == 1 and "CANBUSD names no program: /none" in done.stderr, words
+        assert done.returncode == 1 and "CANBUSD names no program: /none" in done.stderr, word
+
+
+def test_installed_in_a_folder_of_the_user(copy, tmp_path):
+    """make install prints the PYTHONPATH that python3 needs, and nothing once it is set; ~ is the user's folder"""
+    done = copy.run("make", "-s", "install", "PREFIX=~/a place")
+    assert (done.returncode, done.stderr) == (0, ""), done
+    assert (tmp_path / "a place" / "bin" / "canbusd").exists()
+    said, export = done.stdout.splitlines()
+    assert said.startswith("canbusd: python3 does not look for packages there")
+    asks = "import canbusd; print(canbusd.__file__, canbusd.Bench('can0').audit())"
+    found = copy.run("bash", "-c", f'cd / && {export.strip()} && /usr/bin/python3 -c "{asks}"')
+    assert re.fullmatch(rf"{re.escape(str(tmp_path))}/a place/lib/.* ok 0 entries\n", found.stdout), found
+    again = copy.run("bash", "-c", f"{export.strip()} && make -s install PREFIX='{tmp_path}/a place'")
+    assert (again.returncode, again.stdout) == (0, ""), again
 
 
 def test_staged(copy, tmp_path):
     """installed below DESTDIR"""
     words = "PREFIX=/usr", f"DESTDIR={tmp_path}/staged"
-    copy.make("install", *words)
+    assert copy.run("make", "-s", "install", *words).stdout == ""
     assert copy.status(tmp_path / "staged" / "usr" / "bin" / "canbusd", "--version") == 0
     copy.make("uninstall", *words)
     assert files_in(tmp_path / "staged") == []

@@ -281,42 +281,44 @@ def test_faults_without_memory(refusing):
     print(summed(runs))
 
 
-def test_an_audit_without_memory(refusing):
+@pytest.mark.parametrize(
+    "old, new",
+    [
+        ("", ""),
+        (" done 0002", " done 0000"),
+        ("filters", "filers"),
+        (r"\Z", "x"),
+        ("send 0 124", "send 0 12"),
+        (r"(?s)\A.*", "canbus record 9\n"),
+        (r"(?s).{20}\Z", ""),
+        ("data 0 1 ", "data 0 2 "),
+    ],
+)
+def test_an_audit_without_memory(refusing, old, new):
     """a legal record, a wrong entry, a bad line, another version"""
     bench = Bench(refusing, ["can0,can1"], COMMANDS)
     legal = bench.ample[1]
-    records = [
-        legal,
-        legal.replace(" done 0002", " done 0000", 1),
-        legal.replace("option", "opinion"),
-        legal + "x",
-        legal.replace("send 0 124", "send 0 12", 1),
-        "canbus record 9\n",
-        legal[:-20],
-        legal.replace("data 0 1 ", "data 0 2 "),
-    ]
-    runs = []
-    for record in records:
-        with open(bench.record, "w", encoding="utf-8") as file:
-            file.write(record)
-        ample, asked = bench.refusing.run(["audit", "run.rec"])
-        outcomes = {}
-        for first, last in windows(asked):
-            done, _ = bench.refusing.run(["audit", "run.rec"], "", first, last)
-            if (done.returncode, done.stdout, done.stderr) == (ample.returncode, ample.stdout, ample.stderr):
-                how = "as ever"
-            elif done.stderr == NO_MEMORY:
-                assert (done.returncode, done.stdout) == (1, ""), f"at {first}: {done}"
-                how = "no memory"
-            else:
-                fault, *helps = ample.stderr.splitlines(True)
-                said = done.stderr.splitlines(True)
-                assert (done.returncode, done.stdout, said[0]) == (1, "", fault), f"at {first}: {done}"
-                assert set(said[1:]) < set(helps), f"at {first}: {done}"
-                how = "without what helps"
-            outcomes[how] = outcomes.get(how, 0) + 1
-        runs.append(outcomes)
-    print(summed(runs))
+    record = re.sub(old, new, legal, count=1)
+    assert record != legal or not old
+    with open(bench.record, "w", encoding="utf-8") as file:
+        file.write(record)
+    ample, asked = bench.refusing.run(["audit", "run.rec"])
+    outcomes = {}
+    for first, last in windows(asked):
+        done, _ = bench.refusing.run(["audit", "run.rec"], "", first, last)
+        if (done.returncode, done.stdout, done.stderr) == (ample.returncode, ample.stdout, ample.stderr):
+            how = "as ever"
+        elif done.stderr == NO_MEMORY:
+            assert (done.returncode, done.stdout) == (1, ""), f"at {first}: {done}"
+            how = "no memory"
+        else:
+            fault, *helps = ample.stderr.splitlines(True)
+            said = done.stderr.splitlines(True)
+            assert (done.returncode, done.stdout, said[0]) == (1, "", fault), f"at {first}: {done}"
+            assert set(said[1:]) < set(helps), f"at {first}: {done}"
+            how = "without what helps"
+        outcomes[how] = outcomes.get(how, 0) + 1
+    print(summed([outcomes]))
 
 
 @pytest.mark.parametrize("part, options", [("put", []), ("rule", ["--faults", "can0,can1@run.faults"])])

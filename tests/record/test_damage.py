@@ -2,12 +2,14 @@
 
 Each byte of the record in docs/RECORD.md is changed, to 30 others or, with --all-bytes, to all 255; it is cut at
 each byte, and audited with and without `--cut`. So is one with an automatic restart, whose text is version 2, one with FD
-frames, whose text is version 3, and one that was written while its run went on, version 4. Records of the examples and of random runs, which have every kind of line, have bytes changed, and lines
+frames, whose text is version 3, and one that was written while its run went on, version 4. Records of the examples and of random
+runs, which have every kind of line, have bytes changed, and lines
 left out, doubled, exchanged, moved, and given other words and replies. Both have to name the same first wrong line
 or entry, and `ok` the same records. With --beside another program that audits as canbusd does has to say the same.
 """
 
 import glob
+import itertools
 import os
 import re
 import subprocess
@@ -17,6 +19,10 @@ import pytest
 from record_events import audit
 from record_text import REFUSALS
 from serving import ROOT, WAIT
+
+# Into how many tests the bytes of a record are divided, so that they run side by side.
+PARTS = 6
+in_parts = pytest.mark.parametrize("part", range(PARTS))
 
 SEEN = b"0123459AFRfr#= .-:\n\r\t\0x\x7f\x80\xff"
 
@@ -222,10 +228,11 @@ def random_line(rng, session, has_fd):
     return f"feed {session} < {command} >"
 
 
-def test_bytes_of_the_example(tried):
+@in_parts
+def test_bytes_of_the_example(tried, part):
     """each byte changed, and the record cut at each"""
     assert audit(example()) == "ok 7 entries", "the example"
-    change_bytes(tried, example())
+    change_bytes(tried, example(), part=part)
     assert tried.said["ok N entries"] >= 1, "the example is not ok"
 
 
@@ -246,19 +253,21 @@ def test_bytes_of_a_record_with_fd_frames(tried):
     change_bytes(tried, with_fd())
 
 
-def test_bytes_of_a_record_with_flags(tried):
+@in_parts
+def test_bytes_of_a_record_with_flags(tried, part):
     """each byte changed, and the record cut at each"""
     assert audit(with_flags()) == "ok 15 entries", f"the record: {audit(with_flags())}"
-    change_bytes(tried, with_flags())
+    change_bytes(tried, with_flags(), part=part)
 
 
-def test_bytes_of_a_live_record(tried):
+@in_parts
+def test_bytes_of_a_live_record(tried, part):
     """each byte of the front of version 4 changed, and the record cut at each byte"""
     data = live()
     assert audit(data) == "ok 42 entries", f"the record: {audit(data)}"
     lines = data.splitlines(True)
-    change_bytes(tried, data, len(b"".join(lines[:3])), len(b"".join(lines[:-1])))
-    for place in range(len(data)):
+    change_bytes(tried, data, len(b"".join(lines[:3])), len(b"".join(lines[:-1])), part)
+    for place in range(part, len(data), PARTS):
         tried.cut(data[:place])
 
 
@@ -270,11 +279,12 @@ def test_bytes_of_a_live_record_with_fd_frames(tried):
     change_bytes(tried, live(with_fd()))
 
 
-def change_bytes(tried, data, skip_from=0, skip_to=0):
-    """Each byte changed and left out, and the record cut at each, except a piece of it; and with text after it."""
+def change_bytes(tried, data, skip_from=0, skip_to=0, part=None):
+    """Each byte changed and left out, and the record cut at each, except a piece of it, or each that is in this part; and with
+    text after it."""
     tried.one(data)
     for place, byte in enumerate(data):
-        if skip_from <= place < skip_to:
+        if skip_from <= place < skip_to or part not in (None, place % PARTS):
             continue
         near = {byte ^ 1, byte ^ 0x20, byte ^ 0x80, (byte + 1) % 256, (byte - 1) % 256}
         for other in range(256) if tried.changes_all else {*SEEN, *near}:
@@ -432,9 +442,10 @@ def test_what_cut_would_do_is_said(tried):
         assert ("--cut" in errors) == (note is not None) and errors.endswith(note or "\n"), errors
 
 
-def test_lines_of_other_records(tried):
+@in_parts
+def test_lines_of_other_records(tried, part):
     """lines of the examples' records and of random runs left out, doubled, exchanged, given other replies and words"""
-    for data in [*examples(tried), *(random_run(tried) for _ in range(6))]:
+    for data in [*itertools.islice(examples(tried), part, None, PARTS), random_run(tried)]:
         assert audit(data).startswith("ok "), f"the replay: {audit(data)}"
         tried.one(data)
         lines = data.split(b"\n")

@@ -406,10 +406,22 @@ def test_kills_at_full_speed(rng, kills):
     print(f"{kills} kills, after {min(entries)} to {max(entries)} entries")
 
 
+def settings_of_the_service():
+    """What contrib/canbusd.service sets."""
+    with open(os.path.join(ROOT, "contrib", "canbusd.service"), encoding="utf-8") as unit:
+        return dict(re.findall(r"^(\w+)=(.*)$", unit.read(), re.M))
+
+
+def test_the_service_talks_to_this_machine_only():
+    """It listens at the default address, which is 127.0.0.1, and the system takes no packets of others, nor sends any."""
+    settings = settings_of_the_service()
+    assert "--listen" not in settings["ExecStart"] + settings["Environment"]
+    assert (settings["IPAddressDeny"], settings["IPAddressAllow"]) == ("any", "localhost")
+
+
 def test_the_service_keeps_what_the_run_before_it_left(tmp_path):
     """what it runs before each start: files of one run are moved together, and where there are none those are kept"""
-    with open(os.path.join(ROOT, "contrib", "canbusd.service"), encoding="utf-8") as unit:
-        settings = dict(re.findall(r"^(Exec\w+|Environment)=(.*)$", unit.read(), re.M))
+    settings = settings_of_the_service()
     before = shlex.split(settings["ExecStartPre"].replace("$$", "$"))
 
     def moves(*names):

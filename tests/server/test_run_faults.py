@@ -730,18 +730,19 @@ def test_the_most_lines_that_wait(when):
     words = ["--record", "end" if when == "nowhere" else when, f"{name},can1"]
     with serving_alone(*words, out=None if when == "nowhere" else ".") as server:
         one, other = plain(server, name), plain(server, "can1")
-        lines, refused = "", []
-        while not refused and len(lines) < MOST_BYTES + 1_000_000:
+        lines, length, refused = [], 0, []
+        while not refused and length < MOST_BYTES + 1_000_000:
             one.write(f"< fault {rule} >" * MOST_RULES)
             answers = [one.text() for _ in range(MOST_RULES)]
             taken = answers.count("< ok >")
             refused = answers[taken:]
             assert one.answer("< nofaults >") == "< ok >" and answers[:taken] == ["< ok >"] * taken
-            lines += f"at 0 {rule}\n" * taken + "at 0 nofaults\n" * bool(taken)
+            lines.append(f"at 0 {rule}\n" * taken + "at 0 nofaults\n" * bool(taken))
+            length += len(lines[-1])
         assert {*refused} == ({"< error no memory >"} if when in ("end", "nowhere") else set())
         one.write("< send 123 0 >")
         assert other.frame() == ("123", b"")
         server.end(patience=3 * WAIT)
-        assert not refused or MOST_BYTES <= len(lines) < MOST_BYTES + 2000
+        assert not refused or MOST_BYTES <= length < MOST_BYTES + 2000
         if when in WHEN:
-            assert read(server.path(f"{name}.rec.faults")) == lines
+            assert read(server.path(f"{name}.rec.faults")) == "".join(lines)

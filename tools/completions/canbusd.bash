@@ -1,4 +1,4 @@
-# Completions of canbusd and its tools for bash.
+# Completions of canbusd and candump2bench for bash.
 _canbusd() {
     local text=$2 before=$3
     COMPREPLY=()
@@ -72,7 +72,7 @@ _canbusd_files() {
 }
 complete -F _canbusd canbusd
 
-# The tools: the options that their help has, and files.
+# candump2bench: the options that its help has, and files.
 _canbusd_tool() {
     local text=$2
     COMPREPLY=()
@@ -81,4 +81,4 @@ _canbusd_tool() {
     *) compopt -o default ;;
     esac
 }
-complete -F _canbusd_tool canbusd-report candump2bench
+complete -F _canbusd_tool candump2bench

@@ -1,4 +1,4 @@
-# Completions of canbusd and its tools for fish.
+# Completions of canbusd and candump2bench for fish.
 
 # The file of faults after the `@` of a bus.
 function __canbusd_scripts
@@ -65,8 +65,6 @@ complete -c canbusd -n $serves -l sync -d "Wait until the disk has what is writt
 complete -c canbusd -n $serves -l until-eof -d "End at the end of standard input"
 complete -c canbusd -n $serves -l verbose -d "Report clients and bus off on standard error"
 
-# The tools: the options that their help has, and files.
-for tool in canbusd-report candump2bench
-    complete -c $tool -n "string match --quiet -- '-*' (commandline --current-token)" \
-        -a "($tool --help | string match --all --regex -- '--[a-z-]+' | sort --unique)"
-end
+# candump2bench: the options that its help has, and files.
+complete -c candump2bench -n "string match --quiet -- '-*' (commandline --current-token)" \
+    -a "(candump2bench --help | string match --all --regex -- '--[a-z-]+' | sort --unique)"

@@ -1,8 +1,8 @@
-#compdef canbusd canbusd-report candump2bench
-# Completions of canbusd and its tools for zsh.
+#compdef canbusd candump2bench
+# Completions of canbusd and candump2bench for zsh.
 
 _canbusd() {
-    # The tools: the options that their help has, and files.
+    # candump2bench: the options that its help has, and files.
     if [[ $service != canbusd ]]; then
         _gnu_generic
         return

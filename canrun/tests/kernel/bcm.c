@@ -9,6 +9,13 @@ HEADS(short_head, 55, .opcode = TX_SETUP)
 HEADS(setup_no_frames, 56, .opcode = TX_SETUP, .can_id = 0x123)
 HEADS(setup_short, 71, .opcode = TX_SETUP, .can_id = 0x123, .nframes = 1)
 HEADS(setup_one, 72, .opcode = TX_SETUP, .can_id = 0x123, .nframes = 1)
+HEADS(setup_two_of_one, 72, .opcode = TX_SETUP, .can_id = 0x123, .nframes = 2)
+HEADS(setup_one_of_none, 56, .opcode = TX_SETUP, .can_id = 0x123, .nframes = 1)
+HEADS(setup_two_of_one_odd_time, 72, .opcode = TX_SETUP, .flags = SETTIMER, .nframes = 2, .ival1 = {-1, 0})
+HEADS(rx_setup_two_of_one, 72, .opcode = RX_SETUP, .can_id = 0x123, .nframes = 2)
+HEADS(rx_setup_one_of_none, 56, .opcode = RX_SETUP, .can_id = 0x123, .nframes = 1)
+HEADS(rx_setup_id_two_of_none, 56, .opcode = RX_SETUP, .flags = RX_FILTER_ID, .can_id = 0x123, .nframes = 2)
+HEADS(rtr_one_of_none, 56, .opcode = RX_SETUP, .flags = RX_RTR_FRAME, .can_id = 0x123 | CAN_RTR_FLAG, .nframes = 1)
 HEADS(setup_long, 88, .opcode = TX_SETUP, .can_id = 0x123, .nframes = 1)
 HEADS(setup_257, 72, .opcode = TX_SETUP, .can_id = 0x123, .nframes = 257)
 HEADS(setup_fd_short, 72, .opcode = TX_SETUP, .flags = CAN_FD_FRAME, .can_id = 0x123, .nframes = 1)
@@ -116,6 +123,9 @@ CASE(changed_quietly, a = bcm("can0"), b = raw("can1"),
      take(b, 1), TELL(a, ONE(0x155, 2), .opcode = TX_SETUP, .can_id = 0x155, .nframes = 1), take(b, 0))
 CASE(setup_more_frames, a = bcm("can0"), TELL(a, ONE(0x155, 1), .opcode = TX_SETUP, .can_id = 0x155, .nframes = 1),
      TELL(a, TWO(0x155, 1, 0x156, 2), .opcode = TX_SETUP, .can_id = 0x155, .nframes = 2))
+CASE(setup_more_of_fewer, a = bcm("can0"), TELL(a, ONE(0x155, 1), .opcode = TX_SETUP, .can_id = 0x155, .nframes = 1),
+     DO(write(a, (&(struct task){{.opcode = TX_SETUP, .can_id = 0x155, .nframes = 2}, {ONE(0x155, 2)}}), 72)),
+     DO(write(a, (&(struct task){{.opcode = TX_SETUP, .can_id = 0x155, .nframes = 1}, {ONE(0x155, 2)}}), 56)))
 CASE(setup_fewer_frames, a = bcm("can0"),
      TELL(a, TWO(0x155, 1, 0x156, 2), .opcode = TX_SETUP, .can_id = 0x155, .nframes = 2),
      TELL(a, ONE(0x155, 1), .opcode = TX_SETUP, .can_id = 0x155, .nframes = 1),

@@ -1,6 +1,9 @@
 /* cyclic NAME ID MICROSECONDS COUNT [DATA]: sends frames at exact moments, from the next whole second on. They have
- * these data, in hexadecimal digits, or their number in two bytes. With SENDS_ONLY its socket has an empty filter. */
+ * these data, in hexadecimal digits, or their number in two bytes. With SENDS_ONLY its socket has an empty filter; with
+ * READS it reads all that comes meanwhile. */
 #include "node.h"
+
+#include <poll.h>
 
 static void read_data(struct can_frame *frame, const char *digits) {
     for (frame->can_dlc = 0; frame->can_dlc < 8 && digits[0] && digits[1]; digits += 2) {
@@ -8,6 +11,27 @@ static void read_data(struct can_frame *frame, const char *digits) {
         frame->data[frame->can_dlc++] = (unsigned char)strtoul(byte, NULL, 16);
     }
 }
+
+#ifdef READS
+static void wait_until(int fd, const struct timespec *moment) {
+    struct pollfd polled = {fd, POLLIN, 0};
+    struct can_frame frame;
+    for (;;) {
+        struct timespec now;
+        clock_gettime(CLOCK_REALTIME, &now);
+        long left = (moment->tv_sec - now.tv_sec) * SECOND + moment->tv_nsec - now.tv_nsec;
+        struct timespec rest = later((struct timespec){0, 0}, left > 0 ? left : 0);
+        if (ppoll(&polled, 1, &rest, NULL) <= 0 || read(fd, &frame, sizeof frame) < 0) {
+            return;
+        }
+    }
+}
+#else
+static void wait_until(int fd, const struct timespec *moment) {
+    (void)fd;
+    clock_nanosleep(CLOCK_REALTIME, TIMER_ABSTIME, moment, NULL);
+}
+#endif
 
 int main(int count, char **words) {
     struct can_frame frame = {.can_dlc = 2};
@@ -26,7 +50,7 @@ int main(int count, char **words) {
     clock_gettime(CLOCK_REALTIME, &moment);
     moment = (struct timespec){moment.tv_sec + 1, 0};
     for (long k = 0; k < atol(words[4]); k++, moment = later(moment, atol(words[3]) * 1000)) {
-        clock_nanosleep(CLOCK_REALTIME, TIMER_ABSTIME, &moment, NULL);
+        wait_until(fd, &moment);
         if (!has_data) {
             frame.data[0] = (unsigned char)(k >> 8);
             frame.data[1] = (unsigned char)k;

@@ -1,11 +1,24 @@
-"""canbusd from Python: simulated CAN buses with faults, error frames and bus off.
+"""Simulated CAN buses with faults, error frames and bus off, for python-can and pytest.
 
     with canbusd.Server("can0,can1", faults=canbusd.Faults().last_bit(0)) as server:
         with server.bus("can0") as can0, server.bus("can1") as can1:
             can0.send(can.Message(arbitration_id=0x123, data=[1, 2], is_extended_id=False))
             first, again = can1.recv(5), can1.recv(5)
 
-What is named here is imported when it is first used: only CanbusdBus and logs need python-can, and nothing needs
+Server         a server of one bus or several: opens buses, runs programs, expects frames and states
+Bench          one bus, step by step: its time goes on with each attempt, and each run gives the same
+Faults         rules that disturb frames, for a server, a bench or one test
+CanbusdBus     the bus that `can.Bus(interface="canbusd", channel="can0")` opens
+Frame          a frame as a bench and a record have it; `str()` of it is candump's spelling
+IsoTp          an end of a connection by ISO-TP, which `Server.isotp` opens
+RestBus        the messages of a database, sent as they are due: `Server.rest_bus`, `Bench.rest_bus`
+Program        a program that a test started: `Server.start`
+load_database  the messages and signals of a file of DBC, KCD, ARXML or SYM: a Database
+read_record    what happened on a bus, as its record has it: a Record of Attempts
+is_virtual     whether this process runs in virtual time
+
+Modules beside these: canbusd.pytest_plugin has the fixture `canbusd`, canbusd.strategies has frames and faults for
+Hypothesis. A name is imported when it is first used: only CanbusdBus and logs need python-can, and only the plugin needs
 pytest.
 """
 
@@ -88,7 +101,9 @@ def __getattr__(name: str) -> Any:
         if name in names:
             globals()[name] = found = getattr(importlib.import_module(f"canbusd.{module}"), name)
             return found
-    raise AttributeError(f"module {__name__!r} has no attribute {name!r}")
+    from canbusd._calls import meant
+
+    raise AttributeError(f"module {__name__!r} has no attribute {name!r}{meant(name, __all__)}")
 
 
 def __dir__() -> list[str]:

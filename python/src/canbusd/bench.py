@@ -15,11 +15,12 @@ import os
 import re
 from collections.abc import Mapping, Sequence
 from pathlib import Path
-from typing import TYPE_CHECKING, Optional, Union
+from typing import TYPE_CHECKING, Optional, Union, cast
 
+from canbusd._calls import NamesWhatThereIs, explained
 from canbusd._process.dialogue import MOST_INPUT as MOST_INPUT, BenchError as BenchError, Dialogue, moment_text
 from canbusd._process.program import audited
-from canbusd._process.program_run import bus_of, option_words, rate_words, rates_of
+from canbusd._process.program_run import Ack, bus_of, option_words, rates_of
 from canbusd._restbus.simulated_nodes import HasRestBus
 from canbusd._run.log import read_log
 from canbusd._run.summary import write_page
@@ -28,7 +29,7 @@ from canbusd._session.injection import Refused as Refused
 from canbusd._session.protocol import Filters, options
 from canbusd.faults import Script, rules_in, rules_of, script_bytes
 from canbusd.frames import Frame
-from canbusd.record import Attempt, Record, read_record
+from canbusd.record import Attempt, Outcome, Record, read_record
 from canbusd.rules import MOST_RULES, GivenRules, check_rules, parse_rule
 from canbusd.signals import Database
 
@@ -50,38 +51,54 @@ def set_of(names: Optional[str]) -> tuple[str, ...]:
     return tuple(names.split(",")) if names and names != "-" else ()
 
 
-class Bench(Dialogue, HasRestBus["BenchRestBus"]):
+class Bench(Dialogue, HasRestBus["BenchRestBus"], NamesWhatThereIs):
     """A bus with these interfaces, as `"can0,can1"` or a list, and the options of `canbusd bench`.
 
-    With a `bitrate` attempts take the time of their bits, and their moment is the end of their frame; with a `dbitrate`
-    FD frames with `bitrate_switch` go on at that for their data. `faults` is a script: Faults, a path, or a text. `out`
+    With a `bitrate` attempts take the time of their bits, and their moment is the end of their frame; with a
+    `data_bitrate`, which may be called `dbitrate` too, FD frames with `bitrate_switch` go on at that for their data. `faults` is a script: Faults, a path, or a text. `out`
     is a folder for the log and the record, which are written at the end and are called after the first interface;
     without it they are kept as long as the bench is.
     """
 
+    _INSTEAD = {
+        **dict.fromkeys(("bus", "session"), "open('can0') returns a session"),
+        **dict.fromkeys(
+            ("end_rules", "rules_left", "status", "stats", "load", "restart"), "a session has it: open('can0')"
+        ),
+        **dict.fromkeys(("send", "receive", "recv"), "a session sends and receives: open('can0').send(0x123)"),
+        **dict.fromkeys(
+            ("expect", "expect_state", "state", "bus_off", "wait_for"),
+            "run() returns the attempts, a "
+            "session's receive() the frames, its status() the state; a Server has expectations",
+        ),
+        **dict.fromkeys(("step", "tick"), "attempt() makes one, run() all"),
+    }
+
+    @explained()
     def __init__(
         self,
         names: Union[str, Sequence[str]],
         *,
         faults: Optional[Script] = None,
-        ack: str = "always",
+        ack: Ack = "always",
         report: bool = False,
         auto_restart: int = 0,
         txqueue: int = 10,
         rxqueue: int = 256,
         limit: int = 1_000_000,
         bitrate: Optional[int] = None,
+        data_bitrate: Optional[int] = None,
         dbitrate: Optional[int] = None,
         out: Union[str, "os.PathLike[str]", None] = None,
     ) -> None:
         words = option_words(ack, report, auto_restart=auto_restart, txqueue=txqueue, rxqueue=rxqueue, limit=limit)
-        words += rate_words(bitrate, dbitrate)
+        self._rates = rates_of(bitrate, data_bitrate, dbitrate)
+        words += self._rates.words if self._rates else []
         self.names, faults = bus_of(names, faults)
         script = script_bytes(faults)
         super().__init__(out)
         self._sessions = 0
         self._sent: dict[str, list[Frame]] = {name: [] for name in self.names}
-        self._rates = rates_of(bitrate, dbitrate)
         words += ["--record", str(self._path("rec")), "--log", str(self._path("log")), "--"]
         bus = ",".join(self.names)
         if script:
@@ -94,6 +111,7 @@ class Bench(Dialogue, HasRestBus["BenchRestBus"]):
         # The rule of each attempt, where one gave its fault.
         self._rules: list[str] = []
 
+    @explained()
     def open(
         self,
         channel: str,
@@ -183,7 +201,9 @@ class Bench(Dialogue, HasRestBus["BenchRestBus"]):
         then it is the moment set.
         """
         if until is not None:
-            return self._run_until(moment_text(until))
+            return self._run_until(moment_text(until, "until"))
+        if isinstance(most, bool) or not isinstance(most, int):
+            raise ValueError(f"most is a number of attempts, not {most!r}; a moment is until={most!r}")
         attempts: list[Attempt] = []
         for _ in range(most):
             attempt = self.attempt()
@@ -195,7 +215,7 @@ class Bench(Dialogue, HasRestBus["BenchRestBus"]):
     def _run_until(self, moment: str) -> list[Attempt]:
         """Makes the attempts that begin before a moment; an echo follows them."""
         if self._rates is None:
-            raise ValueError("until needs a bitrate")
+            raise ValueError("until needs a bench with a bit rate, such as Bench(.., bitrate=500000)")
         lines: list[str] = []
         with self._turn:
             last = min(self._sessions, MOST_SESSIONS)
@@ -248,7 +268,7 @@ class Bench(Dialogue, HasRestBus["BenchRestBus"]):
             winner,
             number,
             str(self._sent[winner][number]),
-            words["outcome"],
+            cast(Outcome, words["outcome"]),
             words["fault"] or "good",
             set_of(words["accepted"]),
             set_of(words["off"]),

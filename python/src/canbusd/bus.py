@@ -21,8 +21,9 @@ from can.bus import BusABC, BusState
 from can.exceptions import CanInitializationError, CanOperationError
 from can.message import Message
 
+from canbusd._calls import NamesWhatThereIs, explained
 from canbusd._session.address import reason_of, server_address
-from canbusd._session.arguments import bit_rates, interface_name, mask_or_truth, seconds, truth
+from canbusd._session.arguments import bit_rates, interface_name, mask_or_truth, one_data_rate, seconds, truth
 from canbusd._session.connection import Connection, SessionRefused
 from canbusd._session.injection import InjectsFaults
 from canbusd._session.protocol import (
@@ -37,7 +38,7 @@ from canbusd._session.protocol import (
     options,
 )
 from canbusd._session.raw_session import ERROR_CODES, RawSession, refusal
-from canbusd.frames import command_of, identifier_word, passes_filters, received, without_origin
+from canbusd.frames import command_of, frame_of_message, identifier_word, passes_filters, without_origin
 
 if TYPE_CHECKING:
     from can.typechecking import AutoDetectedConfig
@@ -97,7 +98,7 @@ class Periodic:
             self._is_refused = True
 
 
-class CanbusdBus(InjectsFaults, BusABC):
+class CanbusdBus(InjectsFaults, NamesWhatThereIs, BusABC):
     """A raw socket on an interface of a canbusd server.
 
     :param channel: the name of the interface, such as ``can0``
@@ -112,11 +113,19 @@ class CanbusdBus(InjectsFaults, BusABC):
     :param timeout: seconds in which the server has to reply
     :param bitrate: the nominal bit rate; it is the server's, and where that has another or none, a warning is logged
     :param data_bitrate: likewise that of the data of FD frames with ``bitrate_switch``
+    :param dbitrate: the same as ``data_bitrate``
     :param kwargs: what python-can hands to all interfaces, and has no meaning here
 
     It may be used by several threads at once. Each value may be a text, as in can.conf.
     """
 
+    _INSTEAD = {
+        **dict.fromkeys(("receive", "read"), "recv(timeout=1)"),
+        **dict.fromkeys(("status", "counters", "tec", "rec"), "error_counters() has the state and the counts"),
+        **dict.fromkeys(("expect", "expect_no_frame", "expect_state", "bus_off", "wait_for"), "the Server has it"),
+    }
+
+    @explained()
     def __init__(
         self,
         channel: str,
@@ -131,6 +140,7 @@ class CanbusdBus(InjectsFaults, BusABC):
         timeout: Union[float, str] = 5.0,
         bitrate: Union[int, str, None] = None,
         data_bitrate: Union[int, str, None] = None,
+        dbitrate: Union[int, str, None] = None,
         **kwargs: Any,
     ) -> None:
         # python-can 4.3 warns of a bus that is not shut down, also where it never came to be.
@@ -145,7 +155,7 @@ class CanbusdBus(InjectsFaults, BusABC):
         self._join = truth("join_filters", join_filters)
         self._timeout = seconds("timeout", timeout)
         self._receives_own = truth("receive_own_messages", receive_own_messages)
-        rates = bit_rates(bitrate=bitrate, data_bitrate=data_bitrate)
+        rates = bit_rates(bitrate=bitrate, data_bitrate=one_data_rate(data_bitrate, dbitrate))
         messages = options(
             fd=self._fd,
             receive_own_messages=self._receives_own,
@@ -219,6 +229,7 @@ class CanbusdBus(InjectsFaults, BusABC):
     def send_many(self, msgs: Iterable[Message], timeout: Optional[float] = None) -> None:
         """Sends messages in their order, as many in one write as the transmit queue has room for.
 
+        All messages are taken before the first is sent; call :meth:`send` for each where they come at a pace of their own.
         Where this returns, the server has accepted all of them. At most :attr:`window` of them wait in the transmit
         queue at once. If it is full all the same, since others send by the same interface or it has less room, what it
         refused is sent again, after what it accepted of the same write.
@@ -226,6 +237,8 @@ class CanbusdBus(InjectsFaults, BusABC):
         :param timeout: seconds for all messages; none: as long as some are accepted within the timeout of the bus
         :raises: what :meth:`send` raises; the text says how many messages were accepted
         """
+        if not isinstance(msgs, Iterable):
+            raise ValueError(f"msgs are several can.Message, as a list, not {msgs!r}")
         self._session.send_many([self._command(msg) for msg in msgs], self.window, timeout)
 
     def set_filters(self, filters: Optional[Filters] = None) -> None:
@@ -339,9 +352,9 @@ class CanbusdBus(InjectsFaults, BusABC):
     def _message(self, text: str) -> Message:
         """The message in this text; where own ones are received, one that was sent here is marked."""
         if not self._receives_own:
-            return received(self._make, *text.split()[1:])
+            return frame_of_message(self._make, *text.split()[1:])
         text, number = without_origin(text)
-        message = received(self._make, *text.split()[1:])
+        message = frame_of_message(self._make, *text.split()[1:])
         message.is_rx = number is None or not self._is_own(number)
         return message
 

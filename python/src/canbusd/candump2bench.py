@@ -6,6 +6,7 @@ import sys
 from collections import Counter
 from collections.abc import Iterable, Sequence
 
+from canbusd._run.log import lines_of
 from canbusd._run.logs import LINE, RECORD, is_candump, read_entries
 from canbusd._text import NAME, shown, times
 from canbusd.commands._command import run_command
@@ -126,7 +127,8 @@ def convert() -> int:
         lines = (log_line(*entry).encode() for entry in read_entries(words.log, words.names.split(",")))
         return write(bench, take_lines(bench, lines, words.log))
     with open(words.log, "rb") if words.log else sys.stdin.buffer as log:
-        left_out = take_lines(bench, log, words.log or "standard input")
+        place = words.log or "standard input"
+        left_out = take_lines(bench, lines_of(log, place), place)
     return write(bench, left_out)
 
 
@@ -145,6 +147,8 @@ def take_lines(bench: BenchInput, log: Iterable[bytes], place: str) -> int:
         try:
             if text:
                 bench.take(text)
+            if bench.bytes > MOST_BYTES:
+                break
         except (NotTaken, BadFrame) as fault:
             left_out += 1
             words = LINE.fullmatch(text)

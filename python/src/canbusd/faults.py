@@ -11,17 +11,29 @@ those after it. Any other attempt is good.
 import os
 import re
 from collections.abc import Callable, Iterable, Sequence
-from typing import Optional, Union
+from typing import TYPE_CHECKING, Literal, Optional, Union
 
+from canbusd._calls import NamesWhatThereIs, explained
 from canbusd._text import NAME, shown
 from canbusd.frames import EXTENDED
 from canbusd.rules import MOST, MOST_RULES, NUMBER, VERDICT, Rule, is_rule, parse_rule
 
+# What is a rule with a fault rather than the path of a file that is not there.
+LIKE_RULE = re.compile(r"\A\S+ (?:[0-9]|.*(?:good|lastbit|last_bit|destroyed|global|local)\b)")
 # What no path is.
 IS_TEXT = re.compile(r"\A\Z|\n|\A(?:[0-9]+|next|always) ")
 
 # The most that an identifier of 11 bits is, and one of 29.
 SHORT, LONG = 0x7FF, 0x1FFFFFFF
+
+#: What a call without a rule needs.
+BY_NUMBER = "attempts are their numbers, from 0; a rule comes first: Faults().next(1).last_bit()"
+#: How a rule is ended that has no fault yet.
+SAYS_WHICH = ".destroyed(), .last_bit(), .local(..) or .good() says which"
+
+#: Which fault destroys a frame, and which a node may see by itself.
+Destroying = Literal["bit", "form"]
+Seen = Literal["stuff", "crc", "form"]
 
 Attempts = Union[int, Iterable[int]]
 Names = Union[str, Sequence[str]]
@@ -81,37 +93,55 @@ class Chosen:
     def __init__(self, head: Rule, add: Callable[[Rule], "Faults"]) -> None:
         self._head, self._add = head, add
 
+    @explained()
     def good(self) -> "Faults":
         """No fault: the rule shields its attempts from the rules after it."""
         return self._given("good")
 
-    def destroyed(self, kind: str = "bit") -> "Faults":
+    @explained()
+    def destroyed(self, kind: Destroying = "bit") -> "Faults":
         """All nodes see a fault, and the frame is destroyed: a `bit` or a `form` error."""
         return self._given(global_fault(kind))
 
+    @explained()
     def last_bit(self) -> "Faults":
         """The sender sees a fault in the last bit: the others accept the frame, and it is sent again."""
         return self._given("lastbit")
 
-    def local(self, kind: str, names: Names) -> "Faults":
+    @explained()
+    def local(self, kind: Seen, names: Names) -> "Faults":
         """Only these interfaces see a fault: a `stuff`, a `crc` or a `form` error."""
         return self._given(local_fault(kind, names))
 
     def __repr__(self) -> str:
         return f"<the rule `{self._head.head}` without its fault>"
 
+    if not TYPE_CHECKING:
+
+        def __getattr__(self, name):
+            raise AttributeError(f"{self} has no {name} yet: {SAYS_WHICH}")
+
     def _given(self, verdict: str) -> "Faults":
         head = self._head
         return self._add(Rule(head.count, verdict, head.senders, head.identifier, head.skip))
 
 
-class Faults:
+class Faults(NamesWhatThereIs):
     """Rules and lines of a fault script; each method adds to them, and returns the faults themselves."""
 
+    _INSTEAD = {
+        **dict.fromkeys(
+            ("add", "rule", "append"), "next(..) and always(..) add a rule; inject('next 1 lastbit') takes a text"
+        ),
+        "bus_off": "next(32, sender='ecu').destroyed(), or Server.bus_off('ecu')",
+    }
+
+    @explained("a text needs no Faults: faults='next 1 lastbit'")
     def __init__(self) -> None:
         self._verdicts: dict[int, str] = {}
         self._rules: list[Rule] = []
 
+    @explained()
     def next(
         self,
         count: int,
@@ -131,6 +161,7 @@ class Faults:
         """
         return self._chosen(whole_number(count, "count", 1), sender, id, mask, extended, skip)
 
+    @explained()
     def always(
         self,
         *,
@@ -162,19 +193,23 @@ class Faults:
         self._rules.append(rule)
         return self
 
+    @explained(BY_NUMBER)
     def good(self, attempts: Attempts) -> "Faults":
         """No fault, also where a rule would give one."""
         return self._add("good", attempts)
 
-    def destroyed(self, attempts: Attempts, kind: str = "bit") -> "Faults":
+    @explained(BY_NUMBER)
+    def destroyed(self, attempts: Attempts, kind: Destroying = "bit") -> "Faults":
         """All nodes see a fault, and the frame is destroyed: a `bit` or a `form` error."""
         return self._add(global_fault(kind), attempts)
 
+    @explained(BY_NUMBER)
     def last_bit(self, attempts: Attempts) -> "Faults":
         """The sender sees a fault in the last bit: the others accept the frame, and it is sent again."""
         return self._add("lastbit", attempts)
 
-    def local(self, kind: str, names: Names, attempts: Attempts) -> "Faults":
+    @explained(BY_NUMBER)
+    def local(self, kind: Seen, names: Names, attempts: Attempts) -> "Faults":
         """Only these interfaces see a fault: a `stuff`, a `crc` or a `form` error.
 
         The frame is destroyed if one of them is error active. If all are error passive, they miss the frame.
@@ -197,7 +232,7 @@ class Faults:
 
         What rules give depends on the run.
         """
-        return self._verdicts.get(attempt, "good")
+        return self._verdicts.get(whole_number(attempt, "attempt"), "good")
 
     @property
     def rules(self) -> list[str]:
@@ -272,15 +307,18 @@ def script_bytes(script: Optional[Script]) -> bytes:
     if isinstance(script, Faults):
         return str(script).encode()
     if isinstance(script, Chosen):
-        raise ValueError(f"{script!r}: .destroyed(), .last_bit(), .local(..) or .good() says which")
+        raise ValueError(f"{script!r}: {SAYS_WHICH}")
     if isinstance(script, str) and IS_TEXT.search(script):
         return script.encode()
     if not isinstance(script, (str, os.PathLike)):
-        raise ValueError(f"faults are Faults, a path or a text, not {script!r}")
+        raise ValueError(f"faults are Faults(), a path or a text such as 'next 1 lastbit', not {script!r}")
     try:
         with open(script, "rb") as file:
             return file.read()
     except FileNotFoundError as fault:
+        if isinstance(script, str) and LIKE_RULE.search(script):
+            # It says what is wrong with that.
+            parse_rule(script)
         hint = (
             f"{fault.strerror}; a text begins with the number of an attempt, as '0 lastbit' does, or with a rule, as "
             "'next 1 lastbit' does"

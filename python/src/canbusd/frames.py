@@ -1,9 +1,12 @@
 """Frames: their fields, candump's spelling of them, and error message frames in words."""
 
 import re
-from collections.abc import Callable, Sequence
+from collections.abc import Callable, Iterable, Sequence
 from dataclasses import dataclass, field
 from typing import TYPE_CHECKING, Optional, Protocol, TypeVar, Union
+
+from canbusd._calls import NamesWhatThereIs
+from canbusd._text import shown
 
 if TYPE_CHECKING:
     from can.message import Message
@@ -29,13 +32,7 @@ PLACES = {
 BRS, ESI = 0x1, 0x2
 # How many bytes an FD frame may have.
 FD_LENGTHS = (*range(9), 12, 16, 20, 24, 32, 48, 64)
-# Regular expressions of a data or remote frame, of an FD frame and of an error message frame, as a record spells them.
-IDENTIFIER = "(?:[0-7][0-9A-F]{2}|[01][0-9A-F]{7})"
-FRAME = f"{IDENTIFIER}#(?:(?:[0-9A-F]{{2}}){{0,8}}|R[1-8]?)"
-FD_DATA = f"(?:{'|'.join(f'[0-9A-F]{{{2 * length}}}' for length in FD_LENGTHS)})"
-FD_FRAME = f"{IDENTIFIER}##0{FD_DATA}"
-# The same, with flags or without.
-FLAGGED_FRAME = f"{IDENTIFIER}##[0-3]{FD_DATA}"
+# A regular expression of an error message frame, as a record spells it.
 ERROR_FRAME = "[23][0-9A-F]{7}#[0-9A-F]{16}"
 
 # cansend's spelling: an FD frame has a second # and a digit of flags.
@@ -57,8 +54,20 @@ class BadFrame(ValueError):
     """Why a text or its fields are no frame."""
 
 
+def data_bytes(data: object) -> bytes:
+    """Returns the bytes of a frame; BadFrame for a text or a number, of which Python makes others."""
+    if isinstance(data, str) and re.fullmatch("(?:[0-9A-Fa-f]{2} ?)+", data):
+        raise BadFrame(f"data is bytes, such as bytes.fromhex({data!r}), not {data!r}")
+    if isinstance(data, (str, int)) or not isinstance(data, Iterable):
+        raise BadFrame(f"data is bytes, such as b'\\x01\\x02', or a list of numbers, not {data!r}")
+    try:
+        return bytes(data)
+    except (TypeError, ValueError):
+        raise BadFrame(f"data is bytes, or numbers from 0 to 255, not {data!r}") from None
+
+
 @dataclass(frozen=True)
-class Frame:
+class Frame(NamesWhatThereIs):
     """A frame that is sent or was received, with the names that python-can's `Message` has.
 
     `str()` of it is candump's spelling, `123#1122`, which `Frame.parse` reads. Unlike a `Message` it has an 11-bit
@@ -81,8 +90,15 @@ class Frame:
     #: Of an FD frame: whether its sender says that it is error passive.
     error_state_indicator: bool = False
 
+    _INSTEAD = {
+        **dict.fromkeys(("id", "identifier", "can_id"), "arbitration_id"),
+        **dict.fromkeys(("extended", "is_extended"), "is_extended_id"),
+        "length": "dlc",
+    }
+
     def __post_init__(self) -> None:
-        object.__setattr__(self, "data", bytes(self.data))
+        if self.data.__class__ is not bytes:
+            object.__setattr__(self, "data", data_bytes(self.data))
         if not self.is_remote_frame:
             object.__setattr__(self, "dlc", len(self.data))
         check_frame(self)
@@ -94,22 +110,29 @@ class Frame:
         Of the digit of an FD frame's flags 1 is the bit rate switch and 2 the error state indicator; what else it says
         (candump adds 4, by which Linux marks FD frames) is left out.
         """
-        words = SPELLING.fullmatch(text)
+        try:
+            return cls._parsed(text, timestamp)
+        except BadFrame as fault:
+            raise BadFrame(f"{shown(str(text)) or 'an empty text'}: {fault}") from None
+
+    @classmethod
+    def _parsed(cls, text: str, timestamp: float) -> "Frame":
+        words = SPELLING.fullmatch(text) if isinstance(text, str) else None
         if not words:
             raise BadFrame("no frame such as 123#1122, 00000123#R4 or 123##01122")
         digits, flags, payload = words[1], words[2], words[3].upper().replace(".", "")
         number = int(digits, 16)
         is_error = len(digits) == 8 and number >> 29 == 1
         if len(digits) not in (3, 8) or (number > (0x7FF if len(digits) == 3 else 0x1FFFFFFF) and not is_error):
-            raise BadFrame("no identifier of 11 bits in 3 digits or of 29 bits in 8")
+            raise BadFrame("an identifier has 11 bits in 3 digits, as 123, or 29 bits in 8, as 00000123")
         is_extended = len(digits) == 8 and not is_error
         if payload.startswith("R") and flags is None:
             if not re.fullmatch("R[0-8]?", payload):
-                raise BadFrame("no remote frame of length 0 to 8")
+                raise BadFrame("a remote frame asks for 0 to 8 bytes, as R4 does")
             dlc = int(payload[1:] or "0")
             return cls(number, b"", is_extended, is_remote_frame=True, dlc=dlc, timestamp=timestamp)
         if not re.fullmatch("(?:[0-9A-F]{2})*", payload):
-            raise BadFrame("the bytes of data are not pairs of digits")
+            raise BadFrame("the bytes of data are not pairs of digits, as in 123#01")
         return cls(
             number & 0x1FFFFFFF,
             bytes.fromhex(payload),
@@ -230,8 +253,11 @@ def frame_like(message: MessageLike) -> Frame:
 def check_frame(message: MessageLike) -> None:
     """Raises BadFrame where no frame has these fields."""
     most = 0x1FFFFFFF if message.is_extended_id or message.is_error_frame else 0x7FF
+    if not isinstance(message.arbitration_id, int):
+        raise BadFrame(f"arbitration_id is a number, such as 0x123, not {message.arbitration_id!r}")
     if not 0 <= message.arbitration_id <= most:
-        raise BadFrame(f"arbitration_id {message.arbitration_id:#x} is not in 0 to {most:X}")
+        cure = "; is_extended_id=True has 29 bits" if 0x7FF < message.arbitration_id <= 0x1FFFFFFF else ""
+        raise BadFrame(f"arbitration_id {message.arbitration_id:#x} is not in 0 to {most:X}{cure}")
     if not message.is_fd and flag_number(message):
         raise BadFrame("bitrate_switch and error_state_indicator are flags of FD frames")
     length = len(message.data)
@@ -259,7 +285,7 @@ def command_of(message: MessageLike) -> str:
     return f"{words} {message.data.hex(' ').upper()}" if message.dlc else words
 
 
-def received(make: Callable[..., Made], kind: str, *words: str) -> Made:
+def frame_of_message(make: Callable[..., Made], kind: str, *words: str) -> Made:
     """Returns what `make` makes of the words of a message that hands over a frame."""
     if kind == "fdframex":
         flags, *words_of_frame = words
@@ -294,23 +320,12 @@ def without_origin(message: str) -> tuple[str, Optional[int]]:
 def frame_of(message: str) -> Optional[Frame]:
     """Returns the frame that a session's message, without `<` and `>`, hands over; None for an answer."""
     words = MESSAGE.fullmatch(message.strip())
-    return received(Frame, *words[1].split(" "), *words.groups(default="")[1:]) if words else None
-
-
-def error_frame(error_class: int, data: Union[bytes, Sequence[int]]) -> str:
-    """Returns the text of an error message frame: its class with the error flag, and 8 bytes."""
-    return f"{error_class | ERROR:08X}#{bytes(data).hex().upper()}"
+    return frame_of_message(Frame, *words[1].split(" "), *words.groups(default="")[1:]) if words else None
 
 
 def is_fd(text: str) -> bool:
     """Whether this is the text of an FD frame."""
     return "##" in text
-
-
-def flags_in(text: str) -> int:
-    """Returns the number of the flags of the frame with this text, or in a line with it; 0 for another frame."""
-    place = text.find("##")
-    return int(text[place + 2]) if place >= 0 else 0
 
 
 def is_error(text: str) -> bool:

@@ -20,10 +20,12 @@ from collections.abc import Callable
 from types import TracebackType
 from typing import TYPE_CHECKING, Any, Optional
 
+from canbusd._calls import NamesWhatThereIs
 from canbusd._process.program import ProgramNotFound, find_program
 from canbusd._session.observing_session import ObservingSession
 from canbusd._session.waits import seconds_until
 from canbusd._text import seconds_words
+from canbusd.frames import data_bytes
 
 if TYPE_CHECKING:
     from canbusd.bus import CanbusdBus
@@ -56,9 +58,10 @@ class IsoTpError(RuntimeError):
         self.errno = number
 
 
-class IsoTp(ABC):
+class IsoTp(NamesWhatThereIs, ABC):
     """An end of ISO-TP: messages of 1 to 4,095 bytes to one other end, and from it."""
 
+    _INSTEAD = {"receive": "recv(timeout=1)", "read": "recv(timeout=1)", "write": "send(data)"}
     #: What does it: `can-isotp` or `canbusd-run`.
     library: str
 
@@ -91,6 +94,10 @@ def open_isotp(
     for name, identifier in (("tx", tx), ("rx", rx)):
         if not isinstance(identifier, int) or not 0 <= identifier <= 0x1FFFFFFF:
             raise ValueError(f"{name} is an identifier of 11 or 29 bits, not {identifier!r}")
+    if tx == rx:
+        raise ValueError(
+            f"tx and rx are different, not both {tx:X}: rx is the identifier that the other end sends with"
+        )
     if (tx > 0x7FF) != (rx > 0x7FF):
         raise ValueError(f"tx and rx are both of 11 bits or both of 29, not {tx:X} and {rx:X}")
     if library not in (None, "can-isotp", "canbusd-run"):
@@ -111,9 +118,10 @@ def open_isotp(
 
 def check(data: bytes) -> bytes:
     """Returns the bytes of a message that can be sent."""
-    if not 1 <= len(data) <= MOST_BYTES:
-        raise ValueError(f"data has 1 to {MOST_BYTES} bytes, not {len(data)}")
-    return bytes(data)
+    found = data_bytes(data)
+    if not 1 <= len(found) <= MOST_BYTES:
+        raise ValueError(f"data has 1 to {MOST_BYTES} bytes, not {len(found)}")
+    return found
 
 
 class CanIsoTp(IsoTp):

@@ -6,11 +6,13 @@ import shlex
 import signal
 import subprocess
 import time
-import weakref
 from collections.abc import Mapping, Sequence
 from pathlib import Path
 from typing import Any, Optional, Union
 
+from canbusd._calls import NamesWhatThereIs, explained
+from canbusd._process.guard import Guard
+from canbusd._process.output import Output, Search
 from canbusd._process.program import ServerError, find_program
 from canbusd._session.arguments import check_within
 from canbusd._session.connection import LONGEST_POLL, POLL
@@ -74,31 +76,38 @@ def check_program(
         raise PermissionError(errno.EACCES, os.strerror(errno.EACCES), name)
 
 
-def end_left(child: "subprocess.Popen[bytes]", process: int) -> None:
-    """Ends a program that nobody has stopped, in the process that started it."""
-    if os.getpid() == process and child.poll() is None:
-        child.terminate()
-
-
-class Program:
+class Program(NamesWhatThereIs):
     """A program that stays while the test goes on, which :meth:`canbusd.Server.start` starts; the server ends it.
 
     Its standard output and standard error are in `output`, as far as it has written them: a program that buffers what it
     writes may do so late.
     """
 
+    _INSTEAD = {
+        **dict.fromkeys(("kill", "terminate", "send_signal", "close"), "stop() ends it"),
+        **dict.fromkeys(("returncode", "poll"), "status, which is None while it runs"),
+        **dict.fromkeys(("stdout", "stderr", "communicate", "read"), "output is what it has written so far"),
+    }
+
     def __init__(
         self, words: Sequence[str], command: Sequence[str], output: Path, may_end: bool, **kwargs: Any
     ) -> None:
-        self._words, self._path = list(words), output
+        self._words, self._path, self._output = list(words), output, Output(output)
         self._may_end, self._is_stopped = may_end, False
         # Not in the terminal's foreground: Ctrl-C is the test's.
         how: dict[str, Any] = {"stdin": subprocess.DEVNULL, "start_new_session": True, **kwargs}
-        with open(output, "wb") as file:
-            self._child: "subprocess.Popen[bytes]" = subprocess.Popen(
-                [*command, *words], stdout=file, stderr=subprocess.STDOUT, **how
-            )
-        weakref.finalize(self, end_left, self._child, os.getpid())
+        self._guard = Guard()
+        child: "Optional[subprocess.Popen[bytes]]" = None
+        try:
+            with open(output, "wb") as file:
+                child = subprocess.Popen([*command, *words], stdout=file, stderr=subprocess.STDOUT, **how)
+            self._guard.watch(child.pid)
+        except BaseException:
+            if child is not None:
+                child.kill()
+            self._guard.release()
+            raise
+        self._child = child
 
     @property
     def pid(self) -> int:
@@ -108,30 +117,42 @@ class Program:
     @property
     def status(self) -> Optional[int]:
         """Its status, below 0 where a signal ended it; None while it runs."""
-        return self._child.poll()
+        status = self._child.poll()
+        if status is not None:
+            self._guard.release()
+        return status
 
     @property
     def output(self) -> str:
         """What it has written so far."""
         return self._path.read_text(encoding="utf-8", errors="replace")
 
+    @explained()
     def expect(self, text: str, *, within: float = 10.0) -> str:
-        """Waits until its output has this text, and returns the output; AssertionError after these seconds, or at its end."""
+        """Waits until its output has this text, and returns the output; AssertionError after these seconds, or at its end.
+
+        Of an output of more than a megabyte it returns the last one up to the text, after a line that says how much is before.
+        """
         __tracebackhide__ = True
+        if not isinstance(text, str):
+            raise ValueError(f"text is what its output has, such as '123   [1]  11', not {text!r}")
         check_within(within)
         deadline, pause = time.monotonic() + within, POLL
-        while True:
-            # Before its output: what it wrote at its end counts.
-            has_ended = self.status is not None
-            output = self.output
-            if text in output:
-                return output
-            if has_ended or time.monotonic() >= deadline:
-                when = "" if has_ended else f" within {seconds_words(within)}"
-                raise AssertionError(f"no {text!r} in the output{when}\n{self.shown()}")
-            time.sleep(pause)
-            pause = min(2 * pause, LONGEST_POLL)
+        with Search(self._path, text) as search:
+            while True:
+                # Before its output: what it wrote at its end counts.
+                has_ended = self.status is not None
+                is_read = search.goes_on(deadline)
+                if search.is_found:
+                    return self._output.text(search.place)
+                if is_read and has_ended or time.monotonic() >= deadline:
+                    where = "the output" if is_read else f"the first {search.place:,} bytes of the output"
+                    when = "" if is_read and has_ended else f" within {seconds_words(within)}"
+                    raise AssertionError(f"no {text!r} in {where}{when}\n{self.shown()}")
+                time.sleep(pause)
+                pause = min(2 * pause, LONGEST_POLL)
 
+    @explained()
     def wait(self, timeout: float) -> int:
         """Waits until it ends by itself, as it may then, and returns its status; TimeoutError after these seconds."""
         __tracebackhide__ = True
@@ -139,6 +160,7 @@ class Program:
             status = self._child.wait(timeout)
         except subprocess.TimeoutExpired:
             raise TimeoutError(f"it goes on after {seconds_words(timeout)}\n{self.shown()}") from None
+        self._guard.release()
         self._may_end = True
         return status
 
@@ -154,7 +176,9 @@ class Program:
                 self._child.wait(timeout)
             except subprocess.TimeoutExpired:
                 self._kill()
-        return self._child.wait()
+        status = self._child.wait()
+        self._guard.release()
+        return status
 
     def _kill(self) -> None:
         try:
@@ -171,14 +195,8 @@ class Program:
     def shown(self) -> str:
         """Returns its words, its status and the end of its output, for a failure."""
         state = "runs" if self.status is None else f"{'stopped, ' if self._is_stopped else ''}status {self.status}"
-        lines = self.output.splitlines()
-        if not lines:
-            return f"{self._name()}: {state}, and no output"
-        more = "" if len(lines) <= LAST_LINES else f"the last {LAST_LINES} of "
-        count = f"{len(lines)} line{'' if len(lines) == 1 else 's'}"
-        return "\n".join(
-            [f"{self._name()}: {state}, {more}{count} of output:", *(f"  {one}" for one in lines[-LAST_LINES:])]
-        )
+        lines = self._output.last_lines(LAST_LINES) or ["and no output"]
+        return "\n".join([f"{self._name()}: {state}, {lines[0]}", *lines[1:]])
 
     def _name(self) -> str:
         return shlex.join(self._words)
@@ -192,6 +210,10 @@ class RunsPrograms:
     _result: Any
     _programs: list[Program]
 
+    def _check_runs(self, what: str) -> None:
+        """ServerError where the server has ended, with what is not possible then."""
+        raise NotImplementedError
+
     def run(self, words: Words, wait: bool = False, **kwargs: Any) -> "subprocess.CompletedProcess[Any]":
         """Runs a program whose CAN sockets are those of this server to its end: ``"cansend can0 123#"``, or a list of words.
 
@@ -201,6 +223,7 @@ class RunsPrograms:
         """
         check_no_shell(kwargs)
         found = words_of(words)
+        self._check_runs("no program can be run on its buses")
         check_program(found[0], kwargs.get("env"), kwargs.get("cwd"))
         return subprocess.run([*self._run_words(wait), *found], **kwargs)
 
@@ -212,9 +235,11 @@ class RunsPrograms:
         program; its output is :attr:`Program.output`.
         """
         check_no_shell(kwargs)
+        taken = next((name for name in ("stdout", "stderr", "capture_output") if name in kwargs), None)
+        if taken is not None:
+            raise ValueError(f"{taken} is the Program's: its `output` is what it writes to both")
         found = words_of(words)
-        if self._result is not None:
-            raise ServerError("the server has ended, and no program can be started on its buses")
+        self._check_runs("no program can be started on its buses")
         check_program(found[0], kwargs.get("env"), kwargs.get("cwd"))
         path = self._folder / f"program{len(self._programs)}"
         program = Program(found, self._run_words(wait), path, may_end, **kwargs)

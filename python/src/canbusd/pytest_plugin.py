@@ -19,6 +19,7 @@ from typing import TYPE_CHECKING, Any, Generator, Protocol, Union
 import pytest
 
 from canbusd._expect.expectations import Expectations
+from canbusd._calls import no_such
 from canbusd._process.program import SET_BY, ProgramNotFound, audited
 from canbusd._process.program_run import FOLDERS, RUNNING
 from canbusd._run import summary
@@ -36,6 +37,10 @@ if TYPE_CHECKING:
 #: The buses of the fixture `canbusd` where no marker names others.
 BUSES = ("can0,can1",)
 FAILED = pytest.StashKey[bool]()
+CALLED = pytest.StashKey[bool]()
+#: Whether a fixture has taken the marker of the test.
+USED = pytest.StashKey[bool]()
+FOR_FIXTURES = "the test takes neither the fixture canbusd nor canbusd_bench"
 PROGRAM = pytest.StashKey[bool]()
 
 
@@ -130,7 +135,11 @@ def pytest_runtest_makereport(item: pytest.Item) -> Generator[None, Any, None]:
 
 @pytest.hookimpl(tryfirst=True)  # type: ignore[misc]
 def pytest_runtest_setup(item: pytest.Item) -> None:
-    """What a server that several tests share has received before a test is nothing that this one expects."""
+    """A test for virtual time needs that, whatever its fixtures are. What a server that several tests share has received
+    before a test is nothing that this one expects."""
+    marker = item.get_closest_marker("canbusd")
+    if marker is not None and marker.kwargs.get("virtual") and not is_virtual():
+        pytest.fail("this test is for virtual time: python3 -m pytest --canbusd-virtual", pytrace=False)
     if is_virtual():
         begin_test(item.nodeid)
     for run in list(RUNNING):
@@ -138,6 +147,28 @@ def pytest_runtest_setup(item: pytest.Item) -> None:
         with contextlib.suppress(Exception):
             if isinstance(run, Expectations) and os.getpid() == run._process:
                 run.expect_from_now()
+
+
+@pytest.hookimpl(trylast=True)  # type: ignore[misc]
+def pytest_runtest_call(item: pytest.Item) -> None:
+    """Keeps that the test was called: one that is skipped uses no fixture."""
+    item.stash[CALLED] = True
+
+
+@pytest.hookimpl(trylast=True)  # type: ignore[misc]
+def pytest_runtest_teardown(item: pytest.Item) -> None:
+    """Warns of a marker of the test itself that was for no fixture; one of its module or class may be for others."""
+    marker = next((mark for mark in item.own_markers if mark.name == "canbusd"), None)
+    if marker is None or (not marker.args and marker.kwargs.keys() == {"virtual"}):
+        return
+    if item.stash.get(CALLED, False) and not item.stash.get(USED, False):
+        item.warn(UnusedMarker(f"{item.nodeid}: {marker_words(marker)} does nothing: {FOR_FIXTURES}"))
+
+
+def marker_words(marker: pytest.Mark) -> str:
+    """A marker as it is written in a test."""
+    words = [*map(repr, marker.args), *(f"{name}={value!r}" for name, value in marker.kwargs.items())]
+    return f"@pytest.mark.canbusd({', '.join(words)})"
 
 
 def new_folder(place: Path, name: str) -> Path:
@@ -152,6 +183,10 @@ def new_folder(place: Path, name: str) -> Path:
 
 class UnusedRule(pytest.PytestWarning):
     """A rule of faults, such as `next 1 id 7FE lastbit`, gave no verdict in a test: what it was for never happened."""
+
+
+class UnusedMarker(pytest.PytestWarning):
+    """A marker `canbusd` of a test that uses neither the fixture `canbusd` nor `canbusd_bench`: it does nothing."""
 
 
 class StartsServer(Protocol):
@@ -327,16 +362,15 @@ def _canbusd_runs(request: pytest.FixtureRequest, tmp_path_factory: pytest.TempP
 
 def marked(request: pytest.FixtureRequest, kind: Callable[..., object]) -> tuple[tuple[str, ...], dict[str, Any]]:
     """The buses and the options of the test's marker, those that the kind of run has."""
+    request.node.stash[USED] = True
     marker = request.node.get_closest_marker("canbusd")
     if marker is None:
         return BUSES, {}
-    options = dict(marker.kwargs)
-    if options.pop("virtual", False) and not is_virtual():
-        pytest.fail("this test is for virtual time: python3 -m pytest --canbusd-virtual", pytrace=False)
+    options = {name: value for name, value in marker.kwargs.items() if name != "virtual"}
     known = [name for name, one in inspect.signature(kind).parameters.items() if one.kind is one.KEYWORD_ONLY]
     unknown = next((name for name in options if name not in known), None)
     if unknown is not None:
-        raise refused(request, f"there is no option {unknown}; there are {', '.join(known)} and virtual")
+        raise refused(request, f"there is {no_such('option', unknown, [*known, 'virtual'])}")
     return tuple(marker.args) or BUSES, options
 
 
@@ -355,8 +389,7 @@ def refused(request: pytest.FixtureRequest, fault: str) -> BaseException:
     """What fails the test for what its marker says."""
     marker = request.node.get_closest_marker("canbusd")
     if marker is not None:
-        words = [*map(repr, marker.args), *(f"{name}={value!r}" for name, value in marker.kwargs.items())]
-        fault = f"@pytest.mark.canbusd({', '.join(words)}): {fault}"
+        fault = f"{marker_words(marker)}: {fault}"
     return pytest.fail.Exception(fault, pytrace=False)
 
 

@@ -6,11 +6,13 @@
 The program says what each entry of a record brought about, and refuses one that is not legal.
 """
 
+import contextlib
 import functools
 import os
+import re
 from collections.abc import Iterable, Sequence
 from dataclasses import dataclass, field
-from typing import Optional, Union
+from typing import BinaryIO, Literal, Optional, Union, cast
 
 from canbusd._process.rates import Rates
 from canbusd._run.events import BadRecord, Events
@@ -24,6 +26,10 @@ from canbusd.replay import UNKNOWN, Replay
 __all__ = ["Attempt", "BadRecord", "Item", "Record", "audit", "fault_named", "parse_record", "read_record"]
 
 Path = Union[str, "os.PathLike[str]"]
+Outcome = Literal["done", "lastbit", "destroyed", "noack", "idle"]
+Fate = Literal["taken", "waiting", "unread", "dropped"]
+# How records begin, and how many bytes of one that does not are shown to the program.
+BEGINNING, LINE = re.compile(b"canbus record [1-5]\n"), 256
 
 
 @dataclass(frozen=True)
@@ -39,7 +45,7 @@ class Attempt:
     #: The frame in candump's spelling, such as `123#1122`.
     frame: str
     #: `done`, or `lastbit`, `destroyed` or `noack`, after which the frame is sent again; `idle` without a winner.
-    outcome: str
+    outcome: Outcome
     #: The fault of the attempt, in the words of a fault script: `good`, `global bit`, `local crc can1`.
     fault: str
     #: The interfaces that accepted the frame.
@@ -62,7 +68,7 @@ class Item:
     #: None of a dropped item where it may have been the frame or an error message frame.
     frame: Optional[Frame]
     #: `taken`, `waiting` at the end of the run, `unread` when the socket was closed, or `dropped` for want of room.
-    fate: str
+    fate: Fate
 
 
 @dataclass(frozen=True)
@@ -98,7 +104,8 @@ class Record(Bus):
         text = run.texts.all[error or steps.frames[step]]
         frame = None if text == UNKNOWN else Frame.parse(text, float(moment_of(steps.moments[step])))
         iface = run.sockets[socket].iface
-        return Item(self.names[iface], socket, self.names[iface if error else steps.ifaces[step]], frame, FATES[fate])
+        sender = self.names[iface if error else steps.ifaces[step]]
+        return Item(self.names[iface], socket, sender, frame, cast(Fate, FATES[fate]))
 
 
 def attempts_of(run: Replay, names: Sequence[str], first: int = 0) -> list[Attempt]:
@@ -130,7 +137,7 @@ def attempt_at(run: Replay, names: Sequence[str], place: int, restarted: Sequenc
         names[steps.ifaces[place]],
         steps.numbers[place],
         steps.text(place),
-        KINDS[steps.kinds[place]],
+        cast(Outcome, KINDS[steps.kinds[place]]),
         fault_named(steps.verdict(place), names),
         named(numbers_in(steps.accepted[place]), names),
         named(numbers_in(steps.off[place]), names),
@@ -154,8 +161,21 @@ def read_record(
     does, and its entries are those whose lines are whole. With the bit rates of its bus its steps have the time on the
     wire.
     """
+    check_no_log(path)
     with open(path, "rb") as file:
+        check_beginning(file)
         return parse_record(file.read(), path, names, cut, rates)
+
+
+def check_no_log(path: Path) -> None:
+    """BadRecord where this is a log, with the record beside it; what is no file is left to the program."""
+    if os.path.isfile(os.fspath(path)):
+        with open(path, "rb") as file:
+            is_log = file.read(1) == b"("
+        if is_log:
+            record = os.path.splitext(path)[0] + ".rec"
+            beside = f"its record is {record}" if os.path.exists(record) else "it has no record beside it"
+            raise BadRecord(f"a log is no record: {beside}")
 
 
 def parse_record(
@@ -172,8 +192,23 @@ def parse_record(
 
 def read_run(path: Path, names: Optional[Sequence[str]], cut: bool, rates: Optional[Rates]) -> Record:
     """Returns the record in this file, as read_record does, but without its text, which may be large."""
-    with open(path, "rb") as file, Events(cut, rates, file) as events:
-        return record_of(events.texts_of_file(), b"", path, names, rates)
+    check_no_log(path)
+    with open(path, "rb") as file:
+        check_beginning(file)
+        with Events(cut, rates, file) as events:
+            return record_of(events.texts_of_file(), b"", path, names, rates)
+
+
+def check_beginning(file: BinaryIO) -> None:
+    """BadRecord where a file begins as no record does: the program would read all of it before it says so."""
+    try:
+        text = os.pread(file.fileno(), LINE, 0)
+    except OSError:
+        # A pipe, whose beginning can't be read twice.
+        return
+    if not BEGINNING.match(text):
+        with Events(cut=True) as events, contextlib.suppress(StopIteration):
+            next(events.texts(text))
 
 
 def record_of(

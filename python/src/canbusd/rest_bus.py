@@ -12,9 +12,11 @@ import functools
 import os
 import threading
 from collections.abc import Callable, Iterable, Iterator, Mapping, Sequence
+from numbers import Real
 from types import TracebackType
 from typing import NamedTuple, Optional, TypeVar, Union
 
+from canbusd._calls import NamesWhatThereIs, explained
 from canbusd._database.formats import DatabaseError, MessageFormat, Value
 from canbusd._restbus.nodes import has, is_sendable, phases_of, sender
 from canbusd._restbus.schedule import MICROS, Schedule, micros
@@ -52,7 +54,7 @@ class Outgoing:
         self._data: Optional[bytes] = None
         #: The name of the message.
         self.name = message.name
-        #: How many of it were sent before.
+        #: How many of it were sent before; a frame that the bus refused was not.
         self.count = count
 
     def __getitem__(self, signal: str) -> Value:
@@ -73,8 +75,28 @@ class Outgoing:
         self._data = bytes(data)
 
 
-class RestMessage:
+def checked_row(row: object) -> tuple[int, Value]:
+    """The moment of a row of a table, in microseconds, and its value; ValueError where it is no such pair."""
+    if not isinstance(row, (tuple, list)) or len(row) != 2 or not isinstance(row[0], Real) or row[0] < 0:
+        raise ValueError(f"a table has pairs of seconds and values, such as [(0.0, 800), (1.5, 3000)], not {row!r}")
+    return micros(float(row[0])), row[1]
+
+
+def checked_rows(table: object) -> list[tuple[int, Value]]:
+    """The rows of a table in the order of their moments."""
+    rows = list(table) if isinstance(table, Iterable) and not isinstance(table, (str, Mapping)) else [table]
+    return sorted(map(checked_row, rows), key=lambda row: row[0])
+
+
+class RestMessage(NamesWhatThereIs):
     """A message that a rest bus sends."""
+
+    # A signal is no attribute, also where one is set.
+    __slots__ = (
+        "_accepted", "_cycle", "_frame", "_function", "_phase", "_refused", "_rest", "_run", "_skipped", "_tables", "_tick",
+        "_values", "format", "interface", "is_running",
+    )  # fmt: skip
+    _INSTEAD = {"*": "a signal is message['EngineSpeed'], and what the file says is in message.format"}
 
     def __init__(self, rest: "RestBus", message: MessageFormat, interface: str, phase: int) -> None:
         self._rest, self._phase = rest, phase
@@ -85,7 +107,7 @@ class RestMessage:
         self._tick: Callable[[int], None] = functools.partial(self._send_due, 0)
         # The number of the run, by which what was due in an earlier one is known; and of the table of each signal.
         self._run, self._tables = 0, dict[str, int]()
-        self._sent = self._accepted = self._refused = self._skipped = 0
+        self._accepted = self._refused = self._skipped = 0
         #: What the file says of it.
         self.format = message
         #: The interface by which it is sent.
@@ -104,8 +126,11 @@ class RestMessage:
     def __setitem__(self, signal: str, value: Value) -> None:
         self.set({signal: value})
 
+    @explained("values are a dict, such as {'EngineSpeed': 800}")
     def set(self, values: Mapping[str, Value]) -> None:
         """Sets signals, from the next frame on; DatabaseError where one can't have its value, and then none has."""
+        if not isinstance(values, Mapping):
+            raise ValueError(f"values are a dict of signals, such as {{'EngineSpeed': 800}}, not {values!r}")
         with self._rest.changing():
             wanted = {**self._values, **values}
             self._frame = frame_of(self.format, self.format.encode(wanted, is_strict=False))
@@ -114,7 +139,7 @@ class RestMessage:
     def play(self, signal: str, table: Iterable[tuple[float, Value]]) -> None:
         """Sets a signal by a table: each value at its moment, in seconds from now, until the next; in place of an earlier
         table of the signal."""
-        rows = sorted(((micros(moment), value) for moment, value in table), key=lambda row: row[0])
+        rows = checked_rows(table)
         for _, value in rows:
             self._check(signal, value)
         with self._rest.changing() as schedule:
@@ -125,6 +150,8 @@ class RestMessage:
 
     def on_send(self, function: Optional[Callable[[Outgoing], None]]) -> None:
         """Has this function called before each frame, to set counters and checksums in it."""
+        if function is not None and not callable(function):
+            raise ValueError(f"a function is called before each frame, or None ends that, not {function!r}")
         with self._rest.changing():
             self._function = function
 
@@ -177,15 +204,17 @@ class RestMessage:
         """The frame that is sent next."""
         frame = self._frame
         if self._function is not None:
-            outgoing = Outgoing(self.format, self._values, self._sent)
+            outgoing = Outgoing(self.format, self._values, self._accepted)
             self._function(outgoing)
             frame = frame_of(self.format, outgoing.data)
-        self._sent += 1
         return frame
 
 
-class RestNode:
+class RestNode(NamesWhatThereIs):
     """A node that a rest bus simulates. A signal that several of its messages have is named as `EngineData.Counter`."""
+
+    __slots__ = ("messages", "name")
+    _INSTEAD = {"*": "a signal is node['EngineSpeed']"}
 
     def __init__(self, name: str, messages: Sequence[RestMessage]) -> None:
         self.name, self.messages = name, messages
@@ -228,8 +257,14 @@ class RestNode:
         raise DatabaseError(f"{self.name} sends no {signal}; it sends {', '.join(names) or 'nothing'}", signal=name)
 
 
-class RestBus:
+class RestBus(NamesWhatThereIs):
     """What rest buses share: nodes and messages by their names, values, and what is due when."""
+
+    _INSTEAD = {
+        **dict.fromkeys(("set", "get"), "a signal is rest['Engine']['EngineSpeed']"),
+        "run": "that of a server sends in its with block by itself, only that of a bench has run",
+        "*": "a node is rest['Engine'], a message rest.message('EngineData')",
+    }
 
     def __init__(self, database: Database, interfaces: Mapping[str, str]) -> None:
         self._lock = threading.RLock()
@@ -272,6 +307,7 @@ class RestBus:
         """
         self.message(message).on_send(function)
 
+    @explained("values are a dict, such as {'EngineSpeed': 800}")
     def send(self, message: str, values: Optional[Mapping[str, Value]] = None) -> None:
         """Sends one frame of a message now, as an event does, with these values, which stay."""
         self.message(message).send(values)

@@ -25,6 +25,20 @@ NUMBER = re.compile("[0-9]{1,8}")
 WORD = re.compile("[0-9A-Fa-f]{1,8}")
 NAMES = f"{NAME.pattern}(?:,{NAME.pattern})*"
 VERDICT = re.compile(f"good|lastbit|global (?:bit|form)|local (?:stuff|crc|form) {NAMES}")
+# What may be meant by the first word of a verdict that is none.
+MEANT = {
+    "bit": "global bit",
+    "crc": "local crc NAMES",
+    "destroyed": "global bit",
+    "form": "global form",
+    "interface": "from NAMES",
+    "last": "lastbit",
+    "last_bit": "lastbit",
+    "local": "local crc NAMES",
+    "mask": "id 123:700",
+    "sender": "from NAMES",
+    "stuff": "local stuff NAMES",
+}
 
 
 @dataclass(frozen=True)
@@ -91,10 +105,18 @@ def parse_rule(text: str) -> Rule:
         verdict = " ".join(words)
         if not VERDICT.fullmatch(verdict):
             known = "good, lastbit, global bit, global form, or local stuff, crc or form and names"
-            raise ValueError(f"its verdict is {known}, not {verdict!r}")
+            raise ValueError(f"its verdict is {known}, not {verdict!r}{meant_by(words)}")
     except ValueError as fault:
         raise ValueError(f"rule {shown(text)!r}: {fault}") from None
     return Rule(count, verdict, senders, identifier, skip or 0)
+
+
+def meant_by(words: Sequence[str]) -> str:
+    """What may be meant by words that are no verdict, as a question; the empty text where nothing is."""
+    if "" in words and len(words) > 1:
+        return "; its words are parted by one space"
+    found = MEANT.get(words[0]) if words else None
+    return f" ({found}?)" if found else ""
 
 
 def taken(words: list[str], word: str) -> bool:

@@ -13,16 +13,19 @@ import select
 import subprocess
 import threading
 import time
-from collections.abc import Mapping, Sequence
+from collections.abc import Iterable, Mapping, Sequence
 from pathlib import Path
 from typing import TYPE_CHECKING, Any, NamedTuple, Optional, Union
 
+import canbusd
+from canbusd._calls import NamesWhatThereIs, explained
 from canbusd._expect.expectations import Expectations
 from canbusd._expect.observer import Observer, observed_by_default
 from canbusd._process.program import ServerError as ServerError, audited
-from canbusd._process.program_run import RUNNING, ProgramRun, option_words, rate_words, rates_of
-from canbusd._process.serve_words import bus_words, record_options
+from canbusd._process.program_run import RUNNING, Ack, ProgramRun, option_words, rates_of
+from canbusd._process.serve_words import Recorded, bus_words, record_options
 from canbusd._restbus.simulated_nodes import SimulatesNodes
+from canbusd._restbus.nodes import database_of
 from canbusd._run.live import LiveLog, LiveRecord, left_by
 from canbusd._run.log import read_log
 from canbusd._session.address import parse_address, reason_of
@@ -33,7 +36,7 @@ from canbusd.faults import Script, rules_of
 from canbusd.programs import Program, RunsPrograms
 from canbusd.record import Attempt, Record, read_record
 from canbusd.rules import check_rules
-from canbusd.signals import Database, load_database
+from canbusd.signals import Database
 from canbusd.virtual import note_rate
 
 if TYPE_CHECKING:
@@ -46,6 +49,8 @@ START, END = 10.0, 60.0
 ENTRIES = re.compile(r"bus (\S+) entries (\d+)")
 # What it says of a bus whose record is full.
 FULL = re.compile(r"bus (\S+): record full")
+#: What ends it, with the calls that do only where logs and records are written at the end.
+ENDED_BY = "stop(), {}audit(), report() and its with block end it"
 #: How many buses a server has at most.
 MOST_BUSES = 16
 
@@ -66,7 +71,7 @@ class Result(NamedTuple):
     entries: dict[str, int]
 
 
-class Server(Expectations, SimulatesNodes, RunsPrograms, ProgramRun):
+class Server(Expectations, SimulatesNodes, RunsPrograms, ProgramRun, NamesWhatThereIs):
     """`canbusd serve` with these buses, each the names of its interfaces: ``Server("can0,can1", "car0")``.
 
     The options are those of the program. ``faults`` is a script for the one bus there is (:class:`canbusd.Faults`, a
@@ -75,28 +80,41 @@ class Server(Expectations, SimulatesNodes, RunsPrograms, ProgramRun):
     while the server runs, ``flush`` milliseconds (100) after each call, and :meth:`log`, :meth:`record` and
     :meth:`attempts` return what is there; with ``record="none"`` logs are, and there is no record. Then a run may go
     on for weeks, and ``limit`` (1,000,000 entries) is not given. With a ``bitrate`` attempts take the time of their
-    bits, in place of ``pace_ms``; with a ``dbitrate`` FD frames with ``bitrate_switch`` go on at that for their data.
+    bits, in place of ``pace_ms``; with a ``data_bitrate``, which may be called ``dbitrate`` too, FD frames with
+    ``bitrate_switch`` go on at that for their data.
     ``observe`` names the interfaces whose frames :meth:`expect` looks at, by default all, or the first of each bus where
     there are more than 8; without any, ``observe=()``, the record has nothing of it. ``database``, a file or what
     load_database returns, has the names of messages and signals that are expected. The server runs when the constructor returns,
     and is ended by :meth:`stop`, by the end of a ``with`` block, and by the end of this process, even by a crash.
     """
 
+    _INSTEAD = {
+        **{name: f"the fixture `canbusd` hides the module; `from canbusd import {name}`" for name in canbusd.__all__},
+        "load": "server.bus('can0').load()",
+        "receive": "server.bus('can0').recv(timeout=1), or expect(..)",
+        "recv": "server.bus('can0').recv(timeout=1), or expect(..)",
+        "restart": "server.bus('can0').restart()",
+        "send": "server.bus('can0').send(can.Message(..))",
+        "stats": "server.bus('can0').stats()",
+    }
+
+    @explained()
     def __init__(
         self,
         *buses: str,
         faults: Union[Script, Mapping[str, Script], None] = None,
-        ack: str = "always",
+        ack: Ack = "always",
         report: bool = False,
         auto_restart: int = 0,
         bitrate: Optional[int] = None,
+        data_bitrate: Optional[int] = None,
         dbitrate: Optional[int] = None,
         pace_ms: int = 1,
         write_bytes: int = 16_384,
         txqueue: int = 10,
         rxqueue: int = 256,
         limit: Optional[int] = None,
-        record: str = "end",
+        record: Recorded = "end",
         flush: Optional[int] = None,
         sync: bool = False,
         out: Union[str, "os.PathLike[str]", None] = None,
@@ -111,24 +129,32 @@ class Server(Expectations, SimulatesNodes, RunsPrograms, ProgramRun):
         options, numbers = record_options(record, limit, flush, sync)
         numbers.update(auto_restart=auto_restart, pace_ms=pace_ms, write_bytes=write_bytes)
         options += option_words(ack, report, txqueue=txqueue, rxqueue=rxqueue, **numbers)
-        options += rate_words(bitrate, dbitrate)
+        self._rates = rates_of(bitrate, data_bitrate, dbitrate)
+        options += self._rates.words if self._rates else []
         note_rate(bitrate)
-        named = observe.split(",") if isinstance(observe, str) and observe else observe
-        self.database = load_database(database) if isinstance(database, (str, os.PathLike)) else database
+        self.database = None if database is None else database_of(database)
         super().__init__(out)
         self._txqueue = txqueue
-        self._rates = rates_of(bitrate, dbitrate)
         self._by_bus = bus_words(buses, faults, self._folder)
         self._prepare(record)
-        self._observed = observed_by_default(self._names()) if named is None else list(dict.fromkeys(named))
-        for name in self._observed:
-            self._first(name)
+        self._observed = self._observed_of(observe)
         words = ["--until-eof", "--listen", listen, *options, "--out", str(self._out)]
         self._start("serve", *words, "--", *(bus[-1] for bus in self._by_bus.values()))
         #: Where clients connect: HOST:PORT, or a Unix path.
         self.address = self._listening()
         if self._observed:
             self._observing()
+
+    def _observed_of(self, observe: Union[str, Sequence[str], None]) -> list[str]:
+        """The interfaces whose frames count; ValueError where one is none of the server."""
+        if observe is None:
+            return observed_by_default(self._names())
+        if not isinstance(observe, Iterable):
+            raise ValueError(f"observe is the names of interfaces, such as 'can0,can1', or (), not {observe!r}")
+        named = observe.split(",") if isinstance(observe, str) and observe else observe
+        for name in named:
+            self._first(name, "observe")
+        return list(dict.fromkeys(named))
 
     def _prepare(self, record: str) -> None:
         """What is known of the run before it begins."""
@@ -151,6 +177,7 @@ class Server(Expectations, SimulatesNodes, RunsPrograms, ProgramRun):
         """The names of all interfaces, in the order of the buses."""
         return [name for bus in self._by_bus.values() for name in bus[:-1]]
 
+    @explained()
     def bus(self, channel: str, **kwargs: Any) -> "CanbusdBus":
         """Returns a bus of python-can on the interface of this name; the arguments are those of CanbusdBus."""
         import canbusd._python_can  # noqa: F401  it says what is missing, so it comes first
@@ -161,13 +188,12 @@ class Server(Expectations, SimulatesNodes, RunsPrograms, ProgramRun):
         if channel not in self.interfaces:
             raise CanInitializationError(f"{channel}: no such interface; the server has {', '.join(self.interfaces)}")
         if self._result is not None:
-            raise CanInitializationError(
-                f"{channel}: the server has ended; stop(), {self._ends_too}audit(), report() and its with block end it"
-            )
+            raise CanInitializationError(f"{channel}: the server has ended; {ENDED_BY.format(self._ends_too)}")
         bus = CanbusdBus(channel, address=self.address, **kwargs)
         bus.window = self._txqueue
         return bus
 
+    @explained()
     def inject(self, faults: Script, interface: Optional[str] = None) -> None:
         """Gives a bus these rules of faults while it runs, after those that it has, from the next attempt on.
 
@@ -257,7 +283,7 @@ class Server(Expectations, SimulatesNodes, RunsPrograms, ProgramRun):
         if self._record_when == "live":
             return self._records[first].attempts()
         if self._result is None:
-            raise ServerError('what was attempted is known while the server runs with record="live", else after stop()')
+            raise ServerError('attempts are known while the server runs with record="live", else after stop()')
         return self.record(name).attempts
 
     def audit(self) -> dict[str, str]:
@@ -285,17 +311,28 @@ class Server(Expectations, SimulatesNodes, RunsPrograms, ProgramRun):
         rules = deciders(record, faults) if faults else []
         return write_page(record, path, rules, self._rates, self.database)
 
+    def _check_runs(self, what: str) -> None:
+        """ServerError where the server has ended, with what is not possible then."""
+        if self._result is not None:
+            by = "" if self._result.status < 0 else f"; {ENDED_BY.format(self._ends_too)}"
+            raise ServerError(f"the server {'has ended' if by else 'was killed'}: {what}{by}")
+        status = self._child.poll()
+        if status is not None:
+            raise ServerError(
+                f"the server has crashed, with status {status}: {what}{f'; {self.said}' if self.said else ''}"
+            )
+
     def _rule_session(self, first: str) -> RuleSession:
         """A session for the rules of the bus with this first interface."""
-        if self._result is not None:
-            raise ServerError("the server has ended, and its rules with it")
+        self._check_runs("its rules have ended with it")
         try:
             return RuleSession(self.address, first)
         except (OSError, SessionRefused) as fault:
             raise ServerError(f"no session on {first}: {reason_of(fault)}") from None
 
     def _observing(self) -> Observer:
-        """The sessions of the server's own."""
+        """The sessions of the server's own; ServerError once it has ended."""
+        self._check_runs("nothing can be expected of it")
         if self._observer is None:
             # Without the server itself, whose files go with it.
             full = functools.partial(full_record, self._folder / "stderr", self._by_bus)
@@ -307,12 +344,16 @@ class Server(Expectations, SimulatesNodes, RunsPrograms, ProgramRun):
         return [bus[:-1] for bus in self._by_bus.values()]
 
     def _shown(self, signals: Sequence[str] = ()) -> str:
+        try:
+            seen = super()._shown(signals)
+        except ServerError as fault:
+            seen = f"\n{fault}"
         if self._record_when == "end":
-            return super()._shown(signals)
+            return seen
         from canbusd._run.summary import end_of_log
 
         logs = [line for name in self._by_bus for line in end_of_log(self._out / f"{name}.log")]
-        return "\n".join([super()._shown(signals), *logs])
+        return "\n".join([seen, *logs])
 
     def expect_from_now(self) -> None:
         if self._result is None and self._observer is not None:
@@ -330,7 +371,7 @@ class Server(Expectations, SimulatesNodes, RunsPrograms, ProgramRun):
             raise ValueError(f"the server has {len(found)} buses: name an interface, as {example}")
         if not found:
             known = ", ".join(self.interfaces)
-            raise ValueError(f"{what} is that of an interface of the server, one of {known}, not {name!r}")
+            raise ValueError(f"{what} is an interface of the server, one of {known}, not {name!r}")
         return found[0]
 
     def _recorded(self, name: Optional[str]) -> str:

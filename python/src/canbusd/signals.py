@@ -14,12 +14,18 @@ import os
 from collections.abc import Callable, Iterable, Iterator, Mapping
 from typing import Any, NamedTuple, Optional, Union
 
+from canbusd._calls import NamesWhatThereIs, explained
+from canbusd._database.dbc_lines import LineFault, check_numbers, is_dbc, refused_line
 from canbusd._database.formats import DatabaseError as DatabaseError
 from canbusd._database.formats import MessageFormat, Signal, Value as Value
 from canbusd._text import times
 from canbusd.frames import FD_LENGTHS, BadFrame, Frame, MessageLike
 
 HOW_TO_GET = "pip install cantools, or apt-get install python3-canmatrix"
+#: How a library reads a file.
+Reader = Callable[[str], Iterator[MessageFormat]]
+#: Of how many values of a multiplexer cantools makes a list.
+MOST_VALUES = 65_536
 #: The libraries that read files, in the order in which they are looked for, and the modules that know how.
 READERS = {"cantools": "canbusd._database.from_cantools", "canmatrix": "canbusd._database.from_canmatrix"}
 
@@ -44,11 +50,18 @@ class Decoded(NamedTuple):
         return f"{self.message}: {self.fault or ', '.join(map(str, self.signals))}"
 
 
-class Database:
+class Database(NamesWhatThereIs):
     """The messages of files, by their identifiers and names; `str()` of it shows all of them.
 
     DatabaseError where two messages have one name or one identifier, and are not the same.
     """
+
+    _INSTEAD = {
+        **dict.fromkeys(("get_message_by_name", "get_message_by_frame_id"), "message('EngineData')"),
+        **dict.fromkeys(("signals", "signal"), "message('EngineData').signals"),
+        "encode_message": "encode('EngineData', {..})",
+        "decode_message": "decode(frame)",
+    }
 
     def __init__(self, messages: Iterable[MessageFormat]) -> None:
         self._by_name: dict[str, MessageFormat] = {}
@@ -57,8 +70,16 @@ class Database:
             frame = one.identifier, one.is_extended
             for other in (self._by_name.get(one.name), self._by_frame.get(frame)):
                 if other is not None and (other.name, other.identifier, other.is_extended) != (one.name, *frame):
-                    raise DatabaseError(f"{one.path}: {one} is in the way of {other}", one.path, one.name)
+                    raise DatabaseError(f"{one.place()}: {one} is in the way of {other}", one.path, one.name)
             self._by_name[one.name] = self._by_frame[frame] = one
+
+    def with_more(self, other: "Database") -> "Database":
+        """Returns these messages and those of another; where one of that has a name or an identifier of these, it is left out."""
+        more = [one for one in other.messages if not self._has(one)]
+        return Database([*self.messages, *more]) if more else self
+
+    def _has(self, one: MessageFormat) -> bool:
+        return one.name in self._by_name or (one.identifier, one.is_extended) in self._by_frame
 
     @property
     def messages(self) -> list[MessageFormat]:
@@ -100,8 +121,11 @@ class Database:
         except Exception as fault:
             return Decoded(message.name, (), f"{fault}")
 
+    @explained("values are a dict, such as {'EngineSpeed': 800}")
     def encode(self, name: str, values: Mapping[str, Value]) -> Frame:
         """Returns the frame of this message with these values: numbers, their names, or texts of them."""
+        if not isinstance(values, Mapping):
+            raise ValueError(f"values are a dict of signals, such as {{'EngineSpeed': 800}}, not {values!r}")
         message = self.message(name)
         return frame_of(message, message.encode(values))
 
@@ -124,11 +148,13 @@ def frame_of(message: MessageFormat, data: bytes) -> Frame:
     try:
         return Frame(message.identifier, data, message.is_extended, is_fd=message.is_fd)
     except BadFrame as fault:
-        raise DatabaseError(f"{message.path}: message {message.name}: {fault}", message.path, message.name) from None
+        raise DatabaseError(f"{message.place()}: message {message.name}: {fault}", message.path, message.name) from None
 
 
 def load_database(*paths: Union[str, "os.PathLike[str]"], library: Optional[str] = None) -> Database:
     """Returns the messages of these files; `library` is cantools or canmatrix, else the first that is installed."""
+    if not paths:
+        raise ValueError("load_database needs the path of a file, such as load_database('car.dbc')")
     name, messages_in = installed(library)
     messages: list[MessageFormat] = []
     for path in (os.fspath(path) for path in paths):
@@ -136,10 +162,11 @@ def load_database(*paths: Union[str, "os.PathLike[str]"], library: Optional[str]
         open(path, "rb").close()
         # Those of the libraries are of many kinds.
         try:
+            if is_dbc(path):
+                check_numbers(path, MOST_VALUES if name == "cantools" else None)
             found = list(messages_in(path))
         except Exception as fault:
-            text = f"{path}: {name} can't read it: {str(fault) or type(fault).__name__}"
-            raise DatabaseError(text, path) from None
+            raise refusal(path, name, messages_in, fault) from None
         if not found:
             raise DatabaseError(f"{path}: {name} finds no message in it, so it is no database", path)
         for message in found:
@@ -148,7 +175,26 @@ def load_database(*paths: Union[str, "os.PathLike[str]"], library: Optional[str]
     return Database(messages)
 
 
-def installed(library: Optional[str]) -> tuple[str, Callable[[str], Iterator[MessageFormat]]]:
+def refusal(path: str, library: str, read: Reader, fault: Exception) -> DatabaseError:
+    """The fault of a file that can't be read, of a DBC file with the line, which the libraries don't always say."""
+    place, said = path, str(fault) or type(fault).__name__
+
+    def is_refused(beginning: str) -> bool:
+        try:
+            list(read(beginning))
+        except Exception as other:
+            return str(other) == str(fault)
+        return False
+
+    if is_dbc(path) and not isinstance(fault, LineFault):
+        line = refused_line(path, is_refused)
+        fault, said = line, f"{line}: {said}"
+    if isinstance(fault, LineFault):
+        place = f"{path}:{fault.line}"
+    return DatabaseError(f"{place}: {library} can't read it: {said}", path)
+
+
+def installed(library: Optional[str]) -> tuple[str, Reader]:
     """The library that reads files, and how it does."""
     # Else canmatrix writes on standard error which of its formats it lacks.
     logging.getLogger("canmatrix").addHandler(logging.NullHandler())

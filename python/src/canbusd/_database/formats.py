@@ -12,6 +12,7 @@ from decimal import Decimal, InvalidOperation
 from functools import cached_property
 from typing import NamedTuple, Optional, Union
 
+from canbusd._database.dbc_lines import is_dbc, line_of
 from canbusd.frames import FD_LENGTHS
 
 #: What a signal has: a number, or the name of one.
@@ -21,6 +22,8 @@ Raw = Union[int, float]
 #: A part of the name of a send type, in lower case, that says that a message goes by an event, not by its cycle time.
 EVENTS = ("event", "spontan", "trigger", "change", "write", "ifactive")
 PERIODS = ("cycl", "period")
+#: Above this a number has no digits after its point, and is a float.
+MOST_WHOLE = Decimal(10) ** 28
 #: The form of a float by how many bits it has, as struct has them.
 FLOATS = {16: "<e", 32: "<f", 64: "<d"}
 
@@ -192,6 +195,11 @@ class MessageFormat:
     #: The file.
     path: str = field(default="", compare=False)
 
+    def place(self, signal: str = "") -> str:
+        """Returns where it is: its file, of a DBC file with its line, or that of a signal of it."""
+        line = line_of(self.path, self.identifier, self.name, signal) if is_dbc(self.path) else 0
+        return f"{self.path}:{line}" if line else self.path
+
     @property
     def is_cyclic(self) -> bool:
         """Whether it is sent by its cycle time: where it has one, unless its send type says that an event sends it."""
@@ -236,7 +244,7 @@ class MessageFormat:
             return bits.to_bytes(self.size, "little")
         except OverflowError as fault:
             # A float that is too large.
-            raise DatabaseError(f"{self.path}: message {self.name}: {fault}", self.path, self.name) from None
+            raise DatabaseError(f"{self.place()}: message {self.name}: {fault}", self.path, self.name) from None
 
     def present(self, raw: Mapping[str, Raw]) -> list[SignalFormat]:
         """Returns the signals that are there, where the multiplexers have these numbers."""
@@ -278,6 +286,8 @@ class MessageFormat:
                 raise self._fault(signal, fault)
             if signal.is_float and len(signal.bits) not in FLOATS:
                 raise self._fault(signal, f"is a float of {len(signal.bits)} bits")
+            if not all(number.is_finite() for number in (signal.factor, signal.offset, signal.raw_start)):
+                raise self._fault(signal, "has a factor, an offset or a start value that is no number")
             if not signal.factor:
                 raise self._fault(signal, "has the factor 0, so its value can't be chosen")
             if signal.multiplexer and signal.multiplexer not in {one.name for one in self.signals}:
@@ -295,7 +305,7 @@ class MessageFormat:
                 owners.update(dict.fromkeys(signal.bits, signal.name))
 
     def _fault(self, signal: SignalFormat, text: str) -> DatabaseError:
-        said = f"{self.path}: message {self.name}: signal {signal.name} {text}"
+        said = f"{self.place(signal.name)}: message {self.name}: signal {signal.name} {text}"
         return DatabaseError(said, self.path, self.name, signal.name)
 
     def __str__(self) -> str:
@@ -331,6 +341,8 @@ def named(nodes: Optional[Sequence[object]]) -> tuple[str, ...]:
 
 def plain(value: Union[int, float, Decimal]) -> Union[int, float]:
     """Returns a number as one of Python, whole where it is."""
+    if isinstance(value, Decimal):
+        return int(value) if abs(value) < MOST_WHOLE and value == value.to_integral_value() else float(value)
     return int(value) if value == value // 1 else float(value)
 
 

@@ -1,5 +1,6 @@
 """Files of databases, read by canmatrix."""
 
+import ast
 import contextlib
 import importlib
 import importlib.util
@@ -9,11 +10,12 @@ from collections.abc import Iterator
 from decimal import Decimal
 from typing import Any
 
+from canbusd._database.dbc_lines import LineFault, lines_of
 from canbusd._database.formats import DatabaseError, MessageFormat, Raw, SignalFormat, bits_of, limits, named
 from canbusd._text import shown
 
 # What canmatrix prints where it leaves a line of a DBC file out.
-LEFT_OUT = re.compile(r"error with line no: ([0-9]+)\nb['\"]?(.*?)(?:\\r)?(?:\\n)?['\"]?$", re.M)
+LEFT_OUT = re.compile(r"^error with line no: [0-9]+\n(b.*)$", re.M)
 
 # The files that canmatrix reads by lxml, without which it knows nothing of them.
 OF_LXML = (".arxml", ".kcd", ".xml")
@@ -25,9 +27,11 @@ def messages_in(path: str) -> Iterator[MessageFormat]:
     printed = io.StringIO()
     with contextlib.redirect_stdout(printed):
         matrices = formats.loadp(path)
-    line = LEFT_OUT.search(printed.getvalue())
-    if line:
-        raise DatabaseError(f"line {line[1]}: {shown(line[2].strip())}")
+    left_out = LEFT_OUT.search(printed.getvalue())
+    if left_out:
+        # Its number is wrong after a line of values.
+        number = next((number for number, line in lines_of(path) if repr(line) == left_out[1]), 0)
+        raise LineFault(number, shown(ast.literal_eval(left_out[1]).decode("latin-1").strip()))
     if not matrices:
         needs_lxml = path.lower().endswith(OF_LXML) and importlib.util.find_spec("lxml") is None
         raise DatabaseError(f"no such format{'; it needs lxml (apt-get install python3-lxml)' if needs_lxml else ''}")

@@ -13,11 +13,12 @@ import time
 from collections.abc import Callable, Sequence
 from typing import TYPE_CHECKING, Any, Optional, TypeVar, Union
 
+from canbusd._calls import explained
 from canbusd._expect.frame_matcher import Wanted
 from canbusd._expect.supervision import Supervision
 from canbusd._session.arguments import check_within
 from canbusd._session.connection import LONGEST_POLL, POLL
-from canbusd._session.protocol import STATES, ErrorCounters, Stats, in_words
+from canbusd._session.protocol import STATES, ErrorCounters, State, Stats, in_words
 from canbusd._session.waits import seconds_until
 from canbusd._text import seconds_words
 from canbusd.faults import Faults, Script
@@ -37,6 +38,9 @@ T = TypeVar("T")
 
 def wait_for(predicate: Callable[[], T], timeout: float) -> Optional[T]:
     """Returns what the predicate returns once that is true; None if it is not within these seconds."""
+    if not callable(predicate):
+        raise ValueError(f"predicate is a function that is called until it is true, as lambda: .., not {predicate!r}")
+    check_within(timeout, "timeout")
     deadline, pause = time.monotonic() + timeout, POLL
     while True:
         found = predicate()
@@ -64,14 +68,17 @@ class Expectations(Supervision):
         """What was seen last, for the end of a failure."""
         return self._observing().shown(self.database, signals)
 
+    @explained()
     def error_counters(self, name: str) -> ErrorCounters:
         """Returns the state of an interface and its error counts, while the server runs."""
         return self._observing().session(name).error_counters()
 
-    def state(self, name: str) -> str:
+    @explained()
+    def state(self, name: str) -> State:
         """Returns the state of an interface while the server runs: `active`, `warning`, `passive` or `off`."""
         return self.error_counters(name).state
 
+    @explained()
     def bus_off(self, name: str, timeout: float = 5.0) -> ErrorCounters:
         """Drives an interface bus off, whatever the others send; returns once it is.
 
@@ -80,6 +87,7 @@ class Expectations(Supervision):
         ended then, unless the bus has others, which would end with it: it is left, as the text says.
         """
         __tracebackhide__ = True
+        check_within(timeout, "timeout")
         observer = self._observing()
         drive = Drive(observer.session(name), name, self.inject)
         try:
@@ -92,6 +100,7 @@ class Expectations(Supervision):
         finally:
             drive.end_rule()
 
+    @explained()
     def wait_for(self, predicate: Callable[[], T], timeout: float = 1.0) -> T:
         """Calls the predicate until it returns something true, and returns that; TimeoutError after these seconds."""
         __tracebackhide__ = True
@@ -104,6 +113,7 @@ class Expectations(Supervision):
         """Expectations look only at what comes from now on. The pytest plugin calls it at the start of each test."""
         self._observing().forget()
 
+    @explained()
     def expect(
         self,
         id: Union[int, str, None] = None,
@@ -137,9 +147,11 @@ class Expectations(Supervision):
         if found is None:
             was = observer.said_instead(wanted, channel)
             text = f"no {wanted} within {seconds_words(within)}{was}{observer.missed(channel)}"
-            raise AssertionError(f"{text}{observer.hint(wanted, channel)}{self._shown(wanted.signals)}")
+            hint = observer.hint(wanted, channel) or observer.came_before(wanted, channel)
+            raise AssertionError(f"{text}{hint}{self._shown(wanted.signals)}")
         return found.frame.message(channel or observer.channel(found))
 
+    @explained()
     def expect_no_frame(
         self,
         id: Union[int, str, None] = None,
@@ -177,7 +189,8 @@ class Expectations(Supervision):
         check_within(within)
         return Wanted(id, data, database=self.database, **more)
 
-    def expect_state(self, name: str, state: str, *, within: float = 1.0) -> ErrorCounters:
+    @explained()
+    def expect_state(self, name: str, state: State, *, within: float = 1.0) -> ErrorCounters:
         """Returns once an interface is in this state, or was since the last state of it that was expected, however shortly.
 
         That is known by the error message frames that its interface received. AssertionError if it does not come into it

@@ -7,17 +7,21 @@ from collections.abc import Mapping, Sequence
 from typing import Any, Optional, Union
 
 from canbusd._database.formats import MessageFormat, SignalFormat
+from canbusd._calls import no_such
 from canbusd._expect.signal_limits import CONDITIONS, check_conditions, limit_words
-from canbusd.frames import Frame
+from canbusd._text import times
+from canbusd.frames import FD_LENGTHS, Frame, data_bytes
 from canbusd.signals import Database, DatabaseError, Value
 
+#: What a step of a sequence may say of its frame.
+OF_STEP = ("id", "data", "signal", "above", "below", "equals", "between", "is_extended_id", "is_error_frame")
 #: A frame that is looked for: its identifier, the name of its message, or a dict of the arguments of `expect`.
 Step = Union[int, str, Mapping[str, Any]]
 
 # Identifiers below this have 11 bits unless it is said otherwise.
 LEAST_EXTENDED = 0x800
 MOST_IDENTIFIER = 0x1FFFFFFF
-NO_DATABASE = "names of messages and signals need a database: give the server database='car.dbc'"
+NO_DATABASE = "names of messages and signals need a database: give the server database='car.dbc', or a rest bus"
 # How many signals are named where the one that is asked for is none.
 MOST_NAMED = 12
 
@@ -53,7 +57,7 @@ class Wanted:
         # A class of errors has no such bits.
         has_bits = not is_error_frame or bool(self._name)
         self._is_extended = is_extended if is_extended_id is None and has_bits else is_extended_id
-        self._data = None if data is None else bytes(data)
+        self._data = None if data is None else checked_data(data)
         self._signal = None if signal is None else SignalOf(signal, database, self._id, self._is_extended)
         conditions = {"above": above, "below": below, "equals": equals, "between": between}
         self._conditions = {name: value for name, value in conditions.items() if value is not None}
@@ -125,6 +129,16 @@ class Wanted:
         return f" {self._id:08X}" if self._is_extended or self._id >= LEAST_EXTENDED else f" {self._id:03X}"
 
 
+def checked_data(data: object) -> bytes:
+    """The bytes that a frame has to have; ValueError where none can."""
+    found = data_bytes(data)
+    if len(found) not in FD_LENGTHS:
+        raise ValueError(
+            f"data has {times(len(found), 'byte')}, and no frame has as many: 0 to 8, or FD lengths up to 64"
+        )
+    return found
+
+
 def identifier(id: Union[int, str, None], database: Optional[Database]) -> tuple[Optional[int], Optional[bool]]:
     """The identifier that this is, or that the message with this name has, and whether it has 29 bits; ValueError else."""
     if id is None:
@@ -167,6 +181,8 @@ class SignalOf:
     def __init__(
         self, name: str, database: Optional[Database], id: Optional[int] = None, is_extended: Optional[bool] = None
     ) -> None:
+        if not isinstance(name, str):
+            raise ValueError(f"signal is a name, such as 'EngineSpeed' or 'EngineData.EngineSpeed', not {name!r}")
         if database is None:
             raise ValueError(f"signal {name!r}: {NO_DATABASE}")
         self.name = name
@@ -212,7 +228,13 @@ def formats_of(name: str, messages: Sequence[MessageFormat], is_bare: bool) -> l
 
 def wanted_of(step: Step, database: Optional[Database]) -> Wanted:
     """What a step of a sequence looks for."""
+    if isinstance(step, (list, tuple)):
+        given = ", ".join(map(repr, step))
+        raise ValueError(f"steps are given one by one, as expect_sequence({given}), not as {step!r}")
     if isinstance(step, Mapping):
+        unknown = next((name for name in step if name not in OF_STEP), None)
+        if unknown is not None:
+            raise ValueError(f"a step has {no_such('argument', str(unknown), OF_STEP)}: {dict(step)!r}")
         arguments: dict[str, Any] = {"database": database, **step}
         return Wanted(**arguments)
     return Wanted(step, database=database)

@@ -26,9 +26,15 @@ T = TypeVar("T")
 MOST_OBSERVED = 8
 # Up to how many of them have a session from the start, which receives their states at least. A server has 64 sessions.
 MOST_WITH_STATES = 16
-# How many frames a session keeps as they came, where nobody expects anything; what is more is handed on, so many at once,
-# and other threads, such as that of a rest bus, run for these seconds after each.
-MOST_UNREAD, SOME, BREATH = 20_000, 16, 0.0001
+# How many frames a session keeps as they came while nobody expects anything. More are handed on, so many at once, and then
+# other threads, such as that of a rest bus, run for these seconds.
+MOST_UNREAD_FRAMES, FRAMES_AT_ONCE, PAUSE_SECONDS = 20_000, 16, 0.0001
+
+#: In how many frames one is looked for that came earlier.
+MOST_TAKEN = 10_000
+IN_ORDER = (
+    "expectations look after the frame that the last one returned: expect frames in their order, or by expect_sequence"
+)
 
 
 def decoded_words(frame: Frame, database: Optional[Database], signals: Sequence[str]) -> str:
@@ -85,8 +91,9 @@ class Observer:
             found = self._sessions.get(name)
             if found is None:
                 if name not in self._all:
+                    given = name if isinstance(name, str) else repr(name)
                     known = f"no such interface; the server has {', '.join(self._all)}"
-                    raise fault("CanInitializationError", f"{name}: {known}")
+                    raise fault("CanInitializationError", f"{given}: {known}")
                 found = ObservingSession(self._address, name, name in self.received.observed)
                 self._sessions[name] = found
                 self.received.begin(name, found.first)
@@ -208,6 +215,15 @@ class Observer:
         """Says that the number which is looked for came, but in an identifier of other bits; nothing if it did not."""
         hints = (wanted.hint(seen.frame) for seen in self.untaken(channel))
         return next((f"\n{hint}" for hint in hints if hint), "")
+
+    def came_before(self, wanted: Wanted, channel: Optional[str]) -> str:
+        """Says that what is looked for came before the last expectation, for the text of a failure; nothing if it did not."""
+        with self._lock:
+            taken = islice(self.received.taken(channel), MOST_TAKEN)
+            before = next((seen for seen in taken if wanted.matches(seen.frame)), None)
+        if before is None:
+            return ""
+        return f"\nit came earlier: {self.line(before, channel)}\n{IN_ORDER}"
 
     def find_state(self, name: str, state: str, within: float) -> Optional[StateSeen]:
         """Returns when an interface came into a state, since the last that was expected and within seconds."""
@@ -334,12 +350,12 @@ class Observer:
             for session in self._sessions.values():
                 session.read()
         while self._hand_some_on():
-            time.sleep(BREATH)
+            time.sleep(PAUSE_SECONDS)
 
     def _hand_some_on(self) -> bool:
         """Hands on some of the oldest frames of each session that has too many, and returns whether there was one."""
         with self._lock:
-            full = [session for session in self._sessions.values() if session.unread > MOST_UNREAD]
+            full = [session for session in self._sessions.values() if session.unread > MOST_UNREAD_FRAMES]
             for session in full:
-                session.hand_on_read(self.received.add, min(SOME, session.unread - MOST_UNREAD))
+                session.hand_on_read(self.received.add, min(FRAMES_AT_ONCE, session.unread - MOST_UNREAD_FRAMES))
             return bool(full)

@@ -11,8 +11,8 @@ from collections.abc import Iterator, Sequence
 from itertools import islice
 from typing import NamedTuple, Optional
 
-from canbusd._session.protocol import ErrorCounters
-from canbusd.frames import Frame, received
+from canbusd._session.protocol import ErrorCounters, State
+from canbusd.frames import Frame, frame_of_message
 
 # How many frames of a bus are kept, and how many changes of state of an interface.
 MOST_KEPT, MOST_STATES = 200_000, 20_000
@@ -42,7 +42,7 @@ class Seen:
     def frame(self) -> Frame:
         """The frame itself."""
         if self._frame is None:
-            self._frame = received(Frame, *self.words)
+            self._frame = frame_of_message(Frame, *self.words)
         return self._frame
 
     def channel(self, names: Sequence[str]) -> str:
@@ -74,7 +74,7 @@ def state_in(words: Sequence[str]) -> Optional[ErrorCounters]:
     if number & RESTARTED:
         return ErrorCounters("active", 0, 0)
     if number & CONTROLLER:
-        state = "passive" if data[1] & PASSIVE_BITS else "warning" if data[1] & WARNING_BITS else "active"
+        state: State = "passive" if data[1] & PASSIVE_BITS else "warning" if data[1] & WARNING_BITS else "active"
         return ErrorCounters(state, data[6], data[7])
     return None
 

@@ -5,9 +5,10 @@
     server.expect_no_change(signal="Gear", within=1.0)
 """
 
-from collections.abc import Sequence
+from collections.abc import Iterable, Sequence
 from typing import TYPE_CHECKING, Optional, Union
 
+from canbusd._calls import explained
 from canbusd._expect.cyclic_checks import Change, Followed, first_change, follow, gap_words, gaps_of, wrong_gaps
 from canbusd._expect.frame_matcher import Step, Wanted, wanted_of
 from canbusd._expect.received_frames import Seen
@@ -40,6 +41,7 @@ class Supervision:
         """What was seen last, for the end of a failure."""
         raise NotImplementedError
 
+    @explained()
     def expect_cyclic(
         self,
         id: Union[int, str],
@@ -59,11 +61,11 @@ class Supervision:
         come `within` seconds, by default those of the periods and one more.
         """
         __tracebackhide__ = True
+        check_within(period, "period")
         if not period > 0:
             raise ValueError(f"period is a number of seconds above 0, not {period!r}")
         allowed = period / 10 if tolerance is None else tolerance
-        if not allowed >= 0:
-            raise ValueError(f"tolerance is a number of seconds, not {tolerance!r}")
+        check_within(allowed, "tolerance")
         if isinstance(count, bool) or not isinstance(count, int) or count < 1:
             raise ValueError(f"count is a number of gaps, 1 or more, not {count!r}")
         seconds = (count + 1) * (period + allowed) + SLACK if within is None else within
@@ -87,6 +89,7 @@ class Supervision:
         observer.take(frames[-1], channel)
         return [gap.length / 1e6 for gap in gaps]
 
+    @explained()
     def expect_sequence(
         self,
         *steps: Step,
@@ -105,6 +108,8 @@ class Supervision:
             raise ValueError("a sequence has steps, such as 0x100, 0x101")
         check_within(within)
         wanted = [wanted_of(step, self.database) for step in steps]
+        if between is not None and (isinstance(between, str) or not isinstance(between, Iterable)):
+            raise ValueError(f"between is a list of steps, such as [0x100, 0x101], not {between!r}")
         allowed = None if between is None else [wanted_of(step, self.database) for step in between]
         observer = self._observing()
 
@@ -143,6 +148,7 @@ class Supervision:
         lines = [f"  {observer.line(seen, channel)}" for seen in found]
         return "\n".join([text, *(["of the sequence came:", *lines] if found else [])])
 
+    @explained()
     def expect_no_change(
         self,
         id: Union[int, str, None] = None,

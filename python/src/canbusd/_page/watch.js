@@ -345,7 +345,7 @@ const LEGEND = [["done", "done", "the frame was sent"],
   ["off", "bus off", "a transmit count of 256 or more"]];
 
 function listenToNews() {
-  const news = new EventSource("/news");
+  const news = new EventSource("news");
   news.onmessage = event => {
     const said = JSON.parse(event.data);
     if (said.end !== undefined) {

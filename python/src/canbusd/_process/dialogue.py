@@ -22,11 +22,14 @@ class BenchError(RuntimeError):
     """The bench ended with a fault; the text is what canbusd said of it."""
 
 
-def moment_text(at: Union[str, float]) -> str:
+def moment_text(at: Union[str, float], what: str = "at") -> str:
     """Returns a moment as the bench reads it: seconds with six digits after the point."""
-    text = at if isinstance(at, str) else f"{at:.6f}"
+    try:
+        text = at if isinstance(at, str) else f"{at:.6f}"
+    except (TypeError, ValueError):
+        text = ""
     if not AT.fullmatch(text):
-        raise ValueError(f"at is a number of seconds from 0 to 9999999999.999999, not {at!r}")
+        raise ValueError(f"{what} is a number of seconds from 0 to 9999999999.999999, not {at!r}")
     return text
 
 

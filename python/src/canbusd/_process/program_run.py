@@ -2,19 +2,21 @@
 
 import _thread
 import os
+import re
 import shutil
 import signal
 import subprocess
 import tempfile
 import weakref
-from collections.abc import Sequence
+from collections.abc import Iterable, Sequence
 from contextvars import ContextVar
 from pathlib import Path
 from types import TracebackType
-from typing import Optional, TypeVar, Union
+from typing import Literal, Optional, TypeVar, Union
 
 from canbusd._process.program import find_program
 from canbusd._process.rates import LEAST_BITRATE, MOST_BITRATE, MOST_DBITRATE, Rates
+from canbusd._session.arguments import one_data_rate, truth
 from canbusd._text import NAME
 from canbusd.faults import Script
 
@@ -24,61 +26,70 @@ Self = TypeVar("Self", bound="ProgramRun")
 FOLDERS: "ContextVar[Optional[Path]]" = ContextVar("FOLDERS", default=None)
 #: How many interfaces a bus has at most.
 MOST_NAMES = 16
-#: The options of the program that are numbers, by the names of their arguments: the least and the most of each.
-NUMBERS: dict[str, tuple[str, int, int]] = {
-    "auto_restart": ("--auto-restart", 0, 1_000_000),
-    "pace_ms": ("--pace", 0, 60_000),
-    "write_bytes": ("--write", 256, 65_536),
-    "txqueue": ("--txqueue", 1, 1024),
-    "rxqueue": ("--rxqueue", 1, 65_536),
-    "limit": ("--limit", 1, 1 << 24),
-    "flush": ("--flush", 0, 60_000),
-    "bitrate": ("--bitrate", LEAST_BITRATE, MOST_BITRATE),
-    "dbitrate": ("--dbitrate", LEAST_BITRATE, MOST_DBITRATE),
+#: The options of the program that are numbers, by the names of their arguments: the least and the most of each, and of what.
+NUMBERS: dict[str, tuple[str, int, int, str]] = {
+    "auto_restart": ("--auto-restart", 0, 1_000_000, "attempts"),
+    "pace_ms": ("--pace", 0, 60_000, "milliseconds"),
+    "write_bytes": ("--write", 256, 65_536, "bytes"),
+    "txqueue": ("--txqueue", 1, 1024, "frames"),
+    "rxqueue": ("--rxqueue", 1, 65_536, "frames"),
+    "limit": ("--limit", 1, 1 << 24, "entries"),
+    "flush": ("--flush", 0, 60_000, "milliseconds"),
+    "bitrate": ("--bitrate", LEAST_BITRATE, MOST_BITRATE, "bits a second"),
+    "data_bitrate": ("--dbitrate", LEAST_BITRATE, MOST_DBITRATE, "bits a second"),
 }
+
+Ack = Literal["always", "peers"]
 
 
 def option_words(ack: str, report: bool, **numbers: int) -> list[str]:
     """Returns the words of the command line that give these options; ValueError names one that is wrong."""
     if ack not in ("always", "peers"):
         raise ValueError(f"ack is 'always' or 'peers', not {ack!r}")
-    return ["--ack", ack, *(["--report"] if report else []), *number_words(**numbers)]
+    return ["--ack", ack, *(["--report"] if truth("report", report) else []), *number_words(**numbers)]
 
 
 def number_words(**numbers: int) -> list[str]:
     """Returns the words of the command line that give these options; ValueError names one that is wrong."""
     words: list[str] = []
     for name, number in numbers.items():
-        option, least, most = NUMBERS[name]
+        option, least, most, unit = NUMBERS[name]
         if isinstance(number, bool) or not isinstance(number, int) or not least <= number <= most:
-            raise ValueError(f"{name} is a whole number from {least} to {most}, not {number!r}")
+            raise ValueError(f"{name} is a whole number of {unit} from {least} to {most}, not {number!r}")
         words += [option, str(number)]
     return words
 
 
-def rate_words(bitrate: Optional[int], dbitrate: Optional[int]) -> list[str]:
-    """Returns the words of the command line that give these bit rates, if there are any."""
-    rates = {"bitrate": bitrate, "dbitrate": dbitrate}
-    words = number_words(**{name: rate for name, rate in rates.items() if rate is not None})
-    if dbitrate is not None and (bitrate is None or dbitrate < bitrate):
-        raise ValueError(f"dbitrate needs a bitrate, which is no faster, not {bitrate!r} and {dbitrate!r}")
-    return words
-
-
-def rates_of(bitrate: Optional[int], dbitrate: Optional[int]) -> Optional[Rates]:
-    """Returns these bit rates, if there are any."""
-    return None if bitrate is None else Rates(bitrate, dbitrate)
+def rates_of(bitrate: Optional[int], data_bitrate: Optional[int], dbitrate: Optional[int] = None) -> Optional[Rates]:
+    """Returns these bit rates, if there are any; ValueError where they are none of a bus."""
+    fast = one_data_rate(data_bitrate, dbitrate)
+    rates = {"bitrate": bitrate, "data_bitrate": fast}
+    number_words(**{name: rate for name, rate in rates.items() if rate is not None})
+    if fast is not None and bitrate is None:
+        raise ValueError(f"data_bitrate={fast} needs a bitrate too, such as bitrate=500000")
+    if fast is not None and bitrate is not None and fast < bitrate:
+        raise ValueError(f"data_bitrate={fast} is below bitrate={bitrate}: it is as fast, or faster")
+    return None if bitrate is None else Rates(bitrate, fast)
 
 
 def check_names(names: Sequence[str]) -> Sequence[str]:
-    """Returns the names of a bus's interfaces; ValueError where spaces were written between them, or one is wrong."""
-    spaced = next((name for name in names if name != name.strip()), None)
-    if spaced is not None:
-        right = ",".join(name.strip() for name in names)
-        raise ValueError(f"names of interfaces are joined by commas without spaces, {right!r}, not {','.join(names)!r}")
-    if len(names) > MOST_NAMES or len({*names}) < len(names) or not all(map(NAME.fullmatch, names)):
-        known = f"1 to {MOST_NAMES} different ones of 1 to 15 ASCII letters, digits, _, - and ."
-        raise ValueError(f"names of a bus's interfaces are {known}, not {','.join(names)!r}")
+    """Returns the names of a bus's interfaces; ValueError where they are not joined by commas only, or one is wrong."""
+    joined = ",".join(names)
+    parted = [name for name in re.split(r"[\s,;]+", joined) if name]
+    if re.search(r"[\s;]", joined) and parted:
+        raise ValueError(
+            f"names of interfaces are joined by commas without spaces, {','.join(parted)!r}, not {joined!r}"
+        )
+    wrong = next((name for name in names if not NAME.fullmatch(name)), None)
+    if wrong is not None:
+        raise ValueError(
+            f"names of interfaces are 1 to 15 ASCII letters, digits, _, - and ., not {wrong!r}, as in {joined!r}"
+        )
+    twice = next((name for name in names if names.count(name) > 1), None)
+    if twice is not None:
+        raise ValueError(f"names of a bus's interfaces are different, and {joined!r} has {twice!r} twice")
+    if len(names) > MOST_NAMES:
+        raise ValueError(f"names of a bus's interfaces are 1 to {MOST_NAMES}, and {joined!r} has {len(names)}")
     return names
 
 
@@ -89,7 +100,7 @@ def bus_of(names: Union[str, Sequence[str]], faults: Optional[Script]) -> tuple[
         if given and faults is not None:
             raise ValueError("faults are given twice, as a file after the names too")
         faults = Path(script_path) if given else faults
-    parts = tuple(names.split(",") if isinstance(names, str) else names)
+    parts = tuple(names.split(",") if isinstance(names, str) else names if isinstance(names, Iterable) else ())
     if not parts or not all(isinstance(name, str) for name in parts):
         raise ValueError(f"names are those of the interfaces, such as 'can0,can1', not {names!r}")
     check_names(parts)

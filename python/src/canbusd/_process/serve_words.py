@@ -2,10 +2,13 @@
 
 from collections.abc import Mapping
 from pathlib import Path
-from typing import Optional, Union
+from typing import Literal, Optional, Union
 
 from canbusd._process.program_run import check_names
+from canbusd._session.arguments import truth
 from canbusd.faults import Script, script_bytes
+
+Recorded = Literal["end", "live", "none"]
 
 
 def bus_words(
@@ -28,12 +31,13 @@ def bus_words(
         return by_bus
     if not isinstance(faults, Mapping):
         if len(by_bus) != 1:
-            raise ValueError("faults of several buses are a dict, by the name of a bus's first interface")
+            example = f"{{{next(iter(by_bus))!r}: ..}}"
+            raise ValueError(f"faults of several buses are a dict, by the name of a bus's first interface: {example}")
         faults = {next(iter(by_bus)): faults}
     for given, script in faults.items():
         name = given.split(",")[0]
         if name not in by_bus:
-            raise ValueError(f"faults= names {given!r}, but the server has no such bus")
+            raise ValueError(f"faults of {given!r}: a bus is named by its first interface, here {' or '.join(by_bus)}")
         if "@" in by_bus[name][-1]:
             raise ValueError(f"faults of {given!r} are given twice")
         file = folder / f"{name}.faults"
@@ -49,10 +53,10 @@ def record_options(
     if record not in ("end", "live", "none"):
         raise ValueError(f"record is 'end', 'live' or 'none', not {record!r}")
     if record == "end":
-        if flush is not None or sync:
-            raise ValueError("flush and sync are of a server whose record is 'live' or 'none'")
+        if flush is not None or truth("sync", sync):
+            raise ValueError("flush and sync are of a server whose record is 'live' or 'none': give record='live' too")
         return [], {"limit": 1_000_000 if limit is None else limit}
     if limit is not None:
         raise ValueError(f"limit= needs record='end', not {record!r}")
-    words = ["--record", record, *(["--sync"] if sync else [])]
+    words = ["--record", record, *(["--sync"] if truth("sync", sync) else [])]
     return words, {} if flush is None else {"flush": flush}

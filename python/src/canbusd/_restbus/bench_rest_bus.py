@@ -3,8 +3,11 @@
 from collections.abc import Mapping
 from typing import TYPE_CHECKING
 
+from canbusd._calls import explained
 from canbusd._restbus.schedule import MICROS, micros
+from canbusd._session.arguments import check_within
 from canbusd._session.injection import Refused
+from canbusd._session.protocol import NO_FRAMES
 from canbusd.frames import Frame
 from canbusd.record import Attempt
 from canbusd.rest_bus import PASSING, RestBus, RestMessage
@@ -12,9 +15,6 @@ from canbusd.signals import Database
 
 if TYPE_CHECKING:
     from canbusd.bench import Bench
-
-# What no frame passes: everything, inverted.
-NOTHING = [{"can_id": 0x20000000, "can_mask": 0}]
 
 
 class BenchRestBus(RestBus):
@@ -25,16 +25,18 @@ class BenchRestBus(RestBus):
         self._bench, self._now = bench, micros(float(bench._moment))
         has_fd = any(message.format.is_fd for message in self.messages)
         self._sessions = {
-            name: bench.open(name, NOTHING, fd=has_fd, error_frames=False)
+            name: bench.open(name, NO_FRAMES, fd=has_fd, error_frames=False)
             for name in dict.fromkeys(interfaces.values())
         }
 
+    @explained()
     def run(self, until: float) -> list[Attempt]:
         """Sends what is due before this moment, each frame at its own, and returns the attempts that are made meanwhile.
 
         On a bench with a bit rate these are the attempts that begin before it, without one those in which all frames that
         wait are tried, at the moment at which something is due.
         """
+        check_within(until, "until")
         attempts: list[Attempt] = []
         end = micros(until)
         with self.changing():

@@ -10,9 +10,9 @@ from can.exceptions import CanError
 
 from canbusd._restbus.punctuality import PUNCTUALITY
 from canbusd._restbus.schedule import MICROS
+from canbusd._session.protocol import NO_FRAMES
 from canbusd._session.raw_session import refusal
 from canbusd.bus import CanbusdBus
-from canbusd.commands import NOTHING
 from canbusd.frames import Frame, command_of
 from canbusd.rest_bus import PASSING, RestBus, RestMessage
 from canbusd.signals import Database
@@ -48,7 +48,7 @@ class LiveRestBus(RestBus):
         self._buses: dict[str, CanbusdBus] = {}
         try:
             for name in dict.fromkeys(interfaces.values()):
-                self._buses[name] = opened(name, can_filters=NOTHING, error_frames=False, fd=has_fd)
+                self._buses[name] = opened(name, can_filters=NO_FRAMES, error_frames=False, fd=has_fd)
         except BaseException:
             self._shut()
             raise

@@ -1,7 +1,7 @@
 """Which node of a database sends what in a rest bus, by which interface and from when on."""
 
 import os
-from collections.abc import Mapping, Sequence
+from collections.abc import Iterable, Mapping, Sequence
 from typing import Optional, Union
 
 from canbusd._database.formats import MessageFormat
@@ -24,8 +24,12 @@ class NoInterface(ValueError):
 
 
 def database_of(source: Source) -> Database:
-    """Returns a database, which may be given as the path of its file."""
-    return source if isinstance(source, Database) else load_database(source)
+    """Returns a database, which may be given as the path of its file; ValueError for what is neither."""
+    if isinstance(source, Database):
+        return source
+    if not isinstance(source, (str, os.PathLike)):
+        raise ValueError(f"database is the path of a file, or what load_database returns, not {source!r}")
+    return load_database(source)
 
 
 def sender(message: MessageFormat) -> str:
@@ -63,6 +67,10 @@ def interfaces_of(
     none, and ValueError where the name of a node is wrong.
     """
     senders = list(dict.fromkeys(sender(message) for message in database.messages if message.senders))
+    if not isinstance(nodes, Mapping):
+        raise ValueError(f"nodes are a dict of interfaces by nodes, such as {{'Engine': 'can0'}}, not {nodes!r}")
+    if not isinstance(without, Iterable):
+        raise ValueError(f"without is a node, or a list of nodes, such as ['ECU'], not {without!r}")
     left_out = [without] if isinstance(without, str) else list(without)
     for name in [*left_out, *nodes]:
         if name not in database.nodes:

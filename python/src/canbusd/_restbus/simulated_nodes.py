@@ -1,7 +1,9 @@
 """Nodes that a bench or a server simulates: its mixins."""
 
 from collections.abc import Mapping, Sequence
-from typing import TYPE_CHECKING, Any, Generic, Optional, TypeVar, Union
+from typing import TYPE_CHECKING, Any, Generic, Literal, Optional, TypeVar, Union
+
+from canbusd._calls import explained
 
 if TYPE_CHECKING:
     from canbusd._restbus.nodes import Source
@@ -11,6 +13,7 @@ if TYPE_CHECKING:
     from canbusd.signals import Database
 
 R = TypeVar("R", bound="RestBus")
+Library = Literal["can-isotp", "canbusd-run"]
 
 
 class HasRestBus(Generic[R]):
@@ -25,6 +28,7 @@ class HasRestBus(Generic[R]):
         """The rest bus of a database, whose nodes send by these interfaces."""
         raise NotImplementedError
 
+    @explained()
     def rest_bus(
         self,
         database: "Source",
@@ -47,6 +51,7 @@ class SimulatesNodes(HasRestBus["RestBus"]):
     """What a server has of simulated nodes."""
 
     address: str
+    database: "Optional[Database]"
     _result: Any
 
     def bus(self, channel: str, **kwargs: Any) -> "CanbusdBus":
@@ -56,9 +61,12 @@ class SimulatesNodes(HasRestBus["RestBus"]):
     def _make_rest_bus(self, database: "Database", interfaces: Mapping[str, str]) -> "RestBus":
         from canbusd._restbus.live_rest_bus import LiveRestBus
 
+        # Expectations then know its names, too.
+        self.database = database if self.database is None else self.database.with_more(database)
         return LiveRestBus(database, interfaces, self.bus, lambda: self._result is not None)
 
-    def isotp(self, channel: str, *, tx: int, rx: int, **options: Any) -> "IsoTp":
+    @explained("more options has can-isotp: isotp.CanStack(server.bus('can0'), ..)")
+    def isotp(self, channel: str, *, tx: int, rx: int, library: Optional[Library] = None) -> "IsoTp":
         """Returns an end of ISO-TP on an interface: it sends with the identifier `tx`, and receives what has `rx`.
 
         Identifiers above 7FF have 29 bits. can-isotp does it where it is installed, else a socket of canbusd-run; ImportError
@@ -68,4 +76,4 @@ class SimulatesNodes(HasRestBus["RestBus"]):
 
         if channel not in self.interfaces:
             raise ValueError(f"channel is one of {', '.join(self.interfaces)}, not {channel!r}")
-        return open_isotp(self.bus, self.address, channel, tx, rx, **options)
+        return open_isotp(self.bus, self.address, channel, tx, rx, library)

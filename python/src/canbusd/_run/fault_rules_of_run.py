@@ -2,7 +2,6 @@
 
 import dataclasses
 import functools
-import io
 import os
 import re
 import tempfile
@@ -15,10 +14,14 @@ from canbusd._run.events import BadRecord, Events
 from canbusd.record import Path as AnyPath, Record, is_named
 from canbusd.rules import MOST_RULES, NAMES, Rule, RulesLeft, parse_rule
 
+# More bytes than a line has: names of 16 interfaces, twice, and a few words.
+LONGEST_LINE = 4096
 # How files end of a run that goes on, and of one that was cut off.
 GROWING = (".new", ".cut")
-# The names in the lines of faults that are no comments.
-NAMED = re.compile(rf"(?:^| )(?:from|local (?:stuff|crc|form)) ({NAMES})(?= |$)".encode())
+# What is in lines of faults, which may be a million: names, and rules.
+NAMED = re.compile(rb" (?:from|local (?:stuff|crc|form)) (\S+)")
+RULE_LINES = re.compile(rb"\n((?:next|always|at) [^\n]*)")
+JOINED = re.compile(NAMES)
 
 
 class FaultsFile:
@@ -49,8 +52,11 @@ class FaultsFile:
 
     @functools.cached_property
     def text(self) -> bytes:
-        """What is in it when it is read."""
-        return self._file.read()
+        """What is in it when it is read; BadRecord where its first bytes are of no script."""
+        first = self._file.read(LONGEST_LINE)
+        if len(first) == LONGEST_LINE and b"\n" not in first:
+            raise BadRecord(f"{self.path}: no line of faults has {LONGEST_LINE:,} bytes, as its first one has")
+        return first + self._file.read()
 
 
 def faults_beside(record: AnyPath) -> Optional[FaultsFile]:
@@ -67,14 +73,20 @@ def with_names(record: Record, faults: FaultsFile) -> Record:
     unnamed = [place for place, name in enumerate(record.names) if not is_named(name)]
     if len(unnamed) != 1:
         return record
-    lines = (line.rstrip(b"\n") for line in io.BytesIO(faults.text) if not line.startswith(b"#"))
-    found = {name for line in lines for names in NAMED.findall(line) for name in names.decode().split(",")}
-    missing = [*found.difference(record.names)]
+    missing = [*names_in(faults.text).difference(record.names)]
     if len(missing) != 1:
         return record
     names = [*record.names]
     names[unnamed[0]] = missing[0]
     return dataclasses.replace(record, names=tuple(names))
+
+
+def names_in(faults: bytes) -> set[str]:
+    """Returns the names of interfaces in faults, whose lines may be a million, but for those in comments."""
+    if faults.startswith(b"#") or b"\n#" in faults:
+        faults = b"\n".join(line for line in faults.split(b"\n") if not line.startswith(b"#"))
+    found = (names.decode(errors="replace") for names in {*NAMED.findall(faults)})
+    return {name for names in found if JOINED.fullmatch(names) for name in names.split(",")}
 
 
 def deciders(record: Record, faults: FaultsFile) -> list[str]:
@@ -166,12 +178,12 @@ def texts_of(faults: bytes, numbers: Sequence[int]) -> dict[int, str]:
 def stretches(faults: bytes) -> Iterator[tuple[bytes, list[bytes]]]:
     """Yields the lines of rules from the start to the first `nofaults`, from there to the next, and so on, each time after the
     line that ended all before."""
-    begin = b"at 0 nofaults"
-    rules = [line for line in io.BytesIO(faults) if line.startswith((b"next ", b"always "))]
-    for line in io.BytesIO(faults):
+    begin, lines = b"at 0 nofaults", RULE_LINES.findall(b"\n" + faults)
+    rules = [line for line in lines if line.startswith((b"next ", b"always "))]
+    for line in lines:
         if line.startswith(b"at "):
             # An interface may have this name.
-            if line.endswith((b" nofaults\n", b" nofaults")) and line.count(b" ") == 2:
+            if line.endswith(b" nofaults") and line.count(b" ") == 2:
                 yield begin, rules
                 begin, rules = line, []
             else:
@@ -181,10 +193,9 @@ def stretches(faults: bytes) -> Iterator[tuple[bytes, list[bytes]]]:
 
 def parted(line: bytes) -> tuple[int, bytes]:
     """The attempt before which a rule came, and the rule."""
-    text = line.rstrip(b"\n")
-    if not text.startswith(b"at "):
-        return 0, text
-    _, attempt, rule = text.split(b" ", 2)
+    if not line.startswith(b"at "):
+        return 0, line
+    _, attempt, rule = line.split(b" ", 2)
     return int(attempt), rule
 
 
@@ -196,15 +207,21 @@ def taken_of(rules: list[bytes], begin: bytes, last: int, numbers: Sequence[int]
     """
     left, taken, unknown = RulesLeft(last), [], 0
     done, _ = parted(begin)
+    # How a line begins that is refused as the one before it was.
+    alike: Optional[bytes] = None
     for line in rules:
+        if alike is not None and line.startswith(alike):
+            continue
         attempt, rule = parted(line)
         for number in numbers[done:attempt]:
             unknown += not number
             left.gave(number)
-        done = attempt
+        done, alike = attempt, None
         if len(left) < MOST_RULES:
             left.add(None if rule.startswith(b"always ") else int(rule.split(b" ", 2)[1]))
             taken.append(line)
         elif left.least() <= unknown or attempt >= len(numbers):
             return taken, False
+        else:
+            alike = b"at %d " % attempt
     return taken, True

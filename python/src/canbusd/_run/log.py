@@ -1,8 +1,10 @@
 """Logs in candump's format, as a server and a bench write them beside their records."""
 
+import itertools
 import os
 import re
-from typing import TYPE_CHECKING, Optional, Union
+from collections.abc import Iterator
+from typing import IO, TYPE_CHECKING, AnyStr, Optional, Union
 
 from canbusd._run.steps import RESTART, Steps, moment_of
 from canbusd._text import shown
@@ -14,6 +16,24 @@ if TYPE_CHECKING:
 Path = Union[str, "os.PathLike[str]"]
 
 LOG_LINE = re.compile(r"\(([0-9]+\.[0-9]{6})\) (\S+) (\S+)")
+#: What no line of a log is as long as, of any format.
+MOST_LINE = 16_384
+
+
+class LongLine(ValueError):
+    """A line is none of a log; the text has its place."""
+
+
+def lines_of(file: "IO[AnyStr]", path: Path) -> "Iterator[AnyStr]":
+    """Yields the lines of a log; LongLine at one that is none, of which no more is read."""
+    for number in itertools.count(1):
+        line = file.readline(MOST_LINE)
+        if not line:
+            return
+        if len(line) == MOST_LINE:
+            said = f"no line of a log has {MOST_LINE:,} characters, so this is none, or it is damaged here"
+            raise LongLine(f"{os.fspath(path)}:{number}: {said}")
+        yield line
 
 
 def read_log(path: Path) -> "list[Message]":
@@ -22,7 +42,7 @@ def read_log(path: Path) -> "list[Message]":
     Unlike python-can's reader it keeps the classes of error message frames.
     """
     with open(path, encoding="ascii") as file:
-        return [message_of(line.rstrip("\n"), path, number) for number, line in enumerate(file, 1)]
+        return [message_of(line.rstrip("\n"), path, number) for number, line in enumerate(lines_of(file, path), 1)]
 
 
 def message_of(line: str, path: Path, number: int) -> "Message":
@@ -54,7 +74,7 @@ def names_in_log(steps: Steps, log: Path) -> dict[int, str]:
     names: dict[int, str] = {}
     with open(log, encoding="ascii", errors="replace") as file:
         # A line of a run that was killed may be torn.
-        whole = (line for line in file if line.endswith("\n"))
+        whole = (line for line in iter(lambda: file.readline(MOST_LINE), "") if line.endswith("\n"))
         for line, (moment, winner) in zip(whole, tried):
             words = line.split()
             if len(words) != 3 or words[0] != f"({moment:0>17})" or names.setdefault(winner, words[1]) != words[1]:

@@ -1,19 +1,25 @@
 """Logs of other tools: candump's, and those that python-can reads and writes by a file's ending, as ASC and BLF."""
 
-import contextlib
+import collections
+import gzip
 import importlib
+import io
 import itertools
 import os
 import re
+import stat
 from collections.abc import Iterable, Iterator, Sequence
-from typing import Any, NamedTuple, Union
+from typing import Any, BinaryIO, NamedTuple
 
+from canbusd._run.log import LongLine, lines_of
 from canbusd._text import shown
+from canbusd._whole_file import Path, replaced
 from canbusd.frames import BadFrame, Frame, frame_like, log_line
 
-Path = Union[str, "os.PathLike[str]"]
 #: The endings of files that python-can reads, also where `.gz` follows; another file is a log of candump.
 ENDINGS = (".asc", ".blf", ".csv", ".db", ".mf4", ".trc")
+#: Those of files that are text.
+TEXTS = (".asc", ".csv", ".trc")
 #: Those of files that are written; the others that python-can writes lose frames, flags or channels.
 WRITTEN = (".log", ".asc", ".blf")
 # python-can and later versions of candump put the direction after the frame.
@@ -42,11 +48,10 @@ def read_entries(path: Path, names: Sequence[str] = ()) -> Iterator[Entry]:
         return
     # It has errors of many kinds for what a file should not be.
     try:
+        check_lines(path)
         for message in python_can_messages(path):
             yield Entry(name_of(message.channel, names), frame_like(message))
-    except ImportError:
-        raise
-    except OSError:
+    except (ImportError, OSError, LongLine):
         raise
     except Exception as fault:
         raise ValueError(f"{os.fspath(path)}: {fault or type(fault).__name__}") from None
@@ -60,7 +65,7 @@ def is_candump(path: Path) -> bool:
 def candump_entries(path: Path) -> Iterator[Entry]:
     """Yields the entries of a log of candump."""
     with open(path, encoding="utf-8", errors="replace") as file:
-        for number, line in enumerate(file, 1):
+        for number, line in enumerate(lines_of(file, path), 1):
             text = line.rstrip("\r\n ")
             if number == 1 and text.startswith(RECORD):
                 raise ValueError(f"{os.fspath(path)}: this is a record; take its log, which has the ending .log")
@@ -76,7 +81,17 @@ def entry_of(text: str, place: str) -> Entry:
     try:
         return Entry(words[2], Frame.parse(words[3], float(words[1])))
     except BadFrame as fault:
-        raise ValueError(f"{place}: {fault}: {shown(text)}") from None
+        raise ValueError(f"{place}: {fault}") from None
+
+
+def check_lines(path: Path) -> None:
+    """Reads the lines of a text file, of which python-can would keep each, however long it is; a fifo is read only once."""
+    name = os.fspath(path).lower()
+    is_text = os.path.splitext(name.removesuffix(".gz"))[1] in TEXTS
+    if is_text and not stat.S_ISFIFO(os.stat(path).st_mode):
+        opened: Any = gzip.open if name.endswith(".gz") else open
+        with opened(path, "rb") as file:
+            collections.deque(lines_of(file, path), maxlen=0)
 
 
 def python_can_messages(path: Path) -> "Iterator[Any]":
@@ -106,31 +121,26 @@ def write_entries(path: Path, entries: Iterable[Entry], names: Sequence[str] = (
     Where it has numbers of channels the first interface is the first channel: of these names, and then as they turn up.
     What was there before is replaced once all is written; ValueError for another ending.
     """
-    stem, ending = os.path.splitext(os.fspath(path))
-    if ending.lower() not in WRITTEN:
+    ending = os.path.splitext(os.fspath(path))[1].lower()
+    if ending not in WRITTEN:
         raise ValueError(f"{os.fspath(path)}: a log that is written ends in {', '.join(WRITTEN[:-1])} or {WRITTEN[-1]}")
-    known, draft = list(names), f"{stem}.part{ending}"
-    try:
-        write = write_candump if ending.lower() == ".log" else write_by_python_can
-        count = write(draft, entries, known)
-        os.replace(draft, path)
-        return count, known
-    finally:
-        with contextlib.suppress(FileNotFoundError):
-            os.unlink(draft)
+    known = list(names)
+    with replaced(path) as file:
+        if ending == ".log":
+            return write_candump(file, entries), known
+        return write_by_python_can(file, ending, entries, known), known
 
 
-def write_candump(path: Path, entries: Iterable[Entry], known: list[str]) -> int:
+def write_candump(file: BinaryIO, entries: Iterable[Entry]) -> int:
     """Writes a log of candump; how many frames it has."""
     count = 0
-    with open(path, "w", encoding="ascii") as file:
-        for name, frame in entries:
-            file.write(f"{log_line(name, frame)}\n")
-            count += 1
+    for name, frame in entries:
+        file.write(f"{log_line(name, frame)}\n".encode("ascii"))
+        count += 1
     return count
 
 
-def write_by_python_can(path: Path, entries: Iterable[Entry], known: list[str]) -> int:
+def write_by_python_can(file: BinaryIO, ending: str, entries: Iterable[Entry], known: list[str]) -> int:
     """Writes a log with numbers of channels, those of the interfaces in this list, which grows; how many frames it has."""
     import canbusd._python_can  # noqa: F401  it says what is missing
 
@@ -138,7 +148,9 @@ def write_by_python_can(path: Path, entries: Iterable[Entry], known: list[str]) 
 
     first = next(iter(rest := iter(entries)), None)
     count = 0
-    with can_io.Logger(os.fspath(path)) as logger:
+    with can_io.BLFWriter(file) if ending == ".blf" else can_io.ASCWriter(
+        io.TextIOWrapper(file, encoding="utf-8")
+    ) as logger:
         if first is not None and hasattr(logger, "start_timestamp"):
             # Its date has milliseconds, and moments are counted from there.
             logger.start_timestamp = int(first.frame.timestamp * 1000) / 1000

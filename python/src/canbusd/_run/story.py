@@ -39,11 +39,11 @@ def joined(words: Sequence[str]) -> str:
 
 def events_of(run: Replay, names: Sequence[str]) -> list[Event]:
     """The events of a run, by their steps."""
-    found = [*changes_of(run, names), *second_copies(run, names), *refusals_of(run, names), *drops_of(run, names)]
+    found = [*state_events(run, names), *second_copies(run, names), *refusals_of(run, names), *drops_of(run, names)]
     return sorted(found, key=lambda event: event.step)
 
 
-def changes_of(run: Replay, names: Sequence[str]) -> Iterator[Event]:
+def state_events(run: Replay, names: Sequence[str]) -> Iterator[Event]:
     """Changes of state, frames lost by bus off, and restarts."""
     steps = run.steps
     # The step in which each interface last went bus off.

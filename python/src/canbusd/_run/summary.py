@@ -9,6 +9,7 @@ from typing import Optional
 from canbusd._process.rates import Rates
 from canbusd._run.story import events_of, heading_of
 from canbusd._session.protocol import STATES
+from canbusd._whole_file import replaced
 from canbusd.frames import ERROR_FRAME, meaning
 from canbusd.record import Record
 from canbusd.signals import Database
@@ -97,5 +98,6 @@ def write_page(
     target = Path(path)
     name = target.with_suffix(".rec").name
     text = page(record.replay, record.names, name, database=database, rules=rules, rates=rates)
-    target.write_text(text, encoding="utf-8")
+    with replaced(target) as file:
+        file.write(text.encode())
     return target

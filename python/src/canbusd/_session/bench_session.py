@@ -4,6 +4,7 @@ import re
 from dataclasses import replace
 from typing import TYPE_CHECKING, Optional, Union
 
+from canbusd._calls import NamesWhatThereIs, explained
 from canbusd._session.injection import InjectsFaults, Refused
 from canbusd._session.protocol import (
     LONGEST_MESSAGE,
@@ -24,7 +25,7 @@ if TYPE_CHECKING:
 CLOSED = re.compile(r"[0-9]+ < closed ([0-9]+) ([0-9]+) >")
 
 
-class Session(InjectsFaults):
+class Session(InjectsFaults, NamesWhatThereIs):
     """A client of the bus with a raw socket on one interface, made by `Bench.open`."""
 
     def __init__(self, bench: "Bench", number: int, channel: str) -> None:
@@ -35,6 +36,13 @@ class Session(InjectsFaults):
         #: The name of its interface.
         self.channel = channel
 
+    _INSTEAD = {
+        **dict.fromkeys(("recv", "expect"), "receive() returns the frames that came"),
+        **dict.fromkeys(("state", "error_counters"), "status() returns the state and the counts"),
+        "bus_off": "inject(Faults().next(32, sender='can0').destroyed()), and 32 attempts of it",
+    }
+
+    @explained()
     def send(
         self,
         frame: Union[int, MessageLike],
@@ -108,7 +116,10 @@ class Session(InjectsFaults):
     def restart(self, at: Union[str, float, None] = None) -> None:
         """Brings the interface back from bus off, at this moment if one is given."""
         number = self._live()
-        self._bench._ask(f"feed {number} < restart >< echo >", at)
+        try:
+            self._bench._ask(f"feed {number} < restart >< echo >", at)
+        except Refused as fault:
+            raise Refused(f"{self.channel}: {fault}, but {self.status().state}") from None
 
     def call(self, message: str) -> list[str]:
         """Feeds a message of the protocol, such as `recvown 1`, and returns the answers to it; a refusal is raised."""

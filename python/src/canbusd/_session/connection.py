@@ -33,6 +33,9 @@ CLOSE_TIMEOUT = 1.0
 POLL, LONGEST_POLL = 0.0002, 0.01
 # Seconds after which a thread looks for what another one has read, if that was interrupted before it woke it.
 LONGEST_NAP = 1.0
+# Who listens at an address may be anybody, and terminals carry out what they take for a command: other characters than those
+# that messages have are `?`, and all kinds of space one.
+PRINTED = bytes(32 if byte in b"\t\n\v\f\r" else byte if 32 <= byte < 127 else ord("?") for byte in range(256))
 
 T = TypeVar("T")
 
@@ -132,6 +135,19 @@ class Connection:
                 if self._readiness is not None and not self._is_closing:
                     self._readiness.show(False)
             raise
+
+    def take_frames(self, to: deque[str]) -> int:
+        """Reads once what the socket has, without waiting, and moves the frames that were read to the end of `to`.
+
+        Returns how many there were. One call for many: an exception of a signal's handler finds them here or there.
+        """
+        before = len(to)
+        try:
+            self._read(self._never, 0.0, select.POLLIN)
+        finally:
+            with contextlib.suppress(IndexError):
+                to.extend(iter(self._frames.popleft, None))
+        return len(to) - before
 
     def frames_at_hand(self) -> int:
         """Returns how many frames were read already, and wait to be taken."""
@@ -348,7 +364,7 @@ class Connection:
     def _sort(self) -> None:
         """Sorts what was read, messages which may be cut anywhere, into frames and answers."""
         is_end = b"" in self._pieces
-        messages = (self._rest + b"".join(self._pieces).decode("ascii", "replace")).split(">")
+        messages = (self._rest + b"".join(self._pieces).translate(PRINTED).decode("ascii")).split(">")
         rest = messages.pop()
         asked, frames, unasked = self._asked.sorted(messages, self._note)
         # All of it or nothing: no handler of a signal is called before the frames are there.

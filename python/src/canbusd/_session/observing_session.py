@@ -12,9 +12,13 @@ from canbusd._session.injection import TIMEOUT, Refused
 from canbusd._session.protocol import counters_of, options
 from canbusd._session.raw_session import RawSession, fault, with_cure
 from canbusd._session.waits import wait_for_ready
+from canbusd.virtual import is_virtual
 
-# Seconds for which what comes is left to come, so that much of it is read at once, where nobody waits for it.
-NAP = 0.02
+# Seconds for which what comes is left to come, so that much of it is read at once, where nobody waits for it. A Unix socket holds
+# some 4,000 frames. In virtual time a bus of 1 Mbit/s carries half of that meanwhile, else a server without a pace.
+NAP = 0.1 if is_virtual() else 0.02
+# As many frames as were read at once may not be all that had come.
+MANY = 256
 # Seconds after which who waits looks for what another thread has read.
 LONGEST_NAP = 0.05
 
@@ -44,8 +48,8 @@ class ObservingSession(RawSession):
 
     def read(self) -> None:
         """Reads what has come, without waiting."""
-        # An exception of a signal's handler loses none: each is kept as it is returned.
-        self._texts.extend(iter(lambda: self.frame(0), None))
+        while self.take_frames(self._texts) >= MANY:
+            pass
 
     def hand_on(self, add: Callable[[str, str], None]) -> None:
         """Hands on what has come, as messages of the protocol, without waiting; what came before the end of the session too."""
@@ -80,10 +84,10 @@ def wait_for_input(sessions: Sequence[ObservingSession], seconds: float) -> None
 
 
 class Reader:
-    """A thread that calls `read` while something comes to these sessions, at most every 20 milliseconds."""
+    """A thread that calls `read` while something comes to these sessions, at most each `NAP`."""
 
     def __init__(self, sessions: Sequence[ObservingSession], read: Callable[[], None]) -> None:
-        self._ended = threading.Event()
+        self._has_ended = False
         self._end_reader, self._end_writer = os.pipe()
         poll = select.poll()
         for number in (self._end_reader, *(session.fileno() for session in sessions)):
@@ -94,7 +98,7 @@ class Reader:
     def _run(self, poll: "select.poll", read: Callable[[], None]) -> None:
         while True:
             poll.poll()
-            if self._ended.wait(NAP):
+            if wait_for_ready([self._end_reader], select.POLLIN, NAP):
                 return
             try:
                 read()
@@ -103,8 +107,8 @@ class Reader:
 
     def end(self) -> None:
         """Ends the thread."""
-        if not self._ended.is_set():
-            self._ended.set()
+        if not self._has_ended:
+            self._has_ended = True
             os.write(self._end_writer, b"!")
             self._thread.join()
             os.close(self._end_reader)

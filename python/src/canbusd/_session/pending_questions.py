@@ -38,7 +38,7 @@ class Asked(NamedTuple):
 
     def and_then(self, ends: str) -> "Asked":
         """A question whose answers end like this."""
-        return self._replace(ends=self.ends + ends)
+        return Asked(self.ends + ends, *self[1:])
 
     def sorted(self, messages: Iterable[str], note: Callable[[int], None]) -> tuple["Asked", list[str], str]:
         """Returns what is left to come after these messages, the frames among them, and the first that nobody asked for.

@@ -3,8 +3,8 @@
 Frames are in canbusd.frames: `command_of` and `frame_of`. Nothing here needs python-can.
 """
 
-from collections.abc import Mapping, Sequence
-from typing import Any, NamedTuple, Optional, Union
+from collections.abc import Iterable, Mapping, Sequence
+from typing import Any, Literal, NamedTuple, Optional, Union
 
 from canbusd.frames import EXTENDED, INVERTED
 
@@ -12,16 +12,20 @@ from canbusd.frames import EXTENDED, INVERTED
 LONGEST_MESSAGE, LONGEST_ANSWER = 1024, 4120
 ALL_CLASSES = 0x1FFFFFFF
 # The states of an interface, by how bad they are.
-STATES = ("active", "warning", "passive", "off")
+State = Literal["active", "warning", "passive", "off"]
+STATES: tuple[State, ...] = ("active", "warning", "passive", "off")
+# Filters that no frame passes: everything, inverted.
+NO_FRAMES = [{"can_id": INVERTED, "can_mask": 0}]
 
 Filters = Sequence[Mapping[str, Any]]
+A_FILTER = "{'can_id': 0x123, 'can_mask': 0x7FF}"
 
 
 class ErrorCounters(NamedTuple):
     """How an interface is: its state and its error counts."""
 
     #: `active`, `warning`, `passive` or `off`.
-    state: str
+    state: State
     #: The transmit error count.
     tec: int
     #: The receive error count.
@@ -88,9 +92,10 @@ def counters_of(answer: str) -> Optional[ErrorCounters]:
     """Returns what the answer `status passive 128 0` says; None for another message."""
     words = answer.split()
     counts = numbers(words[2:], 2)
-    if counts is None or words[0] != "status" or words[1] not in STATES:
+    state = next((state for state in STATES if words[1:2] == [state]), None)
+    if counts is None or words[0] != "status" or state is None:
         return None
-    return ErrorCounters(words[1], *counts)
+    return ErrorCounters(state, *counts)
 
 
 def stats_of(answer: str) -> Optional[Stats]:
@@ -149,7 +154,9 @@ def filter_words(one: Mapping[str, Any]) -> tuple[int, int]:
     """
     if not isinstance(one, Mapping):
         raise ValueError(f"a filter is a dict with can_id and can_mask, not {one!r}")
-    identifier, mask = one.get("can_id"), one.get("can_mask")
+    if "can_id" not in one or "can_mask" not in one:
+        raise ValueError(f"a filter has can_id and can_mask, as {A_FILTER}, not {dict(one)!r}")
+    identifier, mask = one["can_id"], one["can_mask"]
     for name, word in (("can_id", identifier), ("can_mask", mask)):
         if not isinstance(word, int) or not 0 <= word <= 0xFFFFFFFF:
             raise ValueError(f"{name} of a filter is a number of 32 bits, not {word!r}")
@@ -163,6 +170,8 @@ def filter_words(one: Mapping[str, Any]) -> tuple[int, int]:
 
 def filter_message(filters: Optional[Filters]) -> Optional[str]:
     """Returns the message that sets these filters, None if they don't fit into one. Without any, everything passes."""
+    if filters is not None and (isinstance(filters, (str, Mapping)) or not isinstance(filters, Iterable)):
+        raise ValueError(f"filters are a list of dicts, such as [{A_FILTER}], not {filters!r}")
     pairs = [filter_words(one) for one in filters] if filters else [(0, 0)]
     words = " ".join(f"{identifier:X} {mask:X}" for identifier, mask in pairs)
     message = f"filter {len(pairs)} {words}"

@@ -6,6 +6,7 @@ installed, faults are its exceptions.
 
 import errno
 import time
+from collections import deque
 from collections.abc import Sequence
 from typing import Optional
 
@@ -39,6 +40,11 @@ def fault(kind: str, text: str, code: Optional[int] = None) -> Exception:
 def refusal(text: str, after: str = "") -> Exception:
     """The exception for what the server refused; its `error_code` is that of the system's own CAN sockets."""
     return fault("CanOperationError", f"{text}{after}{CURES.get(text, '')}", ERROR_CODES.get(text))
+
+
+def stayed_full(after: str = "") -> Exception:
+    """The exception for a transmit queue that made no room in time."""
+    return fault("CanTimeoutError", f"{NO_BUFFERS}{after}: the transmit queue stayed full", errno.ENOBUFS)
 
 
 def with_cure(text: str) -> str:
@@ -105,6 +111,13 @@ class RawSession(InjectsFaults):
         except ConnectionError as reason:
             raise self._failed("CanOperationError", str(reason)) from None
 
+    def take_frames(self, to: deque[str]) -> int:
+        """Reads once what has come, without waiting, and moves the frames to the end of `to`; returns how many there were."""
+        try:
+            return self._connection.take_frames(to)
+        except ConnectionError as reason:
+            raise self._failed("CanOperationError", str(reason)) from None
+
     def frames_at_hand(self) -> int:
         """Returns how many frames were read already, and wait to be taken."""
         return self._connection.frames_at_hand()
@@ -121,10 +134,13 @@ class RawSession(InjectsFaults):
         answer = self.answer(command)
         if answer == NO_BUFFERS and timeout is not None and timeout > 0:
             deadline = time.monotonic() + timeout
-            before: Optional[Stats] = None
-            while answer == NO_BUFFERS:
-                before = self._departure(before, deadline)
+            stats: Optional[Stats] = None
+            is_late = False
+            while answer == NO_BUFFERS and not is_late:
+                stats, is_late = self._departure(stats, deadline)
                 answer = self.answer(command)
+            if answer == NO_BUFFERS:
+                raise stayed_full()
         if answer:
             raise refusal(answer)
 
@@ -138,17 +154,20 @@ class RawSession(InjectsFaults):
         stats = self.stats()
         deadline = time.monotonic() + (self._timeout if timeout is None else timeout)
         while rest:
-            room = window - stats.waiting
+            room, is_late = window - stats.waiting, False
             if room < 1:
-                stats = self._departure(stats, deadline, f" after {total - len(rest)} of {times(total, 'message')}")
+                stats, is_late = self._departure(stats, deadline)
                 room = max(1, window - stats.waiting)
             answers = self.answers([*rest[:room], "stats"])
             stats = self._parsed(answers.pop(), stats_of)
             refused = [command for command, answer in zip(rest, answers) if answer]
             rest[: len(answers)] = refused
             reason = next((answer for answer in answers if answer not in ("", NO_BUFFERS)), None)
+            after = f" after {total - len(rest)} of {times(total, 'message')}"
             if reason is not None:
-                raise refusal(reason, f" after {total - len(rest)} of {times(total, 'message')}")
+                raise refusal(reason, after)
+            if refused and is_late:
+                raise stayed_full(after)
             if len(refused) < len(answers) and timeout is None:
                 deadline = time.monotonic() + self._timeout
             window = max(1, stats.waiting) if refused else min(most, window + 1)
@@ -157,7 +176,8 @@ class RawSession(InjectsFaults):
         """Brings the interface back from bus off; that it is not bus off is a fault unless it is not `is_needed`."""
         answer = self.answer("restart")
         if answer and (is_needed or answer != NOT_BUS_OFF):
-            raise refusal(answer)
+            state = f", but {self.error_counters().state}" if answer == NOT_BUS_OFF else ""
+            raise refusal(f"{self.channel}: {answer}{state}")
 
     def error_counters(self) -> ErrorCounters:
         """Returns the state of the interface and its error counts."""
@@ -185,18 +205,16 @@ class RawSession(InjectsFaults):
         """The exception of python-can of this kind."""
         return fault(kind, with_cure(text))
 
-    def _departure(self, before: Optional[Stats], deadline: float, after: str = "") -> Stats:
-        """Waits until a frame has left the transmit queue since these counts, and returns the counts then.
+    def _departure(self, before: Optional[Stats], deadline: float) -> tuple[Stats, bool]:
+        """Waits until a frame has left the transmit queue since these counts, or until the deadline.
 
-        A refused send is an entry of the record; looking at the counts is none.
+        Returns the counts then, and whether the deadline is over. The counts don't say whether a frame can still leave: a
+        last send does, which reports a full record. A refused send is an entry of the record; looking at the counts is none.
         """
         pause = POLL
         while True:
-            now = self.stats()
-            left = seconds_until(deadline)
-            if left == 0:
-                raise fault("CanTimeoutError", f"{NO_BUFFERS}{after}: the transmit queue stayed full", errno.ENOBUFS)
-            if before is None or now.done + now.lost != before.done + before.lost:
-                return now
+            now, left = self.stats(), seconds_until(deadline)
+            if left == 0 or before is None or now.done + now.lost != before.done + before.lost:
+                return now, left == 0
             time.sleep(min(pause, left))
             pause = min(2 * pause, LONGEST_POLL)

@@ -23,13 +23,13 @@ def seconds_until(deadline: float) -> float:
 
 
 def wait_for_ready(numbers: Sequence[int], events: int, seconds: Optional[float]) -> bool:
-    """Waits until one of these file descriptors is ready for events of `select.poll`, at most for these seconds.
+    """Waits until one of these file descriptors may be read, or written where `events` has POLLOUT, at most for these seconds.
 
-    Returns whether one is. A wait of poll is in milliseconds.
+    Returns whether one is so. A wait of poll is in milliseconds.
     """
-    if all(number < MOST_SELECTED for number in numbers):
-        writes = numbers if events & select.POLLOUT else ()
-        return any(select.select(numbers if events & select.POLLIN else (), writes, (), seconds))
+    if max(numbers, default=0) < MOST_SELECTED:
+        readable, writable, _ = select.select(numbers, numbers if events & select.POLLOUT else (), (), seconds)
+        return bool(readable or writable)
     poll = select.poll()
     for number in numbers:
         poll.register(number, events)

@@ -98,7 +98,3 @@ def rates_of(options: argparse.Namespace) -> Optional[Rates]:
         return Rates(options.bitrate, options.dbitrate)
     except ValueError as fault:
         raise BadWords(f"{fault}") from None
-
-
-#: Filters that no frame passes: everything, inverted.
-NOTHING = [{"can_id": 0x20000000, "can_mask": 0}]

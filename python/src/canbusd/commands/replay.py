@@ -111,7 +111,7 @@ def lines_of(record: Record) -> Iterator[str]:
 
 def words_of(attempt: Attempt) -> str:
     """What became of an attempt, in words."""
-    words = [attempt.outcome]
+    words: list[str] = [attempt.outcome]
     if attempt.fault not in ("good", attempt.outcome):
         words.append(f"({attempt.fault})")
     words.append(f"accepted by {','.join(attempt.accepted) or 'nobody'}")

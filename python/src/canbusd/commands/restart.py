@@ -6,8 +6,9 @@ import canbusd._python_can  # noqa: F401  it says what is missing, so it comes f
 
 from can.exceptions import CanOperationError
 
+from canbusd._session.protocol import NO_FRAMES
 from canbusd.bus import CanbusdBus
-from canbusd.commands import NOTHING, add_address
+from canbusd.commands import add_address
 
 EPILOG = """\
 Both error counts are 0 then, and what was queued at bus off is lost. An interface that is not bus off is reported, with
@@ -27,11 +28,13 @@ def add_arguments(parser: argparse.ArgumentParser) -> None:
 def run(options: argparse.Namespace) -> None:
     """Restarts the interfaces."""
     faults: list[str] = []
-    for bus in [CanbusdBus(name, NOTHING, address=options.address, error_frames=False) for name in options.interfaces]:
+    for bus in [
+        CanbusdBus(name, NO_FRAMES, address=options.address, error_frames=False) for name in options.interfaces
+    ]:
         with bus:
             try:
                 bus.restart()
             except CanOperationError as fault:
-                faults.append(f"{bus.channel}: {fault}")
+                faults.append(f"{fault}")
     if faults:
         raise ValueError("; ".join(faults))

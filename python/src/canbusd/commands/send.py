@@ -11,8 +11,9 @@ import canbusd._python_can  # noqa: F401  it says what is missing, so it comes f
 
 from can.exceptions import CanOperationError
 
+from canbusd._session.protocol import NO_FRAMES
 from canbusd.bus import CanbusdBus
-from canbusd.commands import NOTHING, add_address, add_database, database_of, least_zero
+from canbusd.commands import add_address, add_database, database_of, least_zero
 from canbusd.frames import BadFrame, Frame
 from canbusd.signals import Database, Value
 
@@ -69,12 +70,9 @@ def frame_of_signals(message: str, values: Mapping[str, Value], database: Option
 
 def frame_of_word(text: str) -> Frame:
     """The frame that a word of the command line names."""
-    try:
-        frame = Frame.parse(text)
-        if frame.is_error_frame:
-            raise BadFrame("an error message frame, which nobody sends")
-    except BadFrame as fault:
-        raise BadFrame(f"{text}: {fault}") from None
+    frame = Frame.parse(text)
+    if frame.is_error_frame:
+        raise BadFrame(f"{text}: an error message frame, which nobody sends")
     if re.search("##[4-9A-Fa-f]", text):
         print(f"canbusd send: {text}: of the flags only 1 and 2 are sent", file=sys.stderr)
     return frame
@@ -84,7 +82,7 @@ def run(options: argparse.Namespace) -> None:
     """Sends the frames."""
     frames = list(frames_of_words(options.frames, database_of(options)))
     has_fd = any(frame.is_fd for frame in frames)
-    with CanbusdBus(options.interface, NOTHING, address=options.address, fd=has_fd, error_frames=False) as bus:
+    with CanbusdBus(options.interface, NO_FRAMES, address=options.address, fd=has_fd, error_frames=False) as bus:
         try:
             for frame in frames:
                 bus.send(frame.message(), timeout=options.timeout)

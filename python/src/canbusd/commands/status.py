@@ -6,9 +6,9 @@ import time
 from collections.abc import Sequence
 
 from canbusd._run.summary import HEADINGS, Row, load_words, table
-from canbusd._session.protocol import Load
+from canbusd._session.protocol import NO_FRAMES, Load
 from canbusd.bus import CanbusdBus, interfaces
-from canbusd.commands import NOTHING, above_zero, add_address
+from canbusd.commands import above_zero, add_address
 
 EPILOG = """\
 TEC and REC are the transmit and the receive error count: error warning from 96, error passive from 128, bus off from
@@ -40,7 +40,7 @@ def add_arguments(parser: argparse.ArgumentParser) -> None:
 def run(options: argparse.Namespace) -> None:
     """Prints the table, once or again and again."""
     names = options.interfaces or interfaces(options.address)
-    buses = [CanbusdBus(name, NOTHING, address=options.address, error_frames=False) for name in names]
+    buses = [CanbusdBus(name, NO_FRAMES, address=options.address, error_frames=False) for name in names]
     on_screen = options.watch and sys.stdout.isatty()
     if on_screen:
         sys.stdout.write(HOME + CLEAR_BELOW)

@@ -1,28 +1,22 @@
 """Shows a running server in the browser: frames, states and counts as they come, on one page, until Ctrl-C."""
 
 import argparse
-import errno
-import itertools
-import json
-import operator
 import select
 import sys
 import threading
 import time
-from collections import deque
-from collections.abc import Iterable, Iterator, Sequence
-from http import HTTPStatus
-from http.server import BaseHTTPRequestHandler, ThreadingHTTPServer
-from typing import Any, Optional
+from collections.abc import Iterable, Sequence
+from typing import Optional
 
 import canbusd._python_can  # noqa: F401  it says what is missing, so it comes first
 
 from can.exceptions import CanOperationError
 
-from canbusd._page.report import filled
+from canbusd._page.live import MOST_FRAMES, Board, Json, Row, is_frame, opened
 from canbusd._process.program import ProgramNotFound
 from canbusd._process.rates import Rates
 from canbusd._run.frame_times import FrameTimes
+from canbusd._session.address import parse_address
 from canbusd.bus import CanbusdBus, interfaces
 from canbusd.commands import above_zero, add_address, add_database, database_of, digits
 from canbusd.commands._command import BadWords
@@ -30,164 +24,18 @@ from canbusd.frames import SENDING, Frame, frame_like
 from canbusd.signals import Database, Decoded
 
 EPILOG = """\
-The page is served on 127.0.0.1 only. It shows on a time line how many frames each interface sent, its state, error
-counts and queue; and lists the last frames, with the watched interfaces that sent them, changes of state, and each
-identifier with its last data. Destroyed and unacknowledged frames are shown where the server was started with --report.
+The page is served on 127.0.0.1 only. Its URL has a token, another one each time, without which nobody gets the page; the
+page of a server at a Unix path is only for the user who runs this command. It shows on a time line how many frames each
+interface sent, its state, error counts and queue; and lists the last frames, with the watched interfaces that sent them,
+changes of state, and each identifier with its last data. Destroyed and unacknowledged frames are shown where the server
+was started with --report.
 Of a server with a bit rate it has the bus load, and what each identifier takes of it.
 A session on each interface receives everything: each frame that it gets is an entry of the record.
 
   canbusd watch
   canbusd watch --port 0 -a ./bench.socket can0
 """
-# How much a page gets that is opened later: ticks, and frames.
-MOST_TICKS, MOST_FRAMES = 2400, 4000
-# Seconds in which pages are sent that the server has ended, after which a silent connection is closed, and between two looks
-# for a file descriptor where there are no more.
-CLOSE_TIMEOUT, REQUEST_TIMEOUT, PAUSE = 2.0, 10.0, 0.2
 BUS_ERROR, NOT_ACKNOWLEDGED, END_OF_FRAME, FORM = 0x080, 0x020, 0x1A, 0x02
-
-Json = dict[str, Any]
-Row = list[Any]
-
-
-class Board:
-    """What the pages get: of each tick the counts of the interfaces, and the frames that came since the one before."""
-
-    def __init__(self) -> None:
-        self._changed = threading.Condition()
-        self._ticks: deque[Json] = deque(maxlen=MOST_TICKS)
-        # Frames, faults and changes of state are kept apart, so that none pushes out another.
-        self._kept = [deque[Row](maxlen=MOST_FRAMES) for _ in range(3)]
-        self._last: tuple[int, Json] = (0, {})
-        self._end: Optional[str] = None
-        self._readers = 0
-
-    def add(self, tick: Json, frames: list[Row]) -> None:
-        """Adds a tick."""
-        with self._changed:
-            self._ticks.append(tick)
-            for row in frames:
-                self._kept[0 if is_frame(row) else 1 if row[3].startswith("bus error") else 2].append(row)
-            self._last = self._last[0] + 1, {"ticks": [tick], "frames": frames}
-            self._changed.notify_all()
-
-    def end(self, reason: str) -> None:
-        """Ends the news; returns once the pages have got that."""
-        with self._changed:
-            self._end = reason
-            self._changed.notify_all()
-            self._changed.wait_for(lambda: not self._readers, CLOSE_TIMEOUT)
-
-    def news(self) -> Iterator[Json]:
-        """Yields what a page gets: first all that is kept, then each tick, at the end why there are no more."""
-        with self._changed:
-            self._readers += 1
-        try:
-            seen = -1
-            while True:
-                with self._changed:
-                    self._changed.wait_for(lambda: self._last[0] != seen or self._end is not None)
-                    if self._end is not None:
-                        break
-                    number, news = self._last
-                    if seen < 0 or number != seen + 1:
-                        # A page that is new, or reads slowly, begins with all that is kept.
-                        rows = sorted(itertools.chain(*self._kept), key=operator.itemgetter(0))
-                        news = {"start": True, "ticks": list(self._ticks), "frames": rows}
-                    seen = number
-                yield news
-            yield {"end": self._end}
-        finally:
-            with self._changed:
-                self._readers -= 1
-                self._changed.notify_all()
-
-
-class Pages(ThreadingHTTPServer):
-    """Serves the page, and its news as server-sent events."""
-
-    # A connection that asks nothing holds up no end.
-    daemon_threads = True
-    request_queue_size = 128
-
-    def __init__(self, port: int, board: Board, known: Json) -> None:
-        super().__init__(("127.0.0.1", port), Request)
-        self.board = board
-        data = json.dumps(known).replace("<", "\\u003c")
-        self.page = (
-            filled(
-                "watch.html",
-                ["core.js", "lanes.js", "lists.js", "signals.js", "watch_signals.js", "watch_loads.js", "watch.js"],
-            )
-            .replace("/*RUN*/", data)
-            .encode()
-        )
-
-    def get_request(self) -> tuple[Any, Any]:
-        """Takes a connection. Where there is no file descriptor for it, it waits for one, and burns no processor."""
-        try:
-            return super().get_request()
-        except OSError:
-            time.sleep(PAUSE)
-            raise
-
-    @property
-    def url(self) -> str:
-        """The address of the page."""
-        return f"http://127.0.0.1:{self.server_address[1]}/"
-
-
-def opened(port: int, board: Board, known: Json) -> Pages:
-    """Returns the pages on this port; the fault of a port that can't be had names it."""
-    try:
-        return Pages(port, board, known)
-    except OSError as fault:
-        hint = "; --port 0 takes a free one" if fault.errno == errno.EADDRINUSE else ""
-        raise OSError(fault.errno, f"{fault.strerror}{hint}", f"127.0.0.1:{port}") from None
-
-
-class Request(BaseHTTPRequestHandler):
-    """A browser's request."""
-
-    server: Pages
-    # Of a connection that asks nothing, and of a page that takes nothing.
-    timeout = REQUEST_TIMEOUT
-
-    def do_GET(self) -> None:
-        """Sends the page or the news."""
-        port = self.server.server_address[1]
-        # Another site's name for this address would let that site read the bus.
-        if self.headers.get("Host") not in (f"127.0.0.1:{port}", f"localhost:{port}"):
-            self.send_error(HTTPStatus.FORBIDDEN)
-        elif self.path == "/":
-            self.start("text/html; charset=utf-8")
-            self.wfile.write(self.server.page)
-        elif self.path == "/news":
-            self.start("text/event-stream")
-            self.send_news()
-        elif self.path == "/favicon.ico":
-            self.send_response(HTTPStatus.NO_CONTENT)
-            self.end_headers()
-        else:
-            self.send_error(HTTPStatus.NOT_FOUND)
-
-    def start(self, kind: str) -> None:
-        """Sends the header of an answer."""
-        self.send_response(HTTPStatus.OK)
-        self.send_header("Content-Type", kind)
-        self.send_header("Cache-Control", "no-store")
-        self.end_headers()
-
-    def send_news(self) -> None:
-        """Sends the news until there are no more, or the browser goes away."""
-        try:
-            for news in self.server.board.news():
-                self.wfile.write(b"data: " + json.dumps(news, separators=(",", ":")).encode() + b"\n\n")
-        except OSError:
-            pass
-
-    def log_message(self, format: str, *args: Any) -> None:
-        """Requests are not logged."""
 
 
 class Watched(CanbusdBus):
@@ -283,11 +131,6 @@ def says(frame: Frame, decoded: Optional[Decoded]) -> str:
     return frame.meaning if decoded is None else str(decoded)
 
 
-def is_frame(row: Row) -> bool:
-    """Whether a row is not an error message frame, whose first digit has bit 29."""
-    return not (row[1][8:9] == "#" and row[1][0] in "23")
-
-
 def fault_of(frame: Frame) -> Optional[int]:
     """Which fault of the interface's own frame is reported: 0 last bit, 1 destroyed, 2 not acknowledged; else None."""
     kind, place = frame.data.ljust(4, b"\0")[2:4]
@@ -329,7 +172,8 @@ def run(options: argparse.Namespace) -> None:
         "isDecoded": watcher.database is not None,
         "isTimed": watcher.wire is not None,
     }
-    with opened(options.port, board, known) as pages:
+    has_path = parse_address(watcher.buses[0].address)[0] is not None
+    with opened(options.port, board, known, is_own=has_path) as pages:
         threading.Thread(target=pages.serve_forever, daemon=True).start()
         print(f"watching {', '.join(names)} on {pages.url}", flush=True)
         try:

@@ -1,0 +1,297 @@
+"""The live page of `canbusd watch`: what browsers get, and which of them get it.
+
+All local users and all web sites that are open in a browser can connect to 127.0.0.1. So the path of each request has to
+begin with a token that only the URL of the page has, and the request has to name this machine as its host: a site whose name
+leads here is another one. Where the server is at a Unix path, which file permissions protect, the browser has to be of the user
+who runs the command.
+"""
+
+import base64
+import errno
+import hashlib
+import itertools
+import json
+import operator
+import os
+import re
+import secrets
+import socket
+import struct
+import sys
+import threading
+import time
+from collections import deque
+from collections.abc import Iterator
+from http import HTTPStatus
+from http.server import BaseHTTPRequestHandler, ThreadingHTTPServer
+from typing import Any, BinaryIO, Optional
+
+from canbusd._page.report import filled
+
+SCRIPTS = ("core.js", "lanes.js", "lists.js", "signals.js", "watch_signals.js", "watch_loads.js", "watch.js")
+# How much a page gets that is opened later: ticks, and frames.
+MOST_TICKS, MOST_FRAMES = 2400, 4000
+# Seconds in which pages are sent that the server has ended, after which a silent connection is closed, and between two looks
+# for a file descriptor where there are no more.
+CLOSE_TIMEOUT, REQUEST_TIMEOUT, PAUSE = 2.0, 10.0, 0.2
+# How many connections may have asked nothing yet, and how many bytes a request may have.
+MOST_WAITING, MOST_BYTES = 64, 65536
+# What each answer has: nothing is kept, taken for something else, shown to other sites, or said to them.
+HEADERS = {
+    "Cache-Control": "no-store",
+    "Cross-Origin-Resource-Policy": "same-origin",
+    "Referrer-Policy": "no-referrer",
+    "X-Content-Type-Options": "nosniff",
+}
+POLICY = (
+    "default-src 'none'; script-src 'sha256-{}'; style-src 'sha256-{}'; connect-src 'self'; img-src data:; "
+    "base-uri 'none'; form-action 'none'; frame-ancestors 'none'"
+)
+REFUSAL = (
+    "The page is at the whole URL that `canbusd watch` has printed, and of a server at a Unix path only for the user who "
+    "runs the command"
+)
+
+Json = dict[str, Any]
+Row = list[Any]
+
+
+class Board:
+    """What the pages get: of each tick the counts of the interfaces, and the frames that came since the one before."""
+
+    def __init__(self) -> None:
+        self._changed = threading.Condition()
+        self._ticks: deque[Json] = deque(maxlen=MOST_TICKS)
+        # Frames, faults and changes of state are kept apart, so that none pushes out another.
+        self._kept = [deque[Row](maxlen=MOST_FRAMES) for _ in range(3)]
+        self._last: tuple[int, Json] = (0, {})
+        self._end: Optional[str] = None
+        self._readers = 0
+
+    def add(self, tick: Json, frames: list[Row]) -> None:
+        """Adds a tick."""
+        with self._changed:
+            self._ticks.append(tick)
+            for row in frames:
+                self._kept[0 if is_frame(row) else 1 if row[3].startswith("bus error") else 2].append(row)
+            self._last = self._last[0] + 1, {"ticks": [tick], "frames": frames}
+            self._changed.notify_all()
+
+    def end(self, reason: str) -> None:
+        """Ends the news; returns once the pages have got that."""
+        with self._changed:
+            self._end = reason
+            self._changed.notify_all()
+            self._changed.wait_for(lambda: not self._readers, CLOSE_TIMEOUT)
+
+    def news(self) -> Iterator[Json]:
+        """Yields what a page gets: first all that is kept, then each tick, at the end why there are no more."""
+        with self._changed:
+            self._readers += 1
+        try:
+            seen = -1
+            while True:
+                with self._changed:
+                    self._changed.wait_for(lambda: self._last[0] != seen or self._end is not None)
+                    if self._end is not None:
+                        break
+                    number, news = self._last
+                    if seen < 0 or number != seen + 1:
+                        # A page that is new, or reads slowly, begins with all that is kept.
+                        rows = sorted(itertools.chain(*self._kept), key=operator.itemgetter(0))
+                        news = {"start": True, "ticks": list(self._ticks), "frames": rows}
+                    seen = number
+                yield news
+            yield {"end": self._end}
+        finally:
+            with self._changed:
+                self._readers -= 1
+                self._changed.notify_all()
+
+
+class Pages(ThreadingHTTPServer):
+    """Serves the page, and its news as server-sent events, to those who have its URL."""
+
+    # A connection that asks nothing holds up no end.
+    daemon_threads = True
+    request_queue_size = 128
+
+    def __init__(self, port: int, board: Board, known: Json, is_own: bool) -> None:
+        """`is_own` says that the page is only for the user who serves it."""
+        self._waiting: dict[socket.socket, None] = {}
+        self._lock = threading.Lock()
+        super().__init__(("127.0.0.1", port), Request)
+        self.board, self._is_own = board, is_own
+        self._token = secrets.token_urlsafe()
+        text = filled("watch.html", SCRIPTS)
+        self.policy = policy_of(text)
+        self.page = text.replace("/*RUN*/", json.dumps(known).replace("<", "\\u003c")).encode()
+
+    @property
+    def url(self) -> str:
+        """The address of the page."""
+        return f"http://127.0.0.1:{self.server_address[1]}/{self._token}/"
+
+    def admits(self, hosts: list[str], token: str, client: tuple[str, int]) -> bool:
+        """Whether a request gets an answer: by the hosts that it names, the token in its path, and whose it is."""
+        port = self.server_address[1]
+        is_here = hosts in ([f"127.0.0.1:{port}"], [f"localhost:{port}"])
+        has_token = secrets.compare_digest(token.encode(), self._token.encode())
+        return is_here and has_token and not (self._is_own and user_of(client, ("127.0.0.1", port)) != os.geteuid())
+
+    def get_request(self) -> tuple[Any, Any]:
+        """Takes a connection. Where there is no file descriptor for it, it waits for one, and burns no processor."""
+        try:
+            return super().get_request()
+        except OSError:
+            time.sleep(PAUSE)
+            raise
+
+    def process_request(self, request: Any, client_address: Any) -> None:
+        """Serves a connection. Of many that ask nothing the oldest is closed, so that they keep nobody out."""
+        with self._lock:
+            self._waiting[request] = None
+            oldest = next(iter(self._waiting)) if len(self._waiting) > MOST_WAITING else None
+        if oldest is not None:
+            self.asks(oldest)
+            shut_down(oldest)
+        super().process_request(request, client_address)
+
+    def asks(self, request: socket.socket) -> None:
+        """Notes that a connection no longer waits: it has asked for something that it gets, or is closed."""
+        with self._lock:
+            self._waiting.pop(request, None)
+
+    def shutdown_request(self, request: Any) -> None:
+        """Closes a connection."""
+        self.asks(request)
+        super().shutdown_request(request)
+
+    def handle_error(self, request: Any, client_address: Any) -> None:
+        """A browser that goes away is no fault."""
+        if not isinstance(sys.exc_info()[1], OSError):
+            super().handle_error(request, client_address)
+
+
+def shut_down(connection: socket.socket) -> None:
+    """Ends a connection, whose thread then closes it."""
+    try:
+        connection.shutdown(socket.SHUT_RDWR)
+    except OSError:
+        pass
+
+
+def opened(port: int, board: Board, known: Json, is_own: bool) -> Pages:
+    """Returns the pages on this port; the fault of a port that can't be had names it."""
+    try:
+        return Pages(port, board, known, is_own)
+    except OSError as fault:
+        hint = "; --port 0 takes a free one" if fault.errno == errno.EADDRINUSE else ""
+        raise OSError(fault.errno, f"{fault.strerror}{hint}", f"127.0.0.1:{port}") from None
+
+
+def policy_of(page: str) -> str:
+    """Returns the content security policy of a page: its one script, its one style, and nothing of anybody else."""
+    parts = (page.partition(f"<{name}>")[2].partition(f"</{name}>")[0] for name in ("script", "style"))
+    return POLICY.format(*(base64.b64encode(hashlib.sha256(part.encode()).digest()).decode() for part in parts))
+
+
+def user_of(client: tuple[str, int], server: tuple[str, int]) -> Optional[int]:
+    """Returns the user whose socket is the client's end of a TCP connection on this machine; None where it is closed."""
+    for table, prefix in (("tcp", ""), ("tcp6", "::ffff:")):
+        ends = " ".join(f"{words_of(prefix + host)}:{port:04X}" for host, port in (client, server))
+        try:
+            with open(f"/proc/net/{table}", encoding="ascii") as file:
+                # After both ends: state 1, which is a whole connection, queues, timer, retransmissions and the user.
+                found = re.search(rf"^ *\d+: {ends} 01 \S+ \S+ \S+ +(\d+) ", file.read(), re.M)
+        except FileNotFoundError:
+            continue
+        if found:
+            return int(found[1])
+    return None
+
+
+def words_of(host: str) -> str:
+    """Returns an IP address as /proc/net has it: 0100007F for 127.0.0.1 on most machines."""
+    packed = socket.inet_pton(socket.AF_INET6 if ":" in host else socket.AF_INET, host)
+    return "".join(f"{word:08X}" for word in struct.unpack(f"={len(packed) // 4}I", packed))
+
+
+class Head:
+    """The lines of a request, as if it ended after its most bytes."""
+
+    def __init__(self, file: BinaryIO) -> None:
+        self._file, self._left = file, MOST_BYTES
+        self.close = file.close
+
+    def readline(self, most: int) -> bytes:
+        """Reads a line, or these bytes of it."""
+        line = self._file.readline(min(most, self._left))
+        self._left -= len(line)
+        return line
+
+
+class Request(BaseHTTPRequestHandler):
+    """A browser's request."""
+
+    server: Pages
+    rfile: Any
+    # Of a connection that asks nothing, and of a page that takes nothing.
+    timeout = REQUEST_TIMEOUT
+
+    def setup(self) -> None:
+        """Begins to read."""
+        super().setup()
+        self.rfile = Head(self.rfile)
+
+    def parse_request(self) -> bool:
+        """Reads a request, and refuses one that is not admitted, whatever it asks for."""
+        if not super().parse_request():
+            return False
+        _, _, path = self.path.partition("?")[0].partition("/")
+        token, _, self.path = path.partition("/")
+        if not self.server.admits(self.headers.get_all("Host", []), token, self.client_address):
+            self.send_error(HTTPStatus.FORBIDDEN, explain=REFUSAL)
+            return False
+        self.server.asks(self.connection)
+        return True
+
+    def do_GET(self) -> None:
+        """Sends the page or the news."""
+        if self.path == "":
+            self.start("text/html; charset=utf-8")
+            self.wfile.write(self.server.page)
+        elif self.path == "news":
+            self.start("text/event-stream")
+            self.send_news()
+        else:
+            self.send_error(HTTPStatus.NOT_FOUND)
+
+    def start(self, kind: str) -> None:
+        """Sends the header of an answer."""
+        self.send_response(HTTPStatus.OK)
+        self.send_header("Content-Type", kind)
+        self.end_headers()
+
+    def end_headers(self) -> None:
+        """Ends the header, with what each answer has."""
+        for name, value in {**HEADERS, "Content-Security-Policy": self.server.policy}.items():
+            self.send_header(name, value)
+        super().end_headers()
+
+    def send_news(self) -> None:
+        """Sends the news until there are no more, or the browser goes away."""
+        for news in self.server.board.news():
+            self.wfile.write(b"data: " + json.dumps(news, separators=(",", ":")).encode() + b"\n\n")
+
+    def version_string(self) -> str:
+        """What serves the page."""
+        return "canbusd"
+
+    def log_message(self, format: str, *args: Any) -> None:
+        """Requests are not logged: their paths have the token."""
+
+
+def is_frame(row: Row) -> bool:
+    """Whether a row is not an error message frame, whose first digit has bit 29."""
+    return not (row[1][8:9] == "#" and row[1][0] in "23")

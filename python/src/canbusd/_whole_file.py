@@ -1,0 +1,109 @@
+"""Files that are written whole or not at all: after a fault, and until the end, what was there before is still there."""
+
+import contextlib
+import errno
+import os
+import secrets
+import shutil
+import stat
+import tempfile
+from collections.abc import Iterator
+from typing import BinaryIO, Optional, Union
+
+Path = Union[str, "os.PathLike[str]"]
+#: Where the system has the open files of this process.
+OWN_FILES = "/proc/self/fd"
+#: The errors of file systems in which each file has a name from the start, as NFS and FAT.
+NAMES_ONLY = (errno.EOPNOTSUPP, errno.EISDIR)
+
+
+@contextlib.contextmanager
+def replaced(path: Path) -> Iterator[BinaryIO]:
+    """Yields a file for the new content of this path, which takes the place of the old content after the block.
+
+    If the block raises an exception, or the process is killed, the old file stays as it was, and no other is left. A file
+    keeps its permissions and, if possible, its owner; one that may not be written is refused. A fifo or a device gets the
+    content after the block. A link to a file is refused: a file in its place would end it, and what it leads to may be the
+    choice of somebody else.
+    """
+    with named(path):
+        old = checked(path)
+        with renamed(path, old) if old is None or stat.S_ISREG(old.st_mode) else copied(path) as file:
+            yield file
+
+
+@contextlib.contextmanager
+def named(path: Path, is_its: bool = False) -> Iterator[None]:
+    """Gives an OSError the name of this file if it has none, and also in place of another if it `is_its` fault."""
+    try:
+        yield
+    except OSError as fault:
+        if is_its or fault.filename is None:
+            fault.filename = os.fspath(path)
+        raise
+
+
+def checked(path: Path) -> Optional[os.stat_result]:
+    """Returns the status of what is at this path, or None; OSError where it is a link to a file, or may not be written."""
+    try:
+        old = os.stat(path)
+    except FileNotFoundError:
+        old = None
+    if os.path.islink(path) and (old is None or stat.S_ISREG(old.st_mode)):
+        raise OSError(errno.ELOOP, f"this is a link to {os.readlink(path)}: name that file itself", os.fspath(path))
+    if old is not None and stat.S_ISREG(old.st_mode):
+        os.close(os.open(path, os.O_WRONLY | os.O_NOFOLLOW | os.O_NONBLOCK))
+    return old
+
+
+@contextlib.contextmanager
+def renamed(path: Path, old: Optional[os.stat_result]) -> Iterator[BinaryIO]:
+    """Yields a file in the folder of this path, which gets its name after the block."""
+    name = f".canbusd-{secrets.token_hex(8)}"
+    with contextlib.ExitStack() as stack:
+        with named(path, is_its=True):
+            folder = os.open(os.path.dirname(path) or ".", os.O_PATH | os.O_DIRECTORY)
+            stack.callback(os.close, folder)
+            draft, is_there = drafted(folder, name)
+            stack.callback(os.close, draft)
+        stack.callback(remove, folder, name)
+        with open(draft, "wb", closefd=False) as file:
+            yield file
+        with named(path, is_its=True):
+            if old is not None:
+                with contextlib.suppress(PermissionError):
+                    os.fchown(draft, old.st_uid, old.st_gid)
+                os.fchmod(draft, stat.S_IMODE(old.st_mode) & 0o777)
+            os.fsync(draft)
+            if not is_there:
+                os.link(f"{OWN_FILES}/{draft}", name, dst_dir_fd=folder)
+            os.rename(name, os.path.basename(path), src_dir_fd=folder, dst_dir_fd=folder)
+
+
+def drafted(folder: int, name: str) -> tuple[int, bool]:
+    """Opens a new file in a folder, with this name only where there are none without; whether it has it."""
+    # Where it is not there, such a file can't get a name later.
+    if os.path.exists(OWN_FILES):
+        try:
+            return os.open(".", os.O_TMPFILE | os.O_WRONLY, 0o666, dir_fd=folder), False
+        except OSError as fault:
+            if fault.errno not in NAMES_ONLY:
+                raise
+    return os.open(name, os.O_CREAT | os.O_EXCL | os.O_NOFOLLOW | os.O_WRONLY, 0o666, dir_fd=folder), True
+
+
+def remove(folder: int, name: str) -> None:
+    """Removes a file from a folder if it is there."""
+    with contextlib.suppress(FileNotFoundError):
+        os.unlink(name, dir_fd=folder)
+
+
+@contextlib.contextmanager
+def copied(path: Path) -> Iterator[BinaryIO]:
+    """Yields a file that is copied to this path after the block."""
+    with tempfile.TemporaryFile() as draft:
+        with open(draft.fileno(), "wb", closefd=False) as file:
+            yield file
+        draft.seek(0)
+        with open(os.open(path, os.O_WRONLY), "wb") as target:
+            shutil.copyfileobj(draft, target)

@@ -1,0 +1,32 @@
+"""What the tests of buses and servers share, beside their fixtures."""
+
+import subprocess
+from pathlib import Path
+
+import can
+import pytest
+
+from canbusd._process.program import find_program
+
+PYTHON = Path(__file__).resolve().parents[1]
+WAIT = 20
+
+
+def writes_live():
+    """Whether the program writes records while it runs."""
+    words = [find_program(), "serve", "--help"]
+    return b"--record" in subprocess.run(words, stdout=subprocess.PIPE, check=True).stdout
+
+
+needs_live = pytest.mark.skipif(not writes_live(), reason="the program is older than `serve --record`")
+
+
+def message(identifier, data=b"", extended=False, **more):
+    """A message of python-can, of 11 bits unless asked otherwise."""
+    return can.Message(arbitration_id=identifier, data=data, is_extended_id=extended, **more)
+
+
+def shape(received):
+    """What makes two messages the same, apart from their moments."""
+    kinds = received.is_extended_id, received.is_remote_frame, received.is_error_frame, received.is_fd
+    return received.arbitration_id, bytes(received.data), received.dlc, *kinds

@@ -1,0 +1,183 @@
+"""What a command reads may be no log and no record: its first bytes say so, and no more is read. And faults may be many."""
+
+import gzip
+import os
+import resource
+import subprocess
+import sys
+
+import can
+import pytest
+from test_commands import environment
+
+from canbusd import Bench, Faults, Server
+from canbusd.record import read_record
+
+WAIT = 60
+# What a command may take of memory, which is less than a line of 100 MB takes.
+MOST_MEMORY = 400_000_000
+FRAME = "(1795910922.000000) ecu 123#11\n"
+ASC = "date Sat Sep 30 15:06:13.191 2017\nbase hex  timestamps absolute\nno internal events logged\n"
+NO_LINE = "no line of a log has 16,384 characters, so this is none, or it is damaged here"
+
+
+def limited():
+    """Ends a command that takes more memory or time."""
+    resource.setrlimit(resource.RLIMIT_AS, (MOST_MEMORY, MOST_MEMORY))
+    resource.setrlimit(resource.RLIMIT_CPU, (5, 5))
+
+
+def call(*words, **more):
+    """Runs a command; its status and what it wrote."""
+    if words[0] == "candump2bench":
+        words = ["-c", "from canbusd.candump2bench import main; main()", *words[1:]]
+    else:
+        words = ["-m", "canbusd", *words]
+    done = subprocess.run(
+        [sys.executable, *map(str, words)], env=environment(), preexec_fn=limited, text=True, capture_output=True,
+        timeout=WAIT, check=False, **more,
+    )  # fmt: skip
+    return done.returncode, done.stdout, done.stderr
+
+
+def sparse(path, head=""):
+    """Makes a file of 100 MB of zero bytes after a head; its path."""
+    with open(path, "w", encoding="ascii") as file:
+        file.write(head)
+        file.truncate(len(head) + 100_000_000)
+    return path
+
+
+@pytest.mark.parametrize("name", ["x.log", "x.asc", "x.csv", "x.trc"])
+@pytest.mark.parametrize("words", [["convert"], ["candump2bench"]], ids=lambda words: words[0])
+def test_a_line_without_end(tmp_path, words, name):
+    """of zeros, as /dev/zero, a file, and compressed; also after right lines"""
+    out = [tmp_path / "out.log"] if words == ["convert"] else []
+    path = sparse(tmp_path / name)
+    assert call(*words, path, *out) == (1, "", f"{prefix(words)}: {path}:1: {NO_LINE}\n")
+    path.unlink()
+    path.symlink_to("/dev/zero")
+    assert call(*words, path, *out) == (1, "", f"{prefix(words)}: {path}:1: {NO_LINE}\n")
+    path.unlink()
+    if name == "x.log":
+        head, number = 3 * FRAME, 4
+    else:
+        with gzip.open(f"{path}.gz", "wb", compresslevel=1) as file:
+            for _ in range(100):
+                file.write(bytes(1_000_000))
+        assert call(*words, f"{path}.gz", *out) == (1, "", f"{prefix(words)}: {path}.gz:1: {NO_LINE}\n")
+        head, number = ASC, 4
+    sparse(path, head)
+    assert call(*words, path, *out) == (1, "", f"{prefix(words)}: {path}:{number}: {NO_LINE}\n")
+    assert not (tmp_path / "out.log").exists()
+
+
+def prefix(words):
+    """Whom a command is called in its messages."""
+    return "canbusd convert" if words == ["convert"] else words[0]
+
+
+def test_standard_input_without_a_line():
+    with open("/dev/zero", "rb") as zeros:
+        assert call("candump2bench", stdin=zeros) == (1, "", f"candump2bench: standard input:1: {NO_LINE}\n")
+
+
+def test_a_log_without_end(tmp_path):
+    """makes no input of the bench, however long it would be"""
+    with subprocess.Popen(["yes", FRAME.strip()], stdout=subprocess.PIPE) as endless:
+        said = "candump2bench: the input would have more than the 16777216 bytes that canbusd reads: cut the log\n"
+        assert call("candump2bench", stdin=endless.stdout) == (1, "", said)
+        endless.kill()
+
+
+def test_no_blf_file(tmp_path):
+    path = sparse(tmp_path / "x.blf")
+    status, written, said = call("convert", path, tmp_path / "out.log")
+    assert (status, written) == (1, "") and said.startswith(f"canbusd convert: {path}: ")
+
+
+@pytest.mark.parametrize("command", ["report", "replay"])
+@pytest.mark.parametrize("options", [[], ["--cut"]])
+def test_no_record(tmp_path, command, options):
+    """as the program says it of a short one"""
+    for place in (sparse(tmp_path / "x.rec"), "/dev/zero"):
+        status, written, said = call(command, *options, place)
+        assert (status, written) == (1, "") and said.startswith(f"canbusd {command}: {place}: bad version: `????")
+    log = tmp_path / "x.log"
+    log.write_text(1000 * FRAME)
+    status, written, said = call(command, *options, log)
+    assert (status, written) == (1, "") and said.startswith(f"canbusd {command}: {log}: bad version: `{FRAME.strip()}`")
+
+
+def test_a_log_beside_a_record_without_lines(tmp_path):
+    """It is one of another run."""
+    with Bench("can0", out=tmp_path):
+        pass
+    (tmp_path / "can0.log").unlink()
+    sparse(tmp_path / "can0.log")
+    status, written, said = call("replay", tmp_path / "can0.rec")
+    assert (status, written) == (0, "ok 0 entries\n") and "no log names interface 0" in said
+
+
+@pytest.fixture(scope="module")
+def run(tmp_path_factory):
+    """The record of 100 attempts, of which a rule destroys the first."""
+    out = tmp_path_factory.mktemp("run")
+    with Server("can0,can1", out=out, faults=Faults().next(1, id=0x123).destroyed()) as server, server.bus(
+        "can0"
+    ) as bus:
+        for number in range(99):
+            bus.send(can.Message(arbitration_id=0x123, data=[number], is_extended_id=False), timeout=5)
+    return out / "can0.rec"
+
+
+def test_faults_without_lines(run):
+    status, written, said = call("report", "--faults", "/dev/zero", run)
+    assert (status, written) == (1, "")
+    assert said.splitlines()[-1] == "canbusd report: /dev/zero: no line of faults has 4,096 bytes, as its first one has"
+
+
+#: The lines of 40 MB of faults after the first, by a number: rules that were refused, since 64 have no end, some that were given
+#: and ended at once, comments, and lines of a script.
+MANY = {
+    "refused": lambda number: f"at {1 + number // 30000} next 1 from can0 id {number % 0x7FF:03X} local crc can1\n",
+    "ended": lambda number: f"at 50 next 1 from can0 id {number % 0x7FF:03X} local crc can1\nat 50 nofaults\n",
+    "comments": lambda number: f"# From can{number} to can0, at any time.\n",
+    "lines": lambda number: f"{number + 200} local crc can1\n",
+}
+
+
+@pytest.mark.quiet
+@pytest.mark.parametrize("kind", [*MANY])
+def test_forty_megabytes_of_faults(run, tmp_path, kind):
+    """take 3 seconds of a processor at most"""
+    for path in (run, run.with_suffix(".log")):
+        os.link(path, tmp_path / path.name)
+    first = "next 1 id 123 global bit\n"
+    always = (
+        "".join(f"at 0 always id {0x200 + number:03X} lastbit\n" for number in range(63))
+        + "at 1 always id 555 lastbit\n"
+    )
+    lines, size, number = [first, always if kind == "refused" else ""], 0, 0
+    while size < 40_000_000:
+        lines.append(MANY[kind](number))
+        size, number = size + len(lines[-1]), number + 1
+    (tmp_path / "can0.rec.faults").write_text("".join(lines))
+    before = resource.getrusage(resource.RUSAGE_CHILDREN)
+    done = subprocess.run(
+        [sys.executable, "-m", "canbusd", "report", tmp_path / "can0.rec"], env=environment(), capture_output=True,
+        text=True, timeout=WAIT, check=True,
+    )  # fmt: skip
+    after = resource.getrusage(resource.RUSAGE_CHILDREN)
+    assert "without rules" not in done.stderr and done.stdout.startswith("<!DOCTYPE html>")
+    assert after.ru_utime + after.ru_stime - before.ru_utime - before.ru_stime < 3
+
+
+def test_a_record_is_read_from_its_first_byte(run):
+    """though its beginning is looked at"""
+    assert len(read_record(run).attempts) == 100
+    words = [sys.executable, "-m", "canbusd", "replay", "--quiet", "/dev/stdin"]
+    done = subprocess.run(
+        words, env=environment(), input=run.read_bytes(), capture_output=True, timeout=WAIT, check=True
+    )
+    assert done.stdout.startswith(b"ok ")
