@@ -62,7 +62,8 @@ void begin_test(const char *name) {
         next->number = run->born + 1;
         next->waits = next->reads = 0;
     }
-    /* What the test before has left, such as sessions that are about to end, does not count for those that are born now. */
+    /* What the test before has left, such as sessions that are about to end, does not count for those that are born
+     * now. */
     run->born = SLOTS;
 }
 

@@ -10,14 +10,12 @@ from collections.abc import Sequence
 from typing import Optional
 
 from canbusd._process.program import find_program
+from canbusd._session.waits import is_virtual
 
-#: What canbusd-run sets for programs in virtual time: where its memory is, and the options that repeat the run.
-SETTING, OPTIONS = "CANBUSD_RUN_VIRTUAL", "CANBUSD_RUN_OPTIONS"
+__all__ = ["is_virtual"]
 
-
-def is_virtual() -> bool:
-    """Returns whether this program runs in virtual time, as of ``canbusd-run --virtual`` or ``--canbusd-virtual``."""
-    return bool(os.environ.get(SETTING))
+#: What canbusd-run sets for programs in virtual time: the options that repeat the run.
+OPTIONS = "CANBUSD_RUN_OPTIONS"
 
 
 @functools.lru_cache(maxsize=None)

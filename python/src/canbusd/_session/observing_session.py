@@ -11,8 +11,7 @@ from canbusd._session.connection import SessionRefused
 from canbusd._session.injection import TIMEOUT, Refused
 from canbusd._session.protocol import counters_of, options
 from canbusd._session.raw_session import RawSession, fault, with_cure
-from canbusd._session.waits import wait_for_ready
-from canbusd.virtual import is_virtual
+from canbusd._session.waits import is_virtual, wait_for_ready
 
 # Seconds for which what comes is left to come, so that much of it is read at once, where nobody waits for it. A Unix socket holds
 # some 4,000 frames. In virtual time a bus of 1 Mbit/s carries half of that meanwhile, else a server without a pace.

@@ -1,6 +1,7 @@
 """Waits that end at their moment to the microsecond, also where nothing else makes them late: in virtual time."""
 
 import math
+import os
 import select
 import time
 from collections.abc import Sequence
@@ -10,6 +11,13 @@ from typing import Optional
 LONGEST_WAIT = 3600.0
 # The numbers that select takes are below this, as FD_SETSIZE is.
 MOST_SELECTED = 1024
+#: What canbusd-run sets for programs in virtual time: where its memory is.
+SETTING = "CANBUSD_RUN_VIRTUAL"
+
+
+def is_virtual() -> bool:
+    """Returns whether this program runs in virtual time, as of ``canbusd-run --virtual`` or ``--canbusd-virtual``."""
+    return bool(os.environ.get(SETTING))
 
 
 def seconds_until(deadline: float) -> float:
