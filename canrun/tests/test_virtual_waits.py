@@ -15,20 +15,8 @@ from virtual_runs import virtual
 
 FOLDER = os.path.join(ROOT, "canrun", "tests", "waits")
 TOPICS = (
-    *(
-        "sleeps",
-        "polls",
-        "signals",
-        "signalfds",
-        "cancels",
-        "locks",
-        "timers",
-        "timerfds",
-        "files",
-        "queues",
-        "sockets",
-    ),
-    *("processes", "by_number"),
+    *("sleeps", "polls", "signals", "awaited", "signalfds", "cancels", "locks", "conditions", "threads", "timers"),
+    *("timerfds", "files", "queues", "sockets", "processes", "by_number"),
 )
 #: How much longer a wait of the real time may be, in seconds, and how often all of them are tried on a busy machine.
 LATE, TRIES = 2.0, 4
