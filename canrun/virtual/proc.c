@@ -16,6 +16,8 @@
 #define SETTLE_PAUSE 200000
 /* How many processes there may be between one of the run and its coordinator. */
 #define DEEPEST 1000
+/* How often a tree is looked at that changes meanwhile. */
+#define TRIES_OF_TREE 20
 
 static char *put_number(char *at, uint32_t number) {
     char digits[12];
@@ -66,10 +68,16 @@ uint32_t proc_parent(uint32_t pid) {
 }
 
 bool proc_is_below(uint32_t pid, uint32_t top) {
-    for (int i = 0; i < DEEPEST && pid > 1; i++, pid = proc_parent(pid)) {
-        if (pid == top) {
-            return true;
+    for (int tries = 0; tries < TRIES_OF_TREE; tries++) {
+        uint32_t at = pid;
+        for (int i = 0; i < DEEPEST && at > 1; i++, at = proc_parent(at)) {
+            if (at == top) {
+                return true;
+            }
         }
+        if (at || !proc_parent(pid)) {
+            return false;
+        } /* One between has ended meanwhile, and its child has another parent. */
     }
     return false;
 }
