@@ -9,7 +9,7 @@ import time
 
 import pytest
 
-from running import command, needs
+from running import command, needs_gcc
 from virtual_runs import fails, virtual
 
 needs_root = pytest.mark.skipif(os.geteuid() != 0, reason="only root can run as another user")
@@ -28,7 +28,6 @@ def soon(pattern, *words, before=()):
 
 
 @needs_root
-@needs("setpriv")
 def test_another_user():
     """root's run, in which a program becomes another user's and executes one more"""
     soon(RIGHTS, *OTHER, "sleep", "60")
@@ -36,7 +35,6 @@ def test_another_user():
 
 
 @needs_root
-@needs("setpriv")
 def test_same_program_goes_on():
     """one that only gives up its rights stays in the run"""
     text = "import os, time; os.setuid(65534); time.sleep(60); print(time.time())"
@@ -54,7 +52,7 @@ def make_open_folder():
 
 
 @needs_root
-@needs("setpriv", "setcap")
+@pytest.mark.skipif(not shutil.which("setcap"), reason="no setcap")
 def test_own_rights(open_folder):
     """another user's run, in which a program is setuid, or has capabilities"""
     for name, words in (("setuid", ["chmod", "4755"]), ("setcap", ["setcap", "cap_net_raw+ep"])):
@@ -67,7 +65,7 @@ def test_own_rights(open_folder):
 TRACED = r"\w+ \(process \d+\) is traced, as by strace or gdb"
 
 
-@needs("strace")
+@pytest.mark.skipif(not shutil.which("strace"), reason="no strace")
 def test_traced():
     """a program that strace starts, and a run that it started"""
     soon(TRACED, "strace", "-f", "-o", "/dev/null", "sleep", "60")
@@ -79,7 +77,7 @@ SENDS = "import socket, time; s = socket.socket(socket.AF_INET, socket.SOCK_DGRA
 
 def test_datagrams():
     """UDP to what is outside, on this machine or another"""
-    sent = r"\(thread \d+ of process \d+\) sends to UDP port {} at {}, which is no program of this run"
+    sent = r"\(thread \d+ of process \d+\) sends to UDP port {}, which is no program of this run, at {}"
     with socket.socket(socket.AF_INET, socket.SOCK_DGRAM) as server:
         server.bind(("127.0.0.1", 0))
         port = server.getsockname()[1]
@@ -126,7 +124,7 @@ int main(int count, char **words) {
 """
 
 
-@needs("gcc")
+@needs_gcc
 def test_calls(tmp_path):
     """calls that wait and are not known, and a process that shares its parent's memory"""
     (tmp_path / "calls.c").write_text(CALLS, encoding="ascii")

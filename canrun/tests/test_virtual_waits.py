@@ -9,26 +9,14 @@ from typing import Dict, NamedTuple
 
 import pytest
 
-from running import FLAGS, needs, needs_gcc
+from running import FLAGS, needs_gcc
 from serving import ROOT
 from virtual_runs import virtual
 
 FOLDER = os.path.join(ROOT, "canrun", "tests", "waits")
 TOPICS = (
-    *(
-        "sleeps",
-        "polls",
-        "signals",
-        "signalfds",
-        "cancels",
-        "locks",
-        "timers",
-        "timerfds",
-        "files",
-        "queues",
-        "sockets",
-    ),
-    *("processes", "by_number"),
+    *("sleeps", "polls", "signals", "awaited", "signalfds", "cancels", "locks", "conditions", "threads", "timers"),
+    *("timerfds", "files", "queues", "sockets", "processes", "by_number"),
 )
 #: How much longer a wait of the real time may be, in seconds, and how often all of them are tried on a busy machine.
 LATE, TRIES = 2.0, 4
@@ -76,6 +64,12 @@ def compare(count: int, *words) -> None:
         if not differ:
             return
         assert len(differ) < 5 and number + 1 < TRIES, differ
+
+
+def skip_without(tool: str) -> None:
+    """Skips a test where a language is not installed."""
+    if shutil.which(tool) is None:
+        pytest.skip(f"no {tool}")
 
 
 @pytest.fixture(scope="module", name="program_of_c")
@@ -127,14 +121,13 @@ SCRIPTS = [
 @pytest.mark.parametrize("script, command, count", SCRIPTS, ids=[script for script, _, _ in SCRIPTS])
 def test_script(script, command, count):
     """waits of Python, Perl, bash, Tcl and JavaScript"""
-    if shutil.which(command[0]) is None:
-        pytest.skip(f"no {command[0]}")
+    skip_without(command[0])
     compare(count, *command, os.path.join(FOLDER, "languages", script))
 
 
-@needs("g++")
 def test_cpp(tmp_path):
     """waits of C++"""
+    skip_without("g++")
     source = os.path.join(FOLDER, "languages", "waits.cpp")
     subprocess.run(
         ["g++", "-std=c++17", "-Wall", "-Wextra", "-pthread", "-o", str(tmp_path / "waits"), source], check=True
@@ -142,8 +135,8 @@ def test_cpp(tmp_path):
     compare(13, tmp_path / "waits")
 
 
-@needs("javac", "java")
 def test_java(tmp_path):
     """waits of Java"""
+    skip_without("javac")
     subprocess.run(["javac", "-d", str(tmp_path), os.path.join(FOLDER, "languages", "Waits.java")], check=True)
     compare(13, "java", "-cp", str(tmp_path), "Waits")

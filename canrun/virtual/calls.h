@@ -86,6 +86,9 @@ void forget_look(void);
 
 /* Waits until one of these may be ready; what has come. */
 uint32_t wait_for(const struct pollfd *fds, nfds_t count, uint64_t deadline);
+/* The same for an epoll, and that it has this descriptor. */
+uint32_t wait_for_epoll(int fd, uint64_t deadline);
+void note_entry(int fd);
 /* What of these is ready now; what the kernel returns. */
 long look_at(struct pollfd *fds, nfds_t count);
 /* A call on a descriptor that blocks waits once more; false and errno where its timeout, or a signal, has come, or

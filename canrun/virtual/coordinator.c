@@ -23,6 +23,7 @@
 #include <sys/personality.h>
 #include <sys/prctl.h>
 #include <sys/socket.h>
+#include <sys/stat.h>
 #include <sys/syscall.h>
 #include <sys/un.h>
 #include <sys/wait.h>
@@ -451,6 +452,17 @@ static void loop(void) {
     }
 }
 
+/* The terminal where this was started: what comes of it comes from outside of the run. */
+static uint64_t own_terminal(void) {
+    struct stat status;
+    for (int fd = 0; fd < 3; fd++) {
+        if (isatty(fd) && !fstat(fd, &status)) {
+            return status.st_rdev;
+        }
+    }
+    return 0;
+}
+
 static bool make_run(const struct virtual_options *options) {
     static const char slashes[PATH_SLASHES + 1] = "////////////////////";
     int fd = memfd_create(RUN_MEMORY, MFD_CLOEXEC);
@@ -463,6 +475,7 @@ static bool make_run(const struct virtual_options *options) {
         return false;
     }
     run->epoch = options->epoch;
+    run->terminal = own_terminal();
     run->until = options->until;
     run->seed = options->seed;
     run->jitter = options->jitter;

@@ -8,6 +8,8 @@
 #include <sys/epoll.h>
 #include <sys/select.h>
 #include <sys/socket.h>
+#include <sys/stat.h>
+#include <sys/sysmacros.h>
 #include <sys/time.h>
 #include <sys/uio.h>
 #include <unistd.h>
@@ -44,10 +46,22 @@ static long control(int operation, int fd, short events) {
     return result;
 }
 
+/* What is written to a terminal comes to who reads it by a thread of the kernel's, and at once where that one looks: so
+ * it looks once more before the clock goes on. Not of the one where the run was started, whose writer is outside. */
+#define TERMINALS 136 /* the first of eight kinds of device, whose other end is 5, 2 */
+static bool is_terminal(int fd) {
+    struct stat status;
+    if (RAW(SYS_fstat, fd, &status) || !S_ISCHR(status.st_mode) || status.st_rdev == run->terminal) {
+        return false;
+    }
+    return major(status.st_rdev) / 8 == TERMINALS / 8 || status.st_rdev == makedev(5, 2);
+}
+
 /* Of each descriptor of this process the thread, by the number of its slot and one, for which it stays in the epoll.
  * What is closed leaves the epoll by itself; a number that is used anew is put there again. */
 #define STAYING 1024
 static uint16_t keepers[STAYING];
+static bool are_terminals[STAYING];
 
 void descriptors_forget(void) {
     memset(keepers, 0, sizeof keepers);
@@ -73,6 +87,7 @@ static bool watch_staying(int fd, short events) {
     bool is_in = keepers[fd] == my.index + 1 && !control(EPOLL_CTL_MOD, fd, events);
     if (!is_in) {
         long result = control(EPOLL_CTL_ADD, fd, events);
+        are_terminals[fd] = result == 0 ? is_terminal(fd) : are_terminals[fd];
         is_in = result == 0 || (result == -EEXIST && is_idle(fd) && !control(EPOLL_CTL_MOD, fd, events));
     }
     keepers[fd] = is_in ? (uint16_t)(my.index + 1) : keepers[fd];
@@ -127,6 +142,8 @@ static uint32_t wait_with_key(const struct pollfd *fds, nfds_t count, uint64_t d
     for (nfds_t i = 0; i < count; i++) {
         short events = may_stay ? events_of(fds, count, fds[i].fd) : fds[i].events;
         watched[i] = fds[i].fd < 0 ? -1 : watch(fds[i].fd, events, may_stay);
+        tries |=
+            fds[i].fd >= 0 && (may_stay && fds[i].fd < STAYING ? are_terminals[fds[i].fd] : is_terminal(fds[i].fd));
     }
     my.tries = !tries ? TRIES_NOT : my.has_tried ? TRIES_ON : TRIES;
     uint32_t flags = wait_turn(deadline < timers ? deadline : timers, key, KIND_DESCRIPTOR);
@@ -141,6 +158,16 @@ static uint32_t wait_with_key(const struct pollfd *fds, nfds_t count, uint64_t d
 uint32_t wait_for(const struct pollfd *fds, nfds_t count, uint64_t deadline) {
     /* Signals that the kernel sends by itself wake nobody. */
     return wait_with_key(fds, count, deadline, 0, has_signalfds());
+}
+
+static bool has_terminals;
+
+uint32_t wait_for_epoll(int fd, uint64_t deadline) {
+    return wait_with_key(&(struct pollfd){fd, POLLIN, 0}, 1, deadline, 0, has_signalfds() || has_terminals);
+}
+
+void note_entry(int fd) {
+    has_terminals |= is_terminal(fd);
 }
 
 long look_at(struct pollfd *fds, nfds_t count) {

@@ -115,6 +115,7 @@ static long call_of_many(long number, const long of[6], bool *is_known) {
     case SYS_pselect6:
         left = of[4] ? *(struct timespec *)of[4] : left;
         return pselect(INT(0), P(1), P(2), P(3), of[4] ? &left : NULL, MASK_OF(5));
+    case SYS_epoll_ctl: return epoll_ctl(INT(0), INT(1), INT(2), P(3));
     case SYS_epoll_wait: return epoll_wait(INT(0), P(1), INT(2), INT(3));
     case SYS_epoll_pwait: return epoll_pwait(INT(0), P(1), INT(2), INT(3), P(4));
     case SYS_epoll_pwait2: return epoll_pwait2(INT(0), P(1), INT(2), P(3), P(4));

@@ -17,11 +17,11 @@
 
 #define NAME_SERVICES "/run/systemd/"
 
-/* For what is there time goes on as ever. */
+/* For what is there time goes on as ever. `host` is where it is, after `, at `, or empty. */
 static void fail_with(const char *does, const char *what, const char *host) {
     char test[TEST_ROOM];
     tell(true,
-         "%.60s (thread %ld of process %ld) %s %s%s, which is no program of this run%s; start it inside of the run",
+         "%.60s (thread %ld of process %ld) %s %s, which is no program of this run%s%s; start it inside of the run",
          program_invocation_short_name, RAW(SYS_gettid, 0), RAW(SYS_getpid, 0), does, what, host, tell_test(test));
 }
 
@@ -31,7 +31,7 @@ void fail_outside(const char *does, const char *kind, const struct sockaddr *to)
                                                   : &((const struct sockaddr_in6 *)to)->sin6_addr;
     inet_ntop(to->sa_family, number, host, sizeof host);
     snprintf(what, sizeof what, "%s %u", kind, port_of(to));
-    snprintf(at, sizeof at, " at %s", host);
+    snprintf(at, sizeof at, ", at %s", host);
     fail_with(does, what, at);
 }
 

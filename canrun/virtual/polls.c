@@ -147,7 +147,6 @@ static long epoll_now(int fd, struct epoll_event *events, int most, uint32_t fla
 }
 
 static int epoll_until(int fd, struct epoll_event *events, int most, uint64_t deadline, const sigset_t *mask) {
-    struct pollfd polled = {fd, POLLIN, 0};
     cancel_point();
     struct masked masked = set_mask(mask);
     uint32_t flags = 0;
@@ -163,11 +162,18 @@ static int epoll_until(int fd, struct epoll_event *events, int most, uint64_t de
         if (deadline <= run->now) {
             break;
         }
-        flags = wait_for(&polled, 1, deadline);
+        flags = wait_for_epoll(fd, deadline);
     }
     my.has_tried &= !result;
     put_mask_back(&masked);
     return (int)answer(result);
+}
+
+EXPORT int epoll_ctl(int epoll, int operation, int fd, struct epoll_event *event) {
+    if (run && operation == EPOLL_CTL_ADD) {
+        note_entry(fd);
+    }
+    return (int)answer(RAW(SYS_epoll_ctl, epoll, operation, fd, event));
 }
 
 EXPORT int epoll_pwait(int fd, struct epoll_event *events, int most, int ms, const sigset_t *mask) {

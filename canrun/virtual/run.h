@@ -138,9 +138,10 @@ struct run {
     uint64_t magic;
     uint64_t epoch; /* CLOCK_REALTIME at the start */
     uint64_t until;
-    uint64_t seed;   /* 0: the order is that of their births */
-    uint64_t test;   /* what the name of the test at hand adds to the seed */
-    uint64_t jitter; /* nanoseconds that a timed wait is longer at most */
+    uint64_t seed;     /* 0: the order is that of their births */
+    uint64_t test;     /* what the name of the test at hand adds to the seed */
+    uint64_t jitter;   /* nanoseconds that a timed wait is longer at most */
+    uint64_t terminal; /* the device of the one where the run was started, or 0 */
     uint32_t has_ended;
     _Atomic uint32_t has_failed; /* a line has said why the run can't go on */
     _Atomic uint64_t now __attribute__((aligned(64)));

@@ -5,6 +5,7 @@
 #include <poll.h>
 #include <pthread.h>
 #include <pty.h>
+#include <sys/epoll.h>
 #include <sys/eventfd.h>
 #include <sys/file.h>
 #include <sys/sendfile.h>
@@ -202,6 +203,15 @@ static void files_terminal(void) {
     end(read(fd, data, 10));
 }
 
+static void files_terminal_epoll(void) {
+    struct epoll_event event = {.events = EPOLLIN};
+    int other, fd = terminal(1, 0, &other), epoll = epoll_create1(0);
+    CHECK(!epoll_ctl(epoll, EPOLL_CTL_ADD, fd, &event));
+    begin();
+    later(SOON, write_byte, (void *)(intptr_t)other);
+    end(epoll_wait(epoll, &event, 1, 2 * SOON));
+}
+
 static void files_terminal_line(void) {
     int other, fd;
     CHECK(!openpty(&other, &fd, NULL, NULL, NULL));
@@ -321,6 +331,7 @@ const struct wait files[] = {
     {"files_open_read", SOON, files_open_read},
     {"files_open_write", SOON, files_open_write},
     {"files_terminal", SOON, files_terminal},
+    {"files_terminal_epoll", SOON, files_terminal_epoll},
     {"files_terminal_line", 2 * SOON, files_terminal_line},
     {"files_terminal_timeout", 100, files_terminal_timeout},
     {"files_terminal_timeout_byte", SOON, files_terminal_timeout_byte},

@@ -41,6 +41,11 @@ void end(long result) {
     note("%ld%s%s", result, result < 0 ? " " : "", result < 0 ? strerrorname_np(error) : "");
 }
 
+void ends_with(int error) {
+    end(0);
+    note("%s", error ? strerrorname_np(error) : "0");
+}
+
 struct timespec in_ms(int ms) {
     return (struct timespec){ms / 1000, ms % 1000 * 1000000};
 }
@@ -122,8 +127,9 @@ static bool is_named(const char *name, char **names) {
 }
 
 int main(int count, char **words) {
-    static const struct wait *const tables[] = {sleeps,   polls, signals, signalfds, cancels,   locks,    timers,
-                                                timerfds, files, queues,  sockets,   processes, by_number};
+    static const struct wait *const tables[] = {sleeps, polls,      signals,   awaited,  signalfds, cancels,
+                                                locks,  conditions, threads,   timers,   timerfds,  files,
+                                                queues, sockets,    processes, by_number};
     int made = 0, status;
     (void)count;
     outcomes = mmap(NULL, MOST * sizeof *outcomes, PROT_READ | PROT_WRITE, MAP_SHARED | MAP_ANONYMOUS, -1, 0);

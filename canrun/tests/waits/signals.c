@@ -1,19 +1,14 @@
-/* Signals: calls that they end or that begin anew, and waits for them. */
+/* Signals: calls that they end or that begin anew. */
 #include "waits.h"
 
-#include <fcntl.h>
 #include <mqueue.h>
-#include <poll.h>
 #include <pthread.h>
 #include <semaphore.h>
 #include <sys/file.h>
 #include <sys/msg.h>
-#include <sys/select.h>
 #include <sys/sem.h>
 #include <sys/socket.h>
 #include <sys/stat.h>
-#include <sys/syscall.h>
-#include <sys/time.h>
 #include <sys/uio.h>
 #include <sys/wait.h>
 
@@ -281,206 +276,6 @@ static void signals_mutex_timed(void) {
     note("%d", (int)alarms);
 }
 
-static void signals_pause(void) {
-    begin();
-    alarm_in(SOON, SA_RESTART);
-    end(pause());
-}
-
-static void block(int number) {
-    sigset_t one;
-    sigemptyset(&one);
-    sigaddset(&one, number);
-    sigprocmask(SIG_BLOCK, &one, NULL);
-}
-
-static void signals_sigsuspend(void) {
-    sigset_t none;
-    sigemptyset(&none);
-    block(SIGALRM);
-    begin();
-    alarm_in(SOON, SA_RESTART);
-    end(sigsuspend(&none));
-    note("%d", (int)alarms);
-}
-
-static void signals_sigpause(void) {
-    block(SIGALRM);
-    begin();
-    alarm_in(SOON, SA_RESTART);
-    end(sigpause(SIGALRM));
-    note("%d", (int)alarms);
-}
-
-static sigset_t only(int number) {
-    sigset_t one;
-    sigemptyset(&one);
-    sigaddset(&one, number);
-    return one;
-}
-
-static void signals_sigwait(void) {
-    sigset_t one = only(SIGALRM);
-    int number = 0;
-    block(SIGALRM);
-    begin();
-    alarm_in(SOON, 0);
-    end(sigwait(&one, &number));
-    note("%d", number);
-}
-
-static void signals_sigtimedwait(void) {
-    sigset_t one = only(SIGUSR1);
-    struct timespec t = in_ms(SOON);
-    block(SIGUSR1);
-    begin();
-    end(sigtimedwait(&one, NULL, &t));
-}
-
-static void signals_sigtimedwait_other(void) {
-    sigset_t one = only(SIGUSR1);
-    struct timespec t = in_ms(LONG);
-    block(SIGUSR1);
-    begin();
-    alarm_in(SOON, SA_RESTART);
-    end(sigtimedwait(&one, NULL, &t));
-}
-
-static void send_to_process(void *number) {
-    sigqueue(getpid(), (int)(intptr_t)number, (union sigval){.sival_int = 7});
-}
-
-static void signals_sigwaitinfo(void) {
-    sigset_t one = only(SIGRTMIN);
-    siginfo_t info;
-    block(SIGRTMIN);
-    begin();
-    later(SOON, send_to_process, (void *)(intptr_t)SIGRTMIN);
-    end(sigwaitinfo(&one, &info) == SIGRTMIN);
-    note("%d", info.si_value.sival_int);
-}
-
-static void signals_sigchld(void) {
-    sigset_t one = only(SIGCHLD);
-    block(SIGCHLD);
-    begin();
-    if (fork() == 0) {
-        usleep(SOON * 1000);
-        _exit(0);
-    }
-    end(sigwaitinfo(&one, NULL));
-}
-
-/* What the kernel sends by itself: of a descriptor that can be read. */
-static void signals_sigio(void) {
-    sigset_t one = only(SIGIO);
-    int ends[2];
-    pair(ends, SOCK_STREAM);
-    block(SIGIO);
-    fcntl(ends[0], F_SETOWN, getpid());
-    fcntl(ends[0], F_SETFL, O_ASYNC);
-    begin();
-    later(SOON, write_byte, (void *)(intptr_t)ends[1]);
-    end(sigwaitinfo(&one, NULL));
-}
-
-static void count_it(int number) {
-    (void)number;
-    alarms++;
-}
-
-static void signals_sigset(void) {
-    sigset(SIGALRM, count_it);
-    begin();
-    setitimer(ITIMER_REAL, &(struct itimerval){{0, 0}, {0, SOON * 1000}}, NULL);
-    end(pause());
-    note("%d", (int)alarms);
-}
-
-static void kill_main(void *of) {
-    pthread_kill(*(pthread_t *)of, SIGUSR1);
-}
-
-static void signals_pthread_kill(void) {
-    int ends[2];
-    pthread_t self = pthread_self();
-    make_pipe(ends);
-    sigaction(SIGUSR1, &(struct sigaction){.sa_handler = count_it}, NULL);
-    begin();
-    later(SOON, kill_main, &self);
-    end(read(ends[0], &byte, 1));
-    note("%d", (int)alarms);
-}
-
-static void tgkill_main(void *nothing) {
-    (void)nothing;
-    tgkill(getpid(), getpid(), SIGUSR1);
-}
-
-static void signals_tgkill(void) {
-    sigaction(SIGUSR1, &(struct sigaction){.sa_handler = count_it}, NULL);
-    begin();
-    later(SOON, tgkill_main, NULL);
-    end(usleep(LONG * 1000));
-}
-
-static void queue_to_main(void *of) {
-    pthread_sigqueue(*(pthread_t *)of, SIGUSR1, (union sigval){.sival_int = 1});
-}
-
-static void signals_sigqueue_thread(void) {
-    pthread_t self = pthread_self();
-    sigaction(SIGUSR1, &(struct sigaction){.sa_handler = count_it}, NULL);
-    begin();
-    later(SOON, queue_to_main, &self);
-    end(usleep(LONG * 1000));
-}
-
-static void signals_from_parent(void) {
-    int status;
-    begin();
-    pid_t pid = fork();
-    if (pid == 0) {
-        sigaction(SIGTERM, &(struct sigaction){.sa_handler = count_it}, NULL);
-        int ends[2];
-        make_pipe(ends);
-        _exit(read(ends[0], &byte, 1) < 0 && errno == EINTR ? 4 : 5);
-    }
-    usleep(SOON * 1000);
-    kill(pid, SIGTERM);
-    waitpid(pid, &status, 0);
-    end(WIFEXITED(status) ? WEXITSTATUS(status) : -1);
-}
-
-static void signals_default(void) {
-    int status;
-    begin();
-    pid_t pid = fork();
-    if (pid == 0) {
-        pause();
-    }
-    usleep(SOON * 1000);
-    kill(pid, SIGTERM);
-    waitpid(pid, &status, 0);
-    end(WTERMSIG(status));
-}
-
-static void signals_stopped(void) {
-    int status;
-    begin();
-    pid_t pid = fork();
-    if (pid == 0) {
-        usleep(SOON * 1000);
-        raise(SIGSTOP);
-        _exit(6);
-    }
-    waitpid(pid, &status, WUNTRACED);
-    int first = WIFSTOPPED(status);
-    kill(pid, SIGCONT);
-    waitpid(pid, &status, 0);
-    end(10 * first + WEXITSTATUS(status));
-}
-
 const struct wait signals[] = {
     {"signals_read", SOON, signals_read},
     {"signals_read_restarts", 2 * SOON, signals_read_restarts},
@@ -506,21 +301,5 @@ const struct wait signals[] = {
     {"signals_sem_timed", SOON, signals_sem_timed},
     {"signals_cond_timed", 2 * SOON, signals_cond_timed},
     {"signals_mutex_timed", 2 * SOON, signals_mutex_timed},
-    {"signals_pause", SOON, signals_pause},
-    {"signals_sigsuspend", SOON, signals_sigsuspend},
-    {"signals_sigpause", SOON, signals_sigpause},
-    {"signals_sigwait", SOON, signals_sigwait},
-    {"signals_sigtimedwait", SOON, signals_sigtimedwait},
-    {"signals_sigtimedwait_other", SOON, signals_sigtimedwait_other},
-    {"signals_sigwaitinfo", SOON, signals_sigwaitinfo},
-    {"signals_sigchld", SOON, signals_sigchld},
-    {"signals_sigio", SOON, signals_sigio},
-    {"signals_sigset", SOON, signals_sigset},
-    {"signals_pthread_kill", SOON, signals_pthread_kill},
-    {"signals_tgkill", SOON, signals_tgkill},
-    {"signals_sigqueue_thread", SOON, signals_sigqueue_thread},
-    {"signals_from_parent", SOON, signals_from_parent},
-    {"signals_default", SOON, signals_default},
-    {"signals_stopped", SOON, signals_stopped},
     {NULL, 0, NULL},
 };

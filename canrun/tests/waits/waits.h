@@ -28,12 +28,14 @@ struct wait {
 };
 
 /* The tables end with an entry without a name. */
-extern const struct wait sleeps[], polls[], signals[], signalfds[], cancels[], locks[], timers[], timerfds[], files[],
-    queues[], sockets[], processes[], by_number[];
+extern const struct wait sleeps[], polls[], signals[], awaited[], signalfds[], cancels[], locks[], conditions[],
+    threads[], timers[], timerfds[], files[], queues[], sockets[], processes[], by_number[];
 
 /* The wait begins, and ends with what its call returned and its errno. */
 void begin(void);
 void end(long result);
+/* The same of a call that returns its error. */
+void ends_with(int error);
 
 /* Says more of what came. */
 void note(const char *format, ...) __attribute__((format(printf, 1, 2)));
