@@ -87,13 +87,13 @@ def test_public_paths_can_be_imported():
 
 #: Rooms of the package, each with the modules at the top that users have of it; one imports of itself and of those before it.
 LAYERS = """
-    _text+_python_can+frames+rules+faults
+    _text+_python_can+_calls+_whole_file+virtual+frames+rules+faults
     _session
     _process
     _database+signals
     _run+record+replay
     _expect
-    bus isotp programs virtual strategies
+    bus isotp programs strategies
     _restbus+rest_bus
     bench server
     _page

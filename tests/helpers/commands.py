@@ -61,11 +61,7 @@ def send_bytes(stream, text):
 def is_clean(fault):
     """Whether a fault is reported in one line, without a traceback."""
     status, written, errors = fault
-    return (
-        status == 1
-        and written == ""
-        and re.fullmatch(r"(?:canbusd report|candump2bench): [^\n]+\n", errors)
-    )
+    return status == 1 and written == "" and re.fullmatch(r"(?:canbusd report|candump2bench): [^\n]+\n", errors)
 
 
 def example(name, folder):

@@ -207,7 +207,9 @@ def width_of_sixteen(folder):
         check=False,
     )
     assert done.returncode == 0, done.stderr
-    drawn = "".join(call(*REPORT, f"--{drawing}", "--names", long, record)[1] for drawing in ("arbitration", "counters"))
+    drawn = "".join(
+        call(*REPORT, f"--{drawing}", "--names", long, record)[1] for drawing in ("arbitration", "counters")
+    )
     return max(map(len, drawn.splitlines()))
 
 

@@ -9,8 +9,6 @@ import warnings
 from collections.abc import Sequence
 from typing import Optional
 
-from canbusd._process.program import find_program
-
 #: What canbusd-run sets for programs in virtual time: where its memory is, and the options that repeat the run.
 SETTING, OPTIONS = "CANBUSD_RUN_VIRTUAL", "CANBUSD_RUN_OPTIONS"
 
@@ -34,6 +32,8 @@ def note_rate(bitrate: Optional[int]) -> None:
 
 def virtual_words(words: Sequence[str], seed: Optional[int] = None, jitter: Optional[int] = None) -> list[str]:
     """Returns the words that run a program in virtual time."""
+    from canbusd._process.program import find_program
+
     options = [] if seed is None else ["--seed", str(seed)]
     options += [] if jitter is None else ["--jitter", str(jitter)]
     return [find_program("canbusd-run"), "--virtual", *options, "--", *words]

@@ -92,3 +92,17 @@ def first_change(
             return Change(before, now, seen)
         before = before if now is None else now
     return None
+
+
+def may_change(before: Optional[object], content: Callable[[Seen], Optional[object]]) -> Callable[[Seen], bool]:
+    """Returns whether frames, one after another, may be a change: they say something, and not what was said first."""
+    first = [] if before is None else [before]
+
+    def may_be(seen: Seen) -> bool:
+        now = content(seen)
+        if now is None or first:
+            return now is not None and now != first[0]
+        first.append(now)
+        return False
+
+    return may_be

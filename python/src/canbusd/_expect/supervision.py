@@ -9,7 +9,16 @@ from collections.abc import Iterable, Sequence
 from typing import TYPE_CHECKING, Optional, Union
 
 from canbusd._calls import explained
-from canbusd._expect.cyclic_checks import Change, Followed, first_change, follow, gap_words, gaps_of, wrong_gaps
+from canbusd._expect.cyclic_checks import (
+    Change,
+    Followed,
+    first_change,
+    follow,
+    gap_words,
+    gaps_of,
+    may_change,
+    wrong_gaps,
+)
 from canbusd._expect.frame_matcher import Step, Wanted, wanted_of
 from canbusd._expect.received_frames import Seen
 from canbusd._session.arguments import check_within
@@ -178,16 +187,7 @@ class Supervision:
         def content(seen: Seen) -> Optional[object]:
             return wanted.content(seen.frame)
 
-        said = [] if before is None else [before]
-
-        def may_be(seen: Seen) -> bool:
-            now = content(seen)
-            if now is None or said:
-                return now is not None and now != said[0]
-            said.append(now)
-            return False
-
-        change = observer.wait(look, may_be, within)
+        change = observer.wait(look, may_change(before, content), within)
         if change is not None:
             text = f"{wanted} changed from {change.before} to {change.after}"
             raise AssertionError(f"{text}: {observer.line(change.seen, channel)}{self._shown(wanted.signals)}")

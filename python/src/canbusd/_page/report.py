@@ -302,11 +302,7 @@ def data_of(
         "itemsInAll": len(run.items),
         "events": [event_of(event, places) for event in events],
         "lost": lost,
-        "ifaces": ifaces_of(run),
-        "sockets": [socket_of(socket) for socket in run.sockets],
-        "socket": fullest_socket(run),
-        # The frames that are first in the queues at the end: who takes part with one has it tried in a step, or here.
-        "heads": ["".join(one.waiting[:1]) for one in run.ifaces],
+        **ends_of(run),
         "meanings": meanings_of(run),
         **decoded_of(texts, database),
         "verdicts": [fault_of(fault, names) for fault in verdicts],
@@ -314,13 +310,29 @@ def data_of(
     if rates is not None:
         header["wire"] = wire_of(run, timeline, rates, block.column)
     if comparison is not None:
-        header["heading"] = comparison.heading()
-        other = comparison.columns(KINDS, block.column)
-        step = run.steps.place_of(other["difference"])
-        if step is not None:
-            header["first"] = places[step]
-        header["other"] = other
+        header.update(compared(run, comparison, block, places))
     return block.packed(header)
+
+
+def ends_of(run: Replay) -> Json:
+    """What the header has of interfaces and sockets, as they are at the end."""
+    return {
+        "ifaces": ifaces_of(run),
+        "sockets": [socket_of(socket) for socket in run.sockets],
+        "socket": fullest_socket(run),
+        # The frames that are first in the queues: who takes part with one has it tried in a step, or here.
+        "heads": ["".join(one.waiting[:1]) for one in run.ifaces],
+    }
+
+
+def compared(run: Replay, comparison: Comparison, block: Block, places: Sequence[int]) -> Json:
+    """What the header has of two runs: the other one, a heading of both, and where they first differ."""
+    other = comparison.columns(KINDS, block.column)
+    step = run.steps.place_of(other["difference"])
+    header: Json = {"heading": comparison.heading(), "other": other}
+    if step is not None:
+        header["first"] = places[step]
+    return header
 
 
 def page(
