@@ -8,11 +8,16 @@ import sys
 
 import pytest
 
+from canbusd._process.program import find_program
 from canbusd.server import Server
 from common import PYTHON
 
-# What the tests start has the package that they have.
+# What the tests start has the package that they have, and the program that fits the sources.
 os.environ["PYTHONPATH"] = os.path.dirname(importlib.util.find_spec("canbusd").submodule_search_locations[0])
+if "CANBUSD" not in os.environ:
+    fitting = [PYTHON.parent / "scripts" / "program", "fitting"]
+    found = subprocess.run(fitting, stdout=subprocess.PIPE, text=True, check=False).stdout.strip()
+    os.environ["CANBUSD"] = str(PYTHON.parent / found) if found else find_program()
 
 
 def pytest_addoption(pluginmanager):
@@ -41,12 +46,12 @@ def installed(tmp_path_factory):
     # Not where it is: setuptools builds in the folder that it is given.
     source = folder / "clone" / "python"
     shutil.copytree(PYTHON, source, ignore=shutil.ignore_patterns("build", "*.egg-info", "__pycache__", ".*"))
-    for name in ("canbusd", "crates.txt", "dist", "tools"):
-        (source.parent / name).symlink_to(PYTHON.parent / name)
+    (source.parent / "scripts").symlink_to(PYTHON.parent / "scripts")
     done = subprocess.run(
         [sys.executable, "-m", "pip", "install", "--quiet", "--no-deps", "--no-build-isolation", "--no-index",
          "--target", folder / "target", source],
         capture_output=True, text=True, check=False,
     )  # fmt: skip
     assert done.returncode == 0, done.stderr
-    return {**os.environ, "PYTHONPATH": str(folder / "target"), "PYTHONWARNINGS": "ignore", "PYTHONUNBUFFERED": "1"}
+    given = {"PYTHONPATH": str(folder / "target"), "CANBUSD_RUN": find_program("canbusd-run")}
+    return {**os.environ, **given, "PYTHONWARNINGS": "ignore", "PYTHONUNBUFFERED": "1"}

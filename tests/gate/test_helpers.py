@@ -46,6 +46,29 @@ def test_no_program_of_that_name():
     assert "CANBUSD names no program: /nonexistent/canbusd" in output, output
 
 
+@pytest.mark.parametrize(
+    "folder, tests",
+    [
+        (".", ["python/tests/test_server.py::test_the_program_of_the_clone", "tests/bench/test_bench_dialogue.py"]),
+        ("python", ["tests/test_server.py::test_the_program_of_the_clone"]),
+        ("canrun/tests", ["test_run_kernel.py::test_differences"]),
+    ],
+)
+def test_no_variable_has_to_be_set(folder, tests):
+    """wherever pytest is called"""
+    variables = ("CANBUSD", "CANBUSD_RUN", "PYTHONPATH", "PYTEST_ADDOPTS")
+    done = subprocess.run(
+        [sys.executable, "-m", "pytest", "-q", "-p", "no:cacheprovider", *tests],
+        cwd=os.path.join(ROOT, folder),
+        env={name: value for name, value in os.environ.items() if name not in variables},
+        capture_output=True,
+        text=True,
+        timeout=120,
+        check=False,
+    )
+    assert done.returncode == 0 and f"{len(tests)} passed" in done.stdout, done.stdout + done.stderr
+
+
 def test_turns():
     """they go on until the loop is left, and fail once time is over"""
     begin = time.monotonic()
