@@ -285,10 +285,20 @@ def test_a_word_that_is_refused_is_followed_by_its_cure(launchers, tmp_path, wor
     """the launcher adds what to do to what the program says"""
     for launcher in launchers.values():
         done = subprocess.run(
-            [launcher, "serve", *words], cwd=tmp_path, stdin=subprocess.DEVNULL, capture_output=True, text=True, check=False
+            [launcher, "serve", *words],
+            cwd=tmp_path,
+            stdin=subprocess.DEVNULL,
+            capture_output=True,
+            text=True,
+            check=False,
         )
         alone = subprocess.run(
-            [program(), "serve", *words], cwd=tmp_path, stdin=subprocess.DEVNULL, capture_output=True, text=True, check=False
+            [program(), "serve", *words],
+            cwd=tmp_path,
+            stdin=subprocess.DEVNULL,
+            capture_output=True,
+            text=True,
+            check=False,
         )
         assert (done.returncode, done.stderr) == (1, alone.stderr + said)
 
