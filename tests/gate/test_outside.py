@@ -207,7 +207,7 @@ def test_each_test_is_of_one_part(outside):
         if any(re.fullmatch(r"test_.*\.py", name) for name in names)
     }
     # These are tried by tests of the package and of canbusd-run.
-    others = {f"examples/{name}" for name in ("c", "car", "recipes", "virtual_ecu")}
+    others = {f"examples/{name}" for name in ("c", "car", "recipes", "sweep", "virtual_ecu")}
     assert with_tests - others == places
 
 
