@@ -294,7 +294,9 @@ class UntilFull:
 def test_a_record_that_fills_while_a_send_waits(monkeypatch, sends):
     """Without an acknowledgement no frame leaves the queue, and each attempt is an entry: the counts stay as they are."""
     with Server("can0", ack="peers", limit=300, txqueue=2, observe=()) as server, server.bus("can0") as can0:
-        monkeypatch.setattr("canbusd._session.raw_session.time", UntilFull(server))
+        clock = UntilFull(server)
+        monkeypatch.setattr("canbusd._session.raw_session.time", clock)
+        monkeypatch.setattr("canbusd._session.raw_session.seconds_until", lambda end: max(0.0, end - clock.monotonic()))
         with pytest.raises(can.CanOperationError, match="^record full.*: start the server again with a higher limit="):
             if sends == "one":
                 for number in range(3):
