@@ -69,21 +69,27 @@ struct start {
  * once other memory is there. */
 #define NO_RETURN __attribute__((no_sanitize("address")))
 
+/* Has this descriptor at a number across execve. */
+static void put_at(long fd, long number) {
+    if (fd == number) {
+        syscall(SYS_fcntl, fd, F_SETFD, 0L);
+    } else {
+        syscall(SYS_dup2, fd, number);
+    }
+}
+
 /* These two run in copies of the process that share its memory; the caller waits, and so does the first for the second.
  * The first executes nothing, so its end sends no signal, as `clone` asks for none. The second is its child, and
  * nobody's here once the first has ended: execve would make SIGCHLD of its own end. */
 NO_RETURN static int become_bridge(void *argument) {
     struct start *start = argument;
     char *words[] = {"canbusd-bridge", NULL};
-    /* It wants none of the first three, so there is room for one that is in the way. */
-    syscall(SYS_close_range, 0L, 2L, 0L);
-    long memory = syscall(SYS_fcntl, start->memory, F_DUPFD, 0L);
-    if (start->end == WIRE_PROGRAM) {
-        syscall(SYS_fcntl, WIRE_PROGRAM, F_SETFD, 0L);
-    } else {
-        syscall(SYS_dup2, start->end, WIRE_PROGRAM);
+    long memory = start->memory;
+    if (memory == WIRE_PROGRAM) {
+        memory = syscall(SYS_fcntl, memory, F_DUPFD, WIRE_MEMORY + 1L); /* It is in the way of the other. */
     }
-    syscall(SYS_dup2, memory, WIRE_MEMORY);
+    put_at(start->end, WIRE_PROGRAM);
+    put_at(memory, WIRE_MEMORY);
     syscall(SYS_close_range, WIRE_MEMORY + 1L, (long)~0U, 0L);
     syscall(SYS_execve, start->program, words, start->environment);
     start->failed = errno;
