@@ -103,10 +103,10 @@ def test_no_record(tmp_path, command, options):
     for place in (sparse(tmp_path / "x.rec"), "/dev/zero"):
         status, written, said = call(command, *options, place)
         assert (status, written) == (1, "") and said.startswith(f"canbusd {command}: {place}: bad version: `????")
-    log = tmp_path / "x.log"
-    log.write_text(1000 * FRAME)
-    status, written, said = call(command, *options, log)
-    assert (status, written) == (1, "") and said.startswith(f"canbusd {command}: {log}: bad version: `{FRAME.strip()}`")
+    text = tmp_path / "x.txt"
+    text.write_text(1000 * "neither record nor log\n")
+    status, written, said = call(command, *options, text)
+    assert (status, written) == (1, "") and said.startswith(f"canbusd {command}: {text}: bad version: `neither record ")
 
 
 def test_a_log_beside_a_record_without_lines(tmp_path):
