@@ -267,7 +267,8 @@ def test_page(name, tmp_path):
     record, names = example(name, tmp_path)
     status, page, errors = call(*REPORT, "--names", names, record)
     assert (status, errors) == (0, "") and page.endswith("</html>\n"), errors
-    assert not re.search(r"https?:|\bsrc=|\bhref=|@import|url\(", page), "a link"
+    # The icon is in the page, so that no browser asks for one.
+    assert not re.search(r"https?:|\bsrc=|\bhref=(?!\"data:)|@import|url\(", page), "a link"
 
 
 @pytest.mark.browser
