@@ -22,7 +22,21 @@ needs_tools = needs("candump", "cangen", "canplayer")
 def nodes(tmp_path_factory):
     """The folder of the C programs."""
     folder = tmp_path_factory.mktemp("nodes")
-    for name in ("bcm", "cyclic", "drawn", "forger", "full", "isotp", "lent", "orphans", "race", "respond", "slow_end", "unseen", "waits"):
+    for name in (
+        "bcm",
+        "cyclic",
+        "drawn",
+        "forger",
+        "full",
+        "isotp",
+        "lent",
+        "orphans",
+        "race",
+        "respond",
+        "slow_end",
+        "unseen",
+        "waits",
+    ):
         source = os.path.join(SOURCES, f"{name}.c")
         subprocess.run(["gcc", *FLAGS, "-o", str(folder / name), source], check=True)
     return folder

@@ -24,7 +24,7 @@ NO_LINE = "no line of a log has 16,384 characters, so this is none, or it is dam
 def limited():
     """Ends a command that takes more memory or time."""
     resource.setrlimit(resource.RLIMIT_AS, (MOST_MEMORY, MOST_MEMORY))
-    resource.setrlimit(resource.RLIMIT_CPU, (5, 5))
+    resource.setrlimit(resource.RLIMIT_CPU, (30, 30))
 
 
 def call(*words, **more):

@@ -25,7 +25,7 @@ case_of() {
 case_inline() { # for those whose trap ends them
     BASHPID_OF=$BASHPID
     local begun=$(now)
-    trap 'echo "$1 $2 $(($(now) - begun)) rung"; exit' USR1
+    trap 'echo "$1 $2 $(($(now) - begun)) fired"; exit' USR1
     (sleep 0.03; kill -USR1 $BASHPID_OF) &
     exec 8<> <(sleep 4)
     read -r line <&8
