@@ -35,6 +35,7 @@ def expect(bus, identifier, *data):
 
 
 @nodes
+@pytest.mark.canbusd_sweep()
 def test_it_opens(tester, door_bus):
     door = Door()
     tester.send(message(COMMAND, 0, OPEN))
@@ -45,6 +46,7 @@ def test_it_opens(tester, door_bus):
 
 # The tester's first frame fails in its last bit: the door has it, the tester sends it again.
 @pytest.mark.canbusd("tester,door", faults=Faults().last_bit(0))
+@pytest.mark.canbusd_sweep()
 def test_a_command_that_arrives_twice_is_obeyed_once(tester, door_bus):
     door = Door()
     tester.send(message(COMMAND, 0, OPEN))

@@ -9,6 +9,7 @@ import pytest
 
 
 @pytest.mark.canbusd("left,inner", "outer,right")
+@pytest.mark.canbusd_sweep()
 def test_a_gateway(canbusd):
     with canbusd.bus("left") as left, canbusd.bus("inner") as inner, canbusd.bus("outer") as outer:
 

@@ -12,6 +12,7 @@ LOG = "(1.000000) can0 123#1122\n(1.000100) can0 124#33\n(1.500000) can0 123#112
 
 
 @pytest.mark.canbusd("car,node", observe="node")
+@pytest.mark.canbusd_sweep()
 def test_a_drive(canbusd, tmp_path):
     (tmp_path / "drive.log").write_text(LOG)
     with canbusd.bus("car") as car, can.LogReader(tmp_path / "drive.log") as log:

@@ -9,6 +9,7 @@ import pytest
 
 
 @pytest.mark.canbusd("ecu,tester")
+@pytest.mark.canbusd_sweep()
 def test_an_answer(canbusd):
     async def ask(ecu, tester):
         loop, reader = asyncio.get_running_loop(), can.AsyncBufferedReader()

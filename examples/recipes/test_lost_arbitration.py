@@ -11,6 +11,7 @@ LONG, FIRST, LATER = 0x001, 0x100, 0x200
 
 
 @pytest.mark.canbusd("tester,ecu,gateway", bitrate=5_000)
+@pytest.mark.canbusd_sweep()
 def test_the_lower_identifier_goes_first(canbusd):
     with canbusd.bus("tester", fd=True) as tester, canbusd.bus("ecu") as ecu, canbusd.bus("gateway") as gateway:
         # 64 bytes take more than a tenth of a second here. They win, too, where a busy machine begins late.

@@ -10,6 +10,7 @@ REQUEST, STATE = 0x200, 0x201
 
 
 @pytest.mark.canbusd("tester,lamp")
+@pytest.mark.canbusd_sweep(faults=["destroyed", "twice"])
 def test_the_lamp_answers(canbusd):
     with canbusd.bus("tester") as tester, canbusd.bus("lamp", error_frames=False) as lamp:
 

@@ -13,6 +13,7 @@ VIN = b"\x62\xf1\x90WVWZZZ1JZXW000001"
 
 
 @pytest.mark.canbusd("ecu,tester")
+@pytest.mark.canbusd_sweep(known="twice 7E8 from ecu")
 def test_reading_the_vin(canbusd):
     with canbusd.isotp("ecu", tx=0x7E8, rx=0x7E0) as ecu, canbusd.isotp("tester", tx=0x7E0, rx=0x7E8) as tester:
         tester.send(b"\x22\xf1\x90")

@@ -187,12 +187,54 @@ def test_quick(sweep, pytester):
     )
 
 
+def joined(pytester, *names):
+    """Joins the parts in these folders; its status, what it wrote, and its error."""
+    words = [sys.executable, "-m", "canbusd", "sweep", "--join", *(f"{name}/sweep.json" for name in names)]
+    found = subprocess.run(words, cwd=pytester.path, capture_output=True, text=True)
+    return found.returncode, found.stdout.splitlines(), found.stderr
+
+
 def test_parts_of_a_sweep(sweep, pytester):
+    """are disjoint, and together what the sweep without parts finds"""
+    whole = sweep(BENCH, "--canbusd-sweep").outlines
+    expected = found(pytester)
     keys = []
-    for part in ("1/3", "2/3", "3/3"):
-        sweep(BENCH, "--canbusd-sweep", "--canbusd-sweep-shard", part)
+    for part in "123":
+        sweep(BENCH, "--canbusd-sweep", "--canbusd-sweep-shard", f"{part}/3")
         keys += [(one["kind"], *one["faults"]) for one in found(pytester)["test_five"]["placements"]]
+        (pytester.path / "canbusd-sweep").rename(pytester.path / f"part{part}")
     assert len(keys) == len({*keys}) == 10
+    status, lines, said = joined(pytester, "part1", "part2", "part3")
+    assert (status, said) == (1, "") and lines[-1] == "canbusd-sweep/index.html"
+    assert "  twice 100 from a: 1 of 1 placements fail" in lines
+    assert {line for line in lines if line.endswith(" fail")} == {line for line in whole if line.endswith(" fail")}
+    assert lines[0] in whole
+    assert (pytester.path / "canbusd-sweep" / "index.html").exists()
+    for test, other in zip(expected.values(), found(pytester).values()):
+        for place in [*test["placements"], *other["placements"]]:
+            is_shown = bool(place.pop("page"))
+            assert not is_shown or place["result"]["outcome"] == "failed"
+            del place["result"]["took"], place["result"]["long"]
+        assert test["placements"] == other["placements"]
+    # A page is where its part has it.
+    pages = json.loads((pytester.path / "canbusd-sweep" / "sweep.json").read_text())["tests"][0]["placements"]
+    assert all((pytester.path / "canbusd-sweep" / place["page"]).exists() for place in pages)
+
+
+def test_parts_that_do_not_fit(sweep, pytester):
+    sweep(BENCH, "--canbusd-sweep", "--canbusd-sweep-shard", "1/2")
+    (pytester.path / "canbusd-sweep").rename(pytester.path / "part1")
+    sweep(BENCH.replace("(5)", "(6)").replace("== 5", "== 6"), "--canbusd-sweep", "--canbusd-sweep-shard", "2/2")
+    (pytester.path / "canbusd-sweep").rename(pytester.path / "part2")
+    start = "canbusd sweep: "
+    test = "test_parts_that_do_not_fit.py::test_five"
+    said = f"{start}part2/sweep.json: {test} without a fault left other records than in part1/sweep.json\n"
+    assert joined(pytester, "part1", "part2") == (1, [], said)
+    assert joined(pytester, "part1")[0] == 1
+    (pytester.path / "part2" / "sweep.json").write_text('{"format": 0}')
+    no_part = f"{start}part2/sweep.json: it is no sweep.json of this version of canbusd\n"
+    assert joined(pytester, "part1", "part2") == (1, [], no_part)
+    assert joined(pytester, "none") == (1, [], f"{start}none/sweep.json: No such file or directory\n")
 
 
 def test_a_limit_of_time(sweep, pytester):
@@ -413,6 +455,18 @@ def test_the_examples(pytester, monkeypatch):
             "  destroyed 100 from tester: 1 of 8 placements fail",
         ]
     )
+
+
+def test_examples_and_recipes_hold(pytester, monkeypatch):
+    """All that are marked, but for what is known: a copy of a consecutive frame ends an ISO-TP transfer."""
+    monkeypatch.setenv("PYTHONPATH", str(Path(canbusd.__file__).parents[1]), prepend=os.pathsep)
+    for name in ("recipes", "python"):
+        shutil.copytree(EXAMPLES.parent / name, pytester.path / name)
+    plugins = ["-p", "canbusd.pytest_plugin", "-p", "no:cacheprovider", "-p", "no:xdist"]
+    result = pytester.runpytest_subprocess(*plugins, "--canbusd-sweep", "--canbusd-sweep-quick", "recipes", "python")
+    known = "  twice 7E8 from ecu: 2 of 8 placements fail, as is known"
+    result.stdout.fnmatch_lines(["canbusd sweep: 8 tests without a fault first", known])
+    assert result.ret == 0 and result.stdout.str().count(" placements fail") == 1
 
 
 def attempt(number, sender, frame, nth=0, nth_of_sender=0, errors=0, fault="good"):

@@ -1,7 +1,7 @@
 """The file sweep.json: what a sweep found, for `-resume`, `canbusd sweep --join` and other tools."""
 
 import json
-from collections.abc import Iterable
+from collections.abc import Iterable, Mapping, Sequence
 from dataclasses import asdict
 from pathlib import Path
 from typing import Any
@@ -13,26 +13,28 @@ from canbusd._whole_file import replaced
 
 #: Of this format; another one is not read.
 FORMAT = 1
+#: A test, or a placement, as the file has it.
+Facts = Mapping[str, Any]
 
 
-def write_results(path: Path, tests: Iterable[Test]) -> None:
+def write_results(path: Path, tests: Sequence[Facts]) -> None:
     """Writes what is known of tests, whole or not at all."""
     path.parent.mkdir(parents=True, exist_ok=True)
     with replaced(path) as file:
-        file.write(json.dumps({"format": FORMAT, "tests": [test_facts(test) for test in tests]}).encode())
+        file.write(json.dumps({"format": FORMAT, "tests": tests}).encode())
 
 
-def write_page(path: Path, tests: Iterable[Test]) -> None:
+def write_page(path: Path, tests: Sequence[Facts]) -> None:
     """Writes the page of a sweep."""
     from canbusd._page.report import filled
 
     text = filled("sweep.html", ["sweep.js"], ["page.css", "sweep.css"])
-    data = json.dumps({"tests": [test_facts(test) for test in tests]}).replace("<", "\\u003c")
+    data = json.dumps({"tests": tests}).replace("<", "\\u003c")
     with replaced(path) as file:
         file.write(text.replace("/*RUN*/", data).encode())
 
 
-def test_facts(test: Test) -> dict[str, Any]:
+def test_facts(test: Test) -> Facts:
     """What is known of a test."""
     return {
         "test": test.name,
@@ -43,7 +45,7 @@ def test_facts(test: Test) -> dict[str, Any]:
     }
 
 
-def place_facts(test: Test, place: Place) -> dict[str, Any]:
+def place_facts(test: Test, place: Place) -> Facts:
     """What is known of a placement."""
     return {
         "kind": place.kind,
@@ -86,6 +88,6 @@ def read_results(path: Path, tests: Iterable[Test]) -> None:
                 place.result = Result(**one["result"])
 
 
-def key_of(facts: dict[str, Any]) -> tuple[str, ...]:
+def key_of(facts: Facts) -> tuple[str, ...]:
     """What tells a placement from the others of its test."""
     return facts["kind"], str(facts["seed"]), str(facts["jitter"]), *facts["faults"]

@@ -15,7 +15,7 @@ from canbusd._sweep.attempts import attempts_in
 from canbusd._sweep.faults_given import Fault
 from canbusd._sweep.places import Place, pairs_of, places_at
 from canbusd._sweep.pool import Job, Outcome, Pool
-from canbusd._sweep.results import read_results, write_page, write_results
+from canbusd._sweep.results import read_results, test_facts, write_page, write_results
 from canbusd._sweep.telling import Telling
 from canbusd._sweep.tests import Test
 
@@ -84,7 +84,7 @@ class Sweep:
             self._check(pool)
             self._confirm(pool)
             self._note(is_due=True)
-            write_page(self._options.out / "index.html", self._tests)
+            write_page(self._options.out / "index.html", [test_facts(test) for test in self._tests])
         self._telling.end(self._tests, took, pool.not_begun, self._options.seconds, self.differences)
 
     def _base_done(self, outcome: Outcome) -> Iterable[Job]:
@@ -137,7 +137,7 @@ class Sweep:
         now = time.monotonic()
         if self._options.given is None and (is_due or now - self._noted >= BETWEEN_NOTES):
             self._noted = now
-            write_results(self._options.out / "sweep.json", self._tests)
+            write_results(self._options.out / "sweep.json", [test_facts(test) for test in self._tests])
 
     def _pairs_of(self, test: Test) -> int:
         """How many second faults a test gets."""

@@ -7,7 +7,7 @@ from typing import Any, Optional
 
 import canbusd._python_can  # noqa: F401  it says what is missing, so it comes first
 
-from canbusd._sweep import worker
+from canbusd._sweep import joined, worker
 from canbusd._sweep.command import CommandTask, PlainTerminal
 from canbusd._sweep.faults_given import Fault, parse_fault
 from canbusd._sweep.options import OUT, shard_of
@@ -28,12 +28,13 @@ placement fails.
   canbusd sweep --bitrate 500000 can0,can1 -- ./scenario.sh
   canbusd sweep --bitrate 500000 --faults twice,missed can0,can1 -- sh -c 'canbusd-run ./ecu can0 & canbusd-run ./test can1'
   canbusd sweep --bitrate 500000 --fault '5 lastbit' can0,can1 -- ./scenario.sh
+  canbusd sweep --join part-*/sweep.json
 """
 
 
 def add_arguments(parser: argparse.ArgumentParser) -> None:
     """Adds the words of the command."""
-    parser.usage = "canbusd sweep [options] BUS [BUS ..] -- COMMAND .."
+    parser.usage = "canbusd sweep [options] BUS [BUS ..] -- COMMAND .. | canbusd sweep --join FILE .."
     parser.add_argument(
         "words",
         nargs=argparse.REMAINDER,
@@ -94,10 +95,17 @@ def add_arguments(parser: argparse.ArgumentParser) -> None:
     )
     parser.add_argument("--resume", action="store_true", help=f"go on from {OUT}/sweep.json")
     parser.add_argument("--shard", metavar="K/N", help="the K-th of N parts")
+    parser.add_argument(
+        "--join",
+        action="store_true",
+        help=f"the words are the files sweep.json of all parts: {OUT}/ has what they found together",
+    )
 
 
 def run(options: argparse.Namespace) -> int:
-    """Carries out the sweep. Returns the status."""
+    """Carries out the sweep, or joins its parts. Returns the status."""
+    if options.join:
+        return join_parts(options.words)
     buses, words = parted(options.words)
     if not worker.is_ready():
         worker.start_anew(())
@@ -113,6 +121,18 @@ def run(options: argparse.Namespace) -> int:
     Sweep([test], found, telling).carry_out()
     is_bad = test.base is not None and test.base.outcome != "passed"
     return int(is_bad or telling.failures > 0)
+
+
+def join_parts(names: "list[str]") -> int:
+    """Joins the parts of a sweep, and writes what they found. Returns the status."""
+    if not names:
+        raise BadWords("canbusd sweep --join FILE ..: it takes the files sweep.json of the parts")
+    tests = joined.join([Path(name) for name in names], Path(OUT))
+    for test in tests:
+        for line in joined.lines_of(test):
+            print(line)
+    print(os.path.join(OUT, "index.html"))
+    return int(any(joined.is_bad(test) for test in tests))
 
 
 def parted(words: "list[str]") -> "tuple[list[str], list[str]]":
