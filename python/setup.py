@@ -32,7 +32,7 @@ def said(script, verb):
 
 @functools.lru_cache(maxsize=None)
 def program_files():
-    """What goes into the folder `program` of the package; nothing outside of a clone."""
+    """Returns the files of the folder `program` of the package; none outside of a clone."""
     if not (SCRIPTS / "program").is_file():
         return []
     programs = said("program", "choose")

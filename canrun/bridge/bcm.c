@@ -36,7 +36,7 @@ static int want_all(void) {
     return raw_want(filters, count);
 }
 
-/* What follows the head of a message. */
+/* The rest of a message, after its head. */
 struct rest {
     const char *data;
     size_t length;

@@ -1,4 +1,4 @@
-/* What the files of CAN_BCM share: bcm.c has what a program writes, bcm_tasks.c what its tasks do. The rules are those
+/* Declarations of CAN_BCM: bcm.c has what a program writes, bcm_tasks.c what its tasks do. The rules are those
  * of net/can/bcm.c of the kernel. */
 #ifndef BCM_H
 #define BCM_H
@@ -16,7 +16,7 @@ struct bcm_head {
 };
 _Static_assert(sizeof(struct bcm_head) == sizeof(struct bcm_msg_head), "the head of linux/can/bcm.h");
 
-/* What is known of a received frame, beside the frame. */
+/* A received frame, and what is known of it. */
 struct bcm_last {
     struct canfd_frame frame;
     bool is_received, is_held; /* held back by the throttle */

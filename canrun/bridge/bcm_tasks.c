@@ -42,7 +42,7 @@ static void send_due(struct bcm_task *task, uint64_t now) {
     if (is_counted && !task->head.count && task->head.flags & TX_COUNTEVT) {
         bcm_inform(task, TX_EXPIRED, NULL, 0, 0, task->index);
     }
-    /* What came late does not make the next late, unless it is by more than a period. */
+    /* A late frame does not make the next one late, unless it is late by more than a period. */
     task->due = bcm_due_after(task, due);
     if (task->due && task->due <= now) {
         task->due = bcm_due_after(task, now);

@@ -109,7 +109,7 @@ static void serve(void) {
     }
 }
 
-/* That of this digit of the name; false where there is none. */
+/* Finds the protocol of this digit of the name; false where there is none. */
 static bool find_protocol(char digit) {
     protocol = digit >= '0' && digit < '0' + CAN_NPROTO ? protocols[digit - '0'] : NULL;
     return protocol;

@@ -180,7 +180,7 @@ bool outbox_is_empty(void) {
     return count == 0;
 }
 
-/* What waits in a Unix socket is counted where it comes from. What the notes have no room for waits here. */
+/* A frame in a Unix socket is counted where it comes from. Frames that the notes have no room for wait here. */
 static void set_room(int option, int number) {
     int most = MIN(number, WIRE_ROOM / 2), beyond = (number - most) / FRAME_ROOM;
     setsockopt(PROGRAM, SOL_SOCKET, option == SO_RCVBUF ? SO_SNDBUF : SO_SNDBUFFORCE, &most, sizeof most);

@@ -41,7 +41,7 @@ struct protocol {
 };
 extern const struct protocol raw_protocol, bcm_protocol, isotp_protocol;
 
-/* That of this bridge. */
+/* The protocol of this bridge. */
 extern const struct protocol *protocol;
 bool protocol_is_busy(void);
 

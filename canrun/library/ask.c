@@ -106,7 +106,7 @@ int ask(int fd, const char *what, const struct wire_request *request, const stru
     }
     int result = error ? refuse_unsent(what, error) : get_reply(&asked, answer);
     error = result ? errno : before;
-    /* Who has SA_RESTART does not know of EINTR: then there is no room, as without --wait. */
+    /* A program with SA_RESTART does not know of EINTR: then there is no room, as without --wait. */
     error = wait_end(wait) && result && error == EINTR && !asked.is_interrupted ? ENOBUFS : error;
     syscall(SYS_close, ends[0]);
     errno = error;

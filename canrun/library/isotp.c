@@ -53,7 +53,7 @@ static ssize_t isotp_sendmsg(const struct socket *sock, const struct msghdr *mes
     return answer.value;
 }
 
-/* What the kernel refuses: other flags, and a socket that is not bound, to which nothing can have come. */
+/* The kernel refuses other flags, and a socket that is not bound, to which nothing can have come. */
 static int check_read(const struct socket *sock, int flags) {
     struct sockaddr_can can = {0};
     struct answer answer = {.data = &can, .room = sizeof can};

@@ -169,7 +169,7 @@ struct shared {
     struct loaned copy;
 };
 
-/* That of a socket, until share_leave; NULL where it can't be had. */
+/* The shared memory of a socket, until share_leave; NULL where it can't be had. */
 struct shared *share_enter(const struct socket *sock);
 void share_leave(struct shared *one);
 

@@ -47,7 +47,7 @@ EXPORT unsigned if_nametoindex(const char *name) {
     if (index) {
         return index;
     }
-    /* Who has no CAN socket asks for others. */
+    /* A program without a CAN socket asks for others. */
     int found = find_index(name, strstr(name, "can"));
     return found < 0 ? 0 : (unsigned)found;
 }

@@ -52,7 +52,7 @@ static struct range range_of(const struct wire_notes *received) {
     return (struct range){end > most ? end - most : 0, end};
 }
 
-/* What was found: the number of the note, from 1 on, or 0; whether no other could be it. */
+/* A note that was found: its number, from 1 on, or 0; whether no other could be it. */
 struct match {
     uint64_t at;
     bool is_one;
@@ -122,7 +122,7 @@ bool note_of(struct wire_memory *memory, int fd, bool is_peeked, const void *hea
     if (at && !is_peeked) {
         keep_found(received, found, at);
     }
-    /* Who was so late that the note is gone gets the last one. */
+    /* A reader that was so late that its note is gone gets the last one. */
     at = at ? at : range_of(received).end;
     if (at) {
         *note = received->notes[(at - 1) % WIRE_NOTES];

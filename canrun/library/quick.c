@@ -128,7 +128,7 @@ enum quick ask_quickly(const struct socket *sock, const struct wire_request *req
     if (!one) {
         return QUICK_NONE;
     }
-    /* Who writes a frame or two borrows nothing for them. */
+    /* A program that writes a frame or two borrows nothing for them. */
     if (__atomic_add_fetch(&one->writes, 1, __ATOMIC_RELAXED) >= BORROWING && loan_is_new(one->memory, &one->copy)) {
         share_borrow(one, sock->fd);
     }

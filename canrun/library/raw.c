@@ -8,7 +8,7 @@
 #include <string.h>
 #include <sys/syscall.h>
 
-/* What SO_TIMESTAMPING of one frame can ask for. */
+/* The flags of SO_TIMESTAMPING that one frame can have. */
 #define STAMPS_OF_SENT \
     (SOF_TIMESTAMPING_TX_HARDWARE | SOF_TIMESTAMPING_TX_SOFTWARE | SOF_TIMESTAMPING_TX_SCHED | SOF_TIMESTAMPING_TX_ACK)
 /* The most bytes of control messages that the kernel has memory for. */

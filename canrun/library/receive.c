@@ -133,7 +133,7 @@ static size_t copy_head(const struct msghdr *message, size_t length, char *head,
     return length;
 }
 
-/* What is known of a message that was received, besides its bytes. */
+/* Fills in what is known of a received message besides its bytes. */
 static int describe(const struct socket *sock, struct msghdr *message, size_t control, const struct wire_note *note) {
     if (message->msg_name && !make_name(sock, message, note->ifindex)) {
         return fail(EFAULT);

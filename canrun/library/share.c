@@ -95,7 +95,7 @@ static bool keep(const char *name, struct wire_memory *memory) {
     return false;
 }
 
-/* That of the socket with this name, which is used from now on; NULL where there is none yet. */
+/* Finds the memory of the socket with this name, which is used from now on; NULL where there is none yet. */
 static struct shared *find(const char *name) {
     uint32_t hash = hash_of(name);
     for (uint32_t i = 0; i < FEW; i++) {

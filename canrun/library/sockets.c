@@ -81,7 +81,7 @@ static int give_name(int fd, int protocol, struct sockaddr_un *name) {
     return syscall(SYS_bind, fd, name, whole) ? errno : 0;
 }
 
-/* What is missing where there is no bridge. Limits of the process or the system are what they are of any socket. */
+/* Reports why there is no bridge. Limits of the process or the system are what they are of any socket. */
 static int refuse_bridge(int error) {
     bool is_limit = error == EMFILE || error == ENFILE || error == ENOMEM || error == EAGAIN;
     return refuse("socket", is_limit ? error : EPROTONOSUPPORT, strerror(error));

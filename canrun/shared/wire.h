@@ -9,8 +9,8 @@
  *
  * Bridge to library: each datagram is a frame of CAN_RAW, or a message of another protocol, and nothing else, so that
  * any read gets the bytes that the kernel's own CAN socket would give, also one that does not go through the library.
- * What else is known of it is a note in the memory that library and bridge share. A datagram without bytes says that
- * the socket has an error, which WIRE_ERROR takes. */
+ * All else that is known of it is a note in the memory that library and bridge share. A datagram without bytes says
+ * that the socket has an error, which WIRE_ERROR takes. */
 #ifndef WIRE_H
 #define WIRE_H
 
@@ -98,7 +98,7 @@ struct wire_loan {
 /* In place of an index: no write, but the bridge is to look at what is left. */
 #define WIRE_LEFT INT32_MIN
 
-/* What is known of a datagram besides its bytes. */
+/* A note: all that is known of a datagram besides its bytes. */
 struct wire_note {
     uint64_t from;        /* how many bytes the datagrams before it have, since the socket was made */
     uint64_t nanoseconds; /* the server's moment, since 1970 */
@@ -126,7 +126,8 @@ struct wire_notes {
     struct wire_note notes[WIRE_NOTES];
 };
 
-/* What they share: one for each socket. The library makes it, and a bridge has it at descriptor WIRE_MEMORY. */
+/* The memory that they share: one for each socket. The library makes it, and a bridge has it at descriptor WIRE_MEMORY.
+ */
 #define WIRE_PROGRAM 3
 #define WIRE_MEMORY 4
 #define WIRE_PLACES 15

@@ -1,4 +1,4 @@
-"""What can't be in virtual time ends the run at once, with status 125 and a line that names program, thread and reason."""
+"""Programs that can't be in virtual time end the run at once, with status 125 and a line that names program, thread and reason."""
 
 import os
 import shutil

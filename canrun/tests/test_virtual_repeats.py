@@ -207,7 +207,7 @@ def test_shared(shared, number):
 
 
 def reasons(text):
-    """What pytest says of each test that failed: the lines with E."""
+    """The messages of pytest for each test that failed: the lines with E."""
     parts = re.findall(r"^_+ (test_\S+) _+$(.*?)(?=^_+ test_|^=+ short)", text, re.M | re.S)
     return {name: re.findall("^E .*$", body, re.M) for name, body in parts}
 

@@ -49,7 +49,7 @@ def virtual(*words, options=(), patience=300, **how):
 
 
 def files_below(folder):
-    """What the files of a folder have, by their names."""
+    """The contents of the files of a folder, by their names."""
     return {
         str(path.relative_to(folder)): path.read_bytes()
         for path in sorted(folder.rglob("*"))

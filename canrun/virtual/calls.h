@@ -89,7 +89,7 @@ uint32_t wait_for(const struct pollfd *fds, nfds_t count, uint64_t deadline);
 /* The same for an epoll, and that it has this descriptor. */
 uint32_t wait_for_epoll(int fd, uint64_t deadline);
 void note_entry(int fd);
-/* What of these is ready now; what the kernel returns. */
+/* Looks which of these are ready now; returns what the kernel does. */
 long look_at(struct pollfd *fds, nfds_t count);
 /* A call on a descriptor that blocks waits once more; false and errno where its timeout, or a signal, has come, or
  * where it does not block. `deadline` is 0 at first. */

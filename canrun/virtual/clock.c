@@ -93,7 +93,7 @@ EXPORT clock_t times(struct tms *used) {
     return run ? (clock_t)((run->now + UPTIME) / (SECOND / 100)) : (clock_t)result;
 }
 
-/* What a machine says of itself, with how long it is up. */
+/* The facts of a machine, with how long it is up. */
 EXPORT int sysinfo(struct sysinfo *info) {
     int result = (int)answer(RAW(SYS_sysinfo, info));
     if (run && !result) {

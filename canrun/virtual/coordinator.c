@@ -105,8 +105,8 @@ static void reply_to(int fd, uint32_t pid) {
     }
 }
 
-/* Who connects is served if it is of the run; of one that runs as another user only the end is watched. Returns whether
- * there was one. */
+/* Serves a process that connects if it is of the run; of one that runs as another user only the end is watched. Returns
+ * whether there was one. */
 static bool admit(void) {
     bool is_any = false;
     int fd;

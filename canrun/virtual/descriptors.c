@@ -46,8 +46,9 @@ static long control(int operation, int fd, short events) {
     return result;
 }
 
-/* What is written to a terminal comes to who reads it by a thread of the kernel's, and at once where that one looks: so
- * it looks once more before the clock goes on. Not of the one where the run was started, whose writer is outside. */
+/* Bytes that are written to a terminal come to its reader by a thread of the kernel's, and at once where that one
+ * looks: so it looks once more before the clock goes on. Not of the one where the run was started, whose writer is
+ * outside. */
 #define TERMINALS 136 /* the first of eight kinds of device, whose other end is 5, 2 */
 static bool is_terminal(int fd) {
     struct stat status;

@@ -1,4 +1,4 @@
-/* Whom the coordinator signals: see grants.h. */
+/* The processes that the coordinator signals: see grants.h. */
 #define _GNU_SOURCE
 #include "grants.h"
 #include "proc.h"
@@ -65,7 +65,7 @@ bool alarm_signal(uint32_t place) {
     if (grant->tid) {
         syscall(SYS_rt_tgsigqueueinfo, grant->pid, grant->tid, grant->number, &info);
     } else {
-        /* That of setitimer has no value. */
+        /* The signal of setitimer has no value. */
         syscall(SYS_pidfd_send_signal, grant->fd, grant->number, alarm->id == INTERVAL_TIMER ? NULL : &info, 0);
     }
     return true;

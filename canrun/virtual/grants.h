@@ -1,4 +1,4 @@
-/* Whom the coordinator signals: processes below it, by descriptors that it opened itself. What is in the memory of the
+/* The processes that the coordinator signals are below it, by descriptors that it opened itself. The memory of the
  * run may be written by one that has other rights than the coordinator. */
 #ifndef GRANTS_H
 #define GRANTS_H

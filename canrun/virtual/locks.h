@@ -1,4 +1,4 @@
-/* What threads wait for of one another. */
+/* Locks and conditions: threads wait for one another. */
 #ifndef LOCKS_H
 #define LOCKS_H
 

@@ -39,7 +39,7 @@
 #define SYS_FUTEX_WAIT2 455
 #define SYS_FUTEX_REQUEUE2 456
 
-/* What waits and is not known ends the run. */
+/* A call that waits and is not known ends the run. */
 static long refuse(long number) {
     char test[TEST_ROOM];
     tell(true, "%.60s (thread %ld of process %ld) makes system call %ld, which virtual time does not know%s",
@@ -47,7 +47,7 @@ static long refuse(long number) {
     return errno = ENOSYS, -1;
 }
 
-/* What io_uring does waits unseen, so it is refused as by a kernel that has none; said once. */
+/* io_uring waits unseen, so it is refused as by a kernel that has none; said once. */
 static long refuse_io_uring(void) {
     static _Atomic bool is_said;
     char test[TEST_ROOM];

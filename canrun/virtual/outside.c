@@ -34,7 +34,7 @@
 
 /* ---- programs that do not load the library ---- */
 
-/* What a process has mapped: the library, the run's memory, the loader, the C library. */
+/* The mappings of a process: the library, the run's memory, the loader, the C library. */
 struct mapped {
     bool library, memory, loader, c_library, is_hidden;
 };

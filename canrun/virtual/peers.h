@@ -1,4 +1,4 @@
-/* Who is at the other end, and that it is no part of the run. */
+/* The process at the other end, and whether it is no part of the run. */
 #ifndef PEERS_H
 #define PEERS_H
 

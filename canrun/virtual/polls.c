@@ -22,7 +22,7 @@ static size_t bytes_of(const struct sets *sets) {
     return ((size_t)sets->count + 63) / 64 * 8;
 }
 
-/* What is ready now. */
+/* Looks which descriptors are ready now. */
 static int select_now(struct sets *sets) {
     fd_set *at[3];
     timers_fire();
@@ -33,7 +33,7 @@ static int select_now(struct sets *sets) {
     return (int)answer(RAW(SYS_pselect6, sets->count, at[0], at[1], at[2], &no_time, NULL));
 }
 
-/* What is asked for; how many descriptors. */
+/* Takes the descriptors that are asked for; returns how many. */
 static nfds_t take_sets(struct sets *sets, struct pollfd *fds) {
     nfds_t count = 0;
     for (int i = 0; i < 3; i++) {

@@ -24,7 +24,7 @@ static uint32_t bear(void) {
     return index;
 }
 
-/* What any fork of the C library does, also those of daemon and forkpty: before it, and in the child. */
+/* Any fork of the C library calls these, also those of daemon and forkpty: before it, and in the child. */
 static void before_fork(void) {
     my.born = run ? bear() : NOBODY;
 }

@@ -1,4 +1,4 @@
-/* What is random in a program: the same in each run, by the seed. */
+/* Random bytes and addresses of a program: the same in each run, by the seed. */
 #define _GNU_SOURCE
 #include "random.h"
 #include "calls.h"
@@ -10,7 +10,7 @@
 #include <sys/stat.h>
 #include <sys/sysmacros.h>
 
-/* What pytest sets as each part of a test begins. */
+/* The variable that pytest sets as each part of a test begins. */
 #define TEST "PYTEST_CURRENT_TEST"
 /* Descriptors below this may be /dev/random or /dev/urandom. */
 #define DEVICES 1024
@@ -29,7 +29,7 @@ static void fill(void *data, size_t length) {
     }
 }
 
-/* What the kernel does with these arguments, and then bytes of this run. */
+/* The kernel checks these arguments, and the bytes are of this run. */
 EXPORT ssize_t getrandom(void *data, size_t length, unsigned flags) {
     ssize_t result = answer(RAW(SYS_getrandom, data, length, flags));
     if (run && result > 0) {

@@ -1,4 +1,4 @@
-/* What is random in a program of the run. */
+/* Random bytes of a program of the run. */
 #ifndef RANDOM_H
 #define RANDOM_H
 

@@ -39,7 +39,7 @@ enum state {
     SLOT_TAKEN,   /* being filled */
 };
 
-/* What has come for one that waits; none of these, or IS_OVER: its moment. LOOKS_AGAIN: a signal or a timer of its
+/* The events of one that waits; none of these, or IS_OVER: its moment. LOOKS_AGAIN: a signal or a timer of its
  * process; IS_CANCELLED: pthread_cancel; TRIES_AGAIN: see `tries`. */
 enum {
     HAS_EVENT = 1,
@@ -101,7 +101,7 @@ struct alarm {
     uint32_t overrun;
 };
 
-/* What a process asks the coordinator for, which sees by the connection who asks: that it sends the signals of this
+/* The request of a process to the coordinator, which sees by the connection who asks: to send the signals of this
  * alarm, or NO_ALARM: the epoll of the run. */
 #define NO_ALARM ALARMS
 struct request {

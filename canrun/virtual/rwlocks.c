@@ -83,7 +83,7 @@ static uint64_t key_of_barrier(const struct barrier *barrier) {
     return barrier->is_shared ? key_of_any(barrier, OF_BARRIER) : key_of(barrier, OF_BARRIER);
 }
 
-/* Who is woken does not look at it again: the last one may have destroyed it. */
+/* A thread that is woken does not look at it again: the last one may have destroyed it. */
 static int wait_at_barrier(struct barrier *barrier) {
     uint64_t key = key_of_barrier(barrier);
     regain_turn();

@@ -12,7 +12,7 @@
 #include <sys/signalfd.h>
 
 #define NESTED 8
-/* What epoll leaves of the events of an entry with EPOLLONESHOT that has had one. */
+/* The bits that epoll leaves of an entry with EPOLLONESHOT that has had an event. */
 #define PRIVATE_EVENTS (EPOLLWAKEUP | EPOLLONESHOT | EPOLLET | EPOLLEXCLUSIVE)
 #define LISTED 65536
 

@@ -159,8 +159,8 @@ static void end_traced(void) {
     }
 }
 
-/* What calls the kernel itself, as programs of Go do also where they load libraries, waits unseen: so the run ends at
- * once. */
+/* A program that calls the kernel itself, as those of Go do also where they load libraries, waits unseen: so the run
+ * ends at once. */
 static void end_bypassing(void) {
     const char *obstacle = is_server ? NULL : program_bypass(SELF);
     char test[TEST_ROOM];

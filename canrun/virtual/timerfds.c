@@ -20,7 +20,7 @@
 /* Numbers go round above the place. */
 #define MOST_NUMBERS 900000
 
-/* Those of which this process has a descriptor, and one of these. */
+/* The timers of which this process has a descriptor, and one of these. */
 static struct {
     int fd;
     uint32_t number;

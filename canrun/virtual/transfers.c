@@ -15,7 +15,7 @@
 #include <termios.h>
 #include <unistd.h>
 
-/* What a pipe that is ready takes at once. */
+/* The bytes that a pipe that is ready takes at once. */
 #define PIECE 4096
 /* Parts of a message that is received or sent in pieces. */
 #define PARTS 64
@@ -272,7 +272,7 @@ EXPORT int eventfd_read(int fd, eventfd_t *value) {
     return read(fd, value, sizeof *value) == sizeof *value ? 0 : -1;
 }
 
-/* Those that know how much room there is. */
+/* The forms that know how much room there is. */
 extern void __chk_fail(void) __attribute__((noreturn));
 EXPORT ssize_t __read_chk(int fd, void *data, size_t length, size_t room);
 ssize_t __read_chk(int fd, void *data, size_t length, size_t room) {

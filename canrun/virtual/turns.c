@@ -62,8 +62,8 @@ void begin_test(const char *name) {
         next->number = run->born + 1;
         next->waits = next->reads = 0;
     }
-    /* What the test before has left, such as sessions that are about to end, does not count for those that are born
-     * now. */
+    /* Threads that the test before has left, such as sessions that are about to end, do not count for those that are
+     * born now. */
     run->born = SLOTS;
 }
 
@@ -139,7 +139,7 @@ struct slot *my_slot(void) {
 static void collect_events(void) {
     struct epoll_event events[EVENTS];
     long count = EVENTS;
-    /* Who waits is told of each descriptor once. What else a program has put there may be ready for ever. */
+    /* A waiting thread is told of each descriptor once. Others that a program has put there may be ready for ever. */
     for (int i = 0; count == EVENTS && i < MOST_LOOKS; i++) {
         count = RAW(SYS_epoll_pwait, run_epoll, events, EVENTS, 0, NULL, 8);
         if (count == -EBADF && register_process()) {

@@ -48,7 +48,7 @@ extern __thread struct my my __attribute__((tls_model("initial-exec")));
 enum { RANK_PROGRAM, RANK_BRIDGE, RANK_SESSION, RANK_DRIVER };
 extern bool is_server, is_bridge;
 
-/* What is random for a thread: the same for each seed, test, birth and number of times. */
+/* A random number for a thread: the same for each seed, test, birth and number of times. */
 enum chance { CHANCE_ORDER, CHANCE_JITTER, CHANCE_BYTES, CHANCES };
 uint64_t draw(const struct slot *slot, enum chance what, uint64_t times);
 

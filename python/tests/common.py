@@ -1,4 +1,4 @@
-"""What the tests of buses and servers share, beside their fixtures."""
+"""Functions that the tests of buses and servers share, beside their fixtures."""
 
 import subprocess
 from pathlib import Path
@@ -27,6 +27,6 @@ def message(identifier, data=b"", extended=False, **more):
 
 
 def shape(received):
-    """What makes two messages the same, apart from their moments."""
+    """The facts by which two messages are the same, apart from their moments."""
     kinds = received.is_extended_id, received.is_remote_frame, received.is_error_frame, received.is_fd
     return received.arbitration_id, bytes(received.data), received.dlc, *kinds

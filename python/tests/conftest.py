@@ -12,7 +12,7 @@ from canbusd._process.program import find_program
 from canbusd.server import Server
 from common import PYTHON
 
-# What the tests start has the package that they have, and the program that fits the sources.
+# Programs that the tests start have the package of the tests, and the program that fits the sources.
 os.environ["PYTHONPATH"] = os.path.dirname(importlib.util.find_spec("canbusd").submodule_search_locations[0])
 if "CANBUSD" not in os.environ:
     fitting = [PYTHON.parent / "scripts" / "program", "fitting"]

@@ -1,4 +1,4 @@
-"""What a command reads may be no log and no record: its first bytes say so, and no more is read. And faults may be many."""
+"""A file that a command reads may be no log and no record: its first bytes say so, and no more is read. And faults may be many."""
 
 import gzip
 import os
@@ -14,7 +14,7 @@ from canbusd import Bench, Faults, Server
 from canbusd.record import read_record
 
 WAIT = 60
-# What a command may take of memory, which is less than a line of 100 MB takes.
+# The memory that a command may take, which is less than a line of 100 MB takes.
 MOST_MEMORY = 400_000_000
 FRAME = "(1795910922.000000) ecu 123#11\n"
 ASC = "date Sat Sep 30 15:06:13.191 2017\nbase hex  timestamps absolute\nno internal events logged\n"
@@ -73,7 +73,7 @@ def test_a_line_without_end(tmp_path, words, name):
 
 
 def prefix(words):
-    """Whom a command is called in its messages."""
+    """The name of a command in its messages."""
     return "canbusd convert" if words == ["convert"] else words[0]
 
 

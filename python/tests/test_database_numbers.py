@@ -117,7 +117,7 @@ def tried(folder, seeds, results):
     """Tries files in a process of its own: `results` gets what is wrong, and then how much memory it took, in MB."""
     resource.setrlimit(resource.RLIMIT_AS, (1 << 30, 1 << 30))
     path = folder / "x.dbc"
-    # What is imported for the first time is not counted.
+    # A first import is not counted.
     path.write_text(MORE)
     used(path)
     before = resource.getrusage(resource.RUSAGE_SELF).ru_maxrss

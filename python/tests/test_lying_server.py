@@ -1,4 +1,4 @@
-"""What listens at an address may be no server of canbusd: no terminal gets a control character of it."""
+"""A program that listens at an address may be no server of canbusd: no terminal gets a control character of it."""
 
 import contextlib
 import re
@@ -15,7 +15,7 @@ from canbusd._process.program import find_program
 
 HERE = Path(__file__).parent
 WAIT = 60
-# What colours, clears, renames and overwrites what a terminal shows, in 7 and in 8 bits.
+# Characters that colour, clear, rename and overwrite what a terminal shows, in 7 and in 8 bits.
 EVIL = "\x1b[31m\x1b[2J\x1b]0;title\x07\x9b31m\x00\x08\x7f\r"
 GREETING, OK = "< hi >", "< ok >"
 #: By the first word of a message, what is answered; `*` is any other.
@@ -83,7 +83,7 @@ def liar(lies):
 
 
 def shown(address, words):
-    """What a program writes on its terminal, which is ended if it goes on."""
+    """Returns the output of a program on its terminal, which is ended if it goes on."""
     child = subprocess.Popen(
         words, env={**environment(), "CANBUSD_ADDRESS": address}, stdin=subprocess.DEVNULL, stdout=subprocess.PIPE,
         stderr=subprocess.STDOUT,

@@ -1,4 +1,4 @@
-"""What users write wrongly, and what they are told: the place, the value, and what to write."""
+"""Mistakes of users, and their messages: the place, the value, and what to write."""
 
 import contextlib
 from pathlib import Path
@@ -89,7 +89,7 @@ WITHOUT_A_RUN = [
     ("Faults().next()", TypeError, "next: missing a required argument: 'count'; it is next(count, *, sender=None,"),
 ]
 OF_A_SERVER = [
-    # What is expected.
+    # Expectations.
     ("server.expect(data='0102')", ValueError, "data is bytes, such as bytes.fromhex('0102'), not '0102'"),
     ("server.expect(data=5)", ValueError, "data is bytes", "not 5"),
     ("server.expect(data=b'123456789')", ValueError, "data has 9 bytes, and no frame has as many"),

@@ -54,7 +54,7 @@ def test_the_metadata_of_a_clone_is_that_of_the_wheel():
 
 
 def public_names():
-    """What documents, entry points and launchers import, as modules and their names."""
+    """The imports of documents, entry points and launchers, as modules and their names."""
     texts = [*CLONE.glob("*.md"), *CLONE.glob("docs/*.md"), *CLONE.glob("examples/**/*.py"), *CLONE.glob("tools/*")]
     for path in filter(Path.is_file, texts):
         text = path.read_text(encoding="utf-8")
@@ -148,7 +148,7 @@ def modules_after(statement):
 
 
 def test_imports_are_cheap():
-    """What takes long to import is imported by what needs it: `import canbusd` takes a few milliseconds."""
+    """Modules that take long are imported only by those that need them: `import canbusd` takes a few milliseconds."""
     alone = modules_after("import canbusd") - modules_after("import importlib, typing")
     assert alone == {"canbusd"}
     most = modules_after("from canbusd import Bench, Faults, Frame, Server, load_database, read_record")

@@ -65,7 +65,7 @@ def sweep(pytester, monkeypatch):
 
 
 def found(pytester):
-    """What the sweep found, by the names of tests."""
+    """The results of the sweep, by the names of tests."""
     tests = json.loads((pytester.path / "canbusd-sweep" / "sweep.json").read_text())["tests"]
     return {test["test"].partition("::")[2]: test for test in tests}
 
@@ -164,7 +164,7 @@ def test_programs_miss_frames_and_are_reset(pytester, monkeypatch):
             "  not noticed: missed by tester 200 from ecu, 8 placements",
             "  missed by ecu 123 from tester: 7 of 7 placements fail",
             "    7 x call: assert 6 == 7",
-            # What was counted before is forgotten, but for a reset before the first press.
+            # The count is forgotten, but for a reset before the first press.
             "  reset of program 0 123 from tester: 7 of 7 placements fail",
         ]
     )

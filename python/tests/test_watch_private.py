@@ -58,7 +58,7 @@ def others(watch):
 
 
 def raw(watch, text):
-    """What is sent back to these bytes."""
+    """Returns the answer to these bytes."""
     with socket.create_connection(("127.0.0.1", watch.port), WAIT) as own:
         own.sendall(text)
         parts = []

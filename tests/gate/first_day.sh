@@ -1,5 +1,5 @@
 #!/bin/sh
-# What a newcomer does on the first day, on a fresh minimal Debian 12 or 13, as the documents print it:
+# The steps of a newcomer on the first day, on a fresh minimal Debian 12 or 13, as the documents print it:
 # tests/gate/first_day.sh ROUTE, at the top of a clone, as root. test_first_day.py runs it in such Debians. ROUTE is
 #   path   README's route: a clone, PYTHONPATH, and Debian's packages
 #   here   the same without the installation of packages, which `make check` runs in a clone

@@ -15,7 +15,7 @@ import commands
 import serving
 
 sys.dont_write_bytecode = True
-# What the tests start has the package that they have.
+# Programs that the tests start have the package of the tests.
 os.environ["PYTHONPATH"] = os.path.dirname(importlib.util.find_spec("canbusd").submodule_search_locations[0])
 os.environ["PYTHONDONTWRITEBYTECODE"] = "1"
 # A job in the background, or under nohup, ignores these, and so would what the tests start: what is handled here is not

@@ -1,4 +1,4 @@
-/* What sendmsg and recvmsg have besides a frame, and filters that programs attach to a socket. */
+/* The control messages of sendmsg and recvmsg, and filters that programs attach to a socket. */
 #include "probe.h"
 #include <linux/filter.h>
 

@@ -53,7 +53,7 @@ extern char *nowhere, *volatile null;
 void say(const char *format, ...) __attribute__((format(printf, 1, 2)));
 /* What a call returns, or its errno. */
 void result(long value);
-/* What the last of them returned. */
+/* The value that the last of them returned. */
 extern long returned;
 #define DO(...) (errno = 0, result((long)(__VA_ARGS__)))
 /* The same of a call that returns a descriptor, whose number is not said. */
@@ -135,7 +135,7 @@ void until(int fd, short events);
 void events(int fd, short events);
 void selected(int fd);
 void watch(int fd, unsigned events);
-/* What is watched has an event, which may take its time, or has none. */
+/* The watched descriptor has an event, which may take its time, or has none. */
 void watched(bool is_expected);
 /* Waits, in milliseconds; only where a moment has to pass. */
 void pass(int milliseconds);

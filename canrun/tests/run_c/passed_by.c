@@ -115,7 +115,7 @@ static ssize_t by_uring(char *room, size_t length) {
     return result;
 }
 
-/* What is known of a frame besides its bytes is its own, also where the ones before it went past the library. */
+/* The note of a frame is its own, also where the ones before it went past the library. */
 static void notes_are_right(void) {
     struct sockaddr_can from;
     char data[72];

@@ -6,7 +6,7 @@
 #include <sys/mman.h>
 
 static volatile sig_atomic_t is_ended, ticks;
-/* What the processes share: the thread that writes. */
+/* The memory that the processes share: the thread that writes. */
 static volatile pid_t *writer;
 static int number;
 

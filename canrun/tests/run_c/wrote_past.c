@@ -30,7 +30,7 @@ static ssize_t by_number_of_sendto(int fd, const void *data, size_t length) {
     return syscall(SYS_sendto, fd, data, length, 0, NULL, 0);
 }
 
-/* What is refused stays in the pipe. */
+/* A refused frame stays in the pipe. */
 static ssize_t by_splice(int fd, const void *data, size_t length) {
     int ends[2], left = 0;
     CHECK(pipe(ends) == 0 && write(ends[1], data, length) == (ssize_t)length);

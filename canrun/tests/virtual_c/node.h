@@ -1,4 +1,4 @@
-/* What the programs of ../test_virtual.py share. */
+/* Functions that the programs of ../test_virtual.py share. */
 #define _GNU_SOURCE
 #include <errno.h>
 #include <linux/can.h>

@@ -1,4 +1,4 @@
-"""What is said of a call whose arguments do not fit, and of a name that is not there: which there are."""
+"""Faults of calls whose arguments do not fit, and of names that are not there: they list which there are."""
 
 import difflib
 import functools
@@ -87,14 +87,14 @@ class NamesWhatThereIs:
     """Has an attribute that is not there named with what may be meant."""
 
     __slots__ = ()
-    #: What to write for names that are those of other classes; `*` is any.
+    #: The names to write for those of other classes; `*` is any.
     _INSTEAD: ClassVar[Mapping[str, str]] = {}
 
     if not TYPE_CHECKING:
 
         def __getattr__(self, name):
             if hasattr(type(self), name):
-                # What failed is inside a property.
+                # A property failed inside.
                 return object.__getattribute__(self, name)
             public = [one for one in dir(type(self)) if not one.startswith("_")]
             instead = self._INSTEAD.get(name) or meant(name, public) or self._INSTEAD.get("*", "")

@@ -45,7 +45,7 @@ FIRST: BusKey = (0, "")
 
 @dataclass
 class Placement:
-    """What this process adds to the runs of its test, and how they are seen when they end."""
+    """The faults that this process adds to the runs of its test, and how they are seen when they end."""
 
     #: Lines of a script for a bus, which go before its own.
     lines: Mapping[BusKey, Sequence[str]] = field(default_factory=dict)
@@ -135,7 +135,7 @@ def keep(bus: BusKey, names: Sequence[str], own: int, record: Path) -> None:
 
 
 def copy_to(folder: Path) -> Callable[[BusKey, Sequence[str], int, Path], None]:
-    """Returns what copies each record into this folder, with what is known of its bus beside it."""
+    """Returns a function that copies each record into this folder, with the names of its bus beside it."""
 
     def copy(bus: BusKey, names: Sequence[str], own: int, record: Path) -> None:
         target = folder / f"{bus[0]}-{bus[1]}.rec"

@@ -47,7 +47,7 @@ if TYPE_CHECKING:
 Self = TypeVar("Self", bound="CanbusdBus")
 
 LOG = logging.getLogger("can.canbusd")
-# What python-can itself says of each bus.
+# The log that python-can itself writes of each bus.
 BUS_LOG = logging.getLogger("can.bus")
 BUS_STATES = {
     "active": BusState.ACTIVE,

@@ -18,7 +18,7 @@ from canbusd._text import NAME, shown
 from canbusd.frames import EXTENDED
 from canbusd.rules import MOST, MOST_RULES, NUMBER, VERDICT, Rule, is_rule, parse_rule
 
-# What is a rule with a fault rather than the path of a file that is not there.
+# A text of this form is a rule with a fault rather than the path of a file that is not there.
 LIKE_RULE = re.compile(r"\A\S+ (?:[0-9]|.*(?:good|lastbit|last_bit|destroyed|global|local)\b)")
 # What no path is.
 IS_TEXT = re.compile(r"\A\Z|\n|\A(?:[0-9]+|next|always) ")
@@ -26,7 +26,7 @@ IS_TEXT = re.compile(r"\A\Z|\n|\A(?:[0-9]+|next|always) ")
 # The most that an identifier of 11 bits is, and one of 29.
 SHORT, LONG = 0x7FF, 0x1FFFFFFF
 
-#: What a call without a rule needs.
+#: The help for a call without a rule.
 BY_NUMBER = "attempts are their numbers, from 0; a rule comes first: Faults().next(1).last_bit()"
 #: How a rule is ended that has no fault yet.
 SAYS_WHICH = ".destroyed(), .last_bit(), .local(..) or .good() says which"

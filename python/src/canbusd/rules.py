@@ -25,7 +25,7 @@ NUMBER = re.compile("[0-9]{1,8}")
 WORD = re.compile("[0-9A-Fa-f]{1,8}")
 NAMES = f"{NAME.pattern}(?:,{NAME.pattern})*"
 VERDICT = re.compile(f"good|lastbit|global (?:bit|form)|local (?:stuff|crc|form) {NAMES}")
-# What may be meant by the first word of a verdict that is none.
+# The verdicts that may be meant by a first word that is none.
 MEANT = {
     "bit": "global bit",
     "crc": "local crc NAMES",
@@ -112,7 +112,7 @@ def parse_rule(text: str) -> Rule:
 
 
 def meant_by(words: Sequence[str]) -> str:
-    """What may be meant by words that are no verdict, as a question; the empty text where nothing is."""
+    """Returns the verdict that may be meant by words that are none, as a question; the empty text if there is none."""
     if "" in words and len(words) > 1:
         return "; its words are parted by one space"
     found = MEANT.get(words[0]) if words else None

@@ -50,7 +50,7 @@ START, END = 10.0, 60.0
 ENTRIES = re.compile(r"bus (\S+) entries (\d+)")
 # What it says of a bus whose record is full.
 FULL = re.compile(r"bus (\S+): record full")
-#: What ends it, with the calls that do only where logs and records are written at the end.
+#: The calls that end it, with those that do so only if logs and records are written at the end.
 ENDED_BY = "stop(), {}audit(), report() and its with block end it"
 #: How many buses a server has at most.
 MOST_BUSES = 16

@@ -25,7 +25,7 @@ FINITE = re.compile(rb"[-+]?(?:[0-9]+\.?[0-9]*|\.[0-9]+)(?:[eE][-+]?[0-9]+)?")
 
 
 class LineFault(ValueError):
-    """What is wrong in a line of a file."""
+    """A fault in a line of a file."""
 
     def __init__(self, line: int, text: str) -> None:
         super().__init__(text)
@@ -42,7 +42,7 @@ def check_numbers(path: str, most_values: Optional[int] = None) -> None:
     multiplexer values of more than `most_values`, for a library that makes a list of them."""
     is_in_text = False
     for number, line in lines_of(path):
-        # What is in quotes, which may begin in a line before, is no number.
+        # A text in quotes, which may begin in a line before, is no number.
         parts = QUOTE.split(line)
         fault = fault_in(b'"'.join(parts[is_in_text::2]).strip(), b"" if is_in_text else line.strip())
         is_in_text ^= len(parts) % 2 == 0

@@ -13,7 +13,7 @@ from canbusd._text import times
 from canbusd.frames import FD_LENGTHS, Frame, data_bytes
 from canbusd.signals import Database, DatabaseError, Value
 
-#: What a step of a sequence may say of its frame.
+#: The arguments by which a step of a sequence describes its frame.
 OF_STEP = ("id", "data", "signal", "above", "below", "equals", "between", "is_extended_id", "is_error_frame")
 #: A frame that is looked for: its identifier, the name of its message, or a dict of the arguments of `expect`.
 Step = Union[int, str, Mapping[str, Any]]

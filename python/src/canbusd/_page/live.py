@@ -1,4 +1,4 @@
-"""The live page of `canbusd watch`: what browsers get, and which of them get it.
+"""The live page of `canbusd watch`: its news, and the browsers that get it.
 
 All local users and all web sites that are open in a browser can connect to 127.0.0.1. So the path of each request has to
 begin with a token that only the URL of the page has, and the request has to name this machine as its host: a site whose name
@@ -36,7 +36,7 @@ MOST_TICKS, MOST_FRAMES = 2400, 4000
 CLOSE_TIMEOUT, REQUEST_TIMEOUT, PAUSE = 2.0, 10.0, 0.2
 # How many connections may have asked nothing yet, and how many bytes a request may have.
 MOST_WAITING, MOST_BYTES = 64, 65536
-# What each answer has: nothing is kept, taken for something else, shown to other sites, or said to them.
+# The headers of each answer, by which nothing is kept, taken for something else, shown to other sites, or sent to them.
 HEADERS = {
     "Cache-Control": "no-store",
     "Cross-Origin-Resource-Policy": "same-origin",
@@ -57,7 +57,7 @@ Row = list[Any]
 
 
 class Board:
-    """What the pages get: of each tick the counts of the interfaces, and the frames that came since the one before."""
+    """The news of the pages: of each tick the counts of the interfaces, and the frames that came since the one before."""
 
     def __init__(self) -> None:
         self._changed = threading.Condition()
@@ -285,7 +285,7 @@ class Request(BaseHTTPRequestHandler):
             self.wfile.write(b"data: " + json.dumps(news, separators=(",", ":")).encode() + b"\n\n")
 
     def version_string(self) -> str:
-        """What serves the page."""
+        """Returns the name of the program that serves the page."""
         return "canbusd"
 
     def log_message(self, format: str, *args: Any) -> None:

@@ -315,7 +315,7 @@ def data_of(
 
 
 def ends_of(run: Replay) -> Json:
-    """What the header has of interfaces and sockets, as they are at the end."""
+    """Returns the header's facts of interfaces and sockets, as they are at the end."""
     return {
         "ifaces": ifaces_of(run),
         "sockets": [socket_of(socket) for socket in run.sockets],
@@ -326,7 +326,7 @@ def ends_of(run: Replay) -> Json:
 
 
 def compared(run: Replay, comparison: Comparison, block: Block, places: Sequence[int]) -> Json:
-    """What the header has of two runs: the other one, a heading of both, and where they first differ."""
+    """Returns the header's facts of two runs: the other one, a heading of both, and where they first differ."""
     other = comparison.columns(KINDS, block.column)
     step = run.steps.place_of(other["difference"])
     header: Json = {"heading": comparison.heading(), "other": other}

@@ -1,4 +1,4 @@
-"""What a program has written so far, in a file: it may be more than there is memory and time for."""
+"""The output of a program so far, in a file: it may be more than there is memory and time for."""
 
 import codecs
 import os

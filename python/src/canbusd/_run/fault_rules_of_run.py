@@ -18,7 +18,7 @@ from canbusd.rules import MOST_RULES, NAMES, Rule, RulesLeft, parse_rule
 LONGEST_LINE = 4096
 # How files end of a run that goes on, and of one that was cut off.
 GROWING = (".new", ".cut")
-# What is in lines of faults, which may be a million: names, and rules.
+# Parts of lines of faults, which may be a million: names, and rules.
 NAMED = re.compile(rb" (?:from|local (?:stuff|crc|form)) (\S+)")
 RULE_LINES = re.compile(rb"\n((?:next|always|at) [^\n]*)")
 JOINED = re.compile(NAMES)
@@ -52,7 +52,7 @@ class FaultsFile:
 
     @functools.cached_property
     def text(self) -> bytes:
-        """What is in it when it is read; BadRecord where its first bytes are of no script."""
+        """Returns its content; BadRecord if its first bytes are of no script."""
         first = self._file.read(LONGEST_LINE)
         if len(first) == LONGEST_LINE and b"\n" not in first:
             raise BadRecord(f"{self.path}: no line of faults has {LONGEST_LINE:,} bytes, as its first one has")

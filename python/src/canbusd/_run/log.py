@@ -16,7 +16,7 @@ if TYPE_CHECKING:
 Path = Union[str, "os.PathLike[str]"]
 
 LOG_LINE = re.compile(r"\(([0-9]+\.[0-9]{6})\) (\S+) (\S+)")
-#: What no line of a log is as long as, of any format.
+#: The length that no line of a log reaches, of any format.
 MOST_LINE = 16_384
 
 

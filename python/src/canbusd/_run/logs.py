@@ -18,9 +18,9 @@ from canbusd.frames import BadFrame, Frame, frame_like, log_line
 
 #: The endings of files that python-can reads, also where `.gz` follows; another file is a log of candump.
 ENDINGS = (".asc", ".blf", ".csv", ".db", ".mf4", ".trc")
-#: Those of files that are text.
+#: The endings of files that are text.
 TEXTS = (".asc", ".csv", ".trc")
-#: Those of files that are written; the others that python-can writes lose frames, flags or channels.
+#: The endings of files that are written; the others that python-can writes lose frames, flags or channels.
 WRITTEN = (".log", ".asc", ".blf")
 # python-can and later versions of candump put the direction after the frame.
 LINE = re.compile(r"\(([0-9]{1,10}\.[0-9]{6})\) +(\S+) +(\S+)(?: +[RT])?")

@@ -33,7 +33,7 @@ CLOSE_TIMEOUT = 1.0
 POLL, LONGEST_POLL = 0.0002, 0.01
 # Seconds after which a thread looks for what another one has read, if that was interrupted before it woke it.
 LONGEST_NAP = 1.0
-# Who listens at an address may be anybody, and terminals carry out what they take for a command: other characters than those
+# Anybody may listen at an address, and terminals carry out what they take for a command: other characters than those
 # that messages have are `?`, and all kinds of space one.
 PRINTED = bytes(32 if byte in b"\t\n\v\f\r" else byte if 32 <= byte < 127 else ord("?") for byte in range(256))
 

@@ -6,7 +6,7 @@ import time
 from collections.abc import Sequence
 from typing import Optional
 
-# What no limit of the system's calls is below.
+# No limit of the system's calls is below this.
 LONGEST_WAIT = 3600.0
 # The numbers that select takes are below this, as FD_SETSIZE is.
 MOST_SELECTED = 1024

@@ -56,7 +56,7 @@ class ItemTask:
         folder.mkdir()
         config._tmp_path_factory._basetemp = folder  # type: ignore[attr-defined]
         began = time.monotonic()
-        # What is of the whole session was made before the fork, and stays.
+        # The fixtures of the whole session were made before the fork, and stay.
         reports = runtestprotocol(self.item, log=False, nextitem=self.item.session)  # type: ignore[arg-type]
         took = time.monotonic() - began
         return result_of(reports, took), list(sys.modules)

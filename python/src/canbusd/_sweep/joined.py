@@ -9,7 +9,8 @@ from pathlib import Path
 from typing import Any
 
 from canbusd._sweep.results import FORMAT, Facts, key_of, write_page, write_results
-from canbusd._text import shown, times
+from canbusd._sweep.telling import line_of_group, line_of_test
+from canbusd._text import shown
 
 
 def join(paths: Sequence[Path], out: Path) -> list[Facts]:
@@ -73,11 +74,10 @@ def lines_of(test: Facts) -> Iterator[str]:
     run = sum(place["result"] is not None for place in places)
     bad = failures_in(test)
     failed = sum(map(len, bad.values()))
-    counts = f"{len(places)} placements, {run} run, {failed} failed"
-    yield f"{test['test']}: {times(len(test['attempts']), 'attempt')}, {counts}"
+    yield line_of_test(test["test"], len(test["attempts"]), len(places), run, failed)
     for group, failures in bad.items():
         of = sum(place["group"] == group for place in places)
-        yield f"  {group}: {len(failures)} of {of} placements fail{', as is known' if group in test['known'] else ''}"
+        yield line_of_group(group, len(failures), of, group in test["known"])
         yield f"    {failures[0]['result']['message']}"
         yield f"    repeat: {failures[0]['command']}"
 

@@ -6,7 +6,7 @@ from typing import Any, Optional
 import pytest
 
 from canbusd._sweep.items import BENCH_FIXTURE, SERVER_FIXTURES, ItemTask
-from canbusd._sweep.places import ALL_KINDS, USUAL
+from canbusd._sweep.places import USUAL, known_kinds
 from canbusd._sweep.tests import Test
 
 #: The arguments of the marker.
@@ -30,10 +30,10 @@ def test_of(item: pytest.Item, given: dict[str, Any], args: Sequence[Any], kinds
     if args or unknown:
         what = f"there is no argument {unknown}" if unknown else "its arguments have names"
         raise pytest.UsageError(f"{item.nodeid}: marker canbusd_sweep: {what}; there are {', '.join(ARGUMENTS)}")
-    wanted = kinds or listed(given.get("faults", USUAL))
-    wrong = next((kind for kind in wanted if kind not in ALL_KINDS), None)
-    if wrong is not None:
-        raise pytest.UsageError(f"{item.nodeid}: no kind of fault {wrong!r}; there are {', '.join(ALL_KINDS)}")
+    try:
+        wanted = known_kinds(kinds or listed(given.get("faults", USUAL)))
+    except ValueError as fault:
+        raise pytest.UsageError(f"{item.nodeid}: {fault}") from None
     return Test(
         ItemTask(item),
         wanted,

@@ -59,8 +59,16 @@ OTHERS = {
     "reset": "a program that the test has started is killed at this moment, and starts anew",
 }
 ALL_KINDS = (*KINDS, *OTHERS)
-#: Those of a test that names none.
+#: The kinds of a test that names none.
 USUAL = ("destroyed", "twice", "burst")
+
+
+def known_kinds(names: Sequence[str]) -> Sequence[str]:
+    """Returns the names of kinds; ValueError if one is none."""
+    wrong = next((name for name in names if name not in ALL_KINDS), None)
+    if wrong is not None:
+        raise ValueError(f"no kind of fault {wrong!r}; there are {', '.join(ALL_KINDS)}")
+    return names
 
 
 @dataclass
@@ -101,13 +109,13 @@ class Place:
 
     @property
     def group(self) -> str:
-        """What it is a placement of: the kind, and identifier and sender of its frames."""
+        """Its group: the kind, and identifier and sender of its frames."""
         frames = " and ".join(f"{one.identifier} from {one.sender}" for one in self.attempts)
         return f"{self.kind} {frames}" if frames else self.kind
 
     @property
     def key(self) -> tuple[str, ...]:
-        """What tells it from the others of its test."""
+        """Its key among the placements of its test."""
         return self.kind, str(self.seed), str(self.jitter), *map(str, self.faults)
 
     @property

@@ -1,4 +1,4 @@
-"""The file sweep.json: what a sweep found, for `-resume`, `canbusd sweep --join` and other tools."""
+"""The file sweep.json: the results of a sweep, for `-resume`, `canbusd sweep --join` and other tools."""
 
 import json
 from collections.abc import Iterable, Mapping, Sequence
@@ -18,7 +18,7 @@ Facts = Mapping[str, Any]
 
 
 def write_results(path: Path, tests: Sequence[Facts]) -> None:
-    """Writes what is known of tests, whole or not at all."""
+    """Writes the results of tests, whole or not at all."""
     path.parent.mkdir(parents=True, exist_ok=True)
     with replaced(path) as file:
         file.write(json.dumps({"format": FORMAT, "tests": tests}).encode())
@@ -35,7 +35,7 @@ def write_page(path: Path, tests: Sequence[Facts]) -> None:
 
 
 def test_facts(test: Test) -> Facts:
-    """What is known of a test."""
+    """Returns the results of a test."""
     return {
         "test": test.name,
         "base": None if test.base is None else asdict(test.base),
@@ -46,7 +46,7 @@ def test_facts(test: Test) -> Facts:
 
 
 def place_facts(test: Test, place: Place) -> Facts:
-    """What is known of a placement."""
+    """Returns the results of a placement."""
     return {
         "kind": place.kind,
         "group": place.group,
@@ -89,5 +89,5 @@ def read_results(path: Path, tests: Iterable[Test]) -> None:
 
 
 def key_of(facts: Facts) -> tuple[str, ...]:
-    """What tells a placement from the others of its test."""
+    """Returns the key of a placement among those of its test."""
     return facts["kind"], str(facts["seed"]), str(facts["jitter"]), *facts["faults"]

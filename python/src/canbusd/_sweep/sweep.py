@@ -15,7 +15,7 @@ from canbusd._sweep.attempts import attempts_in
 from canbusd._sweep.faults_given import Fault
 from canbusd._sweep.places import Place, pairs_of, places_at
 from canbusd._sweep.pool import Job, Outcome, Pool
-from canbusd._sweep.results import read_results, test_facts, write_page, write_results
+from canbusd._sweep.results import Facts, read_results, test_facts, write_page, write_results
 from canbusd._sweep.telling import Telling
 from canbusd._sweep.tests import Test
 
@@ -27,7 +27,7 @@ BETWEEN_NOTES = 2.0
 
 @dataclass(frozen=True)
 class Options:
-    """What the command line says of a sweep."""
+    """The options of the command line for a sweep."""
 
     at_once: int
     seconds: Optional[float]
@@ -52,7 +52,7 @@ class Sweep:
         self._noted = 0.0
         self._modules: set[str] = set()
         self._groups: dict[tuple[str, str], list[Place]] = defaultdict(list)
-        #: How many placements did not leave the same records again.
+        #: The placements that did not leave the same records again.
         self.differences: list[str] = []
 
     def carry_out(self) -> None:
@@ -84,7 +84,7 @@ class Sweep:
             self._check(pool)
             self._confirm(pool)
             self._note(is_due=True)
-            write_page(self._options.out / "index.html", [test_facts(test) for test in self._tests])
+            write_page(self._options.out / "index.html", self._facts())
         self._telling.end(self._tests, took, pool.not_begun, self._options.seconds, self.differences)
 
     def _base_done(self, outcome: Outcome) -> Iterable[Job]:
@@ -137,7 +137,11 @@ class Sweep:
         now = time.monotonic()
         if self._options.given is None and (is_due or now - self._noted >= BETWEEN_NOTES):
             self._noted = now
-            write_results(self._options.out / "sweep.json", [test_facts(test) for test in self._tests])
+            write_results(self._options.out / "sweep.json", self._facts())
+
+    def _facts(self) -> list[Facts]:
+        """Returns the results so far."""
+        return [test_facts(test) for test in self._tests]
 
     def _pairs_of(self, test: Test) -> int:
         """How many second faults a test gets."""
@@ -175,19 +179,19 @@ class Sweep:
         return [Job(test, one) for one in rest]
 
     def _check(self, pool: Pool) -> None:
-        """Carries out some placements twice more, and compares the records."""
+        """Carries out some placements again, and compares the records."""
         done = [(test, place) for test in self._tests for place in test.places if place.result is not None]
         count = min(self._options.checks, len(done))
-        for test, place in (done[number * len(done) // count] for number in range(count)):
-            seen = {place.result.records if place.result else ""}
 
-            def take(outcome: Outcome, seen: set[str] = seen) -> Iterable[Job]:
-                seen.add(outcome.result.records)
-                return ()
-
-            pool.carry_out([Job(test, place)], take)
-            if len(seen) > 1:
+        def take(outcome: Outcome) -> Iterable[Job]:
+            test, place = outcome.job.test, outcome.job.place
+            assert place is not None and place.result is not None
+            if outcome.result.records != place.result.records:
                 self.differences.append(f"{test.name}: {' '.join(map(str, place.faults))}")
+            return ()
+
+        pool.carry_out([Job(*done[number * len(done) // count]) for number in range(count)], take)
+        self.differences.sort()
 
     def _confirm(self, pool: Pool) -> None:
         """Carries out the first failure of each group again, now with the page of its run."""

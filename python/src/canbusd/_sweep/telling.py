@@ -1,4 +1,4 @@
-"""What a sweep writes."""
+"""The lines that a sweep writes."""
 
 import re
 import time
@@ -17,7 +17,7 @@ OFTEN, RARELY = 0.2, 30.0
 
 
 class Terminal(Protocol):
-    """What a sweep is written to, such as pytest's reporter."""
+    """The place that a sweep is written to, such as pytest's reporter."""
 
     isatty: bool
 
@@ -120,8 +120,8 @@ class Telling:
         if len(test.places) == 1 and test.places[0].kind == "given":
             self._tell_given(test, test.places[0])
             return
-        counts = f"{len(test.attempts)} attempts, {len(test.places)} placements, {len(run)} run, {len(bad)} failed"
-        self._terminal.write_line(f"{test.name}: {counts}", red=bool(bad), green=not bad)
+        line = line_of_test(test.name, len(test.attempts), len(test.places), len(run), len(bad))
+        self._terminal.write_line(line, red=bool(bad), green=not bad)
         self._reports.append(Report(test, "", "passed", ""))
         for group, places in groups_of(run).items():
             if any(place.has_failed for place in places):
@@ -146,8 +146,7 @@ class Telling:
         bad = [place for place in places if place.has_failed]
         is_known = group in test.known
         first = bad[0]
-        head = f"{group}: {len(bad)} of {len(places)} placements fail{', as is known' if is_known else ''}"
-        lines = [f"  {head}"]
+        lines = [line_of_group(group, len(bad), len(places), is_known)]
         lines += [f"    {count} x {text[:150]}" for text, count in failures_of(bad)]
         again = "" if first.is_confirmed else " (another failure when it was carried out again)"
         lines += [f"    first: {first}{again}", f"    repeat: {test.task.repeat(first)}"]
@@ -159,6 +158,16 @@ class Telling:
             self.failures += 1
             long = first.result.long if first.result else ""
             self._reports.append(Report(test, group, "failed", "\n".join([*lines, "", long])))
+
+
+def line_of_test(name: str, attempts: int, placements: int, run: int, failed: int) -> str:
+    """Returns the line of a test that passes without a fault."""
+    return f"{name}: {times(attempts, 'attempt')}, {times(placements, 'placement')}, {run} run, {failed} failed"
+
+
+def line_of_group(group: str, failed: int, placements: int, is_known: bool) -> str:
+    """Returns the line of a group that fails."""
+    return f"  {group}: {failed} of {placements} placements fail{', as is known' if is_known else ''}"
 
 
 def groups_of(places: Sequence[Place]) -> dict[str, list[Place]]:

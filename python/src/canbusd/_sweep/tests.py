@@ -1,4 +1,4 @@
-"""What is swept, and its runs."""
+"""A test that is swept, and its runs."""
 
 from collections.abc import Sequence
 from dataclasses import dataclass, field
@@ -30,5 +30,5 @@ class Test:
 
     @property
     def name(self) -> str:
-        """What it is called."""
+        """Its name."""
         return self.task.name

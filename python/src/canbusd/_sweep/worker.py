@@ -1,4 +1,4 @@
-"""One run of what is swept: a child of a process that has imported, and collected, all that a run needs.
+"""One run of a sweep: a child of a process that has imported, and collected, all that a run needs.
 
 A test with a server runs in virtual time of its own: the child forks the process that carries out the test, and becomes
 `canbusd-run --virtual` itself, which coordinates the run. A test with benches only needs no clock, and no such run.
@@ -27,7 +27,7 @@ from canbusd.virtual import OPTIONS, SETTING, python_words
 
 #: The files of a run: its result, and the standard output and standard error of its processes.
 RESULT, SAID = "result.json", "said"
-#: What the process of pytest is called by when it is started anew, and the library that each process of a run has.
+#: The variable by which the process of pytest gets a library when it is started anew, and that library.
 PRELOAD, LIBRARY = "LD_PRELOAD", "libcanbusd-virtual.so"
 #: Seconds of a processor, or of nothing that goes on, after which a run is given up.
 STALL = 5
@@ -81,11 +81,11 @@ def warm(modules: Iterable[str]) -> None:
 
 
 class Task(Protocol):
-    """What is swept: a test of pytest, or a command."""
+    """A test of pytest or a command that is swept."""
 
     @property
     def name(self) -> str:
-        """What it is called."""
+        """Its name."""
 
     @property
     def is_virtual(self) -> bool:

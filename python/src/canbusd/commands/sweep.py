@@ -11,7 +11,7 @@ from canbusd._sweep import joined, worker
 from canbusd._sweep.command import CommandTask, PlainTerminal
 from canbusd._sweep.faults_given import Fault, parse_fault
 from canbusd._sweep.options import OUT, shard_of
-from canbusd._sweep.places import ALL_KINDS, USUAL
+from canbusd._sweep.places import ALL_KINDS, USUAL, known_kinds
 from canbusd._sweep.sweep import JITTER, Options, Sweep, given_place
 from canbusd._sweep.telling import Telling
 from canbusd._sweep.tests import Test
@@ -109,10 +109,10 @@ def run(options: argparse.Namespace) -> int:
     buses, words = parted(options.words)
     if not worker.is_ready():
         worker.start_anew(())
-    kinds = options.faults.split(",")
-    wrong = next((kind for kind in kinds if kind not in ALL_KINDS), None)
-    if wrong is not None:
-        raise BadWords(f"no kind of fault {wrong!r}; there are {', '.join(ALL_KINDS)}")
+    try:
+        kinds = known_kinds(options.faults.split(","))
+    except ValueError as fault:
+        raise BadWords(str(fault)) from None
     task = CommandTask(words, buses, server_options(options), given_words(options))
     test = Test(task, kinds, named(options.senders), named(options.ids.upper()), options.known)
     found = sweep_options(options)
