@@ -62,7 +62,7 @@ static bool change(struct shared *one, const char *name, struct wire_memory *mem
         syscall(SYS_munmap, one->memory, sizeof *one->memory);
     }
     loan_forget(&one->copy);
-    one->memory = memory;
+    __atomic_store_n(&one->memory, memory, __ATOMIC_RELAXED);
     one->writes = 0;
     memcpy(one->name, name, sizeof one->name);
     __atomic_fetch_sub(&one->users, IS_CHANGING, __ATOMIC_RELEASE);
@@ -83,12 +83,15 @@ static void forget_closed(void) {
     }
 }
 
-/* Makes one of the few that of this socket. */
+/* Makes one of the few that of this socket: a free one if there is one. Another socket whose place is taken asks for its
+ * memory again, which takes turns of virtual time; and names, so places too, are others in each run. */
 static bool keep(const char *name, struct wire_memory *memory) {
     static uint32_t turn;
     uint32_t hash = hash_of(name), first = __atomic_fetch_add(&turn, 1, __ATOMIC_RELAXED);
-    for (uint32_t i = 0; i < FEW; i++) {
-        if (change(&known[(hash + (first + i) % FEW) % KNOWN], name, memory)) {
+    for (uint32_t i = 0; i < 2 * FEW; i++) {
+        struct shared *one = &known[(hash + (first + i) % FEW) % KNOWN];
+        bool is_free = !__atomic_load_n(&one->memory, __ATOMIC_RELAXED);
+        if ((is_free || i >= FEW) && change(one, name, memory)) {
             return true;
         }
     }

@@ -113,6 +113,13 @@ def test_full_queue(tmp_path, nodes):
 
 
 @needs_gcc
+def test_turns_of_many_sockets(tmp_path, nodes):
+    """a process with many sockets takes the same turns in each run, though the names of its sockets are others"""
+    runs = [sockets(tmp_path / name, nodes, 'inside "$NODES/many" can0 48 9>&-') for name in "abc"]
+    assert len(set(runs)) == 1, runs
+
+
+@needs_gcc
 def test_turns_of_a_sender(tmp_path, nodes):
     """a frame takes four turns where its sender does not read: two of it, and two of the server"""
     few, many = (

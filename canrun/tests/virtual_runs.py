@@ -30,6 +30,7 @@ def nodes(tmp_path_factory):
         "full",
         "isotp",
         "lent",
+        "many",
         "orphans",
         "race",
         "respond",
