@@ -232,7 +232,8 @@ def test_repeated_tests(tmp_path, seeds):
             again = subprocess.run(f"{sys.executable} {line}", shell=True, **how).stdout
             (name,) = reasons(again)
             assert reasons(again)[name] == failed[name], (seed, whole, again)
-    assert len(orders) > seeds, orders
+    # Of five turns of two there are 32.
+    assert len(orders) > min(seeds, 16), orders
 
 
 #: Each wait of the package that comes to nothing, of several lengths and begun at several moments: those that are not exact.
