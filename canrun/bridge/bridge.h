@@ -201,11 +201,6 @@ bool program_is_gone(void);
 /* Hands an item on, or keeps it until no session can have an older one. */
 void order_put(const struct item *item, int index);
 
-/* ---- missed.c ---- */
-
-/* Whether a sweep has this interface lose this frame. */
-bool missed_is(const struct item *item, int index);
-
 /* Hands on what is due; returns how many nanoseconds there are until it should be called again, or -1. */
 int64_t order_due(void);
 

@@ -1,8 +1,10 @@
 /* The order of what the sessions of a socket bring: that of their moments. A server hands over what each session has
  * received by itself, so an item waits until it is known that no session has an older one under way: after it came,
  * each session is asked how many items were queued for it, and those have to come first. */
+#include "../shared/planted.h"
 #include "bridge.h"
 
+#include <poll.h>
 #include <stdlib.h>
 
 /* Items that wait at most; past that the oldest go as they are. */
@@ -43,8 +45,26 @@ static void release(uint64_t moment) {
     outbox_flush();
 }
 
+/* Waits where a sweep delays this frame; whether it loses it. */
+static bool is_lost(const struct item *item, int index) {
+    static struct planted planted;
+    static bool is_read;
+    if (!is_read) {
+        planted = planted_read();
+        is_read = true;
+    }
+    if (planted.kind == PLANTED_NONE || planted.kind == PLANTED_FULL || item->moment != planted.moment ||
+        !planted_is_of(&planted, index, item->frame.can_id)) {
+        return false;
+    }
+    if (planted.kind == PLANTED_LATE) {
+        poll(NULL, 0, PLANTED_DELAY);
+    }
+    return planted.kind == PLANTED_MISSED;
+}
+
 void order_put(const struct item *item, int index) {
-    if (missed_is(item, index)) {
+    if (is_lost(item, index)) {
         return;
     }
     if (!is_bound || bound_index || session_count < 2) {

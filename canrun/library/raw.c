@@ -1,5 +1,6 @@
 /* CAN_RAW: a frame is written in the quickest way that there is. */
 #define _GNU_SOURCE
+#include "../shared/planted.h"
 #include "library.h"
 
 #include <errno.h>
@@ -7,6 +8,7 @@
 #include <linux/net_tstamp.h>
 #include <string.h>
 #include <sys/syscall.h>
+#include <time.h>
 
 /* The flags of SO_TIMESTAMPING that one frame can have. */
 #define STAMPS_OF_SENT \
@@ -58,17 +60,47 @@ static int check_control(const struct msghdr *message) {
     return 0;
 }
 
-/* The kernel looks for the interface before it looks at control messages. */
-static ssize_t refuse_control(const struct socket *sock, int index) {
-    int error = errno;
-    char name[IFNAMSIZ];
+/* The interface of a write: of its address, or that of the socket. */
+static int interface_of(const struct socket *sock, int index) {
     struct sockaddr_can can = {0};
     struct answer answer = {.data = &can, .room = sizeof can};
     if (index == WIRE_BOUND) {
         ask(sock->fd, "sendmsg", &(struct wire_request){.kind = WIRE_ADDRESS}, NULL, 0, &answer);
         index = can.can_ifindex;
     }
+    return index;
+}
+
+/* The kernel looks for the interface before it looks at control messages. */
+static ssize_t refuse_control(const struct socket *sock, int index) {
+    int error = errno;
+    char name[IFNAMSIZ];
+    index = interface_of(sock, index);
     return fail(index && !name_of_index(index, name) ? error : ENXIO);
+}
+
+/* The fault of a sweep. */
+static struct planted planted;
+
+__attribute__((constructor)) static void read_planted(void) {
+    planted = planted_read();
+}
+
+/* Whether this write is the one that a sweep has find no room; no later one is. */
+static bool is_planted(const struct socket *sock, const struct wire_request *request, const struct msghdr *message) {
+    canid_t identifier;
+    struct timespec now;
+    if (message->msg_iovlen != 1 || message->msg_iov->iov_len < sizeof identifier ||
+        !copy_from(&identifier, message->msg_iov->iov_base, sizeof identifier) ||
+        (identifier & ~CAN_RTR_FLAG) != planted.identifier) {
+        return false;
+    }
+    clock_gettime(CLOCK_REALTIME, &now);
+    if ((uint64_t)now.tv_sec * 1000000000u + (uint64_t)now.tv_nsec < planted.moment ||
+        !planted_is_of(&planted, interface_of(sock, request->ifindex), identifier)) {
+        return false;
+    }
+    return __atomic_exchange_n(&planted.kind, PLANTED_NONE, __ATOMIC_RELAXED) == PLANTED_FULL;
 }
 
 static ssize_t raw_sendmsg(const struct socket *sock, const struct msghdr *message, int flags) {
@@ -80,6 +112,9 @@ static ssize_t raw_sendmsg(const struct socket *sock, const struct msghdr *messa
     }
     if (message->msg_controllen && check_control(message)) {
         return refuse_control(sock, request.ifindex);
+    }
+    if (__atomic_load_n(&planted.kind, __ATOMIC_RELAXED) == PLANTED_FULL && is_planted(sock, &request, message)) {
+        return refuse("write", ENOBUFS, "the transmit queue is full");
     }
     enum quick quick = ask_quickly(sock, &request, message, &answer);
     if (quick == QUICK_NONE || quick == QUICK_NO_ROOM) {

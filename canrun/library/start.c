@@ -1,6 +1,7 @@
 /* Starts the bridge of a socket, so that the program does not notice: it is no child that a wait returns, and its end
  * sends no SIGCHLD. */
 #define _GNU_SOURCE
+#include "../shared/planted.h"
 #include "library.h"
 
 #include <dlfcn.h>
@@ -21,7 +22,7 @@
 
 /* What the bridge has to know of the environment. */
 static const char *const SETTINGS[] = {
-    "CANBUSD_ADDRESS", "CANBUSD_INTERFACES", "CANBUSD_RUN_WAIT", "CANBUSD_RUN_VIRTUAL", "CANBUSD_RUN_MISSED",
+    "CANBUSD_ADDRESS", "CANBUSD_INTERFACES", "CANBUSD_RUN_WAIT", "CANBUSD_RUN_VIRTUAL", PLANTED_SETTING,
 #ifdef __SANITIZE_ADDRESS__
     "ASAN_OPTIONS",    "UBSAN_OPTIONS",
 #endif

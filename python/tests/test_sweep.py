@@ -151,6 +151,59 @@ def test_a_frame_that_is_missed(sweep, pytester):
     )
 
 
+IN_TIME = """
+    @pytest.mark.canbusd("tester,ecu", bitrate=500_000)
+    @pytest.mark.canbusd_sweep(faults=["late", "full"])
+    def test_in_time(canbusd):
+        with canbusd.bus("tester") as tester, canbusd.bus("ecu") as ecu:
+            for _ in range(3):
+                tester.send(can.Message(arbitration_id=0x123, is_extended_id=False))
+                message = ecu.recv(1)
+                assert time.time() - message.timestamp < 0.005
+"""
+
+
+def test_a_frame_that_is_late_and_one_without_room(sweep):
+    sweep("    import time\n" + IN_TIME, "--canbusd-sweep").stdout.fnmatch_lines(
+        [
+            "  late at ecu 123 from tester: 3 of 3 placements fail",
+            "  full 123 from tester: 3 of 3 placements fail",
+            "    3 x call: can.exceptions.CanOperationError: *transmit queue*full*",
+        ]
+    )
+
+
+ANSWERED = """
+    @pytest.mark.canbusd("tester,ecu", bitrate=500_000)
+    @pytest.mark.canbusd_sweep(faults=["late"], ids=["123"])
+    def test_answered(canbusd, tmp_path):
+        subprocess.run(["gcc", "-o", tmp_path / "ecu", "sweep/ecu.c"], check=True)
+        canbusd.start([tmp_path / "ecu", "ecu"])
+        with canbusd.bus("tester") as tester:
+            canbusd.expect(id=0x200, within=1)
+            for _ in range(3):
+                tester.send(can.Message(arbitration_id=0x123, is_extended_id=False))
+                sent = time.time()
+                canbusd.expect(id=0x124, within=1)
+                assert time.time() - sent < 0.005
+"""
+
+
+@pytest.mark.skipif(not shutil.which("gcc"), reason="no gcc")
+def test_programs_are_late_and_without_room(sweep, pytester):
+    """as the ECU of the example, whose counter goes on when a write was refused"""
+    shutil.copytree(EXAMPLES, pytester.path / "sweep")
+    sweep("    import subprocess, time\n" + ANSWERED, "--canbusd-sweep").stdout.fnmatch_lines(
+        ["  late at ecu 123 from tester: 3 of 3 placements fail"]
+    )
+    words = ["-p", "canbusd.pytest_plugin", "-p", "no:cacheprovider", "-p", "no:xdist", "--canbusd-sweep"]
+    words += ["--canbusd-sweep-faults", "full", "sweep", "-k", "gap"]
+    pytester.runpytest_subprocess(*words).stdout.fnmatch_lines(
+        # All but the first, before which there is no counter, and the last two, whose gap would be after the test.
+        ["  full 200 from ecu: 13 of 16 placements fail", "    13 x call: AssertionError: 2 after 0"]
+    )
+
+
 @pytest.mark.skipif(not shutil.which("gcc"), reason="no gcc")
 def test_programs_miss_frames_and_are_reset(pytester, monkeypatch):
     """as the ECU of the example, which counts presses, and forgets them in a reset"""

@@ -19,17 +19,30 @@ from canbusd.faults import Script, lines_of, script_bytes
 BusKey = tuple[int, str]
 
 
-class Missed(NamedTuple):
-    """A frame that the receive queues of an interface lose, as by an overrun."""
+#: Seconds by which a frame is late.
+DELAY = 0.010
 
+
+class AtSockets(NamedTuple):
+    """A fault at the sockets of an interface."""
+
+    #: `missed`: they lose the frame of this moment, as by an overrun. `late`: they have it DELAY later. `full`: the first
+    #: send of such a frame from this moment on finds the transmit queue full.
+    kind: str
     interface: str
     #: In 3 digits or 8, and in seconds with six digits after the point, as messages have them.
     identifier: str
     moment: str
 
-    def is_it(self, message: str) -> bool:
+    def is_received(self, message: str) -> bool:
         """Whether a message hands over this frame."""
-        return f" {self.identifier} {self.moment} " in message and not message.startswith("< error ")
+        is_it = f" {self.identifier} {self.moment} " in message and not message.startswith("< error ")
+        return is_it and self.kind != "full"
+
+    def is_sent(self, message: str) -> bool:
+        """Whether a message sends this frame now."""
+        is_it = message.split(" ", 2)[:2] == ["send", self.identifier]
+        return is_it and self.kind == "full" and time.time() >= float(self.moment)
 
 
 class Reset(NamedTuple):
@@ -52,7 +65,7 @@ class Placement:
     #: Called with each record that a run leaves: its bus, the names of its interfaces, how many of its first sockets are the
     #: package's own, and its path.
     keep: Callable[[BusKey, Sequence[str], int, Path], None] = lambda *_: None
-    missed: Sequence[Missed] = ()
+    at_sockets: Sequence[AtSockets] = ()
     resets: Sequence[Reset] = ()
     #: How many programs the test has started.
     programs: int = 0
@@ -78,8 +91,8 @@ def carry_out(placement: Placement) -> None:
     """Has this process carry out a placement."""
     global _current
     _current = placement
-    for one in placement.missed:
-        os.environ["CANBUSD_RUN_MISSED"] = " ".join(one)
+    for one in placement.at_sockets:
+        os.environ["CANBUSD_RUN_FAULT"] = " ".join(one)
 
 
 def is_there() -> bool:
@@ -107,9 +120,9 @@ def rules_of(bus: BusKey) -> Sequence[str]:
     return [line for line in (_current.lines_of(bus) if _current else ()) if not line[:1].isdigit()]
 
 
-def missed_at(interface: str) -> Optional[Missed]:
-    """Returns the frame that sockets of an interface lose, if the placement has one."""
-    return next((one for one in _current.missed if one.interface == interface), None) if _current else None
+def at_sockets_of(interface: str) -> Optional[AtSockets]:
+    """Returns the fault at the sockets of an interface, if the placement has one."""
+    return next((one for one in _current.at_sockets if one.interface == interface), None) if _current else None
 
 
 def note_program(restart: Callable[[], None]) -> None:

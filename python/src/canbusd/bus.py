@@ -384,7 +384,7 @@ class CanbusdBus(InjectsFaults, NamesWhatThereIs, BusABC):
     def _open(self, messages: Sequence[str]) -> RawSession:
         try:
             session = RawSession(self.address, self.channel, messages, self._timeout, self._receives_own)
-            session.missed = placement.missed_at(self.channel)
+            session.planted = placement.at_sockets_of(self.channel)
             return session
         except (OSError, SessionRefused) as fault:
             raise CanInitializationError(f"{self.channel_info}: {reason_of(fault)}") from None

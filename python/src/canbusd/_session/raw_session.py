@@ -10,7 +10,7 @@ from collections import deque
 from collections.abc import Sequence
 from typing import Optional
 
-from canbusd._placement import Missed
+from canbusd._placement import DELAY, AtSockets
 from canbusd._session.connection import LONGEST_POLL, POLL, Connection, NoAnswer, SessionRefused
 from canbusd._session.injection import NO_INTERFACE, InjectsFaults, no_interface
 from canbusd._session.protocol import ErrorCounters, Load, Stats, counters_of, load_of, refusal_in, stats_of
@@ -69,8 +69,8 @@ class RawSession(InjectsFaults):
     ) -> None:
         #: The interface.
         self.channel = channel
-        #: The frame that its socket loses, in a sweep.
-        self.missed: Optional[Missed] = None
+        #: The fault of a sweep at its socket.
+        self.planted: Optional[AtSockets] = None
         self._timeout = timeout
         self._connection = Connection(address, timeout)
         try:
@@ -96,6 +96,12 @@ class RawSession(InjectsFaults):
 
     def answers(self, messages: Sequence[str]) -> list[str]:
         """Gives these messages at once, and returns what each gets: nothing for `ok`, the text of a refusal, or an answer."""
+        place = next((place for place, one in enumerate(messages) if self.planted and self.planted.is_sent(one)), None)
+        if place is not None:
+            self.planted = None
+            others = [*messages[:place], *messages[place + 1 :]]
+            answers = self.answers(others) if others else []
+            return [*answers[:place], NO_BUFFERS, *answers[place:]]
         try:
             return [refusal_in(answer) for answer in self._connection.ask(messages)]
         except NoAnswer as reason:
@@ -112,9 +118,11 @@ class RawSession(InjectsFaults):
         try:
             began = time.monotonic()
             found = self._connection.frame(timeout)
-            if self.missed is not None and found is not None and self.missed.is_it(found):
-                self.missed = None
-                return self.frame(None if timeout is None else max(0.0, timeout - (time.monotonic() - began)))
+            if self.planted is not None and found is not None and self.planted.is_received(found):
+                is_lost, self.planted = self.planted.kind == "missed", None
+                if is_lost:
+                    return self.frame(None if timeout is None else max(0.0, timeout - (time.monotonic() - began)))
+                time.sleep(DELAY)
             return found
         except ConnectionError as reason:
             raise self._failed("CanOperationError", str(reason)) from None

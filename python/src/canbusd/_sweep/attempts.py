@@ -25,6 +25,8 @@ class Attempted:
     #: Which of its sender's frames with this identifier it was, and which of all that its sender tried, from 0.
     nth: int
     nth_of_sender: int
+    #: The moment of the one before with its identifier and sender; of the first one 0.
+    since: str
     #: The transmit error count of its sender before it.
     errors: int
     #: `done`, `lastbit`, `destroyed` or `noack`, and the fault that struck it, which is `good` in most.
@@ -70,6 +72,7 @@ def attempts_on(bus: BusKey, record: Record, own: int = 0) -> Iterator[Attempted
     errors = [0] * len(names)
     of_identifier: Counter[tuple[int, str]] = Counter()
     of_sender: Counter[int] = Counter()
+    since: dict[tuple[int, str], str] = {}
     for place, step in enumerate(record.replay.steps):
         if step.kind != "restart":
             key = step.iface, step.text.partition("#")[0]
@@ -81,11 +84,13 @@ def attempts_on(bus: BusKey, record: Record, own: int = 0) -> Iterator[Attempted
                 step.text,
                 of_identifier[key],
                 of_sender[step.iface],
+                since.get(key, "0.000000"),
                 errors[step.iface],
                 step.kind,
                 step.verdict,
                 tuple(names[one] for one in sorted(receivers[place] - {step.iface})),
             )
+            since[key] = step.moment
             of_identifier[key] += 1
             of_sender[step.iface] += 1
         errors = [transmit for transmit, _ in step.counts]

@@ -5,6 +5,8 @@
     next 1 from ecu id 123 skip 2 lastbit    a rule
     1:can0:5 lastbit                         of another bus than the first: the number of its server or bench, and the bus
     missed ecu 123 1767225600.005089         the sockets of ecu lose the frame with this identifier and moment
+    late ecu 123 1767225600.005089           they have it 10 ms later
+    full tester 123 1767225600.005089        the first send of such a frame by tester from this moment on finds its queue full
     reset 0 1767225600.005089                the first program of the test is killed at this moment, and starts anew
 """
 
@@ -13,12 +15,14 @@ from collections.abc import Iterable
 from dataclasses import dataclass
 from typing import Optional
 
-from canbusd._placement import FIRST, BusKey, Missed, Reset
+from canbusd._placement import FIRST, AtSockets, BusKey, Reset
 from canbusd._text import NAME, shown
 from canbusd.rules import VERDICT, is_rule, parse_rule
 
 TEXT = re.compile(rf"(?:(?P<run>[0-9]+):(?P<bus>{NAME.pattern}):)?(?P<line>.*)")
-MISSED = re.compile(rf"missed ({NAME.pattern}) ([0-9A-F]{{3}}|[0-9A-F]{{8}}) ([0-9]{{1,10}}\.[0-9]{{6}})")
+AT_SOCKETS = re.compile(
+    rf"(missed|late|full) ({NAME.pattern}) ([0-9A-F]{{3}}|[0-9A-F]{{8}}) ([0-9]{{1,10}}\.[0-9]{{6}})"
+)
 RESET = re.compile(r"reset ([0-9]{1,4}) ([0-9]{1,10}\.[0-9]{6})")
 NUMBERED = re.compile(rf"(?P<first>[0-9]{{1,8}})(?:-(?P<last>[0-9]{{1,8}}))? (?:{VERDICT.pattern})")
 
@@ -36,10 +40,10 @@ class Fault:
         return self.line if self.bus is None else f"{self.bus[0]}:{self.bus[1]}:{self.line}"
 
     @property
-    def missed(self) -> Optional[Missed]:
-        """The frame that the sockets of an interface lose, if it is such a fault."""
-        found = MISSED.fullmatch(self.line)
-        return Missed(*found.groups()) if found else None
+    def at_sockets(self) -> Optional[AtSockets]:
+        """The fault at the sockets of an interface, if it is such a fault."""
+        found = AT_SOCKETS.fullmatch(self.line)
+        return AtSockets(*found.groups()) if found else None
 
     @property
     def reset(self) -> Optional[Reset]:
@@ -50,7 +54,7 @@ class Fault:
     @property
     def lines(self) -> list[str]:
         """The lines of a script."""
-        if self.missed or self.reset:
+        if self.at_sockets or self.reset:
             return []
         numbers, _, verdict = self.line.partition(" ")
         first, dash, last = numbers.partition("-")
@@ -66,7 +70,7 @@ def parse_fault(text: str) -> Fault:
     if is_rule(line):
         parse_rule(line)
         return Fault(bus, line)
-    if MISSED.fullmatch(line) or RESET.fullmatch(line):
+    if AT_SOCKETS.fullmatch(line) or RESET.fullmatch(line):
         return Fault(bus, line)
     numbered = NUMBERED.fullmatch(line)
     if not numbered:

@@ -56,8 +56,12 @@ KINDS = {
 #: Kinds of which an attempt has several faults, with their meanings.
 OTHERS = {
     "missed": "the receive queues of a node lose the frame, as by an overrun",
+    "late": "a node has the frame 10 ms later, as one that does other work",
+    "full": "the sender's transmit queue has no room for the frame",
     "reset": "a program that the test has started is killed at this moment, and starts anew",
 }
+#: The word before the receiver.
+BY = {"missed": "by", "late": "at"}
 ALL_KINDS = (*KINDS, *OTHERS)
 #: The kinds of a test that names none.
 USUAL = ("destroyed", "twice", "burst")
@@ -173,9 +177,11 @@ def pairs_of(places: Sequence[Place], count: int, draw: random.Random) -> Iterat
 
 def faults_at(kind: str, one: Attempted, programs: int) -> Iterator[tuple[str, str]]:
     """Yields the faults of a kind at an attempt: the kind, with what the fault is at, and the fault's line."""
-    if kind == "missed":
+    if kind in ("missed", "late"):
         for receiver in one.receivers:
-            yield f"missed by {receiver}", f"missed {receiver} {one.identifier} {one.moment}"
+            yield f"{kind} {BY[kind]} {receiver}", f"{kind} {receiver} {one.identifier} {one.moment}"
+    elif kind == "full":
+        yield kind, f"full {one.sender} {one.identifier} {one.since}"
     elif kind == "reset":
         for program in range(programs):
             # Before the frame is there.

@@ -134,7 +134,7 @@ def placement_of(faults: Sequence[Fault], room: Path) -> placement.Placement:
     return placement.Placement(
         lines_by_bus(faults),
         placement.copy_to(room),
-        [fault.missed for fault in faults if fault.missed],
+        [fault.at_sockets for fault in faults if fault.at_sockets],
         [fault.reset for fault in faults if fault.reset],
     )
 
