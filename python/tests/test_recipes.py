@@ -61,6 +61,31 @@ def test_a_recipe(written, name):
     assert not re.search(rf"^(FAILED|ERROR) test_{name}\.py", written, re.M), written
 
 
+@pytest.mark.skipif(not shutil.which("gcc") or not shutil.which("candump"), reason="no gcc or no can-utils")
+def test_the_first_found_fault(installed, tmp_path):
+    """the commands of the recipe, one after the other in a clone"""
+    text = DOCUMENT.read_text(encoding="utf-8").partition("## The first found fault\n")[2].partition("\n## ")[0]
+    commands = re.findall(r"^ +\$ (.*(?:\n {9,}\S.*)*)", text, re.M)
+    (test,) = re.findall(r"^```python\n(.*?)^```$", text, re.M | re.S)
+    (tmp_path / "test_mine.py").write_text(test)
+    for name in ("canbusd", "canbusd-run", "examples"):
+        (tmp_path / name).symlink_to(TOP / name)
+    python = tmp_path / "bin" / "python3"
+    python.parent.mkdir()
+    python.symlink_to(sys.executable)
+    env = {**installed, "PATH": f"{python.parent}:{installed['PATH']}", "PYTEST_ADDOPTS": "-p no:cacheprovider"}
+    outputs = []
+    for command in commands:
+        done = subprocess.run(command, shell=True, cwd=tmp_path, env=env, capture_output=True, text=True, check=False)
+        outputs.append(done.stdout)
+    assert len(outputs) == 4
+    assert re.findall(r"tester +200 +\[1\] +(\d\d)", outputs[1]) == ["00", "01", "02"], outputs[1]
+    assert "1 passed" in outputs[2], outputs[2]
+    shown = re.findall(r"^ {7}(.*(?: run, |placements fail).*)$", text, re.M)
+    assert len(shown) == 2 and all(f"{line}\n" in outputs[3] for line in shown), outputs[3]
+    assert re.search(r"faults=\"next 1 from tester id 123 lastbit\"", outputs[3]) and "index.html" in outputs[3]
+
+
 def test_side_by_side(installed, tmp_path):
     pytest.importorskip("xdist", reason="no pytest-xdist (python3-pytest-xdist)")
     assert "4 passed" in run(installed, tmp_path, ["tests_side_by_side"], "-n", "2")
