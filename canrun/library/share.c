@@ -83,8 +83,8 @@ static void forget_closed(void) {
     }
 }
 
-/* Makes one of the few that of this socket: a free one if there is one. Another socket whose place is taken asks for its
- * memory again, which takes turns of virtual time; and names, so places too, are others in each run. */
+/* Makes one of the few that of this socket: a free one if there is one. Another socket whose place is taken asks for
+ * its memory again, which takes turns of virtual time; and names, so places too, are others in each run. */
 static bool keep(const char *name, struct wire_memory *memory) {
     static uint32_t turn;
     uint32_t hash = hash_of(name), first = __atomic_fetch_add(&turn, 1, __ATOMIC_RELAXED);
