@@ -32,6 +32,8 @@ FISH = $(DESTDIR)$(PREFIX)/share/fish/vendor_completions.d
 PYTHONDIR ?= $(shell ./scripts/python-package place "$(PREFIX)")
 # Tools that need python3 and the package: in bin/ each is a link.
 TOOLS = candump2bench
+# Where Wireshark looks for programs that capture, if it is below this PREFIX.
+EXTCAPDIR = $(DESTDIR)$(PREFIX)/lib/x86_64-linux-gnu/wireshark/extcap
 
 # The compiler of canbusd-run.
 CC_OF_RUN = $(if $(filter default,$(origin CC)),gcc,$(CC))
@@ -84,10 +86,12 @@ install:
 	install -m 644 tools/completions/canbusd.bash "$(COMPLETIONS)/canbusd"
 	install -m 644 tools/completions/canbusd.zsh "$(ZSH)/_canbusd"
 	install -m 644 tools/completions/canbusd.fish "$(FISH)/canbusd.fish"
+	install -d "$(EXTCAPDIR)" && \
+	printf '#!/bin/sh\nexec "%s/bin/canbusd" extcap "$$@"\n' "$(PREFIX)" >"$(EXTCAPDIR)/canbusd" && chmod 755 "$(EXTCAPDIR)/canbusd"
 	@[ -n "$(DESTDIR)" ] || ./scripts/python-package note "$(PYTHONDIR)"
 
 uninstall:
-	rm -f "$(BINDIR)/canbusd" "$(MANDIR)/canbusd.1" "$(COMPLETIONS)/canbusd" "$(ZSH)/_canbusd" "$(FISH)/canbusd.fish"
+	rm -f "$(BINDIR)/canbusd" "$(MANDIR)/canbusd.1" "$(COMPLETIONS)/canbusd" "$(ZSH)/_canbusd" "$(FISH)/canbusd.fish" "$(EXTCAPDIR)/canbusd"
 	for tool in $(TOOLS); do rm -f "$(BINDIR)/$$tool" "$(MANDIR)/$$tool.1"; done
 	./scripts/python-package remove "$(DESTDIR)$(PYTHONDIR)"
 	rm -rf "$(LIBEXECDIR)"

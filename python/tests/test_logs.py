@@ -161,7 +161,7 @@ def test_what_is_not_written(log, tmp_path):
     status, _, said = convert(log, tmp_path / "run.trc")
     assert (status, said) == (
         1,
-        f"canbusd convert: {tmp_path}/run.trc: a log that is written ends in .log, .asc or .blf\n",
+        f"canbusd convert: {tmp_path}/run.trc: a log that is written ends in .log, .asc, .blf or .pcapng\n",
     )
     (tmp_path / "empty.log").write_text("")
     status, written, said = convert(tmp_path / "empty.log", tmp_path / "run.asc")

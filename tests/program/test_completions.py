@@ -27,6 +27,8 @@ TYPED = [
     ("canbusd dum", "p "),
     ("canbusd help resta", "rt "),
     ("canbusd report ru", "n.rec "),
+    ("canbusd dump --pcapng ou", "t.txt "),
+    ("canbusd extcap --ins", "tall "),
     ("canbusd audit ru", "n.rec "),
     ("canbusd audit lo", "gs/"),
     ("canbusd audit --c", "ut "),

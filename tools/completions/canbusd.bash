@@ -5,7 +5,7 @@ _canbusd() {
     # The value of an option follows a blank or `=`, at which bash parts words unless COMP_WORDBREAKS lacks it.
     [ "$before" != = ] || before=${COMP_WORDS[COMP_CWORD - 2]}
     case $text in --*=*) before=${text%%=*} ;; esac
-    local package="dump send status watch fault restart restbus convert sweep report replay"
+    local package="dump send status watch fault restart restbus convert extcap sweep report replay"
     local options="--ack --report --txqueue --rxqueue --limit --auto-restart --bitrate --dbitrate --help"
     case $COMP_CWORD,$before,${COMP_WORDS[1]} in
     # A file follows a redirection.
@@ -20,7 +20,12 @@ _canbusd() {
         *) compopt -o default ;;
         esac
         ;;
+    *,extcap) _canbusd_offer "--install --address --help" ;;
     *,restbus | *,convert | *,sweep | *,report | *,replay) compopt -o default ;;
+    *,dump)
+        # Interfaces are not completed, but the file of a capture is.
+        case $before in --pcapng | --dbc) compopt -o default ;; *) _canbusd_offer "--pcapng --dbc --address --help" ;; esac
+        ;;
     *,help) _canbusd_offer "bench serve audit $package" ;;
     *,bench) _canbusd_word "$options --record --log --strict --show-faults" ;;
     *,serve) _canbusd_word "$options --listen --sessions --pace --write --out --record --flush --sync --until-eof --verbose" ;;

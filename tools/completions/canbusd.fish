@@ -10,7 +10,7 @@ function __canbusd_scripts
     end
 end
 
-set -l package dump send status watch fault restart restbus convert sweep report replay
+set -l package dump send status watch fault restart restbus convert extcap sweep report replay
 set -l commands bench serve audit $package help
 set -l first "not __fish_seen_subcommand_from $commands"
 set -l runs "__fish_seen_subcommand_from bench serve"
@@ -25,7 +25,8 @@ complete -c canbusd -n $first -a watch -d "Show a running server in the browser"
 complete -c canbusd -n $first -a fault -d "Give a running bus a rule of faults"
 complete -c canbusd -n $first -a restart -d "Bring interfaces back from bus off"
 complete -c canbusd -n $first -a restbus -d "Send what the other nodes of a DBC file send"
-complete -c canbusd -n $first -a convert -d "Make an ASC, BLF or candump log"
+complete -c canbusd -n $first -a convert -d "Make an ASC, BLF, pcapng or candump log"
+complete -c canbusd -n $first -a extcap -d "Show the interfaces of a server in Wireshark"
 complete -c canbusd -n $first -a sweep -d "Run a command with a fault at each attempt"
 complete -c canbusd -n $first -a report -d "Show the run of a record"
 complete -c canbusd -n $first -a replay -d "Replay a record"
@@ -34,6 +35,9 @@ complete -c canbusd -n $first -l version -d "Show the version"
 complete -c canbusd -l help -d "Show the help"
 complete -c canbusd -n "__fish_seen_subcommand_from help" -a "bench serve audit $package"
 complete -c canbusd -n "__fish_seen_subcommand_from restbus convert sweep report replay" -F
+complete -c canbusd -n "__fish_seen_subcommand_from dump" -r -F -l pcapng -d "Write a capture for Wireshark"
+complete -c canbusd -n "__fish_seen_subcommand_from dump" -r -F -l dbc -d "Names of signals"
+complete -c canbusd -n "__fish_seen_subcommand_from extcap" -l install -d "Install it for this user"
 complete -c canbusd -n "__fish_seen_subcommand_from audit" -F
 complete -c canbusd -n "__fish_seen_subcommand_from audit" -l cut -d "Audit a record that is cut off"
 complete -c canbusd -n "__fish_seen_subcommand_from audit" -l events -d "Write what each entry brought about"

@@ -23,7 +23,8 @@ _canbusd() {
             fault\:"give a running bus a rule of faults"
             restart\:"bring interfaces back from bus off"
             restbus\:"send what the other nodes of a DBC file send"
-            convert\:"make an ASC, BLF or candump log"
+            convert\:"make an ASC, BLF, pcapng or candump log"
+            extcap\:"show the interfaces of a server in Wireshark"
             sweep\:"run a command with a fault at each attempt"
             report\:"show the run of a record"
             replay\:"replay a record"
@@ -74,8 +75,10 @@ _canbusd() {
             '--faults=[names and script of faults of the run]:bus:_canbusd_bus' \
             '*:record:_files'
         ;;
+    dump) _arguments '--pcapng=[write a capture for Wireshark]:file:_files' '--dbc=[names of signals]:file:_files' ;;
+    extcap) _arguments '--install[install it for this user]' ;;
     restbus | convert | sweep | report | replay) _arguments '*:file:_files' ;;
-    help) _arguments '1:command:(bench serve audit dump send status watch fault restart restbus convert sweep report replay)' ;;
+    help) _arguments '1:command:(bench serve audit dump send status watch fault restart restbus convert extcap sweep report replay)' ;;
     esac
 }
 

@@ -1,6 +1,7 @@
 """Logs of other tools: candump's, and those that python-can reads and writes by a file's ending, as ASC and BLF."""
 
 import collections
+import dataclasses
 import gzip
 import importlib
 import io
@@ -12,6 +13,7 @@ from collections.abc import Iterable, Iterator, Sequence
 from typing import Any, BinaryIO, NamedTuple
 
 from canbusd._run.log import LongLine, lines_of
+from canbusd._run.pcapng import OUTBOUND, Capture
 from canbusd._text import shown
 from canbusd._whole_file import Path, replaced
 from canbusd.frames import BadFrame, Frame, frame_like, log_line
@@ -21,9 +23,12 @@ ENDINGS = (".asc", ".blf", ".csv", ".db", ".mf4", ".trc")
 #: The endings of files that are text.
 TEXTS = (".asc", ".csv", ".trc")
 #: The endings of files that are written; the others that python-can writes lose frames, flags or channels.
-WRITTEN = (".log", ".asc", ".blf")
+PCAPNG = ".pcapng"
+WRITTEN = (".log", ".asc", ".blf", PCAPNG)
+# Those of them with numbers of channels in place of names.
+NUMBERED = (".asc", ".blf")
 # python-can and later versions of candump put the direction after the frame.
-LINE = re.compile(r"\(([0-9]{1,10}\.[0-9]{6})\) +(\S+) +(\S+)(?: +[RT])?")
+LINE = re.compile(r"\(([0-9]{1,10}\.[0-9]{6})\) +(\S+) +(\S+)(?: +([RT]))?")
 # python-can counts channels from 0, and its ASC and BLF files have one more.
 NUMBER = re.compile("[0-9]+")
 # How a record begins.
@@ -43,6 +48,8 @@ def read_entries(path: Path, names: Sequence[str] = ()) -> Iterator[Entry]:
     A log with numbers of channels has the interfaces can0, can1 and so on, or those of these names. ValueError names the
     file, and of candump's logs the line.
     """
+    if os.fspath(path).lower().endswith(PCAPNG):
+        raise ValueError(f"{os.fspath(path)}: a capture for Wireshark is only written, not read")
     if is_candump(path):
         yield from candump_entries(path)
         return
@@ -79,7 +86,8 @@ def entry_of(text: str, place: str) -> Entry:
     if not words:
         raise ValueError(f"{place}: not `(SECONDS.MICROS) INTERFACE FRAME`: {shown(text)}")
     try:
-        return Entry(words[2], Frame.parse(words[3], float(words[1])))
+        frame = Frame.parse(words[3], float(words[1]))
+        return Entry(words[2], dataclasses.replace(frame, is_rx=False) if words[4] == "T" else frame)
     except BadFrame as fault:
         raise ValueError(f"{place}: {fault}") from None
 
@@ -128,7 +136,14 @@ def write_entries(path: Path, entries: Iterable[Entry], names: Sequence[str] = (
     with replaced(path) as file:
         if ending == ".log":
             return write_candump(file, entries), known
+        if ending == PCAPNG:
+            return write_pcapng(file, entries, known), known
         return write_by_python_can(file, ending, entries, known), known
+
+
+def is_numbered(path: Path) -> bool:
+    """Whether a log that is written has numbers of channels, by its ending."""
+    return os.fspath(path).lower().endswith(NUMBERED)
 
 
 def write_candump(file: BinaryIO, entries: Iterable[Entry]) -> int:
@@ -136,6 +151,17 @@ def write_candump(file: BinaryIO, entries: Iterable[Entry]) -> int:
     count = 0
     for name, frame in entries:
         file.write(f"{log_line(name, frame)}\n".encode("ascii"))
+        count += 1
+    return count
+
+
+def write_pcapng(file: BinaryIO, entries: Iterable[Entry], known: Sequence[str]) -> int:
+    """Writes a capture for Wireshark, first these interfaces; how many frames it has."""
+    capture = Capture(file, [(name, 0) for name in known])
+    count = 0
+    for name, frame in entries:
+        # A log says which frames were sent there, if anything.
+        capture.write([(name, frame, 0 if frame.is_rx else OUTBOUND)])
         count += 1
     return count
 

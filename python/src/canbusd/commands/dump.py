@@ -1,16 +1,18 @@
 """Prints the frames that interfaces of a server receive, as candump does, until Ctrl-C."""
 
 import argparse
+import contextlib
 import re
 import select
 import sys
 import time
-from collections.abc import Callable
-from typing import Any, Optional
+from collections.abc import Callable, Sequence
+from typing import Any, BinaryIO, Optional, TypeVar, Union
 
 from canbusd._session.protocol import ALL_CLASSES
 from canbusd.bus import CanbusdBus
 from canbusd.commands import add_address, add_database, database_of, digits, least_zero
+from canbusd.commands._capture import BATCH, Captured, Watched
 from canbusd.commands._command import BadWords
 from canbusd.frames import ERROR, EXTENDED, INVERTED, Frame, frame_like, log_line
 from canbusd.signals import Database
@@ -18,16 +20,16 @@ from canbusd.signals import Database
 EPILOG = """\
 An interface is a name, followed by filters as candump has them: ID:MASK, ID~MASK for all others, #MASK for classes of
 error message frames, and j where frames have to pass all of them. With -e each error message frame is explained in
-words.
+words. With --pcapng they are in any case, and a frame that several of the interfaces receive is there once.
 
   canbusd dump -e can0
   canbusd dump can0,123:7FF can1,#FFFFFFFF
   canbusd dump -L can0 can1 > run.log
   canbusd dump --dbc car.dbc can0
+  canbusd dump --pcapng - can0 can1 | wireshark -k -i -
 """
 FILTER = re.compile("([0-9A-Fa-f]{1,8})([:~])([0-9A-Fa-f]{1,8})")
-# How many frames of an interface are printed before the others have their turn.
-BATCH = 1000
+Bus = TypeVar("Bus", bound=CanbusdBus)
 
 
 class View:
@@ -126,15 +128,16 @@ def add_arguments(parser: argparse.ArgumentParser) -> None:
     parser.add_argument(
         "-T", dest="timeout", type=least_zero, metavar="MS", help="end after MS milliseconds without a frame"
     )
+    parser.add_argument("--pcapng", metavar="FILE", help="write a capture for Wireshark; - is standard output")
     add_database(parser)
     add_address(parser)
 
 
-def opened(text: str, options: argparse.Namespace) -> tuple[str, CanbusdBus]:
-    """Opens an interface with its filters; its name, and the bus."""
+def opened(text: str, options: argparse.Namespace, kind: "type[Bus]", errors: int, **more: bool) -> "tuple[str, Bus]":
+    """Opens an interface with its filters, and these classes of error message frames; its name, and the bus."""
     name, *parts = text.split(",")
     filters: list[dict[str, Any]] = []
-    errors, join = (ALL_CLASSES if options.explain else 0), False
+    join = False
     for part in parts:
         pair = FILTER.fullmatch(part)
         if pair:
@@ -147,8 +150,9 @@ def opened(text: str, options: argparse.Namespace) -> tuple[str, CanbusdBus]:
             join = True
         else:
             raise ValueError(f"{text}: `{part}` is no filter such as 123:7FF, 123~7FF, #1FFFFFFF or j")
-    bus = CanbusdBus(name, filters or None, address=options.address, fd=True, error_frames=errors, join_filters=join)
-    return name, bus
+    return name, kind(
+        name, filters or None, address=options.address, fd=True, error_frames=errors, join_filters=join, **more
+    )
 
 
 class Drops:
@@ -156,7 +160,7 @@ class Drops:
 
     INTERVAL = 1.0
 
-    def __init__(self, buses: list[tuple[str, CanbusdBus]]) -> None:
+    def __init__(self, buses: Sequence[tuple[str, CanbusdBus]]) -> None:
         self.buses, self.dropped = buses, [0] * len(buses)
         self.next_look, self.has_received = time.monotonic() + self.INTERVAL, False
 
@@ -177,28 +181,74 @@ class Drops:
         self.next_look, self.has_received = time.monotonic() + self.INTERVAL, False
 
 
+class Printed:
+    """Frames of interfaces as they come, on standard output."""
+
+    has_more = False
+
+    def __init__(self, buses: Sequence[tuple[str, CanbusdBus]], view: View) -> None:
+        self.buses, self.view = buses, view
+
+    def take(self, ready: Sequence[CanbusdBus], most: int) -> int:
+        """Prints the frames that are at hand, up to a number of them; returns how many there were."""
+        left = most
+        for name, bus in self.buses:
+            if bus in ready:
+                left -= print_frames(name, bus, self.view, left)
+        sys.stdout.flush()
+        return most - left
+
+
 def run(options: argparse.Namespace) -> None:
-    """Prints frames as they come."""
+    """Prints frames as they come, or captures them."""
     if options.log and options.dbc:
         raise BadWords("--dbc does not go with -L: a log has frames only")
-    view = View(options, max(len(text.split(",")[0]) for text in options.interfaces), database_of(options))
-    buses = [opened(text, options) for text in options.interfaces]
+    if options.pcapng is None:
+        view = View(options, max(len(text.split(",")[0]) for text in options.interfaces), database_of(options))
+        errors = ALL_CLASSES if options.explain else 0
+        buses = [opened(text, options, CanbusdBus, errors) for text in options.interfaces]
+        follow(buses, Printed(buses, view), options.count, options.timeout)
+        return
+    if options.log or options.explain or options.timestamps or options.dbc:
+        raise BadWords("-e, -L, -t and --dbc do not go with --pcapng")
+    with capture_file(options.pcapng) as file:
+        watched = [
+            opened(text, options, Watched, ALL_CLASSES, receive_own_messages=True) for text in options.interfaces
+        ]
+        follow(watched, Captured(file, watched), options.count, options.timeout)
+
+
+def capture_file(path: str) -> "contextlib.AbstractContextManager[BinaryIO]":
+    """Opens the file of a capture."""
+    if path != "-":
+        return open(path, "wb")
+    if sys.stdout.isatty():
+        raise BadWords("--pcapng - writes bytes that are not for a terminal: `| wireshark -k -i -` shows them")
+    return contextlib.nullcontext(sys.stdout.buffer)
+
+
+def follow(
+    buses: Sequence[tuple[str, CanbusdBus]],
+    output: Union[Printed, Captured],
+    count: Optional[int] = None,
+    timeout: Optional[float] = None,
+) -> None:
+    """Hands frames to the output as they come, up to this number, until none comes for so many milliseconds."""
     drops = Drops(buses)
-    left = sys.maxsize if options.count is None else options.count
-    timeout = float("inf") if options.timeout is None else options.timeout / 1000
+    left = sys.maxsize if count is None else count
+    most = float("inf") if timeout is None else timeout / 1000
     last = time.monotonic()
     while left > 0:
-        wait = max(0.0, min(drops.INTERVAL, last + timeout - time.monotonic()))
-        ready = select.select([bus for _, bus in buses], [], [], wait)[0]
-        for name, bus in buses:
-            if bus in ready:
-                left -= print_frames(name, bus, view, left)
-        sys.stdout.flush()
-        drops.look(bool(ready))
-        if ready:
+        wait = 0.0 if output.has_more else max(0.0, min(drops.INTERVAL, last + most - time.monotonic()))
+        ready: list[CanbusdBus] = select.select([bus for _, bus in buses], [], [], wait)[0]
+        if ready or output.has_more:
+            left -= output.take(ready, left)
             last = time.monotonic()
-        elif time.monotonic() >= last + timeout:
-            return
+        drops.look(bool(ready))
+        if time.monotonic() >= last + most:
+            break
+    for _, bus in buses:
+        bus.shutdown()
 
 
 def print_frames(name: str, bus: CanbusdBus, view: View, most: int) -> int:

@@ -17,8 +17,9 @@ from canbusd._process.program import ProgramNotFound
 from canbusd._process.rates import Rates
 from canbusd._run.frame_times import FrameTimes
 from canbusd._session.address import parse_address
-from canbusd.bus import CanbusdBus, interfaces
+from canbusd.bus import interfaces
 from canbusd.commands import above_zero, add_address, add_database, database_of, digits
+from canbusd.commands._capture import Watched
 from canbusd.commands._command import BadWords
 from canbusd.frames import SENDING, Frame, frame_like
 from canbusd.signals import Database, Decoded
@@ -36,13 +37,6 @@ A session on each interface receives everything: each frame that it gets is an e
   canbusd watch --port 0 -a ./bench.socket can0
 """
 BUS_ERROR, NOT_ACKNOWLEDGED, END_OF_FRAME, FORM = 0x080, 0x020, 0x1A, 0x02
-
-
-class Watched(CanbusdBus):
-    """A bus on which all that its interface has sent is its own, whichever session has sent it."""
-
-    def _is_own(self, number: int) -> bool:
-        return True
 
 
 class Watcher:

@@ -1,0 +1,91 @@
+"""Captures for Wireshark: pcapng, with frames as the link type of SocketCAN has them.
+
+Blocks and options are those of the pcapng specification (draft-ietf-opsawg-pcapng), frames those of LINKTYPE_CAN_SOCKETCAN.
+"""
+
+import struct
+from collections.abc import Iterable
+from typing import BinaryIO
+
+from canbusd.frames import ERROR, EXTENDED, REMOTE, Frame, flag_number
+
+#: The link type of the interfaces.
+LINKTYPE_CAN_SOCKETCAN = 227
+# The types of blocks.
+SECTION, INTERFACE, PACKET = 0x0A0D0D0A, 1, 6
+# Options, each with the number that its block gives it: of a section, of an interface, of a packet.
+APPLICATION = 4
+NAME, SPEED, RESOLUTION = 2, 8, 9
+FLAGS = 2
+# The flag of the link type that marks an FD frame.
+FD = 0x4
+#: Which way a packet went, in its flags.
+INBOUND, OUTBOUND = 1, 2
+
+#: A frame, the interface that it is of, and which way it went; 0 where that is not known.
+Packet = tuple[str, Frame, int]
+
+
+class Capture:
+    """A capture that is written packet by packet; each write is of whole blocks."""
+
+    def __init__(self, file: BinaryIO, interfaces: Iterable[tuple[str, int]] = ()) -> None:
+        """Begins with these interfaces, each with its bits a second; 0 where it has none."""
+        self._file = file
+        self._numbers: dict[str, int] = {}
+        begin = block(SECTION, struct.pack("<IHHq", 0x1A2B3C4D, 1, 0, -1), option(APPLICATION, b"canbusd"))
+        file.write(begin + b"".join(self._interface(name, bitrate) for name, bitrate in interfaces))
+
+    @property
+    def names(self) -> list[str]:
+        """The interfaces, in their order."""
+        return [*self._numbers]
+
+    def write(self, packets: Iterable[Packet]) -> None:
+        """Writes frames, each with its interface, which is a new one where it was not there, and which way it went."""
+        blocks = []
+        for name, frame, way in packets:
+            if name not in self._numbers:
+                blocks.append(self._interface(name))
+            blocks.append(packet(self._numbers[name], frame, way))
+        self._file.write(b"".join(blocks))
+
+    def _interface(self, name: str, bitrate: int = 0) -> bytes:
+        self._numbers[name] = len(self._numbers)
+        speed = [option(SPEED, struct.pack("<Q", bitrate))] if bitrate else []
+        head = struct.pack("<HHI", LINKTYPE_CAN_SOCKETCAN, 0, 0)
+        # Moments are microseconds.
+        return block(INTERFACE, head, option(NAME, name.encode()), option(RESOLUTION, b"\x06"), *speed)
+
+
+def padded(data: bytes) -> bytes:
+    """Returns bytes that end at a multiple of 4."""
+    return data + bytes(-len(data) % 4)
+
+
+def option(code: int, value: bytes) -> bytes:
+    """Returns an option of a block."""
+    return struct.pack("<HH", code, len(value)) + padded(value)
+
+
+def block(kind: int, body: bytes, *options: bytes) -> bytes:
+    """Returns a block; its length is at both ends, and options end with an empty one."""
+    whole = padded(body) + (b"".join(options) + bytes(4) if options else b"")
+    length = struct.pack("<I", len(whole) + 12)
+    return struct.pack("<I", kind) + length + whole + length
+
+
+def socketcan(frame: Frame) -> bytes:
+    """Returns a frame as the link type has it: the identifier in network order, the length, flags, and the data."""
+    identifier = frame.arbitration_id
+    identifier |= ERROR if frame.is_error_frame else EXTENDED if frame.is_extended_id else 0
+    identifier |= REMOTE if frame.is_remote_frame else 0
+    flags = FD | flag_number(frame) if frame.is_fd else 0
+    return struct.pack(">IBBxx", identifier, frame.dlc, flags) + frame.data
+
+
+def packet(number: int, frame: Frame, way: int) -> bytes:
+    """Returns the block of a frame of the interface with this number."""
+    data, moment = socketcan(frame), round(frame.timestamp * 1e6)
+    head = struct.pack("<IIIII", number, moment >> 32, moment & 0xFFFFFFFF, len(data), len(data))
+    return block(PACKET, head + padded(data), *([option(FLAGS, struct.pack("<I", way))] if way else []))
