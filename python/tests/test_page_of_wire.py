@@ -9,6 +9,7 @@ from test_time_on_wire import run_of_three_messages
 
 from canbusd._page.report import page
 from canbusd._process.rates import Rates
+from canbusd.record import parse_record
 
 pytestmark = pytest.mark.skipif(PROGRAM is None, reason="no chromium on the PATH")
 NODES = ("a", "b", "c")
@@ -202,3 +203,79 @@ def test_nothing_is_cut_and_all_is_legible(half, width, dark):
     assert "as long as it took" in half.run("at('help').textContent")
     assert "an instant" not in half.run("at('help').textContent")
     show_each(half, width, [*TABS, "tab-load"])
+
+
+# The moments from 0 to the end, in steps of so many microseconds, at which something of this colour is drawn so many pixels
+# above the foot of the counters of a node.
+AT_MOMENTS = """((node, name, above, each) => {
+  const top = 2 + lanes.slice(0, lanes.findIndex(lane => lane.number === node)).reduce((sum, lane) => sum + lane.height, 0);
+  const y = top + STRIP + BAND + 4 + CURVES - 2 - above, canvas = at('lanes'), wide = plotted().width;
+  const brush = new OffscreenCanvas(canvas.width, canvas.height).getContext('2d', { willReadFrequently: true });
+  brush.drawImage(canvas, 0, 0);
+  const row = new Uint32Array(brush.getImageData(0, y, canvas.width, 1).data.buffer);
+  block(brush, theme[name], 0, 0, 1, 1);
+  const wanted = new Uint32Array(brush.getImageData(0, 0, 1, 1).data.buffer)[0];
+  const all = [...Array(Math.floor(axis.length * 1e6 / each)).keys()].map(k => k * each + each / 2);
+  const isDrawn = x => x >= 0 && x < wide && row[x] === wanted;
+  return all.filter(micros => isDrawn(Math.floor(placeOf(plotted(), micros / 1e6))));
+})"""
+
+
+def between(each, whole, *spans):
+    """The moments in these spans of time, in the middle of steps."""
+    moments = [each * k + each / 2 for k in range(whole // each)]
+    return [moment for moment in moments if any(first < moment < last for first, last in spans)]
+
+
+def test_a_queue_is_grey_while_a_frame_waits(half):
+    """from the start of the first attempt in which a frame takes part until the end of the one that sends it
+
+    Attempts of 108 microseconds begin each 216. a, b and c have a frame at the start, a the next after the third attempt, b
+    and c after the fourth, a after the fifth.
+    """
+    half.run("for (const lane of lanes) lane.isFolded = false; buildGutter(); redraw()")
+    half.settle()
+    wanted = [
+        [(0, 108), (648, 756), (1080, 1188)],
+        [(0, 324), (864, 972)],
+        [(0, 540), (864, 1404)],
+    ]
+    for node, spans in enumerate(wanted):
+        assert half.run(f"{AT_MOMENTS}({node}, 'queue', 8, 36)") == between(36, 1404, *spans)
+
+
+def test_a_queue_without_a_bit_rate_is_grey_while_a_frame_is_known_to_wait(opened):
+    """attempts are instants: what is left after one waits until the next"""
+    shown = opened(run_of_three_messages(), NODES)
+    shown.key("t")
+    shown.run("for (const lane of lanes) lane.isFolded = false; buildGutter(); redraw()")
+    shown.settle()
+    # From the first attempt on, at 210: b has the second, at 426; c the third, at 642, and the last, at 1506.
+    for node, spans in enumerate([[], [(0, 216)], [(0, 432), (864, 1296)]]):
+        seen = shown.run(f"{AT_MOMENTS}({node}, 'queue', 8, 24)")
+        at_instants = {216 * k + 12 for k in range(7)}
+        assert [moment for moment in seen if moment not in at_instants] == [
+            moment for moment in between(24, 1296, *spans) if moment not in at_instants
+        ]
+
+
+def test_an_outage_is_as_long_as_it_was(opened):
+    """a state begins and ends with the end of an attempt, or with a restart"""
+    entries = ["open 0 1 = socket 0", "open 1 1 = socket 1", "send 0 123# = number 0"]
+    for attempt in range(32):
+        off = "0001" if attempt == 31 else "0000"
+        entries.append(f"attempt 0.{1000 * (attempt + 1):06} global-bit = tried 0 0 123# destroyed 0000 {off}")
+    entries += [
+        "restart 0 0.036500 = ok",
+        "send 0 124# = number 1",
+        "attempt 0.037000 good = tried 0 1 124# done 0002 0000",
+    ]
+    lines = ["canbus record 1", "bus 2 always 0000 10 100", *entries, f"end {len(entries)}", ""]
+    shown = opened(parse_record("\n".join(lines).encode()).replay, ("can0", "can1"), FULL)
+    # 16 attempts make can0 error passive, 32 take it off. Each begins a millisecond after the one before it, and takes 86
+    # microseconds.
+    for attempt, is_before in ((15, False), (31, True)):
+        look(shown, 1000 * attempt - 100, 1000 * attempt + 300)
+        seen = [moment - 1000 * attempt for moment in shown.run(f"{AT_MOMENTS}(0, 'passive', BAND + CURVES, 4)")]
+        assert (max(seen) if is_before else min(seen)) == pytest.approx(86, abs=4)
+        assert (min(seen) < -90) if is_before else (max(seen) > 290)

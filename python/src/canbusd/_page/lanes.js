@@ -4,8 +4,9 @@
 const STRIP = 20, BAND = 13, CURVES = 48, SPACE = 9, TOP = 264;
 const view = { from: 0, to: 1, step: 0 };
 let axis = new Axis([0], 1), lanes = [];
-// Steps are instants where that is so of the axis that is shown; where `lengthOf` is given, they end before the next begins.
-const time = { isInstant: false, lengthOf: null, axisWords: [], ticks: () => [], words: () => "", choose: () => {}, moved: () => {} };
+// Steps are instants where that is so of the axis that is shown; where `lengthOf` is given, they end before the next begins,
+// and `ends` are the places of their ends, as an axis.
+const time = { isInstant: false, lengthOf: null, ends: null, axisWords: [], ticks: () => [], words: () => "", choose: () => {}, moved: () => {} };
 
 // Where things are.
 
@@ -22,9 +23,9 @@ const endOf = (plot, step) => time.lengthOf ? placeOf(plot, axis.start[step]) + 
   : placeOf(plot, axis.start[step + 1] ?? axis.length);
 
 // The steps of each pixel: those of pixel x are from edges[x] to before edges[x + 1].
-function edgesOf(width, from, to) {
+function edgesOf(width, from, to, places = axis) {
   const edges = new Int32Array(width + 1);
-  for (let x = 0; x <= width; x++) edges[x] = axis.from(from + (to - from) * x / width);
+  for (let x = 0; x <= width; x++) edges[x] = places.from(from + (to - from) * x / width);
   // What ends at the right end of the axis is in its last pixel.
   if (to >= axis.length) edges[width] = axis.count;
   return edges;
@@ -101,6 +102,24 @@ function area(plot, numbers, top, height, most, tint) {
     if (high) plot.pen.fillRect(x, top + height - high / most * height, 1, high / most * height);
   });
 }
+// What waits, where steps have places in time: `queue` from the start of a step to its end, then what is left, `left`.
+function waitingArea(plot, queue, left, top, height, most) {
+  const { edges } = plot, each = (view.to - view.from) / plot.width, found = { low: 0, high: 0 };
+  plot.pen.fillStyle = theme.queue;
+  for (let x = 0; x < plot.width; x++) {
+    const before = edges[x] - 1;
+    let high = 0;
+    if (before >= 0) {
+      const over = axis.start[before] + (time.lengthOf ? time.lengthOf(before) : 0);
+      high = (over > view.from + x * each ? queue : left).all[before];
+    }
+    if (edges[x + 1] > edges[x]) {
+      queue.range(edges[x], edges[x + 1], found);
+      high = Math.max(high, found.high);
+    }
+    if (high) plot.pen.fillRect(x, top + height - high / most * height, 1, high / most * height);
+  }
+}
 // Error active is a line, every other state a bar with its name; of the states in a pixel the worst is shown.
 function band(plot, tec, rec, top, fills) {
   const { pen } = plot, worst = new Uint8Array(plot.width);
@@ -145,16 +164,19 @@ class NodeLane {
   get height() { return STRIP + BAND + (this.isFolded ? 0 : CURVES) + SPACE; }
   draw(plot, top, fills) {
     this.strip(plot, this.number, top, fills);
-    band(plot, this.tec, this.rec, top + STRIP + 2, fills);
-    if (!this.isFolded) this.curves(plot, top + STRIP + BAND + 4, CURVES - 2);
+    // Counts and states are those after a step.
+    const after = plot.ends ? { ...plot, edges: plot.ends } : plot;
+    band(after, this.tec, this.rec, top + STRIP + 2, fills);
+    if (!this.isFolded) this.curves(plot, after, top + STRIP + BAND + 4, CURVES - 2);
     across(plot, top + this.height - 4, theme.line);
   }
-  curves(plot, top, height) {
-    const y = limit => top + height - limit / TOP * height;
-    if (this.queue.most) area(plot, this.queue, top, height, Math.max(2, this.queueMost), theme.queue);
+  curves(plot, after, top, height) {
+    const y = limit => top + height - limit / TOP * height, most = Math.max(2, this.queueMost);
+    if (this.queue.most && this.left && (time.isInstant || time.lengthOf)) waitingArea(plot, this.queue, this.left, top, height, most);
+    else if (this.queue.most) area(plot, this.queue, top, height, most, theme.queue);
     for (const [limit] of LIMITS) across(plot, y(limit), theme.soft, [2, 4]);
-    curve(plot, this.rec, top, height, TOP, theme.rec, [5, 2]);
-    curve(plot, this.tec, top, height, TOP, theme.tec);
+    curve(after, this.rec, top, height, TOP, theme.rec, [5, 2]);
+    curve(after, this.tec, top, height, TOP, theme.tec);
     const aside = { 96: 5, 128: -5, 256: 4 };
     for (const [limit, text] of LIMITS) {
       if (plot.isNarrow) write(plot.pen, String(limit), plot.width - 1, y(limit) + aside[limit], theme.soft, "right");
@@ -199,6 +221,7 @@ let layer = "";
 function drawTime() {
   const plot = plotted();
   plot.edges = edgesOf(plot.width, view.from, view.to);
+  if (time.ends) plot.ends = edgesOf(plot.width, view.from, view.to, time.ends);
   drawRuler(plot);
   const high = lanes.reduce((sum, lane) => sum + lane.height, 2);
   plot.pen = sized(at("lanes"), plot.full, high);

@@ -8,7 +8,7 @@ const DROPPED = 3;
 const ARRAYS = { B: Uint8Array, H: Uint16Array, I: Uint32Array, d: Float64Array };
 const STEP_WIDTH = { 4: 0.8, 5: 0.5 };
 // Which axis is shown: by attempts, or by time. Where attempts have no length on it they are instants there.
-const byTime = { isOn: false, lengthOf: null };
+const byTime = { isOn: false, lengthOf: null, ends: null };
 let run, steps, items, names, tec, rec, queues, attemptOf, moments, axes, tallies, failures, firstMoment = 0;
 let chips, showTab, tab = "tab-events";
 const lists = {};
@@ -73,6 +73,7 @@ function showAxis(isByTime) {
   byTime.isOn = isByTime;
   time.isInstant = isByTime && !byTime.lengthOf;
   time.lengthOf = isByTime ? byTime.lengthOf : null;
+  time.ends = isByTime ? byTime.ends : null;
   axis = axes[Number(isByTime)];
   layer = "";
 }

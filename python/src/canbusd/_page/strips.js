@@ -114,10 +114,15 @@ function drawOverview() {
 
 function makeLanes() {
   const queueMost = Math.max(...queues.map(one => one.most));
-  lanes = names.map((name, i) => new NodeLane(i, name, { tec: tec[i], rec: rec[i], queue: queues[i], queueMost }, strip));
+  lanes = names.map((name, i) => new NodeLane(i, name, { tec: tec[i], rec: rec[i], queue: queues[i], left: leftOf(i), queueMost }, strip));
   const worst = run.sockets[run.socket];
   if (worst && worst.dropped) lanes.push(socketLane(worst));
   happened("lanes made");
+}
+// How many frames of a node wait after each step.
+function leftOf(i) {
+  return new Numbers(queues[i].all.map((waiting, step) => steps.off[step] >> i & 1 ? 0
+    : waiting - (steps.kind[step] === 0 && steps.iface[step] === i)));
 }
 // How full the receive queue of a socket was after each step, and in which steps it lost items.
 function socketLane(socket) {

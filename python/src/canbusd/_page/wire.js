@@ -17,6 +17,8 @@ on("taken", column => {
   starts[count] = Math.max(run.wire.end / 1e9, 1e-5);
   axes[1] = new Axis(starts, 1e-5);
   byTime.lengthOf = step => wire.busy[step] / 1e9;
+  let over = 0;
+  byTime.ends = new Axis(starts.map((start, k) => over = Math.max(over, start + (wire.busy[k] || 0) / 1e9)), 1e-5);
   showAxis(true);
   view.to = axis.length;
   placeIdentifiers();
