@@ -1,14 +1,21 @@
 """Two runs beside each other: where they first differ, in words and on one page."""
 
+import contextlib
+import random
+
 import pytest
 
 from browser import PROGRAM
 from test_commands import call
 from test_page import CUT, WEAK, WIDE, browser, opened  # noqa: F401  fixtures
 
+from canbusd._process.rates import Rates
+from canbusd._run.alignment import aligned, common
 from canbusd._run.comparison import Comparison
+from canbusd import Refused
 from canbusd.bench import Bench
 from canbusd.faults import Faults
+from canbusd.frames import Frame
 from canbusd.record import read_record
 
 
@@ -23,34 +30,138 @@ def run_of(tmp_path, name, faults=None, frames=6, names="can0,can1"):
         return bench.record()
 
 
-def test_where_they_first_differ(tmp_path):
+def test_a_frame_that_is_sent_again(tmp_path):
+    """it is one difference, and what follows it is the same"""
     one, other = run_of(tmp_path, "a"), run_of(tmp_path, "b", Faults().destroyed(4))
-    comparison = Comparison(one, other)
-    found = comparison.difference
-    assert found.attempt == 4
-    assert found.words == (
-        "outcome, fault, who accepted it: can0 104#04 done against can0 104#04 destroyed (global bit)"
-    )
-    assert comparison.beside() == [
-        f"First difference in attempt 4: {found.words}",
-        "       1 can0 101#01 done",
-        "       2 can0 102#02 done",
-        "       3 can0 103#03 done",
-        "-      4 can0 104#04 done",
-        "+      4 can0 104#04 destroyed (global bit)",
-        "-      5 can0 105#05 done",
-        "+      5 can0 104#04 done",
-        "+      6 can0 105#05 done",
+    words = "can0 104#04: done against destroyed (global bit), then done"
+    assert Comparison(one, other).differences == [("other outcome", 4, 4, words)]
+    assert Comparison(one, other).lines() == [
+        f"1 difference, in attempt 4: other outcome: {words}",
+        f"!         4         4  other outcome: {words}",
     ]
+    assert Comparison(one, other).partners == {0: 0, 1: 1, 2: 2, 3: 3, 5: 4, 6: 5}
+    [back] = Comparison(other, one).differences
+    assert back == ("other outcome", 4, 4, "can0 104#04: destroyed (global bit), then done against done")
 
 
 def test_runs_that_are_alike_and_one_that_goes_on(tmp_path):
     one, same, longer = run_of(tmp_path, "a"), run_of(tmp_path, "b"), run_of(tmp_path, "c", frames=8)
-    assert Comparison(one, same).beside() == ["No difference in 6 attempts"]
-    assert Comparison(one, longer).difference == (6, "the second run has 2 attempts more")
-    assert Comparison(longer, one).difference == (6, "the first run has 2 attempts more")
+    assert Comparison(one, same).lines() == ["No difference in 6 attempts"]
+    more = [(6, "can0 106#06: done"), (7, "can0 107#07: done")]
+    assert Comparison(one, longer).differences == [("only there", 6, number, words) for number, words in more]
+    assert Comparison(longer, one).differences == [("only here", number, 6, words) for number, words in more]
+    assert Comparison(longer, one).lines()[1:] == [
+        f"-         {number}            only here: {words}" for number, words in more
+    ]
     nothing = run_of(tmp_path, "d", frames=0)
-    assert Comparison(nothing, nothing).difference is None
+    assert Comparison(nothing, nothing).lines() == ["No difference in 0 attempts"]
+
+
+def run_at(tmp_path, name, sent, faults=None, **more):
+    """A run of a bus at 500 kbit/s on which frames are sent: the moment, the interface and the frame."""
+    (tmp_path / name).mkdir()
+    with Bench("a,b,c", faults=faults, bitrate=500_000, out=tmp_path / name, **more) as bench:
+        sessions = {channel: bench.open(channel) for channel in bench.names}
+        for moment, channel, text in sorted(sent):
+            bench.run(until=moment)
+            with contextlib.suppress(Refused):
+                sessions[channel].send(Frame.parse(text))
+        bench.run()
+        return bench.record()
+
+
+def cyclic(channel, identifier, count, period=0.01, start=0.0):
+    """Frames with a counter, at a period."""
+    return [(start + period * k, channel, f"{identifier}#{k % 16:02X}") for k in range(count)]
+
+
+def test_a_frame_that_is_missing(tmp_path):
+    """what follows it in its counter is the same, and so are other senders' frames"""
+    sent = cyclic("a", "100", 100) + cyclic("b", "200", 100, start=0.003)
+    lost = [one for one in sent if one[:2] != (0.5, "a")]
+    one, other = run_at(tmp_path, "a", sent), run_at(tmp_path, "b", lost)
+    assert Comparison(one, other).differences == [("only here", 100, 100, "a 100#02: done")]
+    assert Comparison(other, one).differences == [("only there", 100, 100, "a 100#02: done")]
+
+
+def test_other_data_and_another_outcome(tmp_path):
+    sent = cyclic("a", "100", 20)
+    changed = [
+        (moment, channel, "100#FF" if text == "100#05" and moment < 0.1 else text) for moment, channel, text in sent
+    ]
+    faults = Faults().next(1, id=0x100, skip=7).last_bit().next(1, id=0x100, skip=3).local("crc", ["c"])
+    comparison = Comparison(run_at(tmp_path, "a", sent), run_at(tmp_path, "b", changed, faults))
+    # The second rule takes the fourth attempt, the first the eighth: a frame that is sent again is an attempt more.
+    assert comparison.differences == [
+        ("other outcome", 3, 3, "a 100#03: done against destroyed (local crc c), then done"),
+        ("other data", 5, 6, "a 100#05 against a 100#FF"),
+        ("other outcome", 6, 7, "a 100#06: done against lastbit, then done"),
+    ]
+
+
+def test_frames_that_come_later(tmp_path):
+    """by more than the tolerance, and once where all that follow are later, too"""
+    sent = cyclic("a", "100", 100) + cyclic("b", "200", 100, start=0.003)
+    late = [(moment + 0.025 * (channel == "b" and moment > 0.5), channel, text) for moment, channel, text in sent]
+    one, other = run_at(tmp_path, "a", sent), run_at(tmp_path, "b", late)
+    [found] = Comparison(one, other).differences
+    assert (found.kind, found.words) == ("later", "b 200#02: later by 25.000 ms")
+    assert Comparison(other, one).differences[0].words == "b 200#02: earlier by 25.000 ms"
+    assert Comparison(one, other, tolerance=0.03).differences == []
+    single = [(moment + 0.005 * (moment == 0.503), channel, text) for moment, channel, text in sent]
+    other = run_at(tmp_path, "c", single)
+    assert Comparison(one, other).differences == []
+    assert [each.words for each in Comparison(one, other, tolerance=0).differences] == ["b 200#02: later by 5.000 ms"]
+
+
+def test_runs_that_differ_in_order_only(tmp_path):
+    """two nodes that send at about the same moments: they say so, and the status is 0"""
+    sent = cyclic("a", "100", 50) + cyclic("b", "200", 50, start=0.0004)
+    jittered = cyclic("a", "100", 50) + [
+        (moment - 0.0008 * (k % 3 == 2), channel, text)
+        for k, (moment, channel, text) in enumerate(cyclic("b", "200", 50, start=0.0004))
+    ]
+    one, other = run_at(tmp_path, "a", sent), run_at(tmp_path, "b", jittered)
+    assert Comparison(one, other).lines() == ["The same frames in another order, first at attempt 4"]
+    records = [tmp_path / name / "a.rec" for name in "ab"]
+    status, written, _ = call("report", "--text", "--exit-code", "--names", "a,b,c", *records)
+    assert status == 0 and written.startswith("The same frames in another order")
+
+
+def test_outages_and_restarts(tmp_path):
+    """a node that goes bus off, and one that is restarted less often"""
+    sent = cyclic("a", "100", 30) + cyclic("b", "200", 30, start=0.003)
+    faults = Faults().next(32, sender="b", skip=10).destroyed()
+    one = run_at(tmp_path, "a", sent, auto_restart=2)
+    other = run_at(tmp_path, "b", sent, faults, auto_restart=2)
+    # The next frame is refused; the second attempt after bus off brings the node back.
+    assert [(each.kind, each.words) for each in Comparison(one, other).differences] == [
+        (
+            "other outcome",
+            "b 200#0A: done against 31 times destroyed (global bit), then destroyed (global bit), b bus off",
+        ),
+        ("only here", "b 200#0B: done"),
+        ("restarts", "b was restarted 0 times against 1"),
+    ]
+
+
+@pytest.mark.parametrize("seed", range(20))
+def test_the_longest_part_in_common(seed):
+    """as the definition of a longest common subsequence finds it"""
+    source = random.Random(seed)
+    for _ in range(50):
+        one, other = (["abc"[source.randrange(3)] for _ in range(source.randrange(12))] for _ in range(2))
+        longest = [[0] * (len(other) + 1) for _ in range(len(one) + 1)]
+        for k, left in enumerate(one):
+            for n, right in enumerate(other):
+                longer = longest[k][n] + 1 if left == right else 0
+                longest[k + 1][n + 1] = max(longer, longest[k][n + 1], longest[k + 1][n])
+        found = common(one, other)
+        assert len(found) == longest[-1][-1] and all(one[k] == other[n] for k, n in found)
+        assert all(first[0] < then[0] and first[1] < then[1] for first, then in zip(found, found[1:]))
+        pairs = aligned(one, other)
+        assert [k for k, _ in pairs if k is not None] == [*range(len(one))]
+        assert [n for _, n in pairs if n is not None] == [*range(len(other))]
 
 
 def test_the_command(tmp_path):
@@ -58,7 +169,9 @@ def test_the_command(tmp_path):
     run_of(tmp_path, "b", Faults().destroyed(4))
     records = [tmp_path / "a" / "can0.rec", tmp_path / "b" / "can0.rec"]
     status, written, said = call("report", "--text", "--names", "can0,can1", *records)
-    assert (status, said) == (0, "") and written.startswith("First difference in attempt 4: outcome, fault")
+    assert (status, said) == (0, "") and written.startswith(
+        "1 difference, in attempt 4: other outcome: can0 104#04: done against"
+    )
     status, written, said = call("report", *records)
     assert (status, "</html>" in written) == (0, True)
     note = "no log names interface 1: name all interfaces with --names can0,NAME"
@@ -82,31 +195,40 @@ def runs_of_two_nodes(tmp_path, *names):
 def test_names_of_senders_only(tmp_path):
     """a log names who sent: an interface without a name in one run is the one of its number in the other"""
     one, other = runs_of_two_nodes(tmp_path, "can0", "can1")
-    more = ["First difference in attempt 1: the second run has 1 attempt more", "       0 can0 123#ABCD done"]
-    wanted = [*more, "+      1 can1 123#ABCD done"]
-    assert Comparison(read_record(one), read_record(other)).beside() == wanted
-    assert Comparison(read_record(one, "can0,can1"), read_record(other, "can0,can1")).beside() == wanted
+    wanted = [
+        "1 difference, in attempt 1: only there: can1 123#ABCD: done",
+        "+                   1  only there: can1 123#ABCD: done",
+    ]
+    assert Comparison(read_record(one), read_record(other)).lines() == wanted
+    assert Comparison(read_record(one, "can0,can1"), read_record(other, "can0,can1")).lines() == wanted
     # With neither log, with one of them, and as one run against itself without its log.
     one.with_suffix(".log").unlink()
-    assert Comparison(read_record(one), read_record(other)).beside() == wanted
-    assert Comparison(read_record(one), read_record(one, "can0,can1")).difference is None
+    assert Comparison(read_record(one), read_record(other)).lines() == wanted
+    assert Comparison(read_record(one), read_record(one, "can0,can1")).differences == []
     other.with_suffix(".log").unlink()
-    assert Comparison(read_record(one), read_record(other)).beside()[2] == "+      1 interface 1 123#ABCD done"
+    assert (
+        Comparison(read_record(one), read_record(other)).lines()[1]
+        == "+                   1  only there: interface 1 123#ABCD: done"
+    )
 
 
 @pytest.mark.parametrize("names", ["can1,can0", "can1,can2", "ecu,tester"])
 def test_names_that_do_not_fit(tmp_path, names):
     """by their names where both runs have names for all, by their numbers where one has not"""
     one, other = runs_of_two_nodes(tmp_path, "can0", "can1")
-    assert Comparison(read_record(other, "can0,can1"), read_record(other, names)).difference.attempt == 0
-    assert Comparison(read_record(one), read_record(one, names)).difference is None
+    found = Comparison(read_record(other, "can0,can1"), read_record(other, names))
+    if names == "can1,can0":
+        assert found.lines() == ["The same frames in another order, first at attempt 0"]
+    else:
+        assert found.differences[0].attempt == 0
+    assert Comparison(read_record(one), read_record(one, names)).differences == []
 
 
 def test_receivers_in_another_order(tmp_path):
     """the same names at other numbers are the same receivers"""
     one = tmp_path / "a" / "can0.rec"
     run_of(tmp_path, "a", names="can0,can1,can2")
-    assert Comparison(read_record(one, "can0,can1,can2"), read_record(one, "can0,can2,can1")).difference is None
+    assert Comparison(read_record(one, "can0,can1,can2"), read_record(one, "can0,can2,can1")).differences == []
 
 
 def test_the_exit_status(tmp_path):
@@ -140,14 +262,76 @@ def test_both_on_one_axis(opened, tmp_path, width):  # noqa: F811
     shown = opened(one.replay, one.names, comparison=Comparison(one, other, "b.rec"))
     shown.size(width)
     assert shown.run("view.step") == 4
-    assert shown.run("at('title').textContent").startswith("First difference in attempt 4: ")
+    assert shown.run("at('title').textContent").startswith("1 difference, in attempt 4: other outcome: can0 104#04: ")
     assert shown.run("lanes.map(lane => lane.name)") == ["can0", "can1", "can0 \u2032", "can1 \u2032"]
-    chosen = "The first difference. The same attempt in b.rec: can0 104#04 destroyed (global bit)"
-    assert chosen in shown.run("at('chosen').textContent")
+    said = shown.run("at('chosen').textContent")
+    assert "other outcome: can0 104#04: done against destroyed (global bit), then done" in said
+    assert "The same in b.rec, attempt 5: can0 104#04 done" in said
     shown.key("ArrowLeft")
-    assert "The same attempt in b.rec: can0 103#03 done" in shown.run("at('chosen').textContent")
-    # Each attempt of the other run is where this one's of the same number begins; its last is past the end.
-    assert shown.run("[...other.places[0]].slice(0, 6).join() === [...axis.start].slice(0, 6).join()")
+    assert "The same in b.rec, attempt 3: can0 103#03 done" in shown.run("at('chosen').textContent")
+    # An attempt of the other run is where the same one is here; that which failed is at the border before its frame's last.
+    spans = "[0, 1].map(which => [...other.spans[0][which]].map(place => Math.round(100 * place)))"
+    assert shown.run(spans) == [[0, 100, 200, 300, 370, 400, 500], [100, 200, 300, 400, 430, 500, 600]]
     shown.key("t")
-    assert shown.run("byTime.isOn && [...other.places[1]].length") == 8
+    assert shown.run("byTime.isOn && [...other.spans[1][0]].length") == 7
     assert [shown.run(CUT), shown.run(WIDE), shown.run(WEAK)] == [[], 0, []]
+
+
+@pytest.mark.skipif(PROGRAM is None, reason="not installed: chromium")
+def test_from_one_difference_to_the_next_and_to_the_other_run(opened, tmp_path):  # noqa: F811
+    sent = cyclic("a", "100", 20) + cyclic("b", "200", 20, start=0.003)
+    faults = Faults().next(1, sender="b", skip=4).destroyed().next(1, sender="a", skip=9).destroyed()
+    one = run_at(tmp_path, "one", sent)
+    other = run_at(tmp_path, "other", [*sent, (0.3, "b", "300#")], faults)
+    shown = opened(one.replay, one.names, comparison=Comparison(one, other, "other.rec"), rates=Rates(500_000))
+    rows = "[...document.querySelectorAll('#differing .rows .row')].map(row => [...row.children].map(one => one.textContent))"
+    assert [row[:3] for row in shown.run(rows)] == [
+        ["9", "9", "other outcome"],
+        ["18", "19", "other outcome"],
+        ["", "42", "only there"],
+    ]
+    assert shown.run("at('tabs').firstChild.getAttribute('aria-selected')") == "true"
+    assert shown.run("view.step") == 9
+    shown.key("d")
+    assert shown.run("view.step") == 18
+    shown.key("D")
+    assert shown.run("view.step") == 9
+    shown.run("delete document.body.dataset.drawn")
+    shown.key("o")
+    shown.until("document.body?.dataset.drawn !== undefined")
+    # Its attempt of the same frame, with its own list, its own load, and the first run beside it.
+    assert shown.run("location.hash") == "#attempt=10&run=2"
+    assert shown.run("run.title") == "other.rec" and shown.run("run.other.title") == "run.rec"
+    assert shown.run("attemptOf[axis.count]") == 43 and shown.run("lanes[0].name") == "bus load"
+    assert [row[:3] for row in shown.run(rows)][-1] == ["42", "", "only here"]
+    shown.run("delete document.body.dataset.drawn")
+    shown.key("o")
+    shown.until("document.body?.dataset.drawn !== undefined")
+    assert shown.run("run.title") == "run.rec"
+
+
+@pytest.mark.skipif(PROGRAM is None, reason="not installed: chromium")
+def test_bars_of_the_other_run_are_as_long_as_its_attempts(opened, tmp_path):  # noqa: F811
+    """and so are its outages"""
+    sent = cyclic("a", "100", 30) + cyclic("b", "200", 30, start=0.003)
+    faults = Faults().next(32, sender="b", skip=10).destroyed()
+    one = run_at(tmp_path, "one", sent, auto_restart=2)
+    other = run_at(tmp_path, "other", sent, faults, auto_restart=2)
+    shown = opened(one.replay, one.names, comparison=Comparison(one, other, "other.rec"), rates=Rates(500_000))
+    starts, ends = shown.run("[0, 1].map(which => [...other.spans[1][which]])")
+    # A frame with one byte, of which the record has the end in microseconds; 3 bits follow it.
+    moments = [attempt.timestamp for attempt in other.attempts if attempt.outcome == "done"]
+    done = [
+        k
+        for k, attempt in enumerate(one for one in other.attempts if one.outcome != "idle")
+        if attempt.outcome == "done"
+    ]
+    assert [ends[k] - ends[done[0]] for k in done] == pytest.approx(
+        [moment - moments[0] for moment in moments], abs=2e-6
+    )
+    assert all(50 * 2e-6 < ends[k] - starts[k] < 75 * 2e-6 for k in done)
+    [[iface, _, begin, _, end]] = shown.run("run.other.away")
+    off = next(attempt.timestamp for attempt in other.attempts if attempt.off)
+    back = next(attempt.timestamp for attempt in other.attempts if attempt.restarted)
+    first = moments[0] - (ends[done[0]] - starts[done[0]] - 6e-6)
+    assert (iface, begin, end) == (1, pytest.approx(off - first, abs=1e-4), pytest.approx(back - first, abs=1e-5))

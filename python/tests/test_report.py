@@ -10,7 +10,8 @@ from array import array
 import pytest
 
 from canbusd import Bench, Faults
-from canbusd._page.report import KINDS, page, part
+from canbusd._page.report import page, part
+from canbusd._run.steps import KINDS
 from canbusd._run.story import duration_words, events_of, facts_of, heading_of
 from canbusd.record import parse_record
 

@@ -1,55 +1,123 @@
-// Another run on the axis of this one: a lane for each of its nodes, with its attempts at the places of those of the same
-// number, or by time at its own moments since its first.
+// Another run on the axis of this one: a lane for each of its nodes. By attempts each of its attempts is at the place of the
+// same one here, and what only it has at the place between those; by time all are where they were since its first.
 
 const other = {};
 on("taken", column => {
-  for (const name of ["kind", "iface", "line", "since"]) other[name] = column(run.other[name]);
+  for (const name of ["kind", "iface", "line", "partner", "place", "since", "took"]) other[name] = column(run.other[name]);
   other.count = other.kind.length;
-  const byAttempt = new Float64Array(other.count + 1);
-  for (let k = 0, step = 0; k <= other.count; k++) {
-    while (step < axis.count && (attemptOf[step + 1] <= k || !isAttempt(step))) step++;
-    byAttempt[k] = axes[0].start[Math.min(step, axis.count)];
-  }
-  other.places = [byAttempt, Float64Array.from([...other.since, (other.since[other.count - 1] ?? 0) + 1e-4])];
+  other.partnerOf = new Int32Array(attemptOf[axis.count] + 1).fill(-1);
+  other.partner.forEach((number, k) => { if (number) other.partnerOf[number - 1] = k; });
+  other.spans = [spansByAttempt(), [other.since, other.since.map((since, k) => since + other.took[k])]];
 });
-// The first attempt that may be seen: one that began before what is seen may reach into it.
-function firstSeen(places) {
-  let low = 0, high = other.count;
-  while (low < high) {
-    const middle = low + high >> 1;
-    if (places[middle] < view.from) low = middle + 1; else high = middle;
+// Where each attempt begins and ends. Those between two attempts here share a place over the border.
+const HALF = 0.3;
+function spansByAttempt() {
+  const starts = new Float64Array(other.count), ends = new Float64Array(other.count), { start } = axes[0], between = new Map();
+  const border = number => start[Math.min(stepOfAttempt(number) + (number >= attemptOf[axis.count]), axis.count)];
+  for (let k = 0; k < other.count; k++) {
+    if (!other.partner[k]) { between.set(other.place[k], [...between.get(other.place[k]) || [], k]); continue; }
+    const step = stepOfAttempt(other.partner[k] - 1);
+    [starts[k], ends[k]] = [start[step], start[step + 1]];
   }
-  return Math.max(low - 1, 0);
+  for (const [number, all] of between) {
+    const middle = border(number), each = 2 * HALF / all.length;
+    all.forEach((k, n) => { starts[k] = middle - HALF + n * each; ends[k] = starts[k] + each; });
+  }
+  return [starts, ends];
 }
 class OtherLane {
   constructor(number, name) {
     const title = `${name} in ${run.other.title}`;
-    Object.assign(this, { number, name: `${name} \u2032`, title, height: STRIP + SPACE });
+    Object.assign(this, { number, name: `${name} \u2032`, title, height: STRIP + BAND + SPACE });
   }
   draw(plot, top, fills) {
-    const places = other.places[Number(byTime.isOn)], kinds = new Uint8Array(plot.width);
-    for (let k = firstSeen(places); k < other.count && places[k] < view.to; k++) {
-      if (other.iface[k] !== this.number) continue;
-      const from = placeOf(plot, places[k]), to = time.isInstant ? from + 3 : placeOf(plot, places[k + 1]);
-      if (to < 0 || to <= from) continue;
-      const left = Math.max(Math.floor(from), 0), room = Math.min(to, plot.width) - left;
-      if (room < 2) { kinds[left] = Math.max(kinds[left], 1 + other.kind[k]); continue; }
-      block(plot.pen, fills[KINDS[other.kind[k]]], left, top + 2, Math.max(room - (room > 5 ? 1 : 0), 1), STRIP - 4);
-      plate(plot.pen, [run.other.texts[other.line[k]].split(" ")[1]], left, room, top + STRIP / 2, theme[KINDS[other.kind[k]]], theme.on);
+    const [starts, ends] = other.spans[Number(byTime.isOn)], kinds = new Uint8Array(plot.width);
+    // What only the other run has is drawn over its neighbours.
+    for (const isPaired of byTime.isOn ? [null] : [true, false]) {
+      for (let k = 0; k < other.count; k++) {
+        if (other.iface[k] !== this.number || starts[k] > view.to || isPaired !== null && isPaired !== other.partner[k] > 0) continue;
+        const from = placeOf(plot, starts[k]), to = time.isInstant ? from + 3 : placeOf(plot, ends[k]);
+        if (to < 0 || from >= plot.width) continue;
+        const left = Math.max(Math.floor(from), 0), room = Math.min(to, plot.width) - left;
+        if (room < 2) kinds[left] = Math.max(kinds[left], 1 + other.kind[k]);
+        else this.bar(plot, k, left, Math.max(room - (room > 5 ? 1 : 0), 1), top, fills);
+      }
     }
     // Where there are more attempts than pixels, the worst of each.
-    kinds.forEach((kind, x) => { if (kind) block(plot.pen, fills[KINDS[kind - 1]], x, top + 2, 1, STRIP - 4); });
+    kinds.forEach((kind, x) => { if (kind) block(plot.pen, fills[KINDS[kind - 1]], x, top + 2, byTime.lengthOf ? 2 : 1, STRIP - 4); });
+    this.outages(plot, top + STRIP + 2, fills);
     across(plot, top + this.height - 4, theme.line);
+  }
+  bar(plot, k, left, wide, top, fills) {
+    const frame = run.other.texts[other.line[k]].slice(run.other.names[this.number].length + 1).split(" ")[0];
+    block(plot.pen, fills[KINDS[other.kind[k]]], left, top + 2, wide, STRIP - 4);
+    plate(plot.pen, [frame, frame.split("#")[0]], left, wide, top + STRIP / 2, theme[KINDS[other.kind[k]]], theme.on);
+  }
+  outages(plot, top, fills) {
+    block(plot.pen, theme.line, 0, top + BAND - 3, plot.width, 2);
+    for (const [iface, first, begin, last, end] of run.other.away) {
+      if (iface !== this.number) continue;
+      const border = number => number < other.count ? other.spans[0][0][number] : axis.length;
+      const [from, to] = (byTime.isOn ? [begin, end] : [border(first), border(last)]).map(place => placeOf(plot, place));
+      const left = Math.max(from, 0), wide = Math.min(to, plot.width) - left;
+      if (to >= 0 && from < plot.width) stateBar(plot.pen, 3, left, top, Math.max(wide, 2), fills);
+    }
   }
   values() { return []; }
 }
-on("lanes made", () => lanes.push(...run.other.names.map((name, i) => new OtherLane(i, name))));
+
+// The list of differences, and the way to the next one, or to the other run.
+
+function nextDifference(by) {
+  const places = run.other.differences.map(([, attempt]) => stepOfAttempt(attempt));
+  const next = by > 0 ? places.find(step => step > view.step) : places.findLast(step => step < view.step);
+  if (next !== undefined) choose(next);
+}
+function showOtherRun() {
+  const number = attemptOf[view.step], there = other.partnerOf[number] ?? -1;
+  clearTimeout(hashDue);
+  history.replaceState(null, "", `#attempt=${there < 0 ? number : there}${hashWords().get("run") === "2" ? "" : "&run=2"}`);
+  location.reload();
+}
+function differenceList() {
+  const wide = `${Math.max(8, grouped(Math.max(axis.count, other.count)).length)}ch`;
+  const list = new Rolling("differing", [["attempt", wide, "n"], ["there", wide, "n h"], ["kind", "14ch"], ["what", "minmax(0, 1fr)", "w"]],
+    ([kind, here, there, words]) => [kind === "only there" ? "" : grouped(here), kind === "only here" ? "" : grouped(there), kind, words],
+    one => choose(stepOfAttempt(one[1])));
+  list.stepOf = one => stepOfAttempt(one[1]);
+  list.isChosen = one => list.stepOf(one) === view.step;
+  return list;
+}
+on("lanes made", () => {
+  lanes.push(...run.other.names.map((name, i) => new OtherLane(i, name)));
+  lists["tab-differences"] = differenceList();
+  FINDERS["tab-differences"] = () => [run.other.differences, run.other.differences.length];
+});
 on("worded", () => {
   at("facts").append(` Beside it, with \u2032: ${run.other.title}, ${times(other.count, "attempt")}.`);
+  const button = (key, text, title) => {
+    const made = element("button", text, { type: "button", title: `${title} (${key})` });
+    made.dataset.key = key;
+    return made;
+  };
+  at("number").parentElement.before(button("D", "\u25c0 difference", "previous difference"),
+    button("d", "difference \u25b6", "next difference"), button("o", "other run", `all of ${run.other.title}, with this one beside it`));
+  Object.assign(KEYS, { d: () => nextDifference(1), D: () => nextDifference(-1), o: showOtherRun });
+  const tab = element("button", `Differences ${grouped(run.other.differences.length)}`, { type: "button" });
+  tab.setAttribute("role", "tab");
+  tab.setAttribute("aria-controls", "tab-differences");
+  at("tabs").prepend(tab);
+  const panel = element("div", element("div", [], { id: "differing", className: "rolling" }), { id: "tab-differences" });
+  panel.setAttribute("role", "tabpanel");
+  panel.setAttribute("aria-label", "Differences");
+  at("lists").append(panel);
 });
 on("chosen", made => {
-  const number = attemptOf[view.step], line = run.other.texts[other.line[number]];
   if (!isAttempt(view.step)) return;
-  const isFirst = number === run.other.difference ? "The first difference. " : "";
-  made.push(element("p", [isFirst, `The same attempt in ${run.other.title}: `, line === undefined ? "none" : element("code", line)]));
+  const number = attemptOf[view.step], there = other.partnerOf[number], line = run.other.texts[other.line[there]];
+  for (const [kind, here, , words] of run.other.differences) {
+    if (here === number) made.push(element("p", [element("b", `${kind}: `, { className: "bad" }), words]));
+  }
+  made.push(element("p", there < 0 ? `Not in ${run.other.title}.`
+    : [`The same in ${run.other.title}, attempt ${grouped(there)}: `, element("code", line)]));
 });

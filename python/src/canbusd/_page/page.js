@@ -10,9 +10,10 @@ function choose(step) {
   hashDue = setTimeout(sayHash, 150);
   sayStep();
 }
+const hashWords = () => new URLSearchParams(location.hash.slice(1));
 function sayHash() {
   const hash = isAttempt(view.step) ? `#attempt=${attemptOf[view.step]}` : `#step=${view.step}`;
-  history.replaceState(null, "", hash);
+  history.replaceState(null, "", hash + (hashWords().get("run") === "2" ? "&run=2" : ""));
 }
 function sayStep() {
   placeCursor();
@@ -49,7 +50,7 @@ function stepOfAttempt(number) {
   return Math.min(low, Math.max(axis.count - 1, 0));
 }
 function stepInHash(hash) {
-  const wanted = /^#(step|attempt)=(\d+)$/.exec(hash);
+  const wanted = /^#(step|attempt)=(\d+)(?:&|$)/.exec(hash);
   if (!wanted) return null;
   return wanted[1] === "step" ? Math.min(Number(wanted[2]), Math.max(axis.count - 1, 0)) : stepOfAttempt(Number(wanted[2]));
 }
@@ -134,7 +135,7 @@ function print(isOn) {
 }
 
 async function begin() {
-  take(await unpack(at("run").textContent));
+  take(await unpack(at(hashWords().get("run") === "2" && at("second").textContent ? "second" : "run").textContent));
   showWords();
   makeLists();
   makeLanes();
@@ -144,7 +145,7 @@ async function begin() {
   view.step = stepInHash(location.hash) ?? run.first;
   sayAxis();
   showTab = makeTabs("tabs", showList);
-  showTab("tab-events");
+  showTab(run.other ? "tab-differences" : "tab-events");
   keepDrawn(show, print);
   document.body.dataset.drawn = Math.round(performance.now());
 }

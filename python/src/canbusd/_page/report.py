@@ -24,11 +24,12 @@ from array import array
 from collections.abc import Iterable, Sequence
 from typing import Any, Optional
 
+from canbusd._page.other import other_of
 from canbusd._page.wire import wire_of
 from canbusd._process.rates import Rates
 from canbusd._run.comparison import Comparison
 from canbusd._run.run_parts import Socket
-from canbusd._run.steps import IDLE, KINDS, RESTART, Items, Places
+from canbusd._run.steps import IDLE, RESTART, Items, Places
 from canbusd._run.story import Event, events_of, facts_of, heading_of, verdict_words
 from canbusd._session.protocol import STATES
 from canbusd.frames import Frame, meaning
@@ -310,7 +311,10 @@ def data_of(
     if rates is not None:
         header["wire"] = wire_of(run, timeline, rates, block.column)
     if comparison is not None:
-        header.update(compared(run, comparison, block, places))
+        header["heading"] = comparison.heading()
+        header["other"] = other_of(comparison, rates, block.column)
+        if comparison.differences:
+            header["first"] = places[run.steps.place_of(min(comparison.differences[0].attempt, run.attempts - 1)) or 0]
     return block.packed(header)
 
 
@@ -325,16 +329,6 @@ def ends_of(run: Replay) -> Json:
     }
 
 
-def compared(run: Replay, comparison: Comparison, block: Block, places: Sequence[int]) -> Json:
-    """Returns the header's facts of two runs: the other one, a heading of both, and where they first differ."""
-    other = comparison.columns(KINDS, block.column)
-    step = run.steps.place_of(other["difference"])
-    header: Json = {"heading": comparison.heading(), "other": other}
-    if step is not None:
-        header["first"] = places[step]
-    return header
-
-
 def page(
     run: Replay,
     names: Sequence[str],
@@ -347,12 +341,19 @@ def page(
 ) -> str:
     """Returns the page of a run, with its first items, and with the rule of each attempt, if they are given.
 
-    With the bit rates of its bus it has the bus load, and with a comparison the other run and where they first differ.
+    With the bit rates of its bus it has the bus load, and with a comparison the other run, which it shows as well, and how
+    they differ.
     """
     data = data_of(run, names, title, most_items, database, rules, rates, comparison)
+    second = ""
+    if comparison is not None:
+        record, reversed_one = comparison.records[1], comparison.reversed(title)
+        second = data_of(
+            record.replay, reversed_one.names[0], comparison.title, most_items, database, (), rates, reversed_one
+        )
     more = [*(["wire"] if rates is not None else []), *(["other"] if comparison is not None else [])]
     scripts = [f"{name}.js" for name in (*SCRIPTS, *more, "page")]
-    return filled("page.html", scripts).replace("/*RUN*/", data)
+    return filled("page.html", scripts).replace("/*RUN*/", data).replace("/*SECOND*/", second)
 
 
 def filled(name: str, scripts: Sequence[str], styles: Sequence[str] = ("page.css",)) -> str:

@@ -1,36 +1,43 @@
-"""Two runs beside each other: where they first differ, and the columns by which the page of one shows the other.
+"""Two runs beside each other: the differences of their frames.
 
+A frame is the same in both by its sender, its identifier and their order, so that one that is sent again is one difference.
 Interfaces are compared by their names where both runs have names for all of theirs, and else by their numbers.
 """
 
+import collections
 import functools
 import itertools
-from collections.abc import Callable, Iterable, Sequence
-from typing import Any, NamedTuple, Optional
+from collections.abc import Iterable, Iterator, Sequence
+from typing import Literal, NamedTuple, Optional
 
+from canbusd._run.alignment import Pair, Sent, pairs_of
+from canbusd._run.steps import RESTART, numbers_in
 from canbusd._text import times
 from canbusd.record import Attempt, Record, attempts_of, is_named, number_named
 
-Column = list[Any]
-#: What of an attempt is compared, and how it is named: all but its moment, which no two runs of a server share.
-COMPARED = {
-    "winner": "sender",
-    "frame": "frame",
-    "outcome": "outcome",
-    "fault": "fault",
-    "accepted": "who accepted it",
-    "off": "who went bus off",
-    "restarted": "who was restarted",
-}
-# How many attempts of both are shown before the first difference and after it.
-AROUND = 3
+Kind = Literal["only here", "only there", "other data", "other outcome", "later", "earlier", "restarts"]
+#: By how many seconds the moments of a frame may differ, counted from the first frame of both runs.
+TOLERANCE = 0.01
+# How many differences are listed as text.
+MOST_LISTED = 1000
+SIGNS = {"only here": "-", "only there": "+"}
 
 
 class Difference(NamedTuple):
-    """The first attempt in which two runs differ, by its number, and in what."""
+    """A difference of a frame."""
 
+    kind: Kind
+    #: The attempt of the first run in which it is; of a frame that only the second has the one that follows it.
     attempt: int
+    #: The same in the second run.
+    other: int
     words: str
+
+    def line(self) -> str:
+        """Returns it in a line: the attempts of both runs, its kind and its words."""
+        here = "" if self.kind == "only there" else f"{self.attempt:,}"
+        there = "" if self.kind == "only here" else f"{self.other:,}"
+        return f"{SIGNS.get(self.kind, '!')} {here:>9} {there:>9}  {self.kind}: {self.words}"
 
 
 def names_of_both(one: Record, other: Record) -> tuple[Sequence[str], Sequence[str]]:
@@ -55,72 +62,183 @@ def tried(record: Record, names: Sequence[str]) -> list[Attempt]:
 
 
 class Comparison:
-    """Two runs, with names by which they can be compared; `title` is how a page calls the other one."""
+    """Two runs, with names by which they can be compared; `title` is how a page calls the second one."""
 
-    def __init__(self, one: Record, other: Record, title: str = "") -> None:
-        self.title, self.names = title, names_of_both(one, other)
-        #: The attempts of each run that had a frame.
-        self.one, self.other = map(tried, (one, other), self.names)
+    def __init__(self, one: Record, other: Record, title: str = "", tolerance: float = TOLERANCE) -> None:
+        self.records, self.title, self.tolerance = (one, other), title, tolerance
+        self.names = names_of_both(one, other)
+        self.one, self.other = map(tried, self.records, self.names)
+        self._rows = list(pairs_of(self.one, self.other))
+
+    def reversed(self, title: str) -> "Comparison":
+        """Returns the comparison of the second run with the first, which has this title."""
+        return Comparison(self.records[1], self.records[0], title, self.tolerance)
 
     @functools.cached_property
-    def difference(self) -> Optional[Difference]:
-        """Where the runs first differ; None where both made the same attempts."""
-        for number, (attempt, same) in enumerate(zip(self.one, self.other)):
-            found = [what for name, what in COMPARED.items() if value_of(attempt, name) != value_of(same, name)]
-            if found:
-                return Difference(number, f"{', '.join(found)}: {line(attempt)} against {line(same)}")
-        more = len(self.other) - len(self.one)
-        if not more:
-            return None
-        longer = "the second run" if more > 0 else "the first run"
-        return Difference(min(len(self.one), len(self.other)), f"{longer} has {times(abs(more), 'attempt')} more")
+    def partners(self) -> dict[int, int]:
+        """The attempts of the second run that are the same as some of the first, from the last of each frame on."""
+        found: dict[int, int] = {}
+        for pair in itertools.chain(*self._rows):
+            if pair.one is not None and pair.other is not None:
+                found.update(zip(reversed(pair.other.attempts), reversed(pair.one.attempts)))
+        return found
+
+    @functools.cached_property
+    def differences(self) -> list[Difference]:
+        """All differences, in their order."""
+        # Where a frame that only the other run has would be.
+        here, there = places(self.partners, len(self.other)), places(reversed_pairs(self.partners), len(self.one))
+        found = [one for row in self._rows for one in self._in_row(row, here, there)]
+        return sorted([*found, *self._restarts()], key=lambda one: (one.attempt, one.other))
+
+    def _in_row(self, row: Sequence[Pair], here: Sequence[int], there: Sequence[int]) -> Iterator[Difference]:
+        shown_late = 0.0
+        for one, other in row:
+            if other is None and one is not None:
+                words = f"{told(self.one, one)}: {outcomes(self.one, one)}"
+                yield Difference("only here", one.first, there[one.first], words)
+            elif one is None and other is not None:
+                words = f"{told(self.other, other)}: {outcomes(self.other, other)}"
+                yield Difference("only there", here[other.first], other.first, words)
+            elif one is not None and other is not None:
+                late = self._late(one, other)
+                is_moved = abs(late) > self.tolerance and abs(late - shown_late) > self.tolerance
+                shown_late = late if is_moved else shown_late if abs(late) > self.tolerance else 0.0
+                yield from self._of_pair(one, other, late if is_moved else 0.0)
+
+    def _of_pair(self, one: Sent, other: Sent, late: float) -> Iterator[Difference]:
+        texts = told(self.one, one), told(self.other, other)
+        ends = outcomes(self.one, one), outcomes(self.other, other)
+        kinds: list[tuple[Kind, str]] = []
+        if texts[0] != texts[1]:
+            kinds.append(("other data", f"{texts[0]} against {texts[1]}"))
+        if ends[0] != ends[1]:
+            kinds.append(("other outcome", f"{ends[0]} against {ends[1]}"))
+        else:
+            # What a node missed in its outage is a part of that.
+            gone = self._away[0][one.first] | self._away[1][other.first]
+            takers = accepted(self.one, one, gone), accepted(self.other, other, gone)
+            if takers[0] != takers[1]:
+                kinds.append(("other outcome", f"accepted by {named(takers[0])} against {named(takers[1])}"))
+        if late:
+            kinds.append(
+                (
+                    "later" if late > 0 else "earlier",
+                    f"{'later' if late > 0 else 'earlier'} by {abs(late) * 1000:,.3f} ms",
+                )
+            )
+        if kinds:
+            about = "" if kinds[0][0] == "other data" else f"{texts[0]}: "
+            yield Difference(kinds[0][0], one.first, other.first, about + "; ".join(words for _, words in kinds))
+
+    def _restarts(self) -> Iterator[Difference]:
+        counts = [
+            collections.Counter(name for attempt in attempts_of(record.replay, names) for name in attempt.restarted)
+            for record, names in zip(self.records, self.names)
+        ]
+        for name in sorted(set(counts[0]) | set(counts[1])):
+            if counts[0][name] != counts[1][name]:
+                words = f"{name} was restarted {times(counts[0][name], 'time')} against {counts[1][name]}"
+                yield Difference("restarts", max(len(self.one) - 1, 0), max(len(self.other) - 1, 0), words)
+
+    def _late(self, one: Sent, other: Sent) -> float:
+        moments = self.one[one.attempts[-1]].timestamp, self.other[other.attempts[-1]].timestamp
+        return moments[1] - moments[0] - self._shift
+
+    @functools.cached_property
+    def _shift(self) -> float:
+        """By how much the second run is later as a whole: at the first frame of the first run that both have."""
+        pairs = (pair for row in self._rows for pair in row)
+        both = [(one, other) for one, other in pairs if one is not None and other is not None]
+        if not both:
+            return 0.0
+        one, other = min(both, key=lambda pair: pair[0].first)
+        return self.other[other.attempts[-1]].timestamp - self.one[one.attempts[-1]].timestamp
+
+    @functools.cached_property
+    def _away(self) -> "list[list[frozenset[str]]]":
+        return [away(record, names) for record, names in zip(self.records, self.names)]
+
+    @property
+    def reordered(self) -> Optional[int]:
+        """The first attempt of the first run before which the second has one that follows it here; None if there is none."""
+        last = -1
+        for other in sorted(self.partners):
+            if self.partners[other] < last:
+                return self.partners[other]
+            last = self.partners[other]
+        return None
 
     def heading(self) -> str:
-        """Returns in one line where the runs first differ."""
-        if self.difference is None:
-            return f"No difference in {times(len(self.one), 'attempt')}"
-        return f"First difference in attempt {self.difference.attempt:,}: {self.difference.words}"
+        """Returns in one line how the runs differ."""
+        if self.differences:
+            first = self.differences[0]
+            many = times(len(self.differences), "difference")
+            return f"{many}, {'in' if len(self.differences) == 1 else 'first in'} attempt {first.attempt:,}: {first.kind}: {first.words}"
+        if self.reordered is not None:
+            return f"The same frames in another order, first at attempt {self.reordered:,}"
+        return f"No difference in {times(len(self.one), 'attempt')}"
 
-    def beside(self) -> list[str]:
-        """Returns the lines that show where they first differ, with the attempts around it: `-` the first, `+` the second."""
-        lines = [self.heading()]
-        if self.difference is None:
-            return lines
-        first = self.difference.attempt
-        for number in range(max(0, first - AROUND), first + AROUND + 1):
-            left, right = ("".join(map(line, run[number : number + 1])) for run in (self.one, self.other))
-            if left == right:
-                lines += [f"  {number:6} {left}"] if left else []
-            else:
-                lines += [f"{sign} {number:6} {text}" for sign, text in (("-", left), ("+", right)) if text]
-        return lines
-
-    def columns(self, kinds: Sequence[str], column: Callable[[str, Iterable[float]], Column]) -> dict[str, Any]:
-        """Returns what the page of the first run has of the other: names, texts, and a number of each for an attempt."""
-        _, names = self.names
-        texts: dict[str, int] = {}
-        places = [texts.setdefault(line(attempt), len(texts)) for attempt in self.other]
-        first = self.other[0].timestamp if self.other else 0.0
-        return {
-            "title": self.title,
-            "names": list(names),
-            "difference": None if self.difference is None else self.difference.attempt,
-            "kind": column("B", (kinds.index(attempt.outcome) for attempt in self.other)),
-            "iface": column("B", (names.index(attempt.winner) for attempt in self.other)),
-            "line": column("I", places),
-            "since": column("d", (attempt.timestamp - first for attempt in self.other)),
-            "texts": list(texts),
-        }
+    def lines(self) -> list[str]:
+        """Returns the heading and the differences as lines: `-` the first run only, `+` the second, `!` both."""
+        more = len(self.differences) - MOST_LISTED
+        lines = [one.line() for one in self.differences[:MOST_LISTED]]
+        return [self.heading(), *lines, *([f"and {times(more, 'difference')} more"] if more > 0 else [])]
 
 
-def value_of(attempt: Attempt, name: str) -> object:
-    """What of an attempt is compared; of interfaces it is which they are, in whatever order their buses have them."""
-    value = getattr(attempt, name)
-    return set(value) if isinstance(value, tuple) else value
+def places(partners: dict[int, int], count: int) -> list[int]:
+    """Returns for each attempt of a run the one of the other run that follows those before it."""
+    last, found = -1, []
+    for attempt in range(count):
+        last = max(last, partners.get(attempt, -1))
+        found.append(last + (attempt not in partners))
+    return found
 
 
-def line(attempt: Attempt) -> str:
-    """An attempt in short: `can0 123#11 destroyed (global bit)`."""
+def reversed_pairs(partners: dict[int, int]) -> dict[int, int]:
+    """Returns the attempts of the first run with those of the second."""
+    return {one: other for other, one in partners.items()}
+
+
+def told(run: Sequence[Attempt], sent: Sent) -> str:
+    """A frame with its sender: `can0 123#11`."""
+    attempt = run[sent.first]
+    return f"{attempt.winner} {attempt.frame}"
+
+
+def outcomes(run: Sequence[Attempt], sent: Sent) -> str:
+    """What became of a frame in each of its attempts: `destroyed (global bit), then done`."""
+    found = []
+    for outcome, same in itertools.groupby(outcome_of(run[place]) for place in sent.attempts):
+        many = len(list(same))
+        found.append(outcome if many == 1 else f"{many} times {outcome}")
+    return ", then ".join(found)
+
+
+def outcome_of(attempt: Attempt) -> str:
+    """The outcome of an attempt, with its fault and who went bus off."""
     fault = "" if attempt.fault in ("good", attempt.outcome) else f" ({attempt.fault})"
-    off = f", {' and '.join(attempt.off)} bus off" if attempt.off else ""
-    return f"{attempt.winner} {attempt.frame} {attempt.outcome}{fault}{off}"
+    return attempt.outcome + fault + (f", {' and '.join(sorted(attempt.off))} bus off" if attempt.off else "")
+
+
+def accepted(run: Sequence[Attempt], sent: Sent, gone: "frozenset[str]") -> list[set[str]]:
+    """Who accepted a frame in each of its attempts, but for these, whatever the numbers of these interfaces are."""
+    return [set(run[place].accepted) - gone for place in sent.attempts]
+
+
+def away(record: Record, names: Sequence[str]) -> "list[frozenset[str]]":
+    """Returns for each attempt of a run who was bus off then."""
+    steps, gone = record.replay.steps, frozenset[str]()
+    found = []
+    for kind, iface, off in zip(steps.kinds, steps.ifaces, steps.off):
+        if kind == RESTART:
+            gone -= {names[iface]}
+            continue
+        found.append(gone)
+        gone = gone.union(names[number] for number in numbers_in(off)) if off else gone
+    return found
+
+
+def named(takers: Iterable[set[str]]) -> str:
+    """Who accepted a frame, in words."""
+    return ", then ".join(" and ".join(sorted(one)) or "nobody" for one in takers)

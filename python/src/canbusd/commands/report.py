@@ -9,11 +9,11 @@ from typing import Optional
 
 from canbusd._process.rates import Rates
 from canbusd._run import drawings, summary
-from canbusd._run.comparison import Comparison
+from canbusd._run.comparison import TOLERANCE, Comparison
 from canbusd._run.fault_rules_of_run import FaultsFile, deciders, faults_beside, with_names
 from canbusd._run.slots import load_of, load_words, slots_of
 from canbusd._text import shown
-from canbusd.commands import add_database, add_rates, database_of, digits, rates_of
+from canbusd.commands import add_database, add_rates, database_of, digits, least_zero, rates_of
 from canbusd.commands._command import BadWords, add_record, note_of_names, replayed
 from canbusd.record import BadRecord, Record, is_named
 
@@ -26,6 +26,9 @@ and items, which follow it. A record that breaks the rules of the bus is refused
 With --bitrate each attempt takes the time of its bits, and its moment is the end of the frame that it tries, as in a
 record of `canbusd bench --bitrate`: the page shows the bus load over time and the identifiers that take most of it, how
 long each frame was on the wire, and how long it waited from the first attempt in which it took part.
+
+Of two records the frames are aligned by sender, identifier and order, so that one that is sent again is one difference. A
+frame is only in one of the runs, has other data, another outcome, or is later or earlier by more than --tolerance.
 
   canbusd bench --record run.rec can0,can1 < first_frame.bench
   canbusd report --names can0,can1 run.rec > run.html
@@ -41,10 +44,20 @@ def add_arguments(parser: argparse.ArgumentParser) -> None:
     """Adds the words of the command."""
     add_record(parser)
     parser.add_argument(
-        "other", nargs="?", metavar="OTHER", help="a second record: where the runs first differ, and both on one axis"
+        "other", nargs="?", metavar="OTHER", help="a second record: how the runs differ, and both on one axis"
     )
     parser.add_argument(
-        "--exit-code", action="store_true", help="with OTHER: the exit status is 1 where the runs differ (default: 0)"
+        "--tolerance",
+        type=least_zero,
+        default=1000 * TOLERANCE,
+        metavar="MS",
+        help="with OTHER: moments of a frame that differ by no more are the same, from the first frame of both on "
+        f"(default {1000 * TOLERANCE:g})",
+    )
+    parser.add_argument(
+        "--exit-code",
+        action="store_true",
+        help="with OTHER: the exit status is 1 where the runs differ in more than their order (default: 0)",
     )
     add_database(parser)
     parser.add_argument(
@@ -76,12 +89,12 @@ def run(options: argparse.Namespace) -> int:
     named, rules = with_rules(record, faults, options)
     note_of_names("canbusd report", (options.record, named), *([] if other is None else [(options.other, other)]))
     title = "" if other is None else title_beside(options.record, options.other)
-    comparison = None if other is None else Comparison(record, other, title)
+    comparison = None if other is None else Comparison(record, other, title, options.tolerance / 1000)
     if has_drawings(options):
         write_drawings(record, comparison, options, rates)
     else:
         write_page(named, rules, comparison, options, rates)
-    return int(options.exit_code and comparison is not None and comparison.difference is not None)
+    return int(options.exit_code and comparison is not None and bool(comparison.differences))
 
 
 def has_drawings(options: argparse.Namespace) -> bool:
@@ -107,7 +120,7 @@ def write_drawings(
     first = options.first or 0
     last = record.replay.attempts if options.last is None else options.last
     if options.text:
-        write(summary.story(record, MOST_EVENTS) if comparison is None else comparison.beside())
+        write(summary.story(record, MOST_EVENTS) if comparison is None else comparison.lines())
         write([load_words(load_of(slots_of(record.replay)))] if rates else [])
     if options.text or options.arbitration:
         write(drawings.arbitration(record, first, last))

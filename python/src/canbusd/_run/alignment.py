@@ -1,0 +1,113 @@
+"""Which frames of two runs are the same: those of one sender with one identifier are aligned, in their order.
+
+In each such row the frames with the same data are found by the algorithm of Myers (An O(ND) Difference Algorithm, 1986);
+what is between these is paired in its order.
+"""
+
+from collections.abc import Iterator, Sequence
+from typing import NamedTuple, Optional
+
+from canbusd.record import Attempt
+
+#: How many frames that only one of the runs has are found in a row; rows that differ more are paired in their order.
+MOST_EDITS = 400
+Place = Optional[int]
+
+
+class Sent(NamedTuple):
+    """A frame of a run: its attempts, by their numbers in the run."""
+
+    attempts: list[int]
+
+    @property
+    def first(self) -> int:
+        """Its first attempt."""
+        return self.attempts[0]
+
+
+class Pair(NamedTuple):
+    """A frame of the first run, and the same one of the second; only one of them where the other run has it not."""
+
+    one: Optional[Sent]
+    other: Optional[Sent]
+
+
+def pairs_of(one: Sequence[Attempt], other: Sequence[Attempt]) -> Iterator[list[Pair]]:
+    """Yields the pairs of frames of each sender and identifier, in their order."""
+    left, right = rows_of(one), rows_of(other)
+    for key in {**left, **right}:
+        rows = left.get(key, []), right.get(key, [])
+        texts = [[run[sent.first].frame for sent in row] for run, row in zip((one, other), rows)]
+        yield [Pair(None if k is None else rows[0][k], None if n is None else rows[1][n]) for k, n in aligned(*texts)]
+
+
+def rows_of(attempts: Sequence[Attempt]) -> dict[tuple[str, str], list[Sent]]:
+    """Returns the frames of a run by their senders and identifiers."""
+    rows: dict[tuple[str, str], list[Sent]] = {}
+    last: dict[str, tuple[int, Sent]] = {}
+    for place, attempt in enumerate(attempts):
+        number, sent = last.get(attempt.winner, (-1, None))
+        if sent is not None and number == attempt.number:
+            sent.attempts.append(place)
+            continue
+        sent = Sent([place])
+        last[attempt.winner] = attempt.number, sent
+        rows.setdefault((attempt.winner, attempt.frame.split("#")[0]), []).append(sent)
+    return rows
+
+
+def aligned(one: Sequence[str], other: Sequence[str]) -> list[tuple[Place, Place]]:
+    """Returns the places of both rows in pairs; None where one of them has nothing."""
+    most = min(len(one), len(other))
+    begin = next((k for k in range(most) if one[k] != other[k]), most)
+    end = next((k for k in range(most - begin) if one[-1 - k] != other[-1 - k]), most - begin)
+    middle = common(one[begin : len(one) - end], other[begin : len(other) - end])
+    found: list[tuple[Place, Place]] = [(k, k) for k in range(begin)]
+    last = begin, begin
+    for pair in [*middle, (len(one) - end - begin, len(other) - end - begin)]:
+        here = begin + pair[0], begin + pair[1]
+        found += between(last, here)
+        if here[0] < len(one) - end:
+            found.append(here)
+        last = here[0] + 1, here[1] + 1
+    return found + [(len(one) - k, len(other) - k) for k in range(end, 0, -1)]
+
+
+def between(first: tuple[int, int], end: tuple[int, int]) -> Iterator[tuple[Place, Place]]:
+    """Yields pairs of what is between frames that are the same, in its order."""
+    left, right = range(first[0], end[0]), range(first[1], end[1])
+    paired = min(len(left), len(right))
+    yield from zip(left, right)
+    yield from ((place, None) for place in left[paired:])
+    yield from ((None, place) for place in right[paired:])
+
+
+def common(one: Sequence[str], other: Sequence[str]) -> list[tuple[int, int]]:
+    """Returns the places of a longest common part; none where the rows differ by more than MOST_EDITS."""
+    # By its diagonal, how far into the first row the edits up to now reach; and that before each number of edits.
+    ends, before = {1: 0}, []
+    for edits in range(min(len(one) + len(other), MOST_EDITS) + 1):
+        before.append(dict(ends))
+        for diagonal in range(-edits, edits + 1, 2):
+            is_down = diagonal == -edits or diagonal != edits and ends[diagonal - 1] < ends[diagonal + 1]
+            x = ends[diagonal + 1] if is_down else ends[diagonal - 1] + 1
+            while x < len(one) and x - diagonal < len(other) and one[x] == other[x - diagonal]:
+                x += 1
+            ends[diagonal] = x
+            if x >= len(one) and x - diagonal >= len(other):
+                return walked_back(before, len(one), len(other))
+    return []
+
+
+def walked_back(before: Sequence[dict[int, int]], x: int, y: int) -> list[tuple[int, int]]:
+    """Returns the pairs on the way back from the end of both rows."""
+    pairs = []
+    for edits in range(len(before) - 1, -1, -1):
+        ends, diagonal = before[edits], x - y
+        is_down = diagonal == -edits or diagonal != edits and ends[diagonal - 1] < ends[diagonal + 1]
+        last = diagonal + 1 if is_down else diagonal - 1
+        while x > ends[last] and y > ends[last] - last:
+            x, y = x - 1, y - 1
+            pairs.append((x, y))
+        x, y = ends[last], ends[last] - last
+    return pairs[::-1]
