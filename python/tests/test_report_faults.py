@@ -150,7 +150,7 @@ def test_the_one_interface_without_a_name(reported, tmp_path):
     _, page, said = reported("a.rec", "a.rec")
     header, _ = data_of(page)
     assert (rules_on(page), header["names"], said) == ([rule, ""], ["a", "interface 1"], "")
-    assert header["other"]["difference"] is None
+    assert header["other"]["differences"] == []
 
 
 @pytest.mark.parametrize("names, rule", [("a,b,c", "always from a,b lastbit"), ("a,b", "always from b,c lastbit")])
