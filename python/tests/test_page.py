@@ -1,6 +1,9 @@
 """The page of a run in a browser: keys, mouse, words, colours and widths. Left out where there is no Chromium."""
 
 import base64
+import csv
+import io
+import json
 
 import pytest
 from browser import PROGRAM, Browser
@@ -503,3 +506,109 @@ def test_tabs_are_chosen_by_arrow_keys(shown):
     assert shown.run("document.activeElement.textContent") == "Attempts 32"
     assert shown.run("tab") == "tab-attempts"
     assert shown.run(ATTEMPT) == 31
+
+
+def test_a_clean_run_begins_with_its_attempts(opened):
+    """there are no events to be seen"""
+    shown = opened(
+        record_of(
+            "open 0 256 = socket 0", "send 0 123# = number 0", "attempt 0.000001 good = tried 0 0 123# done 0002 0000"
+        )
+    )
+    assert shown.run("[tab, at('tab-attempts').hidden, at('tab-events').hidden]") == ["tab-attempts", False, True]
+
+
+def test_moments_of_the_clock_are_times_of_day(opened):
+    start = 1_732_540_000
+    shown = opened(
+        record_of(
+            "open 0 256 = socket 0",
+            "send 0 123# = number 0",
+            f"attempt {start}.500000 good = tried 0 0 123# done 0002 0000",
+        )
+    )
+    # As the browser's own formatter of dates has it.
+    words = "{ hour: '2-digit', minute: '2-digit', second: '2-digit', hourCycle: 'h23' }"
+    time_of_day = shown.run(f"new Intl.DateTimeFormat('en', {words}).format(new Date({start}000))")
+    assert shown.run("at('chosen').textContent").startswith(f"Attempt 0 at {time_of_day}.500000")
+    date = shown.run(f"[1 + new Date({start}000).getMonth(), new Date({start}000).getDate()]")
+    assert f"2024-{date[0]:02}-{date[1]:02}, GMT" in shown.run("at('facts').textContent")
+    assert f"{time_of_day}.500000" in shown.run(WRITTEN)
+
+
+def test_the_address_follows_what_is_chosen(shown, browser):
+    """and the page that it opens shows the same: the attempt, both cursors, the axis, what is in view, the list and its filters"""
+    shown.key("t")
+    shown.run("choose(12), markStep(3), look(1e-5, 2e-5), showTab('tab-attempts')")
+    shown.run("at('of-outcome').value = '2', at('of-frame').value = '123#', at('in-view').click(), find(tab)")
+    shown.until("location.hash.includes('outcome=2')")
+    state = (
+        "[view.step, second.step, byTime.isOn, view.from, view.to, tab, at('in-view').checked, lists[tab].list.length]"
+    )
+    before, address = shown.run(state), shown.run("location.href")
+    assert before[:3] == [12, 3, True] and before[5:7] == ["tab-attempts", True]
+    assert address.split("#")[1].startswith("attempt=12&")
+    shown.open(address)
+    assert shown.run(state) == before
+    # One that is typed into the page that is shown.
+    shown.run("location.hash = '#attempt=15'")
+    shown.until(f"{ATTEMPT} === 15 && tab === 'tab-events'")
+    assert shown.run("[second.step, byTime.isOn, view.from, view.to === axis.length]") == [None, False, 0, True]
+    for wrong in ("#attempt=99999", "#step=1e9", "#attempt=-1", "#view=9,1&mark=x&list=nothing&lanes=,&by=", "#%"):
+        shown.open(address.split("#")[0] + wrong)
+        assert shown.run("view.step < axis.count && view.to > view.from && tab === 'tab-events'")
+
+
+def test_two_cursors(shown):
+    """how long it is from one to the other, by the key, the button and the mouse"""
+    shown.run("choose(20)")
+    shown.key("m")
+    assert shown.run("at('second-cursor').hidden") is False
+    shown.run("choose(11)")
+    # Attempts are a microsecond apart.
+    assert "Since the mark, attempt 20: -0.000009 s, 9 attempts before it." in shown.run("at('chosen').textContent")
+    shown.run("choose(31)")
+    assert "Since the mark, attempt 20: 0.000011 s, 11 attempts after it." in shown.run("at('chosen').textContent")
+    x, y = shown.run(PLACE)
+    for kind in ("mousePressed", "mouseReleased"):
+        shown.mouse(kind, x, y, button="left", clickCount=1, modifiers=8)
+    assert shown.run("[attemptOf[second.step] < 20, view.step]") == [True, 31]
+    shown.run("at('mark').click(), at('mark').click()")
+    assert shown.run("[second.step, at('second-cursor').hidden]") == [None, True]
+
+
+def test_a_list_as_csv(shown):
+    """as it is filtered; numbers without groups, and quotes as RFC 4180 has them"""
+    rows = list(csv.reader(io.StringIO(shown.run("csvOf(lists[tab], at(tab))"))))
+    assert rows[0] == ["attempt", "moment", "since last", "kind", "what"]
+    assert rows[1] == ["11", "0.000012", "", "warning", "can0 is error warning: transmit count 96"]
+    shown.run("showTab('tab-attempts'), at('of-outcome').value = '2', find(tab)")
+    rows = list(csv.reader(io.StringIO(shown.run("csvOf(lists[tab], at(tab))"))))
+    assert len(rows) == 33 and rows[32][:2] == ["31", "0.000032"]
+    shown.run("showTab('tab-nodes')")
+    rows = list(csv.reader(io.StringIO(shown.run("csvOf(lists[tab], at(tab))"))))
+    assert [row[0] for row in rows] == ["node", "can0", "can1"]
+    cells = ["1,234", "a,b", 'say "x"', "1,234.5", "12,34"]
+    [row] = csv.reader([shown.run(f"{json.dumps(cells)}.map(csvCell).join()")])
+    assert row == ["1234", "a,b", 'say "x"', "1234.5", "12,34"]
+
+
+def test_states_without_colour(shown):
+    """warning is a frame or low, passive full, bus off hatched: so each has another share of what is filled"""
+    shares = """[1, 2, 3].map(state => [40, 3].map(wide => {
+      const pen = new OffscreenCanvas(48, 16).getContext('2d', { willReadFrequently: true });
+      const measured = pen.measureText.bind(pen);
+      pen.measureText = () => ({ width: 1000 });
+      block(pen, theme.page, 0, 0, 48, 16);
+      const page = [...pen.getImageData(0, 0, 1, 1).data].join();
+      stateBar(pen, state, 2, 1, wide, fillsOf(pen));
+      let filled = 0;
+      for (let x = 2; x < 2 + wide; x++) for (let y = 1; y < BAND; y++) {
+        filled += [...pen.getImageData(x, y, 1, 1).data].join() !== page;
+      }
+      return filled / wide / (BAND - 1);
+    }))"""
+    for dark in (False, True):
+        shown.size(1200, dark=dark)
+        (frame, low), (full, narrow), (hatched, _) = shown.run(shares)
+        assert frame < 0.5 and low < 0.6 and full == narrow == 1 and 0.2 < hatched < 1

@@ -51,6 +51,30 @@ def choose(shown, step):
     return [[row[1], row[2]] for row in shown.run(CELLS)]
 
 
+def test_at_first_those_that_change_are_shown(shown):
+    """first those with a unit or names; what has one value only is not"""
+    assert shown.run("signals.shown.map(({ name }) => name)") == ["gear", "speed", "page"]
+    assert shown.run("lanes.slice(2).map(({ name }) => name)") == ["gear", "speed", "page"]
+
+
+def test_the_address_has_the_lanes_and_the_list(shown):
+    """a page that is opened by it shows the same signals, found by the same words"""
+    keys = [shown.run(f"signals.all().find(one => one.name === '{name}').key") for name in ("temperature", "torque")]
+    shown.run(
+        "showTab('tab-signals'), at('of-signal').value = 'eng', at('of-signal').dispatchEvent(new Event('input'))"
+    )
+    shown.run("[...at('gutter').querySelectorAll('button.goes')].forEach(button => button.click())")
+    for key in keys:
+        shown.run(f"toggleSignal(signals.all().find(one => one.key === '{key}'))")
+    shown.until(f"location.hash.includes('lanes={keys[0]}%2C{keys[1]}') && location.hash.includes('signal=eng')")
+    address = shown.run("location.href")
+    shown.open(address)
+    assert shown.run("lanes.slice(2).map(({ name }) => name)") == ["temperature", "torque"]
+    assert {row[1] for row in shown.run(CELLS)} == {"gear", "speed", "temperature", "torque"}
+    shown.open(address.split("#")[0])
+    assert shown.run("signals.shown.length") == 3 and shown.run("tab") == "tab-signals"
+
+
 def test_values_at_the_cursor_are_in_one_table(shown):
     first = {
         "gear": "Park",
@@ -82,6 +106,7 @@ def test_signals_are_found_by_parts_of_their_names(shown):
 def test_lanes_of_signals(shown, width):
     """a band has the names of its numbers, a curve its extremes; a lane goes by its name"""
     shown.size(width)
+    shown.run("[...at('gutter').querySelectorAll('button.goes')].forEach(button => button.click())")
     for name in ("gear", "speed"):
         shown.run(f"toggleSignal(signals.all().find(one => one.name === '{name}'))")
     shown.settle()

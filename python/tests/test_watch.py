@@ -411,3 +411,63 @@ def test_the_page_of_a_server_with_a_bit_rate(tmp_path):
             assert browser.faults == []
         finally:
             browser.close()
+
+
+def test_no_more_frames_a_second_than_the_bus_carries():
+    """a frame without data has at least 47 bits with intermission; late looks at the counts change nothing"""
+    with Server("can0,can1", bitrate=5_000, txqueue=1_000) as server, server.bus("can0") as bus:
+        watcher = Watcher(["can0", "can1"], server.address)
+        bus.window = 1_000
+        bus.send_many([message(0x555)] * 300)
+        before, found = 0, []
+        for seconds in (0.1, 0.5, 0.02, 0.2, 0.02, 0.3):
+            tick, _ = watcher.tick(seconds)
+            found.append((tick["ifaces"][0][4] - before, tick["span"]))
+            before = tick["ifaces"][0][4]
+            # As a machine that is busy.
+            time.sleep(0.1)
+        for one in watcher.buses:
+            one.shutdown()
+    assert found[0][1] == 0
+    # At the edges of the time there is room for one more.
+    assert all(0 < count <= 1 + span * 5_000 / 47 for count, span in found[1:])
+
+
+@pytest.mark.skipif(PROGRAM is None, reason="no chromium on the PATH")
+def test_what_is_short_and_what_is_late(tmp_path):
+    """a bus off that is over before the next look at the counts leaves a mark; a late look makes no higher rate"""
+    faults, options = Faults().next(32, sender="can0").destroyed(), ("--interval", "1")
+    with Server("can0,can1", faults=faults, auto_restart=1) as server, Watch(
+        server, "can0", "can1", options=options
+    ) as watch:
+        browser = Browser(tmp_path)
+        try:
+            browser.size(1200)
+            browser.open(watch.url)
+            browser.until("ticks.length > 2")
+            with server.bus("can0") as can0, server.bus("can1") as can1:
+                can0.send(message(0x123))
+                can1.send(message(0x124))
+                browser.until("offs.length === 1 && ticks[ticks.length - 1].time > offs[0].moment + 2")
+            browser.run("pause()")
+            browser.settle()
+            # What is drawn in the band of states of can0, at its bus off and beside it.
+            drawn = """(() => {
+              const x = Math.floor(placeOf(plotted(), offs[0].moment - ticks[0].time)), canvas = at('lanes');
+              const copy = new OffscreenCanvas(canvas.width, canvas.height).getContext('2d', { willReadFrequently: true });
+              copy.drawImage(canvas, 0, 0);
+              return [x, x - 12].map(left => [...copy.getImageData(left, 2 + STRIP + 3, 3, 6).data].some(byte => byte > 0));
+            })()"""
+            assert browser.run("ticks.some(tick => tick.ifaces[0][0] === 'off')") is False
+            assert browser.run(drawn) == [True, False]
+            tick = "{ time: 100 + seconds, span, ifaces: names.map(() => ['active', 0, 0, 0, done, 0, 0, 0]), faults: names.map(() => [0, 0, 0]), loads: [0, 0], missed: 0 }"
+            browser.run(
+                f"const tickOf = (seconds, span, done) => ({tick});"
+                "take({ start: true, frames: [], ticks: [tickOf(0, 0, 0), tickOf(0.25, 0.25, 25), tickOf(2.25, 2, 225), tickOf(2.3, 0.25, 250)] });"
+                "sayNow(); measure()"
+            )
+            assert browser.run("busiest") == 100
+            assert browser.run("at('facts').textContent").split(": ")[1].startswith("200 frames a second")
+            assert browser.faults == []
+        finally:
+            browser.close()

@@ -13,6 +13,8 @@ const WARNING = 96, PASSIVE = 128, OFF = 256;
 const at = id => document.getElementById(id);
 const grouped = number => number.toLocaleString("en");
 const severity = count => (count >= WARNING) + (count >= PASSIVE) + (count >= OFF);
+// The time of day, here.
+const clock = seconds => new Date(seconds * 1000).toTimeString().slice(0, 8);
 const times = (number, one, many = one + "s") => `${grouped(number)} ${number === 1 ? one : many}`;
 
 function element(tag, content = [], more = {}) {

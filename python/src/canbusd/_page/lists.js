@@ -182,3 +182,21 @@ class Chips {
     }
   }
 }
+
+// A list as a file for a spreadsheet: comma separated values (RFC 4180), with numbers as they are without their groups.
+
+function csvOf(list, panel) {
+  const rows = list ? [list.columns.map(([head]) => head), ...Array.from(list.list, (one, k) => list.cellsOf(one, list.list[k - 1]))]
+    : [...panel.querySelectorAll("tr")].map(row => [...row.cells]);
+  return rows.map(cells => `${cells.map(csvCell).join()}\r\n`).join("");
+}
+function csvCell(cell) {
+  const text = [cell].flat().map(part => part instanceof Node ? part.textContent : String(part ?? "")).join("");
+  const plain = /^\d{1,3}(,\d{3})+(\.\d+)?$/.test(text) ? text.replaceAll(",", "") : text;
+  return /[",\r\n]/.test(plain) ? `"${plain.replaceAll('"', '""')}"` : plain;
+}
+function saveCsv(name, text) {
+  const link = element("a", [], { href: URL.createObjectURL(new Blob([text], { type: "text/csv" })), download: name });
+  link.click();
+  setTimeout(() => URL.revokeObjectURL(link.href), 1000);
+}

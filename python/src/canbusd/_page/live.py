@@ -28,7 +28,16 @@ from typing import Any, BinaryIO, Optional
 
 from canbusd._page.report import filled
 
-SCRIPTS = ("core.js", "lanes.js", "lists.js", "signals.js", "watch_signals.js", "watch_loads.js", "watch.js")
+SCRIPTS = (
+    "core.js",
+    "lanes.js",
+    "moves.js",
+    "lists.js",
+    "signals.js",
+    "watch_signals.js",
+    "watch_loads.js",
+    "watch.js",
+)
 # How much a page gets that is opened later: ticks, and frames.
 MOST_TICKS, MOST_FRAMES = 2400, 4000
 # Seconds in which pages are sent that the server has ended, after which a silent connection is closed, and between two looks

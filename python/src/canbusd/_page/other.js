@@ -76,7 +76,7 @@ function nextDifference(by) {
 function showOtherRun() {
   const number = attemptOf[view.step], there = other.partnerOf[number] ?? -1;
   clearTimeout(hashDue);
-  history.replaceState(null, "", `#attempt=${there < 0 ? number : there}${hashWords().get("run") === "2" ? "" : "&run=2"}`);
+  history.replaceState(null, "", `#attempt=${there < 0 ? number : there}${isOtherRun() ? "" : "&run=2"}`);
   location.reload();
 }
 function differenceList() {

@@ -1,35 +1,29 @@
 // What the reader does.
 
-let hashDue = 0;
 function choose(step) {
   if (!axis.count) return;
   view.step = Math.min(Math.max(0, step), axis.count - 1);
   const span = view.to - view.from, place = axis.start[view.step];
   if (place < view.from || axis.start[view.step + 1] > view.to) look(place - span / 2, place + span / 2);
-  clearTimeout(hashDue);
-  hashDue = setTimeout(sayHash, 150);
+  dueHash();
   sayStep();
-}
-const hashWords = () => new URLSearchParams(location.hash.slice(1));
-function sayHash() {
-  const hash = isAttempt(view.step) ? `#attempt=${attemptOf[view.step]}` : `#step=${view.step}`;
-  history.replaceState(null, "", hash + (hashWords().get("run") === "2" ? "&run=2" : ""));
 }
 function sayStep() {
   placeCursor();
+  happened("cursor placed");
   sayValues();
   showChosen();
   if (tab === "tab-signals") happened("cursor moved");
   follow();
 }
 // Of many steps the one that matters most.
-function chooseIn(first, last) {
+function chooseIn(first, last, isMark) {
   let best = first;
   for (let step = first; step < last; step++) {
     if (steps.off[step]) { best = step; break; }
     if (isFault(step) && !isFault(best)) best = step;
   }
-  choose(best);
+  if (isMark) markStep(best); else choose(best);
 }
 function nextFault(by) {
   let step = view.step + by;
@@ -49,11 +43,6 @@ function stepOfAttempt(number) {
   }
   return Math.min(low, Math.max(axis.count - 1, 0));
 }
-function stepInHash(hash) {
-  const wanted = /^#(step|attempt)=(\d+)(?:&|$)/.exec(hash);
-  if (!wanted) return null;
-  return wanted[1] === "step" ? Math.min(Number(wanted[2]), Math.max(axis.count - 1, 0)) : stepOfAttempt(Number(wanted[2]));
-}
 // The other axis, with the same steps in view.
 function turnAxis() {
   const first = axis.stepAt(view.from), last = Math.min(axis.from(view.to), axis.count);
@@ -71,6 +60,7 @@ const KEYS = {
   Home: () => choose(0), End: () => choose(axis.count - 1),
   f: () => nextFault(1), F: () => nextFault(-1), e: () => nextEvent(1), E: () => nextEvent(-1),
   "+": () => zoom(0.5), "=": () => zoom(0.5), "-": () => zoom(2), 0: () => look(0, axis.length), t: turnAxis,
+  m: () => { if (axis.count) markStep(view.step); },
   "/": () => { if (at("of-frame").parentElement.hidden) showTab("tab-attempts"); at("of-frame").focus(); },
 };
 
@@ -80,14 +70,20 @@ function listen() {
   }
   at("number").onchange = () => choose(stepOfAttempt(Number(at("number").value)));
   Object.assign(time, { ticks: ticksOf, words: tipWords, choose: chooseIn,
-    moved: () => { if (at("in-view").checked) for (const one of Object.values(lists)) one.isStale = true; } });
+    moved: () => {
+      if (at("in-view").checked) for (const one of Object.values(lists)) one.isStale = true;
+      dueHash();
+    } });
   listenToTime();
   listenToKeys(KEYS);
   window.addEventListener("hashchange", event => {
     // Not that of the page, which may be another one meanwhile: `sayHash` waits.
-    const step = stepInHash(new URL(event.newURL).hash);
-    if (step !== null) choose(step);
+    const words = hashWords(new URL(event.newURL).hash);
+    if (run.other && (words.get("run") === "2") !== wasOtherRun) { location.reload(); return; }
+    readHash(words);
+    redraw();
   });
+  at("csv").onclick = () => saveCsv(`${run.title}.${tab.slice(4)}.csv`, csvOf(lists[tab], at(tab)));
 }
 const LEGEND = [["done", "done", "the frame was sent, and accepted by all that saw no fault"],
   ["lastbit", "last bit", "the sender saw a fault in the last bit: receivers have the frame, and it is sent again"],
@@ -101,7 +97,7 @@ function showWords() {
   document.title = `${run.heading} (${run.title})`;
   at("title").textContent = run.heading;
   const isUnnamed = names.some(name => name.startsWith("interface "));
-  at("facts").textContent = `${run.title}. ${run.facts}`
+  at("facts").textContent = `${run.title}. ${run.facts}${dayWords()}`
     + (isUnnamed ? " No log beside the record names all interfaces: --names NAME,.. does." : "");
   legend("legend", LEGEND);
   const options = words => [["all", ""], ...words].map(([text, value]) => element("option", text, { value }));
@@ -134,18 +130,24 @@ function print(isOn) {
   happened("printed", isOn);
 }
 
+// The list that has something to be seen.
+function firstTab() {
+  if (run.other) return "tab-differences";
+  return run.events.length ? "tab-events" : signals.all().length ? "tab-signals" : "tab-attempts";
+}
+let wasOtherRun = false;
 async function begin() {
-  take(await unpack(at(hashWords().get("run") === "2" && at("second").textContent ? "second" : "run").textContent));
+  wasOtherRun = isOtherRun();
+  take(await unpack(at(wasOtherRun && at("second").textContent ? "second" : "run").textContent));
   showWords();
   makeLists();
   makeLanes();
   listen();
   showIfaces();
   readTheme();
-  view.step = stepInHash(location.hash) ?? run.first;
-  sayAxis();
   showTab = makeTabs("tabs", showList);
-  showTab(run.other ? "tab-differences" : "tab-events");
+  firstLanes = signals.changing().map(({ key }) => key).join(",");
+  readHash(hashWords());
   keepDrawn(show, print);
   document.body.dataset.drawn = Math.round(performance.now());
 }

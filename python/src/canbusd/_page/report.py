@@ -37,7 +37,10 @@ from canbusd.replay import UNKNOWN, Replay
 from canbusd.signals import Database
 
 # The scripts of a page, in their order, before the last one, which begins.
-SCRIPTS = ("core", "lanes", "lists", "run", "strips", "signals", "chosen", "run_signals", "identifiers", "tables")
+SCRIPTS = (
+    *("core", "lanes", "moves", "lists", "run", "strips", "signals", "chosen", "cursors", "run_signals", "identifiers"),
+    *("tables", "address"),
+)
 
 Json = dict[str, Any]
 Column = list[Any]

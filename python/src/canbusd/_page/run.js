@@ -96,10 +96,15 @@ const won = (sums, iface, kind) => sums[1 + iface * IDLE + kind];
 const members = set => names.filter((_, i) => set >> i & 1);
 const listed = set => members(set).join(", ") || "nobody";
 const isAttempt = step => steps.kind[step] < RESTART;
-// Idle attempts in a row have no one moment.
-const momentOf = step =>
-  steps.kind[step] === IDLE ? "" : `${steps.seconds[step]}.${String(steps.micros[step]).padStart(6, "0")}`;
-// Seconds since the first attempt; with the clock's moments, since 1970, they are a column of their own.
+// Idle attempts in a row have no one moment. Those of the system's clock, since 1970, are times of day.
+const momentOf = step => steps.kind[step] === IDLE ? ""
+  : `${hasClock() ? clock(steps.seconds[step]) : steps.seconds[step]}.${String(steps.micros[step]).padStart(6, "0")}`;
+function dayWords() {
+  if (!hasClock()) return "";
+  const begin = new Date(steps.seconds[Math.max(0, firstStep())] * 1000);
+  return ` Times of day: ${begin.toLocaleDateString("en-CA")}, ${begin.toString().match(/GMT[+-]\d{4}/)[0]}.`;
+}
+// Seconds since the first attempt; with times of day they are a column of their own.
 const firstStep = () => steps.kind.findIndex(kind => kind !== IDLE);
 const sinceStart = step => sinceStep(step, firstStep());
 const sinceStep = (step, first) => {

@@ -1,11 +1,15 @@
 // The signals of a run: those of the frames that it tried, and the steps in which each message was sent.
 
-const sentIn = new Map();
+const sentIn = new Map(), MOST_CURVES = 4;
 on("taken", () => {
   const known = new Map();
   for (const [place, message] of Object.entries(run.messages)) {
     if (!sentIn.has(message)) sentIn.set(message, []);
-    for (const [name, , unit] of signalsOf(place)) known.set(signalKey(message, name), { message, name, unit });
+    for (const [name, value, unit] of signalsOf(place)) {
+      const key = signalKey(message, name), one = known.get(key);
+      if (!one) known.set(key, { message, name, unit, value, isMeant: !!unit || typeof value === "string", changes: false });
+      else if (one.value !== value) one.changes = true;
+    }
   }
   for (let step = 0; step < axis.count; step++) {
     const message = steps.kind[step] < 2 ? run.messages[steps.frame[step]] : undefined;
@@ -13,6 +17,9 @@ on("taken", () => {
   }
   const all = [...known].map(([key, one]) => ({ ...one, key })).sort((one, other) => one.key < other.key ? -1 : 1);
   signals.all = () => all;
+  // At first the page shows those that change; counters and checksums, which have no unit, only where there is room.
+  const changing = all.filter(({ changes }) => changes), meant = changing.filter(({ isMeant }) => isMeant);
+  signals.changing = () => [...meant, ...changing.filter(({ isMeant }) => !isMeant)].slice(0, MOST_CURVES);
 });
 const valueOf = (step, name) => signalsOf(steps.frame[step]).find(([signal]) => signal === name)?.[1];
 // The last step of a message that has the signal, up to the cursor; a multiplexed one is not in each.

@@ -3,7 +3,7 @@
 //   `all` lists the signals, each with its message, name, unit and `key`; `at` returns the value of one at the cursor, and
 //   `column` its values after each step, NaN before the first, with the names of an enumeration.
 
-const signals = { all: () => [], at: () => undefined, column: () => ({ of: new Float64Array(0), texts: [] }), shown: [] };
+const signals = { all: () => [], changing: () => [], at: () => undefined, column: () => ({ of: new Float64Array(0), texts: [] }), shown: [] };
 const signalKey = (message, name) => `${message}.${name}`;
 const signalWords = (value, unit) => value === undefined ? "" : `${typeof value === "number" ? +value.toFixed(6) : value} ${unit}`.trim();
 

@@ -47,6 +47,8 @@ function fewer(all) {
 function takeTick(tick) {
   const before = ticks.length ? ticks[ticks.length - 1] : tick;
   tick.wins = names.map((_, i) => [Math.max(0, tick.ifaces[i][SENT_DONE] - before.ifaces[i][SENT_DONE]), ...tick.faults[i]]);
+  // In a second: a tick that comes late has more of them.
+  tick.rates = tick.wins.map(kinds => kinds.map(number => tick.span ? number / tick.span : 0));
   ticks.push(tick);
 }
 // The first digit of an error message frame has bit 29.
@@ -82,7 +84,7 @@ function takeFrame(moment, text, seen, says, sender, busy, decoded) {
 
 function measure() {
   const sum = numbers => numbers.reduce((all, one) => all + one, 0), first = ticks.length ? ticks[0].time : 0;
-  busiest = ticks.reduce((most, tick) => Math.max(most, ...tick.wins.map(sum)), 1);
+  busiest = ticks.reduce((most, tick) => Math.max(most, ...tick.rates.map(sum)), 1);
   const start = new Float64Array(ticks.length + 1);
   for (let k = 1; k < ticks.length; k++) start[k] = ticks[k - 1].time - first;
   start[ticks.length] = ticks.length ? ticks[ticks.length - 1].time - first : 1;
@@ -116,18 +118,24 @@ function strip(plot, i, top, fills) {
   for (let tick = first; tick < Math.min(axis.from(view.to) + 1, ticks.length); tick++) {
     const x = Math.max(placeOf(plot, axis.start[tick]), 0), to = Math.min(placeOf(plot, axis.start[tick + 1]), plot.width);
     let y = top + STRIP - 2;
-    ticks[tick].wins[i].forEach((number, kind) => {
+    ticks[tick].rates[i].forEach((number, kind) => {
       if (!number) return;
       const share = Math.max(number / busiest * high, 1);
       block(plot.pen, fills[KINDS[kind]], x, y -= share, Math.max(to - x - (to - x > 5 ? 1 : 0), 1), share);
     });
   }
-  if (!plot.isNarrow) write(plot.pen, `${perSecond()}/s`, plot.width + 6, top + 8, theme.soft);
+  // What the full height of a bar is.
+  if (!plot.isNarrow) write(plot.pen, `${grouped(Math.floor(busiest))}/s`, plot.width + 6, top + 8, theme.soft);
 }
-// What the full height of a bar is.
-function perSecond() {
-  const last = ticks[ticks.length - 1], each = ticks.length > 1 ? (last.time - ticks[0].time) / (ticks.length - 1) : 1;
-  return grouped(Math.round(busiest / each));
+// Each bus off has its mark, also one that was over before the counts were looked at.
+class LiveLane extends NodeLane {
+  draw(plot, top, fills) {
+    super.draw(plot, top, fills);
+    for (const { iface, moment } of offs) {
+      const x = ticks.length && iface === this.number ? placeOf(plot, moment - ticks[0].time) : -1;
+      if (x >= 0 && x <= plot.width) stateBar(plot.pen, 3, Math.min(x, plot.width - 3), top + STRIP + 2, 3, fills);
+    }
+  }
 }
 function ticksOf(plot) {
   if (ticks.length < 2) return [];
@@ -157,15 +165,18 @@ function drawOverview() {
   ticks.forEach((tick, k) => {
     const x = axis.start[k] / axis.length * width, wide = Math.max((axis.start[k + 1] - axis.start[k]) / axis.length * width, 2);
     if (tick.ifaces.some(([state]) => state === "off")) block(pen, fills.off, x, 0, wide, 24);
-    const failed = tick.wins.reduce((sum, [, ...kinds]) => sum + kinds.reduce((a, b) => a + b, 0), 0);
+    const failed = tick.rates.reduce((sum, [, ...kinds]) => sum + kinds.reduce((a, b) => a + b, 0), 0);
     const high = Math.min(failed / busiest, 1) * 20;
     if (failed) block(pen, theme.destroyed, x, 24 - Math.max(high, 3), wide, Math.max(high, 3));
   });
+  for (const { moment } of offs) {
+    const x = ticks.length ? (moment - ticks[0].time) / axis.length * width : -1;
+    if (x >= 0) block(pen, fills.off, Math.min(x, width - 2), 0, 2, 24);
+  }
 }
 
 // Words and lists.
 
-const clock = seconds => new Date(seconds * 1000).toTimeString().slice(0, 8);
 const momentWords = seconds => clock(seconds) + (seconds % 1).toFixed(6).slice(1);
 const seenBy = frame => names.filter((_, i) => frame.seen >> i & 1 && i !== frame.sender).join(", ");
 const senderOf = one => one.sender >= 0 ? names[one.sender] : "";
@@ -248,9 +259,9 @@ function sayNow() {
   const recent = ticks.slice(-5), last = recent[recent.length - 1];
   if (!last) return;
   const sent = recent.slice(1).reduce((sum, tick) => sum + tick.wins.reduce((all, one) => all + one[0], 0), 0);
-  const rate = recent.length > 1 ? sent / (last.time - recent[0].time) : 0;
+  const span = recent.slice(1).reduce((sum, tick) => sum + tick.span, 0), rate = span ? sent / span : 0;
   const loads = busyBuses(recent).map(bus => loadWords(last, bus)).join(", ");
-  at("facts").textContent = `${source}: ${grouped(Math.round(rate))} frames a second, ${grouped(total)} received so far.`
+  at("facts").textContent = `${source}: ${grouped(Math.floor(rate))} frames a second, ${grouped(total)} received so far.`
     + (loads ? ` ${loads[0].toUpperCase()}${loads.slice(1)}.` : "")
     + (last.missed ? ` ${grouped(last.missed)} missed: they came too fast for \`canbusd watch\`.` : "")
     + (isPaused ? ` Paused at ${clock(last.time)}.` : "");
@@ -367,7 +378,7 @@ function begin() {
   legend("legend", LEGEND);
   at("of-node").append(...[["all", ""], ...names.map((name, i) => [name, i])].map(([text, value]) => element("option", text, { value })));
   const none = new Numbers(new Uint16Array(0));
-  nodeLanes = names.map((name, i) => new NodeLane(i, name, { tec: none, rec: none, queue: none, queueMost: 0 }, strip));
+  nodeLanes = names.map((name, i) => new LiveLane(i, name, { tec: none, rec: none, queue: none, queueMost: 0 }, strip));
   lanes = nodeLanes;
   makeLists();
   listen();

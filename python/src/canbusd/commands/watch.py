@@ -45,6 +45,8 @@ class Watcher:
     def __init__(self, names: Sequence[str], address: Optional[str], database: Optional[Database] = None) -> None:
         self.database = database
         self.buses = [Watched(name, address=address, fd=True, receive_own_messages=True) for name in names]
+        # When the counts were asked for last.
+        self.asked = 0.0
         # A server has the same bit rates on all its buses, so one is asked.
         load = next((bus.load() for bus in self.buses), None)
         self.wire = times_of(Rates(load.bitrate, load.data_bitrate)) if load and load.bitrate else None
@@ -61,13 +63,17 @@ class Watcher:
                     self.take(number, rows, faults[number])
             if time.monotonic() >= deadline:
                 break
-        stats, loads = [bus.stats() for bus in self.buses], [bus.load().permille for bus in self.buses]
+        began, asked = self.asked, time.monotonic()
+        stats, self.asked = [bus.stats() for bus in self.buses], asked
+        # Of what is counted between two looks, none was before the first one was asked for.
+        span, now = time.monotonic() - began if began else 0.0, time.time()
+        loads = [bus.load().permille for bus in self.buses]
         for number in range(len(self.buses)):
             # What came before the counts.
             self.take(number, rows, faults[number])
         ifaces = [[*bus.error_counters(), *one[3:]] for bus, one in zip(self.buses, stats)]
         missed = sum(one.dropped for one in stats)
-        tick = {"time": time.time(), "ifaces": ifaces, "faults": faults, "loads": loads, "missed": missed}
+        tick = {"time": now, "span": span, "ifaces": ifaces, "faults": faults, "loads": loads, "missed": missed}
         self.note_times(rows.values())
         return tick, list(rows.values())
 
