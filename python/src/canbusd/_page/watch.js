@@ -133,7 +133,7 @@ class LiveLane extends NodeLane {
     super.draw(plot, top, fills);
     for (const { iface, moment } of offs) {
       const x = ticks.length && iface === this.number ? placeOf(plot, moment - ticks[0].time) : -1;
-      if (x >= 0 && x <= plot.width) stateBar(plot.pen, 3, Math.min(x, plot.width - 3), top + STRIP + 2, 3, fills);
+      if (x >= 0 && x <= plot.width) stateBar(plot.pen, 3, Math.min(x, plot.width - 6), top + STRIP + 2, 6, fills);
     }
   }
 }
@@ -171,7 +171,7 @@ function drawOverview() {
   });
   for (const { moment } of offs) {
     const x = ticks.length ? (moment - ticks[0].time) / axis.length * width : -1;
-    if (x >= 0) block(pen, fills.off, Math.min(x, width - 2), 0, 2, 24);
+    if (x >= 0) block(pen, theme.off, Math.min(x, width - 2), 0, 2, 24);
   }
 }
 
