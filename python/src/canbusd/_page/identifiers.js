@@ -9,13 +9,14 @@ function identifierList() {
   made.isChosen = one => isAttempt(view.step) && one.identifier === identifierOf(textOf(view.step));
   return made;
 }
-const identifierOf = text => text.split("#")[0];
+const identifierOf = text => text.slice(0, text.indexOf("#"));
 // How many there are in all, once the run is known.
 let allIdentifiers = 0;
 on("taken", () => {
-  const tried = new Set();
-  for (let step = 0; step < axis.count; step++) if (isAttempt(step)) tried.add(steps.frame[step]);
-  allIdentifiers = new Set([...tried].map(place => identifierOf(run.texts[place]))).size;
+  const isTried = new Uint8Array(run.texts.length), found = new Set();
+  for (let step = 0; step < axis.count; step++) if (isAttempt(step)) isTried[steps.frame[step]] = 1;
+  isTried.forEach((is, place) => { if (is) found.add(identifierOf(run.texts[place])); });
+  allIdentifiers = found.size;
 });
 function findIdentifiers({ node, matches, from, to }) {
   const found = new Map(), keys = run.texts.map(identifierOf);

@@ -176,7 +176,10 @@ class NodeLane {
   }
   curves(plot, after, top, height) {
     const y = limit => top + height - limit / TOP * height, most = Math.max(2, this.queueMost);
-    if (this.queue.most && this.left && (time.isInstant || time.lengthOf)) waitingArea(plot, this.queue, this.left, top, height, most);
+    if (this.queue.most && this.leftOf && (time.isInstant || time.lengthOf)) {
+      this.left ||= this.leftOf(this.number);
+      waitingArea(plot, this.queue, this.left, top, height, most);
+    }
     else if (this.queue.most) area(plot, this.queue, top, height, most, theme.queue);
     for (const [limit] of LIMITS) across(plot, y(limit), theme.soft, [2, 4]);
     curve(after, this.rec, top, height, TOP, theme.rec, [5, 2]);

@@ -31,11 +31,20 @@ async function unpack(text) {
 }
 // The numbers of a column, of which all lowest bytes come first. Where it rises they are differences.
 function numbersIn(whole, code, place, length, rises) {
-  const numbers = new ARRAYS[code](length), to = new Uint8Array(numbers.buffer), size = numbers.BYTES_PER_ELEMENT;
-  const from = new Uint8Array(whole, place, to.length);
-  for (let byte = 0, k = 0; byte < size; byte++) for (let n = byte; n < to.length; n += size) to[n] = from[k++];
+  const numbers = new ARRAYS[code](length), size = numbers.BYTES_PER_ELEMENT;
+  const from = [...Array(size).keys()].map(byte => new Uint8Array(whole, place + byte * length, length));
+  if (size < 8) joinWhole(numbers, from); else joinBytes(new Uint8Array(numbers.buffer), from);
   if (rises) for (let k = 1; k < length; k++) numbers[k] += numbers[k - 1];
   return numbers;
+}
+function joinWhole(numbers, [first, second, third, fourth]) {
+  const { length } = numbers;
+  if (!second) numbers.set(first);
+  else if (!third) for (let k = 0; k < length; k++) numbers[k] = first[k] | second[k] << 8;
+  else for (let k = 0; k < length; k++) numbers[k] = first[k] | second[k] << 8 | third[k] << 16 | fourth[k] << 24;
+}
+function joinBytes(bytes, from) {
+  from.forEach((each, byte) => { for (let k = 0, n = byte; k < each.length; k++, n += from.length) bytes[n] = each[k]; });
 }
 const columnsOf = (table, column) =>
   Object.fromEntries(Object.entries(table).map(([name, one]) => [name, column(one)]));

@@ -114,7 +114,7 @@ function drawOverview() {
 
 function makeLanes() {
   const queueMost = Math.max(...queues.map(one => one.most));
-  lanes = names.map((name, i) => new NodeLane(i, name, { tec: tec[i], rec: rec[i], queue: queues[i], left: leftOf(i), queueMost }, strip));
+  lanes = names.map((name, i) => new NodeLane(i, name, { tec: tec[i], rec: rec[i], queue: queues[i], leftOf, queueMost }, strip));
   const worst = run.sockets[run.socket];
   if (worst && worst.dropped) lanes.push(socketLane(worst));
   happened("lanes made");
