@@ -278,6 +278,18 @@ def test_both_on_one_axis(opened, tmp_path, width):  # noqa: F811
 
 
 @pytest.mark.skipif(PROGRAM is None, reason="not installed: chromium")
+def test_a_run_beside_nothing(opened, tmp_path):  # noqa: F811
+    """which of both it is beside"""
+    one, nothing = run_of(tmp_path, "a"), run_of(tmp_path, "b", frames=0)
+    shown = opened(one.replay, one.names, comparison=Comparison(one, nothing, "b.rec"))
+    assert shown.run("at('title').textContent").startswith("6 differences, first in attempt 0: only here: ")
+    shown = opened(nothing.replay, one.names, comparison=Comparison(nothing, one, "a.rec"))
+    assert shown.run("at('title').textContent").startswith("6 differences, first in attempt 0: only there: ")
+    for key in ("d", "D", "t", "m", "f", "ArrowRight"):
+        shown.key(key)
+
+
+@pytest.mark.skipif(PROGRAM is None, reason="not installed: chromium")
 def test_from_one_difference_to_the_next_and_to_the_other_run(opened, tmp_path):  # noqa: F811
     sent = cyclic("a", "100", 20) + cyclic("b", "200", 20, start=0.003)
     faults = Faults().next(1, sender="b", skip=4).destroyed().next(1, sender="a", skip=9).destroyed()

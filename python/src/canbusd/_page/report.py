@@ -316,8 +316,9 @@ def data_of(
     if comparison is not None:
         header["heading"] = comparison.heading()
         header["other"] = other_of(comparison, rates, block.column)
-        if comparison.differences:
-            header["first"] = places[run.steps.place_of(min(comparison.differences[0].attempt, run.attempts - 1)) or 0]
+        if places and comparison.differences:
+            attempt = min(comparison.differences[0].attempt, run.steps.tried - 1)
+            header["first"] = places[run.steps.place_of(attempt) or 0]
     return block.packed(header)
 
 

@@ -56,18 +56,16 @@ def names_of_both(one: Record, other: Record) -> tuple[Sequence[str], Sequence[s
     return names[: len(one.names)], names[: len(other.names)]
 
 
-def tried(record: Record, names: Sequence[str]) -> list[Attempt]:
-    """The attempts of a run that had a frame, with these names; they are numbered from 0."""
-    return [attempt for attempt in attempts_of(record.replay, names) if attempt.outcome != "idle"]
-
-
 class Comparison:
     """Two runs, with names by which they can be compared; `title` is how a page calls the second one."""
 
     def __init__(self, one: Record, other: Record, title: str = "", tolerance: float = TOLERANCE) -> None:
         self.records, self.title, self.tolerance = (one, other), title, tolerance
         self.names = names_of_both(one, other)
-        self.one, self.other = map(tried, self.records, self.names)
+        made = [attempts_of(record.replay, names) for record, names in zip(self.records, self.names)]
+        #: The attempts of both runs that had a frame, which are numbered from 0.
+        self.one, self.other = ([attempt for attempt in run if attempt.outcome != "idle"] for run in made)
+        self._restarted = [collections.Counter(name for attempt in run for name in attempt.restarted) for run in made]
         self._rows = list(pairs_of(self.one, self.other))
 
     def reversed(self, title: str) -> "Comparison":
@@ -132,10 +130,7 @@ class Comparison:
             yield Difference(kinds[0][0], one.first, other.first, about + "; ".join(words for _, words in kinds))
 
     def _restarts(self) -> Iterator[Difference]:
-        counts = [
-            collections.Counter(name for attempt in attempts_of(record.replay, names) for name in attempt.restarted)
-            for record, names in zip(self.records, self.names)
-        ]
+        counts = self._restarted
         for name in sorted(set(counts[0]) | set(counts[1])):
             if counts[0][name] != counts[1][name]:
                 words = f"{name} was restarted {times(counts[0][name], 'time')} against {counts[1][name]}"

@@ -1,4 +1,4 @@
-"""Logs of other tools: candump's, and those that python-can reads and writes by a file's ending, as ASC and BLF."""
+"""Logs of other tools: candump's, those that python-can reads and writes by a file's ending, as ASC and BLF, and pcapng."""
 
 import collections
 import dataclasses
@@ -22,8 +22,9 @@ from canbusd.frames import BadFrame, Frame, frame_like, log_line
 ENDINGS = (".asc", ".blf", ".csv", ".db", ".mf4", ".trc")
 #: The endings of files that are text.
 TEXTS = (".asc", ".csv", ".trc")
-#: The endings of files that are written; the others that python-can writes lose frames, flags or channels.
+# The ending of captures for Wireshark.
 PCAPNG = ".pcapng"
+#: The endings of files that are written; the others that python-can writes lose frames, flags or channels.
 WRITTEN = (".log", ".asc", ".blf", PCAPNG)
 # Those of them with numbers of channels in place of names.
 NUMBERED = (".asc", ".blf")

@@ -36,11 +36,6 @@ class Capture:
         begin = block(SECTION, struct.pack("<IHHq", 0x1A2B3C4D, 1, 0, -1), option(APPLICATION, b"canbusd"))
         file.write(begin + b"".join(self._interface(name, bitrate) for name, bitrate in interfaces))
 
-    @property
-    def names(self) -> list[str]:
-        """The interfaces, in their order."""
-        return [*self._numbers]
-
     def write(self, packets: Iterable[Packet]) -> None:
         """Writes frames, each with its interface, which is a new one where it was not there, and which way it went."""
         blocks = []

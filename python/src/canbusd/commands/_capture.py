@@ -43,6 +43,8 @@ class Watched(CanbusdBus):
             message = self.recv(0.01)
             if message is not None:
                 yield frame_like(message)
+        # What has not come until now is not waited for again.
+        self.received = max(self.received, wanted)
 
 
 class Merged:
