@@ -42,6 +42,7 @@ def test_a_frame_that_is_sent_again(tmp_path):
     assert Comparison(one, other).partners == {0: 0, 1: 1, 2: 2, 3: 3, 5: 4, 6: 5}
     [back] = Comparison(other, one).differences
     assert back == ("other outcome", 4, 4, "can0 104#04: destroyed (global bit), then done against done")
+    assert Comparison(one, other).reversed("a").differences == [back]
 
 
 def test_runs_that_are_alike_and_one_that_goes_on(tmp_path):

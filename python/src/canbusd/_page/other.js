@@ -15,7 +15,11 @@ function spansByAttempt() {
   const starts = new Float64Array(other.count), ends = new Float64Array(other.count), { start } = axes[0], between = new Map();
   const border = number => start[Math.min(stepOfAttempt(number) + (number >= attemptOf[axis.count]), axis.count)];
   for (let k = 0; k < other.count; k++) {
-    if (!other.partner[k]) { between.set(other.place[k], [...between.get(other.place[k]) || [], k]); continue; }
+    if (!other.partner[k]) {
+      if (!between.has(other.place[k])) between.set(other.place[k], []);
+      between.get(other.place[k]).push(k);
+      continue;
+    }
     const step = stepOfAttempt(other.partner[k] - 1);
     [starts[k], ends[k]] = [start[step], start[step + 1]];
   }

@@ -69,8 +69,14 @@ class Comparison:
         self._rows = list(pairs_of(self.one, self.other))
 
     def reversed(self, title: str) -> "Comparison":
-        """Returns the comparison of the second run with the first, which has this title."""
-        return Comparison(self.records[1], self.records[0], title, self.tolerance)
+        """Returns the comparison of the second run with the first, which has this title: the same pairs, turned round."""
+        turned = object.__new__(Comparison)
+        turned.records, turned.names = self.records[::-1], self.names[::-1]
+        turned.title, turned.tolerance = title, self.tolerance
+        turned.one, turned.other = self.other, self.one
+        turned._restarted = self._restarted[::-1]
+        turned._rows = [[Pair(other, one) for one, other in row] for row in self._rows]
+        return turned
 
     @functools.cached_property
     def partners(self) -> dict[int, int]:
@@ -105,6 +111,8 @@ class Comparison:
                 yield from self._of_pair(one, other, late if is_moved else 0.0)
 
     def _of_pair(self, one: Sent, other: Sent, late: float) -> Iterator[Difference]:
+        if not late and [key_of(self.one[k]) for k in one.attempts] == [key_of(self.other[k]) for k in other.attempts]:
+            return
         texts = told(self.one, one), told(self.other, other)
         ends = outcomes(self.one, one), outcomes(self.other, other)
         kinds: list[tuple[Kind, str]] = []
@@ -193,6 +201,11 @@ def places(partners: dict[int, int], count: int) -> list[int]:
 def reversed_pairs(partners: dict[int, int]) -> dict[int, int]:
     """Returns the attempts of the first run with those of the second."""
     return {one: other for other, one in partners.items()}
+
+
+def key_of(attempt: Attempt) -> tuple[object, ...]:
+    """What of an attempt is compared; interfaces are in the order of their bus, so that other keys may be the same, too."""
+    return attempt.frame, attempt.outcome, attempt.fault, attempt.accepted, attempt.off
 
 
 def told(run: Sequence[Attempt], sent: Sent) -> str:
