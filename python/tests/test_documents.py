@@ -50,4 +50,4 @@ def test_the_code_of_the_package(installed):
         done = subprocess.run([sys.executable, "-c", program], env=env, capture_output=True, text=True, check=False)
     assert done.returncode == 0, done.stderr
     assert re.match("Timestamp: .* ID: +0?123 .* 01 02 03 ", done.stdout)
-    assert len(code) == 10
+    assert len(code) == 11

@@ -68,7 +68,7 @@ def public_names():
 #: Modules that users import, whether or not the documents do it in a line that is found above.
 PUBLIC = """
     bench bus candump2bench commands faults frames isotp programs pytest_plugin record replay rest_bus rules server signals
-    strategies virtual
+    strategies uds virtual
 """
 
 
@@ -89,6 +89,8 @@ def test_public_paths_can_be_imported():
 LAYERS = """
     _text+_python_can+_calls+_whole_file+_placement+virtual+frames+rules+faults
     _session
+    _isotp
+    _uds+uds
     _process
     _database+signals
     _run+record+replay

@@ -17,8 +17,8 @@ load_database  the messages and signals of a file of DBC, KCD, ARXML or SYM: a D
 read_record    what happened on a bus, as its record has it: a Record of Attempts
 is_virtual     whether this process runs in virtual time
 
-Modules beside these: canbusd.pytest_plugin has the fixture `canbusd`, canbusd.strategies has frames and faults for
-Hypothesis. A name is imported when it is first used: only CanbusdBus and logs need python-can, and only the plugin needs
+Modules beside these: canbusd.uds has a simulated ECU and a client of UDS, canbusd.pytest_plugin the fixture `canbusd`,
+canbusd.strategies frames and faults for Hypothesis. A name is imported when it is first used: only CanbusdBus and logs need python-can, and only the plugin needs
 pytest.
 """
 
@@ -95,16 +95,21 @@ _HOMES = {
     "virtual": ["is_virtual"],
 }
 
+#: Modules that a test has names of by `from canbusd import uds`.
+_MODULES = ["uds"]
+
 
 def __getattr__(name: str) -> Any:
+    if name in _MODULES:
+        return importlib.import_module(f"canbusd.{name}")
     for module, names in _HOMES.items():
         if name in names:
             globals()[name] = found = getattr(importlib.import_module(f"canbusd.{module}"), name)
             return found
     from canbusd._calls import meant
 
-    raise AttributeError(f"module {__name__!r} has no attribute {name!r}{meant(name, __all__)}")
+    raise AttributeError(f"module {__name__!r} has no attribute {name!r}{meant(name, [*__all__, *_MODULES])}")
 
 
 def __dir__() -> list[str]:
-    return sorted([*globals(), *__all__])
+    return sorted([*globals(), *__all__, *_MODULES])

@@ -1,4 +1,4 @@
-"""Ends of ISO-TP on interfaces of a server, by can-isotp where it is installed, else by a socket of canbusd-run.
+"""Ends of ISO-TP on interfaces of a server: by can-isotp where it is installed, by a socket of canbusd-run, or in Python.
 
     with server.isotp("ecu", tx=0x7E8, rx=0x7E0) as ecu, server.isotp("tester", tx=0x7E0, rx=0x7E8) as tester:
         tester.send(b"\\x22\\xf1\\x90")
@@ -6,8 +6,8 @@
 """
 
 import contextlib
-import errno
 import importlib
+import json
 import os
 import select
 import socket
@@ -15,113 +15,61 @@ import subprocess
 import sys
 import threading
 import time
-from abc import ABC, abstractmethod
 from collections.abc import Callable
-from types import TracebackType
 from typing import TYPE_CHECKING, Any, Optional
 
-from canbusd._calls import NamesWhatThereIs
+from canbusd._isotp.end import ERRORS, LONGEST_TRANSFER, MOST_BYTES, check
+from canbusd._isotp.end import IsoTp as IsoTp, IsoTpError as IsoTpError
+from canbusd._isotp.options import Options
+from canbusd._isotp.python_end import PythonIsoTp
 from canbusd._process.program import ProgramNotFound, find_program
 from canbusd._session.observing_session import ObservingSession
 from canbusd._session.waits import seconds_until
 from canbusd._text import seconds_words
-from canbusd.frames import data_bytes
 
 if TYPE_CHECKING:
     from canbusd.bus import CanbusdBus
 
 HOW_TO_GET = "`pip install can-isotp`, or canbusd-run beside the program"
-#: Seconds in which a transfer has to be over that goes on: 4,095 bytes at 10 kbit/s take less.
-LONGEST_TRANSFER = 60.0
+#: What may do it.
+LIBRARIES = ("can-isotp", "canbusd-run", "canbusd")
 #: What canbusd-run runs.
 SOCKET_PROGRAM = os.path.join(os.path.dirname(__file__), "_process", "isotp_socket.py")
 #: Seconds in which the process of a socket has to start, and to end.
 START, END = 20.0, 5.0
-#: The most that one message has.
-MOST_BYTES = 4095
-#: What the errors of a socket are, as net/can/isotp.c has them.
-ERRORS = {
-    errno.ECOMM: "the other end sent no flow control in time, or a frame did not go out",
-    errno.ETIMEDOUT: "the other end sent no consecutive frame in time",
-    errno.EILSEQ: "a consecutive frame has the wrong number",
-    errno.EBADMSG: "a frame has a wrong length, or is a wrong flow control",
-    errno.EMSGSIZE: "the other end has no room for as many bytes",
-    errno.ENETDOWN: "the interface is bus off",
-}
-
-
-class IsoTpError(RuntimeError):
-    """Why a transfer failed; with sockets `errno` is that of the socket, with can-isotp None."""
-
-    def __init__(self, text: str, number: Optional[int] = None) -> None:
-        super().__init__(text)
-        self.errno = number
-
-
-class IsoTp(NamesWhatThereIs, ABC):
-    """An end of ISO-TP: messages of 1 to 4,095 bytes to one other end, and from it."""
-
-    _INSTEAD = {"receive": "recv(timeout=1)", "read": "recv(timeout=1)", "write": "send(data)"}
-    #: What does it: `can-isotp` or `canbusd-run`.
-    library: str
-
-    @abstractmethod
-    def send(self, data: bytes, timeout: float = LONGEST_TRANSFER) -> None:
-        """Sends a message, and returns once its last frame was sent; IsoTpError where the transfer fails."""
-
-    @abstractmethod
-    def recv(self, timeout: Optional[float] = None) -> Optional[bytes]:
-        """Returns the next message; None where none is complete within these seconds, IsoTpError where one fails."""
-
-    @abstractmethod
-    def close(self) -> None:
-        """Ends it."""
-
-    def __enter__(self) -> "IsoTp":
-        return self
-
-    def __exit__(
-        self, kind: Optional[type[BaseException]], fault: Optional[BaseException], _: Optional[TracebackType]
-    ) -> None:
-        self.close()
 
 
 def open_isotp(
-    opened: "Callable[..., CanbusdBus]", address: str, channel: str, tx: int, rx: int, library: Optional[str] = None
+    opened: "Callable[..., CanbusdBus]", address: str, channel: str, options: Options, library: Optional[str] = None
 ) -> IsoTp:
-    """Returns an end on an interface; `opened` opens a bus of python-can there. `library` is one of both, else the first
-    that is there."""
-    for name, identifier in (("tx", tx), ("rx", rx)):
-        if not isinstance(identifier, int) or not 0 <= identifier <= 0x1FFFFFFF:
-            raise ValueError(f"{name} is an identifier of 11 or 29 bits, not {identifier!r}")
-    if tx == rx:
-        raise ValueError(
-            f"tx and rx are different, not both {tx:X}: rx is the identifier that the other end sends with"
-        )
-    if (tx > 0x7FF) != (rx > 0x7FF):
-        raise ValueError(f"tx and rx are both of 11 bits or both of 29, not {tx:X} and {rx:X}")
-    if library not in (None, "can-isotp", "canbusd-run"):
-        raise ValueError(f"library is 'can-isotp' or 'canbusd-run', not {library!r}")
+    """Returns an end on an interface; `opened` opens a bus of python-can there. `library` is one of them, else the first
+    that is there, of those that have what the options ask for."""
+    if library not in (None, *LIBRARIES):
+        raise ValueError(f"library is {', '.join(map(repr, LIBRARIES[:-1]))} or {LIBRARIES[-1]!r}, not {library!r}")
+    if options.functional is not None and library not in (None, "canbusd"):
+        raise ValueError(f"functional needs library='canbusd', not {library!r}")
+    if library == "canbusd" or options.functional is not None:
+        return PythonIsoTp(opened, channel, options)
     if library != "canbusd-run":
         try:
             isotp = importlib.import_module("isotp")
-            return CanIsoTp(isotp, opened(channel, error_frames=False), tx, rx)
+            return CanIsoTp(isotp, opened(channel, error_frames=False, fd=options.fd), options)
         except ModuleNotFoundError:
             if library:
                 raise ImportError("isotp needs can-isotp, which is not installed: `pip install can-isotp`") from None
     try:
         program = find_program("canbusd-run")
     except ProgramNotFound:
-        raise ImportError(f"isotp needs can-isotp or canbusd-run, and there is neither: {HOW_TO_GET}") from None
-    return SocketIsoTp(program, address, channel, tx, rx)
+        if library:
+            raise ImportError(f"isotp needs canbusd-run, and there is none: {HOW_TO_GET}") from None
+        return PythonIsoTp(opened, channel, options)
+    return SocketIsoTp(program, address, channel, options)
 
 
-def check(data: bytes) -> bytes:
-    """Returns the bytes of a message that can be sent."""
-    found = data_bytes(data)
-    if not 1 <= len(found) <= MOST_BYTES:
-        raise ValueError(f"data has 1 to {MOST_BYTES} bytes, not {len(found)}")
-    return found
+def check_physical(functional: bool) -> None:
+    """ValueError for a request to all, by an end that has no identifier of them."""
+    if functional:
+        raise ValueError("functional=True needs the identifier of requests to all: isotp(.., functional=0x7DF)")
 
 
 class CanIsoTp(IsoTp):
@@ -129,14 +77,24 @@ class CanIsoTp(IsoTp):
 
     library = "can-isotp"
 
-    def __init__(self, isotp: Any, bus: "CanbusdBus", tx: int, rx: int) -> None:
-        mode = isotp.AddressingMode.Normal_29bits if tx > 0x7FF else isotp.AddressingMode.Normal_11bits
+    def __init__(self, isotp: Any, bus: "CanbusdBus", options: Options) -> None:
+        kind = "Normal" if options.addresses is None else "Extended"
+        mode = getattr(isotp.AddressingMode, f"{kind}_{29 if options.has_29_bits else 11}bits")
         self._bus, self._faults = bus, list[Exception]()
-        address = isotp.Address(mode, txid=tx, rxid=rx)
-        self._stack = isotp.CanStack(bus, address=address, error_handler=self._faults.append)
+        own, theirs = options.addresses or (None, None)
+        address = isotp.Address(mode, txid=options.tx, rxid=options.rx, target_address=own, source_address=theirs)
+        params = {
+            "stmin": options.stmin,
+            "blocksize": options.block_size,
+            "tx_data_length": options.tx_dl,
+            "tx_padding": options.padding,
+            "can_fd": options.fd,
+        }
+        self._stack = isotp.CanStack(bus, address=address, error_handler=self._faults.append, params=params)
         self._stack.start()
 
-    def send(self, data: bytes, timeout: float = LONGEST_TRANSFER) -> None:
+    def send(self, data: bytes, timeout: float = LONGEST_TRANSFER, *, functional: bool = False) -> None:
+        check_physical(functional)
         self._raise()
         self._stack.send(check(data))
         deadline = time.monotonic() + timeout
@@ -175,10 +133,10 @@ class SocketIsoTp(IsoTp):
 
     library = "canbusd-run"
 
-    def __init__(self, program: str, address: str, channel: str, tx: int, rx: int) -> None:
+    def __init__(self, program: str, address: str, channel: str, options: Options) -> None:
         self._address, self._channel = address, channel
         self._own, theirs = socket.socketpair(socket.AF_UNIX, socket.SOCK_SEQPACKET)
-        words = [sys.executable, "-I", "-S", SOCKET_PROGRAM, str(theirs.fileno()), channel, str(tx), str(rx)]
+        words = [sys.executable, "-I", "-S", SOCKET_PROGRAM, str(theirs.fileno()), channel, json.dumps(vars(options))]
         with theirs:
             self._child = subprocess.Popen(
                 [program, "--address", address, "--", *words],
@@ -198,7 +156,8 @@ class SocketIsoTp(IsoTp):
             self.close()
             raise
 
-    def send(self, data: bytes, timeout: float = LONGEST_TRANSFER) -> None:
+    def send(self, data: bytes, timeout: float = LONGEST_TRANSFER, *, functional: bool = False) -> None:
+        check_physical(functional)
         with self._sending:
             try:
                 self._own.send(check(data))

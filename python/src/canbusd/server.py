@@ -90,7 +90,10 @@ class Server(Expectations, SimulatesNodes, RunsPrograms, ProgramRun, NamesWhatTh
     """
 
     _INSTEAD = {
-        **{name: f"the fixture `canbusd` hides the module; `from canbusd import {name}`" for name in canbusd.__all__},
+        **{
+            name: f"the fixture `canbusd` hides the module; `from canbusd import {name}`"
+            for name in [*canbusd.__all__, *canbusd._MODULES]
+        },
         "load": "server.bus('can0').load()",
         "receive": "server.bus('can0').recv(timeout=1), or expect(..)",
         "recv": "server.bus('can0').recv(timeout=1), or expect(..)",

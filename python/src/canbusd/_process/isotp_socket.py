@@ -1,16 +1,24 @@
 """The process of canbusd.isotp.SocketIsoTp, a program for canbusd-run: it needs nothing but Python.
 
-    isotp_socket.py DESCRIPTOR INTERFACE TX RX
+    isotp_socket.py DESCRIPTOR INTERFACE OPTIONS
+
+The options are those of canbusd._isotp.options, as JSON.
 """
 
 import errno
+import json
 import select
 import socket
 import sys
+from typing import Any
 
 MOST_BYTES = 4095
-# CAN_ISOTP_OPTS and CAN_ISOTP_WAIT_TX_DONE of linux/can/isotp.h: a send ends with its last frame.
-OPTIONS, WAIT_DONE = 1, 0x400
+# Options of linux/can/isotp.h, and flags of the first: extended addresses, padding, another address of what is received, and
+# that a send ends with its last frame.
+OPTIONS, FLOW_CONTROL, LINK_LAYER = 1, 2, 5
+EXTENDED, PADDING, OTHER_RX, WAIT_DONE = 0x2, 0x4, 0x200, 0x400
+# The size of an FD frame of Linux.
+CANFD_MTU = 72
 
 
 def relay(own: socket.socket, end: socket.socket) -> None:
@@ -41,14 +49,28 @@ def error_of(end: socket.socket, data: bytes) -> int:
         return fault.errno or errno.EIO
 
 
+def set_options(end: socket.socket, given: "dict[str, Any]") -> None:
+    """Sets the options of a CAN_ISOTP socket."""
+    level = socket.SOL_CAN_BASE + socket.CAN_ISOTP
+    addresses, padding = given["addresses"], given["padding"]
+    flags = WAIT_DONE | (0 if padding is None else PADDING) | (EXTENDED | OTHER_RX if addresses else 0)
+    tx_address, rx_address = addresses or (0, 0)
+    own = bytes([tx_address, padding or 0, 0, rx_address])
+    end.setsockopt(level, OPTIONS, flags.to_bytes(4, sys.byteorder) + bytes(4) + own)
+    end.setsockopt(level, FLOW_CONTROL, bytes([given["block_size"], given["stmin"], 0]))
+    if given["fd"]:
+        end.setsockopt(level, LINK_LAYER, bytes([CANFD_MTU, given["tx_dl"], 0]))
+
+
 def main() -> None:
     """Opens the socket, says so, and carries messages."""
-    descriptor, channel, tx, rx = sys.argv[1:]
+    descriptor, channel, options = sys.argv[1:]
+    given = json.loads(options)
     own = socket.socket(fileno=int(descriptor))
     end = socket.socket(socket.AF_CAN, socket.SOCK_DGRAM, socket.CAN_ISOTP)
-    end.setsockopt(socket.SOL_CAN_BASE + socket.CAN_ISOTP, OPTIONS, WAIT_DONE.to_bytes(4, sys.byteorder) + bytes(8))
-    flag = socket.CAN_EFF_FLAG if int(tx) > 0x7FF else 0
-    end.bind((channel, int(rx) | flag, int(tx) | flag))
+    set_options(end, given)
+    flag = socket.CAN_EFF_FLAG if given["tx"] > 0x7FF else 0
+    end.bind((channel, given["rx"] | flag, given["tx"] | flag))
     own.send(b"o")
     relay(own, end)
 

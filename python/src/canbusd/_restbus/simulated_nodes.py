@@ -13,7 +13,7 @@ if TYPE_CHECKING:
     from canbusd.signals import Database
 
 R = TypeVar("R", bound="RestBus")
-Library = Literal["can-isotp", "canbusd-run"]
+Library = Literal["can-isotp", "canbusd-run", "canbusd"]
 
 
 class HasRestBus(Generic[R]):
@@ -65,15 +65,34 @@ class SimulatesNodes(HasRestBus["RestBus"]):
         self.database = database if self.database is None else self.database.with_more(database)
         return LiveRestBus(database, interfaces, self.bus, lambda: self._result is not None)
 
-    @explained("more options has can-isotp: isotp.CanStack(server.bus('can0'), ..)")
-    def isotp(self, channel: str, *, tx: int, rx: int, library: Optional[Library] = None) -> "IsoTp":
+    @explained()
+    def isotp(
+        self,
+        channel: str,
+        *,
+        tx: int,
+        rx: int,
+        padding: Optional[int] = None,
+        fd: bool = False,
+        tx_dl: Optional[int] = None,
+        stmin: int = 0,
+        block_size: int = 0,
+        extended: Union[int, tuple[int, int], None] = None,
+        functional: Optional[int] = None,
+        library: Optional[Library] = None,
+    ) -> "IsoTp":
         """Returns an end of ISO-TP on an interface: it sends with the identifier `tx`, and receives what has `rx`.
 
-        Identifiers above 7FF have 29 bits. can-isotp does it where it is installed, else a socket of canbusd-run; ImportError
-        where there is neither.
+        Identifiers above 7FF have 29 bits. `padding` is the byte that fills frames up to 8 bytes, `tx_dl` how many bytes a frame
+        has at most that is sent, with `fd` up to 64, and `stmin` and `block_size` are what the end asks for in its flow
+        controls, `stmin` as its byte there. `extended` is the address in the first byte of each frame, or a pair of what is
+        sent and what is received. Requests to all have the identifier `functional`: they are received too, and sent by
+        ``send(data, functional=True)``. can-isotp does it where it is installed, else a socket of canbusd-run, else Python.
         """
+        from canbusd._isotp.options import options_of
         from canbusd.isotp import open_isotp
 
         if channel not in self.interfaces:
             raise ValueError(f"channel is one of {', '.join(self.interfaces)}, not {channel!r}")
-        return open_isotp(self.bus, self.address, channel, tx, rx, library)
+        options = options_of(tx, rx, padding, fd, tx_dl, stmin, block_size, extended, functional)
+        return open_isotp(self.bus, self.address, channel, options, library)

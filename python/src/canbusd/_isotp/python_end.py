@@ -1,0 +1,330 @@
+"""An end of ISO-TP in this process, by ISO 15765-2, whose segments may have faults.
+
+A thread reads what comes and answers first frames. A call that sends a message waits until each of its frames is on the bus,
+when the session gets it back, and for flow controls.
+"""
+
+import errno
+import threading
+import time
+from collections import deque
+from collections.abc import Callable, Iterator
+from typing import TYPE_CHECKING, Optional, Union
+
+from canbusd._isotp.end import ERRORS, LONGEST_TRANSFER, IsoTp, IsoTpError, check
+from canbusd._isotp.options import Options
+from canbusd._isotp.segments import (
+    CONSECUTIVE,
+    FIRST,
+    FLOW_CONTROL,
+    GO_ON,
+    OVERFLOW,
+    SINGLE,
+    WAIT,
+    Received,
+    Segment,
+    SegmentFault,
+    distance,
+    filled,
+    flow_control,
+    read_segment,
+    segments_of,
+    with_fault,
+)
+from canbusd._session.waits import seconds_until
+from canbusd.frames import Frame
+
+if TYPE_CHECKING:
+    from can.message import Message
+
+    from canbusd.bus import CanbusdBus
+
+#: Seconds in which a frame has to be on the bus, a flow control to come, and a consecutive frame: N_As, N_Bs and N_Cr.
+LONGEST_FRAME, LONGEST_CONTROL, LONGEST_GAP = 1.0, 1.0, 1.0
+
+
+class Incoming:
+    """A message of which not all has come."""
+
+    def __init__(self, size: int, data: bytes) -> None:
+        self.size, self.data = size, bytearray(data)
+        #: How many bytes its consecutive frames have, but for the last: one more than its first frame.
+        self.longest = len(data) + 1
+        #: The number of the next consecutive frame, and how many come before the next flow control.
+        self.number, self.left = 1, 0
+        #: By when the next has to come.
+        self.deadline = time.monotonic() + LONGEST_GAP
+
+
+class Faults:
+    """The faults of segments that are still to come."""
+
+    def __init__(self) -> None:
+        self._left: list[tuple[SegmentFault, int]] = []
+
+    def add(self, fault: SegmentFault) -> None:
+        """Adds a fault, for as many messages as it says."""
+        self._left.append((fault, fault.count))
+
+    def take(self, name: str) -> Optional[SegmentFault]:
+        """Returns the fault that a segment has, the first that was added; it is used up by one message."""
+        for place, (fault, count) in enumerate(self._left):
+            if fault.segment == name:
+                self._left[place : place + 1] = [(fault, count - 1)] if count > 1 else []
+                return fault
+        return None
+
+
+class PythonIsoTp(IsoTp):
+    """An end over a bus of python-can on this interface, which `opened` opens."""
+
+    library = "canbusd"
+
+    def __init__(self, opened: "Callable[..., CanbusdBus]", channel: str, options: Options) -> None:
+        self._channel, self._options = channel, options
+        self._addresses = [bytes([one]) for one in options.addresses or ()] or [b"", b""]
+        received = {options.tx, options.rx, *([] if options.functional is None else [options.functional])}
+        filters = [{"can_id": one, "can_mask": 0x1FFFFFFF, "extended": one > 0x7FF} for one in sorted(received)]
+        self._bus = opened(channel, can_filters=filters, error_frames=False, fd=options.fd, receive_own_messages=True)
+        self._sending, self._news, self._faults = threading.Lock(), threading.Condition(), Faults()
+        #: Messages, each with whether it was for all, and the numbers of the errors of those that failed.
+        self._received: deque[Union[tuple[bytes, bool], int]] = deque()
+        self._controls: deque[Received] = deque()
+        # How many frames were given to the bus, and how many of them it has carried.
+        self._given = self._carried = 0
+        self._incoming: Optional[Incoming] = None
+        # Flow controls that are late, and when they are due.
+        self._late: list[tuple[float, Segment]] = []
+        # Why the thread has ended.
+        self._end: Optional[BaseException] = None
+        self._thread = threading.Thread(target=self._read, name="canbusd ISO-TP", daemon=True)
+        self._thread.start()
+
+    def inject(self, fault: SegmentFault) -> None:
+        if not isinstance(fault, SegmentFault):
+            raise ValueError(f"fault is one of a segment, as uds.fault('first frame', 'lost') returns, not {fault!r}")
+        with self._news:
+            self._faults.add(fault)
+
+    def send(self, data: bytes, timeout: float = LONGEST_TRANSFER, *, functional: bool = False) -> None:
+        planned = list(segments_of(check(data), self._options.tx_dl, self._addresses[0]))
+        identifier = self._options.functional if functional else self._options.tx
+        if identifier is None:
+            raise ValueError("functional=True needs the identifier of requests to all: isotp(.., functional=0x7DF)")
+        if functional and len(planned) > 1:
+            raise ValueError(f"a request to all is one single frame, and {len(data)} bytes are more")
+        deadline = time.monotonic() + timeout
+        with self._sending:
+            with self._news:
+                self._controls.clear()
+            block, gap = 1, 0.0
+            for segment in planned:
+                if segment.name.startswith(CONSECUTIVE):
+                    block -= 1
+                    if block == 0:
+                        block, gap = self._await_control(deadline)
+                    else:
+                        time.sleep(gap)
+                for one in self._with_faults(segment):
+                    time.sleep(one.delay)
+                    self._await_carried(self._give(one, identifier), deadline)
+
+    def recv(self, timeout: Optional[float] = None) -> Optional[bytes]:
+        found = self.recv_request(timeout)
+        return None if found is None else found[0]
+
+    def recv_request(self, timeout: Optional[float] = None) -> Optional[tuple[bytes, bool]]:
+        """Returns the next message, as `recv` does, with whether it was for all."""
+        with self._news:
+            self._news.wait_for(lambda: self._received or self._end, timeout)
+            if self._received:
+                found = self._received.popleft()
+                if isinstance(found, int):
+                    raise IsoTpError(ERRORS[found], found)
+                return found
+            if self._end is not None:
+                raise IsoTpError(f"this end was closed: {self._end}") from None
+            return None
+
+    @property
+    def is_over(self) -> bool:
+        """Whether it was closed, or its server has ended."""
+        return self._end is not None
+
+    @property
+    def is_receiving(self) -> bool:
+        """Whether a message has begun to come, and is not complete."""
+        return self._incoming is not None
+
+    def close(self) -> None:
+        self._bus.shutdown()
+        self._thread.join()
+
+    # What is sent.
+
+    def _with_faults(self, segment: Segment) -> Iterator[Segment]:
+        """Yields what is sent in place of a segment."""
+        with self._news:
+            fault = self._faults.take(segment.name)
+        if fault is None:
+            yield segment
+        else:
+            yield from with_fault(segment, fault.kind, fault.delay)
+
+    def _give(self, segment: Segment, identifier: int) -> int:
+        """Gives a segment to the bus; returns which of the frames it is."""
+        data = filled(segment.data, self._options.padding)
+        frame = Frame(identifier, data, identifier > 0x7FF, is_fd=self._options.fd)
+        # Frames are counted in the order in which they are given.
+        with self._news:
+            try:
+                self._bus.send(frame.message(), LONGEST_FRAME)
+            except Exception as fault:
+                raise self._error(fault) from None
+            self._given += 1
+            return self._given
+
+    def _error(self, fault: BaseException) -> IsoTpError:
+        """The error of a transfer that a fault of the bus is."""
+        code = getattr(fault, "error_code", None)
+        if code == errno.ENETDOWN:
+            return IsoTpError(f"{self._channel} is bus off", code)
+        return IsoTpError(f"this end was closed: {fault}" if code is None else f"{fault}", code)
+
+    def _await_carried(self, number: int, deadline: float) -> None:
+        """Waits until the bus has carried a frame."""
+        with self._news:
+            is_over = min(deadline, time.monotonic() + LONGEST_FRAME)
+            self._news.wait_for(lambda: self._carried >= number or self._end, seconds_until(is_over))
+            if self._carried >= number:
+                return
+            # What was lost at bus off does not come any more.
+            self._carried = self._given
+            end = self._end
+        if end is not None:
+            raise self._error(end)
+        if self._bus.error_counters().state == "off":
+            raise IsoTpError(f"{self._channel} is bus off", errno.ENETDOWN)
+        raise IsoTpError(ERRORS[errno.ECOMM], errno.ECOMM)
+
+    def _await_control(self, deadline: float) -> tuple[int, float]:
+        """Waits for a flow control; returns how many frames may follow, 0 for all, and the seconds between them."""
+        while True:
+            with self._news:
+                is_over = min(deadline, time.monotonic() + LONGEST_CONTROL)
+                self._news.wait_for(lambda: self._controls or self._end, seconds_until(is_over))
+                control = self._controls.popleft() if self._controls else None
+            if control is None:
+                raise self._error(self._end) if self._end else IsoTpError(ERRORS[errno.ECOMM], errno.ECOMM)
+            if len(control.data) < 2 or control.number > OVERFLOW:
+                raise IsoTpError(ERRORS[errno.EBADMSG], errno.EBADMSG)
+            if control.number == OVERFLOW:
+                raise IsoTpError(ERRORS[errno.EMSGSIZE], errno.EMSGSIZE)
+            if control.number == GO_ON:
+                return control.data[0], distance(control.data[1])
+
+    # What is received, in the thread.
+
+    def _read(self) -> None:
+        try:
+            while True:
+                message = self._bus.recv(self._seconds_left())
+                with self._news:
+                    if message is not None and message.is_rx:
+                        self._take(message)
+                    elif message is not None:
+                        self._carried = min(self._carried + 1, self._given)
+                    self._do_what_is_due()
+                    self._news.notify_all()
+        except Exception as fault:
+            with self._news:
+                self._end = fault
+                self._news.notify_all()
+
+    def _seconds_left(self) -> Optional[float]:
+        """Seconds until something is due; None where nothing is."""
+        deadlines = [moment for moment, _ in self._late]
+        deadlines += [self._incoming.deadline] if self._incoming else []
+        return seconds_until(min(deadlines)) if deadlines else None
+
+    def _do_what_is_due(self) -> None:
+        now = time.monotonic()
+        due = [one for one in self._late if one[0] <= now]
+        for one in due:
+            self._late.remove(one)
+            self._give(one[1], self._options.tx)
+        if self._incoming is not None and self._incoming.deadline <= now:
+            self._fail(errno.ETIMEDOUT)
+
+    def _fail(self, number: int) -> None:
+        """Gives up the message of which some has come."""
+        self._incoming = None
+        self._received.append(number)
+
+    def _take(self, message: "Message") -> None:
+        """Takes a frame from another."""
+        is_functional = message.arbitration_id == self._options.functional
+        data, address = bytes(message.data), self._addresses[1]
+        if not (is_functional or message.arbitration_id == self._options.rx) or data[: len(address)] != address:
+            return
+        try:
+            segment = read_segment(data, len(address))
+        except ValueError:
+            # As a socket does, it ignores what is none.
+            return
+        if segment.name == SINGLE:
+            self._received.append((segment.data, is_functional))
+            self._incoming = self._incoming if is_functional else None
+        elif is_functional:
+            return
+        elif segment.name == FLOW_CONTROL:
+            self._controls.append(segment)
+        elif segment.name == FIRST and segment.number == 0:
+            # Its length is in the next bytes, and above 4,095.
+            self._give(self._control(OVERFLOW), self._options.tx)
+        elif segment.name == FIRST:
+            self._incoming = Incoming(segment.number, segment.data)
+            self._send_control(self._incoming)
+        elif self._incoming is not None:
+            self._take_consecutive(self._incoming, segment)
+
+    def _take_consecutive(self, incoming: Incoming, segment: Received) -> None:
+        wanted = min(incoming.longest, incoming.size - len(incoming.data))
+        if segment.number != incoming.number % 16:
+            self._fail(errno.EILSEQ)
+        elif len(segment.data) < wanted:
+            self._fail(errno.EBADMSG)
+        else:
+            incoming.data += segment.data[:wanted]
+            incoming.number += 1
+            incoming.left -= 1
+            incoming.deadline = time.monotonic() + LONGEST_GAP
+            if len(incoming.data) == incoming.size:
+                self._incoming = None
+                self._received.append((bytes(incoming.data), False))
+            elif incoming.left == 0:
+                self._send_control(incoming)
+
+    def _send_control(self, incoming: Incoming) -> None:
+        """Answers a first frame, or the end of a block."""
+        fault = self._faults.take(FLOW_CONTROL)
+        incoming.left = self._options.block_size
+        go_on = self._control(GO_ON)
+        if fault is None:
+            planned = [go_on]
+        elif fault.kind in ("wait", "overflow"):
+            late = Segment(FLOW_CONTROL, go_on.data, fault.delay)
+            planned = [self._control(WAIT), late] if fault.kind == "wait" else [self._control(OVERFLOW)]
+        else:
+            planned = list(with_fault(go_on, fault.kind, fault.delay))
+        for one in planned:
+            if one.delay:
+                self._late.append((time.monotonic() + one.delay, one))
+            else:
+                self._give(one, self._options.tx)
+        incoming.deadline = time.monotonic() + LONGEST_GAP + max((one.delay for one in planned), default=0.0)
+        if fault is not None and fault.kind == "overflow":
+            self._incoming = None
+
+    def _control(self, status: int) -> Segment:
+        return flow_control(status, self._options.block_size, self._options.stmin, self._addresses[0])

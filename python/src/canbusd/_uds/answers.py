@@ -1,0 +1,240 @@
+"""How a simulated ECU answers the requests of each service, by what it has."""
+
+import inspect
+import time
+from collections.abc import Callable, Sequence
+from dataclasses import dataclass
+from typing import Optional, Union
+
+from canbusd._uds import codes
+from canbusd._uds.codes import NegativeResponse, check_length
+from canbusd._uds.memory import Memory
+from canbusd.frames import data_bytes
+
+#: Wrong keys in a row, after which no seed is given for so many seconds.
+MOST_KEYS, KEY_DELAY = 3, 10.0
+
+
+@dataclass
+class Guarded:
+    """A function of a DID or of a routine, and when it may be called: in which sessions, if not in all, and with which level of
+    security unlocked, if with one."""
+
+    function: Callable[..., Optional[bytes]]
+    sessions: Sequence[int]
+    level: int
+
+
+@dataclass
+class Lock:
+    """A level of security: its seed, the function that makes the key of a seed, and how it stands."""
+
+    seed: Union[bytes, Callable[[], bytes]]
+    key: Callable[[bytes], bytes]
+    #: The seed that was given last, and how many wrong keys came.
+    given: Optional[bytes] = None
+    wrong: int = 0
+    closed_until: float = 0.0
+
+
+class Answers:
+    """What an ECU has, and its answers."""
+
+    def __init__(self, p2: float, p2_star: float) -> None:
+        self._p2, self._p2_star = p2, p2_star
+        #: The session: 1, the default one, 2 for programming, 3, the extended one, or another; which there are.
+        self.session, self.sessions = 1, {1, 2, 3}
+        #: The level of security that is unlocked; 0 is none.
+        self.level = 0
+        #: Bytes by DID: ``ecu.dids[0xF190] = b"WVW.."``. A function, for one, is the decorator `did`.
+        self.dids: dict[int, bytes] = {}
+        #: Which of these may be written; what a function takes has the decorator `write`.
+        self.writable: set[int] = set()
+        #: The status of each trouble code, by its number: ``ecu.dtcs[0x123456] = 0x09``; and which bits of it there are.
+        self.dtcs: dict[int, int] = {}
+        self.status_mask = 0xFF
+        #: Whether trouble codes are to be set, and the last communication control, 0 for all.
+        self.sets_dtcs, self.communication = True, 0
+        #: The level of security that downloads and uploads need; 0 is none.
+        self.load_level = 0
+        #: Services that the default session does not have.
+        self.not_in_default = {codes.SECURITY, codes.COMMUNICATION, codes.DTC_SETTING} | set(range(0x34, 0x38))
+        self._memory = Memory()
+        self._readers: dict[int, Guarded] = {}
+        self._writers: dict[int, Guarded] = {}
+        self._routines: dict[int, Guarded] = {}
+        self._locks: dict[int, Lock] = {}
+        self._services: dict[int, Callable[[bytes], Optional[bytes]]] = {}
+        self._own: dict[int, Callable[[bytes], Optional[bytes]]] = {
+            codes.SESSION: self._change_session, codes.RESET: self._reset, codes.CLEAR_DTCS: self._clear_dtcs,
+            codes.READ_DTCS: self._read_dtcs, codes.READ: self._read, codes.SECURITY: self._unlock,
+            codes.COMMUNICATION: self._communicate, codes.WRITE: self._write, codes.ROUTINE: self._do_routine,
+            codes.DOWNLOAD: self._load, codes.UPLOAD: self._load, codes.TRANSFER: self._memory.transfer,
+            codes.TRANSFER_EXIT: self._memory.end, codes.TESTER_PRESENT: self._stay, codes.DTC_SETTING: self._set_dtcs,
+        }  # fmt: skip
+
+    @property
+    def memory(self) -> dict[int, bytearray]:
+        """Memory for downloads and uploads, by first addresses: ``ecu.memory[0x1000] = bytearray(256)``."""
+        return self._memory.regions
+
+    def _carry_out(self, service: int, request: bytes) -> Optional[bytes]:
+        if service in self._services:
+            answer = self._services[service](request)
+            return None if answer is None else data_bytes(answer)
+        function = self._own.get(service)
+        if function is None:
+            raise NegativeResponse(0x11)
+        if self.session == 1 and service in self.not_in_default:
+            raise NegativeResponse(0x7F)
+        if service in codes.WITH_SUBFUNCTION:
+            check_length(request, 2)
+            request = bytes([service, request[1] & ~codes.SUPPRESSED]) + request[2:]
+        return function(request)
+
+    def _enter(self, session: int) -> None:
+        """Enters a session: security is locked, and a transfer ends."""
+        self.session, self.level = session, 0
+        self._memory.forget()
+        if session == 1:
+            self.sets_dtcs, self.communication = True, 0
+        for lock in self._locks.values():
+            lock.given = None
+
+    def _is_in_session(self, one: Guarded) -> bool:
+        return not one.sessions or self.session in one.sessions
+
+    def _check_level(self, level: int) -> None:
+        """Refuses what is locked."""
+        if level and self.level != level:
+            raise NegativeResponse(0x33)
+
+    def _change_session(self, request: bytes) -> bytes:
+        check_length(request, 2, 2)
+        if request[1] not in self.sessions:
+            raise NegativeResponse(0x12)
+        self._enter(request[1])
+        times = round(self._p2 * 1000).to_bytes(2, "big") + round(self._p2_star * 100).to_bytes(2, "big")
+        return bytes([0x50, request[1]]) + times
+
+    def _reset(self, request: bytes) -> bytes:
+        check_length(request, 2, 2)
+        if request[1] not in (1, 2, 3):
+            raise NegativeResponse(0x12)
+        self._enter(1)
+        return bytes([0x51, request[1]])
+
+    def _clear_dtcs(self, request: bytes) -> bytes:
+        check_length(request, 4, 4)
+        group = int.from_bytes(request[1:], "big")
+        if group == codes.ALL_DTCS:
+            self.dtcs.clear()
+        elif self.dtcs.pop(group, None) is None:
+            raise NegativeResponse(0x31)
+        return b"\x54"
+
+    def _read_dtcs(self, request: bytes) -> bytes:
+        kind = request[1]
+        if kind not in (codes.COUNT_DTCS, codes.DTCS_BY_STATUS, codes.SUPPORTED_DTCS):
+            raise NegativeResponse(0x12)
+        length = 2 if kind == codes.SUPPORTED_DTCS else 3
+        check_length(request, length, length)
+        found = [
+            (code, status & self.status_mask)
+            for code, status in self.dtcs.items()
+            if kind == codes.SUPPORTED_DTCS or status & self.status_mask & request[2]
+        ]
+        head = bytes([0x59, kind, self.status_mask])
+        if kind == codes.COUNT_DTCS:
+            # In the format of ISO 14229-1.
+            return head + b"\x01" + len(found).to_bytes(2, "big")
+        return head + b"".join(code.to_bytes(3, "big") + bytes([status]) for code, status in found)
+
+    def _read(self, request: bytes) -> bytes:
+        if len(request) < 3 or len(request) % 2 == 0:
+            raise NegativeResponse(0x13)
+        answer = b""
+        for place in range(1, len(request), 2):
+            number = int.from_bytes(request[place : place + 2], "big")
+            reader = self._readers.get(number)
+            if reader is not None and self._is_in_session(reader):
+                self._check_level(reader.level)
+                answer += request[place : place + 2] + data_bytes(reader.function())
+            elif reader is None and number in self.dids:
+                answer += request[place : place + 2] + self.dids[number]
+        if not answer:
+            raise NegativeResponse(0x31)
+        return b"\x62" + answer
+
+    def _write(self, request: bytes) -> bytes:
+        check_length(request, 4)
+        number, data = int.from_bytes(request[1:3], "big"), request[3:]
+        writer = self._writers.get(number)
+        if writer is not None and self._is_in_session(writer):
+            self._check_level(writer.level)
+            writer.function(data)
+        elif writer is not None or number not in self.writable & self.dids.keys():
+            raise NegativeResponse(0x31)
+        elif len(data) != len(self.dids[number]):
+            raise NegativeResponse(0x13)
+        else:
+            self.dids[number] = data
+        return b"\x6e" + request[1:3]
+
+    def _unlock(self, request: bytes) -> bytes:
+        level = request[1] if request[1] % 2 else request[1] - 1
+        lock = self._locks.get(level)
+        if lock is None:
+            raise NegativeResponse(0x12)
+        if lock.closed_until > time.monotonic():
+            raise NegativeResponse(0x37)
+        if request[1] == level:
+            seed = data_bytes(lock.seed() if callable(lock.seed) else lock.seed)
+            lock.given = None if self.level == level else seed
+            return bytes([0x67, level]) + (bytes(len(seed)) if lock.given is None else seed)
+        seed, lock.given = lock.given or b"", None
+        if not seed:
+            raise NegativeResponse(0x24)
+        if request[2:] != data_bytes(lock.key(seed)):
+            lock.wrong += 1
+            if lock.wrong < MOST_KEYS:
+                raise NegativeResponse(0x35)
+            lock.wrong, lock.closed_until = 0, time.monotonic() + KEY_DELAY
+            raise NegativeResponse(0x36)
+        self.level, lock.wrong = level, 0
+        return bytes([0x67, request[1]])
+
+    def _communicate(self, request: bytes) -> bytes:
+        check_length(request, 3, 3)
+        if request[1] > 3:
+            raise NegativeResponse(0x12)
+        self.communication = request[1]
+        return bytes([0x68, request[1]])
+
+    def _do_routine(self, request: bytes) -> bytes:
+        check_length(request, 4)
+        kind, routine = request[1], self._routines.get(int.from_bytes(request[2:4], "big"))
+        if routine is None or not self._is_in_session(routine):
+            raise NegativeResponse(0x31)
+        takes_kind = len(inspect.signature(routine.function).parameters) > 1
+        if kind not in (1, 2, 3) or (kind != 1 and not takes_kind):
+            raise NegativeResponse(0x12)
+        self._check_level(routine.level)
+        result = routine.function(request[4:], kind) if takes_kind else routine.function(request[4:])
+        return bytes([0x71, kind]) + request[2:4] + data_bytes(result or b"")
+
+    def _load(self, request: bytes) -> bytes:
+        self._check_level(self.load_level)
+        return self._memory.request(request)
+
+    def _stay(self, request: bytes) -> bytes:
+        check_length(request, 2, 2)
+        if request[1]:
+            raise NegativeResponse(0x12)
+        return b"\x7e\x00"
+
+    def _set_dtcs(self, request: bytes) -> bytes:
+        if request[1] not in (1, 2):
+            raise NegativeResponse(0x12)
+        self.sets_dtcs = request[1] == 1
+        return bytes([0xC5, request[1]])

@@ -1,0 +1,225 @@
+"""A client of UDS for tests: a request, its answer, and the usual services in a call each."""
+
+import importlib
+import time
+from collections.abc import Callable
+from types import TracebackType
+from typing import TYPE_CHECKING, Any, Optional, cast
+
+from canbusd._calls import NamesWhatThereIs, explained
+from canbusd._isotp.end import IsoTp
+from canbusd._isotp.python_end import LONGEST_GAP, PythonIsoTp
+from canbusd._isotp.segments import SegmentFault
+from canbusd._session.arguments import check_within
+from canbusd._session.waits import seconds_until
+from canbusd._text import seconds_words
+from canbusd._uds import codes
+from canbusd._uds.codes import NegativeResponse, byte_of
+from canbusd.frames import data_bytes
+
+if TYPE_CHECKING:
+    from canbusd.server import Server
+
+
+class Client(NamesWhatThereIs):
+    """A tester on an interface of a server, which asks an ECU by UDS (ISO 14229-1) over ISO-TP.
+
+    The arguments are those of Server.isotp; `p2` and `p2_star` are the seconds in which an answer has to begin, and the one after
+    a pending response. A negative response is raised as NegativeResponse, none as a TimeoutError, and a transfer that fails
+    as an IsoTpError.
+    """
+
+    _INSTEAD = {
+        **dict.fromkeys(("read_data_by_identifier", "read_did"), "read(0xF190)"),
+        **dict.fromkeys(("write_data_by_identifier", "write_did"), "write(0xF190, data)"),
+        **dict.fromkeys(("change_session", "diagnostic_session_control"), "session(3)"),
+        **dict.fromkeys(("unlock_security_access", "security_access"), "unlock(1, key)"),
+        **dict.fromkeys(("start_routine", "routine_control"), "routine(0x0203)"),
+        **dict.fromkeys(("ecu_reset",), "reset()"),
+        **dict.fromkeys(("clear_dtc", "clear_diagnostic_information"), "clear_dtcs()"),
+        **dict.fromkeys(("read_dtc", "read_dtc_information"), "dtcs()"),
+        "send": "request(bytes)",
+    }
+
+    @explained()
+    def __init__(
+        self,
+        server: "Server",
+        channel: str,
+        *,
+        tx: int,
+        rx: int,
+        functional: Optional[int] = None,
+        p2: float = 1.0,
+        p2_star: float = 5.0,
+        **options: Any,
+    ) -> None:
+        for name, seconds in (("p2", p2), ("p2_star", p2_star)):
+            check_within(seconds, name)
+        self._p2, self._p2_star = p2, p2_star
+        #: Its end of ISO-TP, such as `connection` takes for udsoncan.
+        self.end = server.isotp(channel, tx=tx, rx=rx, functional=functional, library="canbusd", **options)
+        self._python_end = cast(PythonIsoTp, self.end)
+        #: How many pending responses came before the last answer.
+        self.pending = 0
+
+    @explained()
+    def request(self, data: bytes, *, functional: bool = False) -> bytes:
+        """Sends a request, and returns the positive response to it, all of its bytes.
+
+        With `functional` it goes to all, and the first answer counts. NegativeResponse where it is refused, TimeoutError where
+        no answer comes within P2, or P2* after a pending response.
+        """
+        __tracebackhide__ = True
+        request = data_bytes(data)
+        self.pending = 0
+        self.end.send(request, functional=functional)
+        seconds = self._p2
+        deadline = time.monotonic() + seconds
+        while True:
+            answer = self.end.recv(seconds_until(deadline))
+            while answer is None and self._python_end.is_receiving:
+                # P2 is for its beginning.
+                answer = self.end.recv(LONGEST_GAP)
+            if answer is None:
+                after = " after the last pending response" if self.pending else ""
+                text = f"no answer to {request[:8].hex(' ').upper()} within {seconds_words(seconds)}{after}"
+                raise TimeoutError(text)
+            if answer[0] == request[0] + codes.POSITIVE:
+                return answer
+            if len(answer) > 2 and answer[:2] == bytes([codes.NEGATIVE, request[0]]):
+                if answer[2] != codes.PENDING:
+                    raise NegativeResponse(answer[2], request[0])
+                self.pending += 1
+                seconds = self._p2_star
+                deadline = time.monotonic() + seconds
+
+    def session(self, kind: int) -> None:
+        """Changes the session: 1, the default one, 2, programming, 3, the extended one."""
+        self.request(bytes([codes.SESSION, byte_of("kind", kind)]))
+
+    def reset(self, kind: int = 1) -> None:
+        """Resets the ECU: 1 hard, 2 as by its key, 3 soft."""
+        self.request(bytes([codes.RESET, byte_of("kind", kind)]))
+
+    def read(self, did: int) -> bytes:
+        """Returns the bytes of a DID."""
+        return self.request(bytes([codes.READ]) + _number("did", did))[3:]
+
+    def write(self, did: int, data: bytes) -> None:
+        """Writes the bytes of a DID."""
+        self.request(bytes([codes.WRITE]) + _number("did", did) + data_bytes(data))
+
+    def unlock(self, level: int, key: Callable[[bytes], bytes]) -> None:
+        """Unlocks a level of security: asks for its seed, and sends what `key` returns for it."""
+        seed = self.request(bytes([codes.SECURITY, byte_of("level", level)]))[2:]
+        if any(seed):
+            self.request(bytes([codes.SECURITY, level + 1]) + data_bytes(key(seed)))
+
+    def routine(self, number: int, data: bytes = b"", kind: int = 1) -> bytes:
+        """Starts a routine (1), stops it (2) or asks for its results (3); returns what follows its number in the answer."""
+        request = bytes([codes.ROUTINE, byte_of("kind", kind)]) + _number("number", number) + data_bytes(data)
+        return self.request(request)[4:]
+
+    def dtcs(self, mask: int = 0xFF) -> dict[int, int]:
+        """Returns the status of each trouble code that has a bit of this mask."""
+        found = self.request(bytes([codes.READ_DTCS, codes.DTCS_BY_STATUS, byte_of("mask", mask)]))[3:]
+        rows = [found[place : place + 4] for place in range(0, len(found) - 3, 4)]
+        return {int.from_bytes(row[:3], "big"): row[3] for row in rows}
+
+    def clear_dtcs(self, group: int = codes.ALL_DTCS) -> None:
+        """Clears trouble codes, without a group all."""
+        self.request(bytes([codes.CLEAR_DTCS]) + group.to_bytes(3, "big"))
+
+    def tester_present(self, *, functional: bool = False) -> None:
+        """Keeps the session, without an answer."""
+        self.end.send(bytes([codes.TESTER_PRESENT, codes.SUPPRESSED]), functional=functional)
+
+    def download(self, address: int, data: bytes) -> None:
+        """Loads bytes into memory: RequestDownload, TransferData until all are there, RequestTransferExit."""
+        content = data_bytes(data)
+        size = self._begin(codes.DOWNLOAD, address, len(content))
+        for number, start in enumerate(range(0, len(content), size), 1):
+            self.request(bytes([codes.TRANSFER, number % 256]) + content[start : start + size])
+        self.request(bytes([codes.TRANSFER_EXIT]))
+
+    def upload(self, address: int, size: int) -> bytes:
+        """Returns bytes of memory: RequestUpload, TransferData until all are there, RequestTransferExit."""
+        self._begin(codes.UPLOAD, address, size)
+        content, number = b"", 1
+        while len(content) < size:
+            content += self.request(bytes([codes.TRANSFER, number % 256]))[2:]
+            number += 1
+        self.request(bytes([codes.TRANSFER_EXIT]))
+        return content
+
+    def inject(self, fault: SegmentFault) -> None:
+        """Has a segment of a request, or a flow control, go wrong: ``inject(uds.fault("flow control", "lost"))``."""
+        self.end.inject(fault)
+
+    def close(self) -> None:
+        """Ends it."""
+        self.end.close()
+
+    def _begin(self, service: int, address: int, size: int) -> int:
+        """Begins a download or an upload; returns how many bytes of data each TransferData has at most."""
+        numbers = address.to_bytes(4, "big") + size.to_bytes(4, "big")
+        answer = self.request(bytes([service, 0x00, 0x44]) + numbers)
+        return int.from_bytes(answer[2 : 2 + (answer[1] >> 4)], "big") - 2
+
+    def __enter__(self) -> "Client":
+        return self
+
+    def __exit__(
+        self, kind: Optional[type[BaseException]], fault: Optional[BaseException], _: Optional[TracebackType]
+    ) -> None:
+        self.close()
+
+
+def _number(what: str, number: object) -> bytes:
+    """The two bytes of a DID or of a routine."""
+    if isinstance(number, bool) or not isinstance(number, int) or not 0 <= number <= 0xFFFF:
+        raise ValueError(f"{what} is a number from 0 to 0xFFFF, not {number!r}")
+    return number.to_bytes(2, "big")
+
+
+def connection(end: IsoTp) -> Any:
+    """Returns a connection of udsoncan over an end of ISO-TP, for ``udsoncan.client.Client(uds.connection(end))``.
+
+    ImportError where udsoncan is not installed.
+    """
+    try:
+        base: Any = importlib.import_module("udsoncan.connections").BaseConnection
+        late: Any = importlib.import_module("udsoncan.exceptions").TimeoutException
+    except ImportError:
+        raise ImportError("connection needs udsoncan, which is not installed: `pip install udsoncan`") from None
+
+    class Connection(base):  # type: ignore[misc]
+        """An end of ISO-TP as udsoncan has it; it is closed by who opened it."""
+
+        _is_open = False
+
+        def open(self) -> "Connection":
+            self._is_open = True
+            return self
+
+        def close(self) -> None:
+            self._is_open = False
+
+        def is_open(self) -> bool:
+            return self._is_open
+
+        def empty_rxqueue(self) -> None:
+            while end.recv(timeout=0) is not None:
+                pass
+
+        def specific_send(self, payload: bytes, timeout: Optional[float] = None) -> None:
+            end.send(payload)
+
+        def specific_wait_frame(self, timeout: float = 2.0) -> bytes:
+            answer = end.recv(timeout=timeout)
+            if answer is None:
+                raise late(f"no answer within {seconds_words(timeout)}")
+            return answer
+
+    return Connection()

@@ -1,0 +1,95 @@
+"""The services of ISO 14229-1 by their numbers, and the codes of its negative responses."""
+
+from typing import Union
+
+from canbusd._calls import meant
+
+SESSION, RESET, CLEAR_DTCS, READ_DTCS, READ, SECURITY = 0x10, 0x11, 0x14, 0x19, 0x22, 0x27
+COMMUNICATION, WRITE, ROUTINE, DOWNLOAD, UPLOAD = 0x28, 0x2E, 0x31, 0x34, 0x35
+TRANSFER, TRANSFER_EXIT, TESTER_PRESENT, DTC_SETTING = 0x36, 0x37, 0x3E, 0x85
+#: What a positive response adds to the number of its service, and what a negative one begins with.
+POSITIVE, NEGATIVE = 0x40, 0x7F
+#: Services whose second byte is a subfunction.
+WITH_SUBFUNCTION = (SESSION, RESET, READ_DTCS, SECURITY, COMMUNICATION, ROUTINE, TESTER_PRESENT, DTC_SETTING)
+#: Subfunctions of READ_DTCS, and what CLEAR_DTCS has for all of them.
+COUNT_DTCS, DTCS_BY_STATUS, SUPPORTED_DTCS, ALL_DTCS = 0x01, 0x02, 0x0A, 0xFFFFFF
+#: The bit of a subfunction that asks for no positive response.
+SUPPRESSED = 0x80
+CODES = {
+    0x10: "generalReject",
+    0x11: "serviceNotSupported",
+    0x12: "subFunctionNotSupported",
+    0x13: "incorrectMessageLengthOrInvalidFormat",
+    0x14: "responseTooLong",
+    0x21: "busyRepeatRequest",
+    0x22: "conditionsNotCorrect",
+    0x24: "requestSequenceError",
+    0x25: "noResponseFromSubnetComponent",
+    0x26: "failurePreventsExecutionOfRequestedAction",
+    0x31: "requestOutOfRange",
+    0x33: "securityAccessDenied",
+    0x34: "authenticationRequired",
+    0x35: "invalidKey",
+    0x36: "exceededNumberOfAttempts",
+    0x37: "requiredTimeDelayNotExpired",
+    0x70: "uploadDownloadNotAccepted",
+    0x71: "transferDataSuspended",
+    0x72: "generalProgrammingFailure",
+    0x73: "wrongBlockSequenceCounter",
+    0x78: "requestCorrectlyReceived-ResponsePending",
+    0x7E: "subFunctionNotSupportedInActiveSession",
+    0x7F: "serviceNotSupportedInActiveSession",
+    0x81: "rpmTooHigh",
+    0x82: "rpmTooLow",
+    0x83: "engineIsRunning",
+    0x84: "engineIsNotRunning",
+    0x88: "vehicleSpeedTooHigh",
+    0x89: "vehicleSpeedTooLow",
+    0x92: "voltageTooHigh",
+    0x93: "voltageTooLow",
+}
+GENERAL_REJECT, PENDING = 0x10, 0x78
+#: Codes that nobody answers a request to all with.
+SILENT_TO_ALL = (0x11, 0x12, 0x31, 0x7E, 0x7F)
+
+
+def code_of(code: Union[int, str]) -> int:
+    """Returns the number of a code, which may be given by its name; ValueError for another."""
+    if isinstance(code, str):
+        for number, name in CODES.items():
+            if name.lower() == code.lower():
+                return number
+        raise ValueError(
+            f"code is a number or a name, such as 'conditionsNotCorrect', not {code!r}{meant(code, CODES.values())}"
+        )
+    return byte_of("code", code)
+
+
+def byte_of(what: str, number: object) -> int:
+    """Returns a number of one byte; ValueError for another."""
+    if isinstance(number, bool) or not isinstance(number, int) or not 0 <= number <= 0xFF:
+        raise ValueError(f"{what} is a number from 0 to 0xFF, not {number!r}")
+    return number
+
+
+class NegativeResponse(Exception):
+    """A negative response: a client raises it for one that it got, a function of an ECU for one that it gives."""
+
+    def __init__(self, code: Union[int, str], service: int = 0) -> None:
+        #: Its number, and the service that it is of.
+        self.code, self.service = code_of(code), service
+        #: Its name in ISO 14229-1.
+        self.name = CODES.get(self.code, f"code {self.code:02X}")
+        super().__init__(f"{self.name} ({self.code:02X})" + (f" to service {service:02X}" if service else ""))
+
+
+def is_suppressed(request: bytes, answer: bytes) -> bool:
+    """Whether a request asks for no positive response, and the answer is that."""
+    has_bit = request[0] in WITH_SUBFUNCTION and len(request) > 1 and bool(request[1] & SUPPRESSED)
+    return has_bit and answer[0] != NEGATIVE
+
+
+def check_length(request: bytes, least: int, most: int = 4095) -> None:
+    """Refuses a request that is shorter or longer than it can be."""
+    if not least <= len(request) <= most:
+        raise NegativeResponse(0x13)

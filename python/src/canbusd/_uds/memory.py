@@ -1,0 +1,92 @@
+"""The memory of a simulated ECU, and how it is loaded and read: RequestDownload, RequestUpload, TransferData."""
+
+from dataclasses import dataclass
+from typing import Optional
+
+from canbusd._uds.codes import DOWNLOAD, TRANSFER, TRANSFER_EXIT, NegativeResponse, check_length
+
+#: How many bytes a TransferData has at most: its service, its counter and data.
+BLOCK = 0x402
+
+
+@dataclass
+class Transfer:
+    """A download or an upload that goes on."""
+
+    region: bytearray
+    start: int
+    size: int
+    is_download: bool
+    #: How many bytes are done, and the number of the next block.
+    done: int = 0
+    counter: int = 1
+
+
+class Memory:
+    """Memory by its addresses: the first address of each region, and its bytes."""
+
+    def __init__(self) -> None:
+        self.regions: dict[int, bytearray] = {}
+        self._transfer: Optional[Transfer] = None
+
+    def request(self, request: bytes) -> bytes:
+        """Begins a download or an upload; returns the positive response."""
+        check_length(request, 5)
+        sizes = request[2]
+        address_size, size_size = sizes & 15, sizes >> 4
+        if not address_size or not size_size or len(request) != 3 + address_size + size_size:
+            raise NegativeResponse(0x13 if address_size and size_size else 0x31)
+        address = int.from_bytes(request[3 : 3 + address_size], "big")
+        size = int.from_bytes(request[3 + address_size :], "big")
+        found = [
+            (start, region)
+            for start, region in self.regions.items()
+            if start <= address and address + size <= start + len(region)
+        ]
+        if not found or not size:
+            raise NegativeResponse(0x31)
+        start, region = found[0]
+        self._transfer = Transfer(region, address - start, size, request[0] == DOWNLOAD)
+        return bytes([request[0] + 0x40, 0x20]) + BLOCK.to_bytes(2, "big")
+
+    def transfer(self, request: bytes) -> bytes:
+        """Carries a block of data; returns the positive response."""
+        check_length(request, 2, BLOCK)
+        going = self._going()
+        if going.is_download and going.done and request[1] == (going.counter - 1) % 256:
+            # The answer to it was lost, and it comes again: it is answered again, and not written.
+            return bytes([TRANSFER + 0x40, request[1]])
+        if request[1] != going.counter % 256:
+            raise NegativeResponse(0x73)
+        data = request[2:]
+        place = going.start + going.done
+        left = going.size - going.done
+        if going.is_download:
+            if not data or len(data) > left:
+                raise NegativeResponse(0x71)
+            going.region[place : place + len(data)] = data
+            content = b""
+        else:
+            if not left:
+                raise NegativeResponse(0x24)
+            content = bytes(going.region[place : place + min(left, BLOCK - 2)])
+        going.done += len(data) or len(content)
+        going.counter += 1
+        return bytes([TRANSFER + 0x40, request[1]]) + content
+
+    def end(self, request: bytes) -> bytes:
+        """Ends a download or an upload; returns the positive response."""
+        going = self._going()
+        if going.done < going.size:
+            raise NegativeResponse(0x24)
+        self._transfer = None
+        return bytes([TRANSFER_EXIT + 0x40])
+
+    def forget(self) -> None:
+        """Ends what goes on, as a change of session does."""
+        self._transfer = None
+
+    def _going(self) -> Transfer:
+        if self._transfer is None:
+            raise NegativeResponse(0x24)
+        return self._transfer
