@@ -2,5 +2,10 @@
 
 from importlib.util import find_spec
 
-NEEDED = {"test_udsoncan.py": ["udsoncan"], "test_a_rest_bus.py": ["cantools", "canmatrix"]}
+DATABASES = ["cantools", "canmatrix"]
+NEEDED = {
+    "test_udsoncan.py": ["udsoncan"],
+    "test_a_rest_bus.py": DATABASES,
+    "test_end_to_end_protection.py": DATABASES,
+}
 collect_ignore = [file for file, modules in NEEDED.items() if not any(map(find_spec, modules))]

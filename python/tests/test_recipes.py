@@ -14,7 +14,7 @@ import pytest
 TOP = Path(__file__).resolve().parents[2]
 RECIPES, DOCUMENT = TOP / "examples" / "recipes", TOP / "docs" / "RECIPES.md"
 MOST_LINES = 25
-NEEDED = {"udsoncan": "udsoncan", "a_rest_bus": "canmatrix"}
+NEEDED = {"udsoncan": "udsoncan", "a_rest_bus": "canmatrix", "end_to_end_protection": "canmatrix"}
 
 
 def recipes():
@@ -41,7 +41,7 @@ def written(installed, tmp_path_factory):
 
 
 def test_all_recipes_are_there():
-    assert len(recipes()) == 15
+    assert len(recipes()) == 16
     named = re.findall(r"\]\(\.\./examples/recipes/test_(\w+)\.py\)", DOCUMENT.read_text(encoding="utf-8"))
     assert sorted(named) == sorted(recipes())
     for name, path in recipes().items():

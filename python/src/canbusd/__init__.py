@@ -17,8 +17,8 @@ load_database  the messages and signals of a file of DBC, KCD, ARXML or SYM: a D
 read_record    what happened on a bus, as its record has it: a Record of Attempts
 is_virtual     whether this process runs in virtual time
 
-Modules beside these: canbusd.uds has a simulated ECU and a client of UDS, canbusd.pytest_plugin the fixture `canbusd`,
-canbusd.strategies frames and faults for Hypothesis. A name is imported when it is first used: only CanbusdBus and logs need python-can, and only the plugin needs
+Modules beside these: canbusd.uds has a simulated ECU and a client of UDS, canbusd.e2e counters and checksums of messages,
+canbusd.pytest_plugin the fixture `canbusd`, canbusd.strategies frames and faults for Hypothesis. A name is imported when it is first used: only CanbusdBus and logs need python-can, and only the plugin needs
 pytest.
 """
 
@@ -96,7 +96,7 @@ _HOMES = {
 }
 
 #: Modules that a test has names of by `from canbusd import uds`.
-_MODULES = ["uds"]
+_MODULES = ["e2e", "uds"]
 
 
 def __getattr__(name: str) -> Any:

@@ -20,6 +20,7 @@ from canbusd._calls import NamesWhatThereIs, explained
 from canbusd._database.formats import DatabaseError, MessageFormat, Value
 from canbusd._restbus.nodes import has, is_sendable, phases_of, sender
 from canbusd._restbus.schedule import MICROS, Schedule, micros
+from canbusd.e2e import Profile, Protection, profile_of
 from canbusd.frames import Frame
 from canbusd.signals import Database, frame_of
 
@@ -93,8 +94,8 @@ class RestMessage(NamesWhatThereIs):
 
     # A signal is no attribute, also where one is set.
     __slots__ = (
-        "_accepted", "_cycle", "_frame", "_function", "_phase", "_refused", "_rest", "_run", "_skipped", "_tables", "_tick",
-        "_values", "format", "interface", "is_running",
+        "_accepted", "_cycle", "_frame", "_function", "_phase", "_protection", "_refused", "_rest", "_run", "_skipped",
+        "_tables", "_tick", "_values", "format", "interface", "is_running",
     )  # fmt: skip
     _INSTEAD = {"*": "a signal is message['EngineSpeed'], and what the file says is in message.format"}
 
@@ -104,6 +105,7 @@ class RestMessage(NamesWhatThereIs):
         self._values: dict[str, Value] = {}
         self._frame = frame_of(message, message.encode({}))
         self._function: Optional[Callable[[Outgoing], None]] = None
+        self._protection: Optional[Protection] = None
         self._tick: Callable[[int], None] = functools.partial(self._send_due, 0)
         # The number of the run, by which what was due in an earlier one is known; and of the table of each signal.
         self._run, self._tables = 0, dict[str, int]()
@@ -154,6 +156,13 @@ class RestMessage(NamesWhatThereIs):
             raise ValueError(f"a function is called before each frame, or None ends that, not {function!r}")
         with self._rest.changing():
             self._function = function
+
+    def protect(self, profile: Profile) -> Protection:
+        """Gives each frame the counter and the checksum of a profile of canbusd.e2e, after what `on_send` sets."""
+        protection = Protection(profile_of(profile, self.format))
+        with self._rest.changing():
+            self._protection = protection
+        return protection
 
     def send(self, values: Optional[Mapping[str, Value]] = None) -> None:
         """Sends one frame now, with these values, which stay. What the bus refuses it for is raised."""
@@ -207,6 +216,8 @@ class RestMessage(NamesWhatThereIs):
             outgoing = Outgoing(self.format, self._values, self._accepted)
             self._function(outgoing)
             frame = frame_of(self.format, outgoing.data)
+        if self._protection is not None:
+            frame = frame_of(self.format, self._protection.applied(frame.data[: self.format.size]))
         return frame
 
 
@@ -306,6 +317,12 @@ class RestBus(NamesWhatThereIs):
         It is called by who sends, the thread of the rest bus as a rule, and should return soon.
         """
         self.message(message).on_send(function)
+
+    @explained()
+    def protect(self, message: str, profile: Profile) -> Protection:
+        """Gives each frame of a message the counter and the checksum of a profile: ``rest.protect("EngineData",
+        e2e.Profile1(data_id=0x123))``. What is returned has `inject`, for wrong ones."""
+        return self.message(message).protect(profile)
 
     @explained("values are a dict, such as {'EngineSpeed': 800}")
     def send(self, message: str, values: Optional[Mapping[str, Value]] = None) -> None:

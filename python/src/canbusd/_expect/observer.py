@@ -74,6 +74,8 @@ class Observer:
         # By the name of each interface that is observed, how many frames its socket had dropped when it was last expected.
         self._dropped: dict[str, int] = {}
         self._lock = threading.RLock()
+        #: The moment of the last frame that came before all that is expected.
+        self._forgotten = -1
         # How many wait for frames, and read them.
         self._waiting = 0
         self._reader: Optional[Reader] = None
@@ -205,6 +207,13 @@ class Observer:
             said = (wanted.content(seen.frame) for seen in self.received.taken(channel))
             return next((content for content in said if content is not None), None)
 
+    def last_expected(self, matches: Callable[[Frame], bool], channel: Optional[str]) -> Optional[Seen]:
+        """Returns the last frame that matches, of those up to the last expectation and since `forget`."""
+        self.settle()
+        with self._lock:
+            taken = self.received.taken(channel)
+            return next((seen for seen in taken if seen.moment > self._forgotten and matches(seen.frame)), None)
+
     def said_instead(self, wanted: Wanted, channel: Optional[str]) -> str:
         """Says what was said in place of what is looked for, for the text of a failure; nothing if nothing was."""
         contents = [str(content) for content in self.contents(wanted, channel)]
@@ -256,6 +265,7 @@ class Observer:
         self.settle()
         with self._lock:
             self.received.take_all()
+            self._forgotten = max((seen.moment for seen in self.received.last()), default=self._forgotten)
         self._note_dropped()
 
     def missed(self, channel: Optional[str]) -> str:

@@ -22,18 +22,26 @@ from canbusd._expect.cyclic_checks import (
 from canbusd._expect.frame_matcher import Step, Wanted, wanted_of
 from canbusd._expect.received_frames import Seen, without_copies
 from canbusd._session.arguments import check_within
-from canbusd._text import seconds_words
+from canbusd._text import seconds_words, times
+from canbusd.e2e import GOOD, Checker, Profile, profile_of
 from canbusd.signals import Database
 
 if TYPE_CHECKING:
     from can.message import Message
 
+    from canbusd._database.formats import MessageFormat
     from canbusd._expect.observer import Observer
 
 #: Seconds more than the periods take, in which cyclic frames may come that begin late or are late.
 SLACK = 1.0
 # How many wrong gaps a failure shows.
 MOST_GAPS = 100
+
+
+def check_count(count: object, what: str) -> None:
+    """ValueError where this is no number of what is waited for."""
+    if isinstance(count, bool) or not isinstance(count, int) or count < 1:
+        raise ValueError(f"count is a number of {what}, 1 or more, not {count!r}")
 
 
 class Supervision:
@@ -75,8 +83,7 @@ class Supervision:
             raise ValueError(f"period is a number of seconds above 0, not {period!r}")
         allowed = period / 10 if tolerance is None else tolerance
         check_within(allowed, "tolerance")
-        if isinstance(count, bool) or not isinstance(count, int) or count < 1:
-            raise ValueError(f"count is a number of gaps, 1 or more, not {count!r}")
+        check_count(count, "gaps")
         seconds = (count + 1) * (period + allowed) + SLACK if within is None else within
         check_within(seconds)
         wanted = Wanted(id, is_extended_id=is_extended_id, database=self.database, channel=channel)
@@ -97,6 +104,56 @@ class Supervision:
             raise AssertionError("\n".join([text, *lines]) + self._shown())
         observer.take(frames[-1], channel)
         return [gap.length / 1e6 for gap in gaps]
+
+    @explained()
+    def expect_protected(
+        self,
+        id: Union[int, str],
+        profile: "Profile",
+        count: int = 10,
+        *,
+        within: float = 1.0,
+        channel: Optional[str] = None,
+        is_extended_id: Optional[bool] = None,
+    ) -> "list[Message]":
+        """Returns so many frames of this identifier, or of the message with this name, whose counters and checksums are right.
+
+        `profile` is one of canbusd.e2e, such as ``e2e.Profile1(data_id=0x123)``. The frames are those since the last
+        expectation and within seconds; the first goes on from the one before it, if that was expected. AssertionError shows
+        each frame that is wrong, and what it is.
+        """
+        __tracebackhide__ = True
+        check_within(within)
+        check_count(count, "frames")
+        wanted = Wanted(id, is_extended_id=is_extended_id, database=self.database, channel=channel)
+        checker = Checker(profile_of(profile, self._message_of(id)))
+        observer = self._observing()
+        before = observer.last_expected(wanted.matches, channel)
+        if before is not None:
+            checker.check(before.frame.data)
+        frames = observer.collect(wanted.matches, channel, count, within)
+        found = [(checker.check(seen.frame.data), seen) for seen in frames]
+        wrong = [f"  {status}: {observer.line(seen, channel)}" for status, seen in found if status not in GOOD]
+        lines = wrong[:MOST_GAPS] + ([f"  .. {len(wrong) - MOST_GAPS} more"] if len(wrong) > MOST_GAPS else [])
+        fault = (
+            f"{len(wrong)} of {times(len(frames), 'frame')} {'is' if len(wrong) == 1 else 'are'} wrong" if wrong else ""
+        )
+        if len(frames) < count:
+            came = f"came {len(frames)} of {count} times within {seconds_words(within)}"
+            fault = f"{came}, and {fault}" if fault else f"{came}{observer.hint(wanted, channel)}"
+        if fault:
+            text = f"no {wanted} by {profile}: {fault}{observer.missed(channel)}"
+            raise AssertionError("\n".join([text, *lines]) + self._shown())
+        observer.take(frames[-1], channel)
+        return [seen.frame.message(channel or observer.channel(seen)) for seen in frames]
+
+    def _message_of(self, id: Union[int, str]) -> "Optional[MessageFormat]":
+        """What the database says of the message with this name, or with this identifier; None where it says nothing."""
+        if self.database is None:
+            return None
+        if isinstance(id, str):
+            return self.database.message(id)
+        return next((one for one in self.database.messages if one.identifier == id), None)
 
     @explained()
     def expect_sequence(

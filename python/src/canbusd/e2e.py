@@ -1,0 +1,385 @@
+"""End-to-end protection: the profiles 1, 2, 5, 11 and 22 of AUTOSAR, CRC-8 of SAE J1850, and counters in signals.
+
+    rest.protect("EngineData", e2e.Profile1(data_id=0x123))
+    server.expect_protected("BrakeData", e2e.Profile5(data_id=0x1234), count=20)
+
+A profile says where counter and checksum are in a message, and how the checksum is made (AUTOSAR PRS_E2EProtocol, and
+SWS_CRCLibrary). A Protection counts what is sent, and may make faults; a Checker judges what is received.
+"""
+
+from collections.abc import Callable, Sequence
+from dataclasses import dataclass
+from typing import TYPE_CHECKING, ClassVar, Literal, Optional, get_args
+
+from canbusd._crc import J1850, crc8 as crc8, crc8_h2f as crc8_h2f, crc8_of, crc16 as crc16
+from canbusd._calls import NamesWhatThereIs, meant
+from canbusd._text import times
+from canbusd.frames import data_bytes
+
+if TYPE_CHECKING:
+    from canbusd._database.formats import MessageFormat, SignalFormat
+
+#: What a frame is found to be, in the words of AUTOSAR; those that are good.
+Status = Literal["initial", "ok", "some lost", "repeated", "wrong sequence", "wrong crc"]
+GOOD = ("initial", "ok", "some lost")
+#: The faults that a Protection makes.
+Fault = Literal["wrong crc", "repeated", "some lost"]
+FAULTS: tuple[Fault, ...] = get_args(Fault)
+Mode = Literal["both", "alternating", "low", "nibble"]
+MODES: tuple[Mode, ...] = get_args(Mode)
+
+
+class Profile:
+    """What all profiles have: where a counter and a checksum are, and what they are of."""
+
+    #: How many values the counter has, and the first one that is sent.
+    modulo: int
+    first: ClassVar[int] = 0
+    #: How many bytes a message has at least.
+    least: int
+    #: By how much the counter may go on from one frame to the next: frames between them were lost.
+    max_delta: int
+
+    def of(self, message: "MessageFormat") -> "Profile":
+        """Returns it for this message of a database; ValueError where that has no room for it."""
+        if message.size < self.least:
+            raise ValueError(f"{self} needs {times(self.least, 'byte')}, and {message.name} has {message.size}")
+        return self
+
+    def protect(self, data: bytes, counter: int) -> bytes:
+        """Returns the bytes of a message with this counter and their checksum."""
+        content = bytearray(data_bytes(data))
+        self._check(content)
+        self._set_counter(content, counter % self.modulo)
+        self._set_crc(content, self._crc(content))
+        return bytes(content)
+
+    def is_right(self, data: bytes) -> bool:
+        """Whether the checksum of a message is right."""
+        content = bytearray(data_bytes(data))
+        return len(content) >= self.least and content == self._with_crc(content)
+
+    def counter(self, data: bytes) -> int:
+        """Returns the counter of a message."""
+        raise NotImplementedError
+
+    def _check(self, content: bytearray) -> None:
+        if len(content) < self.least:
+            raise ValueError(f"{self} needs {times(self.least, 'byte')}, not {len(content)}")
+
+    def _with_crc(self, content: bytearray) -> bytearray:
+        right = bytearray(content)
+        self._set_crc(right, self._crc(right))
+        return right
+
+    def _set_counter(self, content: bytearray, counter: int) -> None:
+        raise NotImplementedError
+
+    def _set_crc(self, content: bytearray, crc: int) -> None:
+        raise NotImplementedError
+
+    def _crc(self, content: bytearray) -> int:
+        """The checksum of a message that has its counter."""
+        raise NotImplementedError
+
+
+def profile_of(profile: object, message: "Optional[MessageFormat]") -> Profile:
+    """Returns a profile for a message, if that is known; ValueError for what is none, or does not fit."""
+    if not isinstance(profile, Profile):
+        known = "Profile1, Profile2, Profile5, Profile11, Profile22 or Signals"
+        raise ValueError(f"profile is one of canbusd.e2e, {known}, not {profile!r}")
+    return profile if message is None else profile.of(message)
+
+
+def _nibble(content: bytearray, place: int, value: int) -> None:
+    """Sets four bits, from this bit on."""
+    shift = place % 8
+    content[place // 8] = content[place // 8] & ~(15 << shift) & 0xFF | value << shift
+
+
+def _check_id(data_id: object) -> None:
+    if isinstance(data_id, bool) or not isinstance(data_id, int) or not 0 <= data_id <= 0xFFFF:
+        raise ValueError(f"data_id is a number from 0 to 0xFFFF, not {data_id!r}")
+
+
+def _check_place(name: str, place: object, unit: int) -> int:
+    if isinstance(place, bool) or not isinstance(place, int) or place < 0 or place % unit:
+        raise ValueError(f"{name} is a place in bits, a multiple of {unit}, not {place!r}")
+    return place
+
+
+def _check_delta(max_delta: object, modulo: int) -> None:
+    if isinstance(max_delta, bool) or not isinstance(max_delta, int) or not 1 <= max_delta < modulo:
+        raise ValueError(f"max_delta is from 1 to {modulo - 1}, not {max_delta!r}")
+
+
+@dataclass(frozen=True)
+class Profile1(Profile):
+    """Profile 1: a CRC-8 with the polynomial of SAE J1850, and a counter from 0 to 14. Places are in bits.
+
+    The `mode` says how the CRC has the data ID: `both` bytes (1A), the low byte and the high one in turn, `alternating` (1B),
+    only the `low` one, or `nibble` (1C), where four bits of the high byte are in the message.
+    """
+
+    data_id: int
+    mode: Mode = "both"
+    crc_offset: int = 0
+    counter_offset: int = 8
+    nibble_offset: int = 12
+    max_delta: int = 1
+    modulo = 15
+    modes: ClassVar[Sequence[str]] = MODES
+
+    def __post_init__(self) -> None:
+        _check_id(self.data_id)
+        if self.mode not in self.modes:
+            raise ValueError(
+                f"mode is one of {', '.join(self.modes)}, not {self.mode!r}{meant(str(self.mode), self.modes)}"
+            )
+        _check_place("crc_offset", self.crc_offset, 8)
+        _check_place("counter_offset", self.counter_offset, 4)
+        _check_place("nibble_offset", self.nibble_offset, 4)
+        _check_delta(self.max_delta, self.modulo)
+
+    @property
+    def least(self) -> int:  # type: ignore[override]
+        places = [self.crc_offset, self.counter_offset, self.nibble_offset if self.mode == "nibble" else 0]
+        return max(places) // 8 + 1
+
+    def counter(self, data: bytes) -> int:
+        return data[self.counter_offset // 8] >> self.counter_offset % 8 & 15
+
+    def _set_counter(self, content: bytearray, counter: int) -> None:
+        _nibble(content, self.counter_offset, counter)
+        if self.mode == "nibble":
+            _nibble(content, self.nibble_offset, self.data_id >> 8 & 15)
+
+    def _set_crc(self, content: bytearray, crc: int) -> None:
+        content[self.crc_offset // 8] = crc
+
+    def _crc(self, content: bytearray) -> int:
+        low, high = self.data_id & 0xFF, self.data_id >> 8
+        first = {
+            "both": [low, high],
+            "alternating": [high if self.counter(content) % 2 else low],
+            "low": [low],
+            "nibble": [low, 0],
+        }[self.mode]
+        place = self.crc_offset // 8
+        # Begun with 0, and not inverted, which CRC-8 of SAE J1850 is.
+        return crc8_of(J1850, bytes(first) + content[:place] + content[place + 1 :], 0)
+
+
+@dataclass(frozen=True)
+class Profile11(Profile1):
+    """Profile 11: as profile 1, with the modes `both` (11A) and `nibble` (11C)."""
+
+    modes: ClassVar[Sequence[str]] = ("both", "nibble")
+
+
+@dataclass(frozen=True)
+class Profile2(Profile):
+    """Profile 2: a CRC-8 with the polynomial 2F, and a counter from 0 to 15, which chooses one of 16 data IDs of a byte."""
+
+    data_ids: Sequence[int]
+    offset: int = 0
+    max_delta: int = 1
+    modulo = 16
+    first: ClassVar[int] = 1
+
+    def __post_init__(self) -> None:
+        ids = data_bytes(self.data_ids)
+        if len(ids) != 16:
+            raise ValueError(f"data_ids are 16 bytes, one for each value of the counter, not {len(ids)}")
+        object.__setattr__(self, "data_ids", tuple(ids))
+        _check_place("offset", self.offset, 8)
+        _check_delta(self.max_delta, self.modulo)
+
+    @property
+    def least(self) -> int:  # type: ignore[override]
+        return self.offset // 8 + 2
+
+    def counter(self, data: bytes) -> int:
+        return data[self.offset // 8 + 1] & 15
+
+    def _set_counter(self, content: bytearray, counter: int) -> None:
+        _nibble(content, self.offset + 8, counter)
+
+    def _set_crc(self, content: bytearray, crc: int) -> None:
+        content[self.offset // 8] = crc
+
+    def _crc(self, content: bytearray) -> int:
+        place = self.offset // 8
+        return crc8_h2f(content[:place] + content[place + 1 :] + bytes([self.data_ids[self.counter(content)]]))
+
+
+@dataclass(frozen=True)
+class Profile22(Profile2):
+    """Profile 22: as profile 2."""
+
+
+@dataclass(frozen=True)
+class Profile5(Profile):
+    """Profile 5: a CRC-16, its low byte first, and then a counter from 0 to 255. The offset is in bits."""
+
+    data_id: int
+    offset: int = 0
+    max_delta: int = 1
+    modulo = 256
+
+    def __post_init__(self) -> None:
+        _check_id(self.data_id)
+        _check_place("offset", self.offset, 8)
+        _check_delta(self.max_delta, self.modulo)
+
+    @property
+    def least(self) -> int:  # type: ignore[override]
+        return self.offset // 8 + 3
+
+    def counter(self, data: bytes) -> int:
+        return data[self.offset // 8 + 2]
+
+    def _set_counter(self, content: bytearray, counter: int) -> None:
+        content[self.offset // 8 + 2] = counter
+
+    def _set_crc(self, content: bytearray, crc: int) -> None:
+        place = self.offset // 8
+        content[place : place + 2] = crc.to_bytes(2, "little")
+
+    def _crc(self, content: bytearray) -> int:
+        place = self.offset // 8
+        return crc16(content[:place] + content[place + 2 :] + self.data_id.to_bytes(2, "little"))
+
+
+class Signals(Profile):
+    """A counter and a checksum that are signals of a message in a database: ``Signals("Alive", crc="Checksum")``.
+
+    The counter goes from 0 through as many values as `modulo` says, else through all that its signal has. The checksum has whole
+    bytes; it is what `function` returns for all others, the CRC-8 of SAE J1850 unless another is given.
+    """
+
+    def __init__(
+        self,
+        counter: str,
+        crc: Optional[str] = None,
+        *,
+        modulo: Optional[int] = None,
+        function: Callable[[bytes], int] = crc8,
+        max_delta: int = 1,
+    ) -> None:
+        self._names, self._modulo, self._function = (counter, crc), modulo, function
+        self.max_delta = max_delta
+        self._counter: "Optional[SignalFormat]" = None
+        self._checksum: "Optional[SignalFormat]" = None
+
+    def of(self, message: "MessageFormat") -> "Signals":
+        bound = Signals(self._names[0], self._names[1], function=self._function, max_delta=self.max_delta)
+        bound._counter = message.signal(self._names[0])
+        bound.modulo = 1 << len(bound._counter.bits) if self._modulo is None else self._modulo
+        if not 1 < bound.modulo <= 1 << len(bound._counter.bits):
+            raise ValueError(
+                f"modulo is from 2 to {1 << len(bound._counter.bits)}, as {self._names[0]} has bits for, not {self._modulo!r}"
+            )
+        _check_delta(self.max_delta, bound.modulo)
+        if self._names[1] is not None:
+            bound._checksum = message.signal(self._names[1])
+            if len(bound._bytes()) * 8 != len(bound._checksum.bits):
+                raise ValueError(f"{message.name}.{self._names[1]} is no checksum: it does not have whole bytes")
+        bound.least = message.size
+        return bound
+
+    def counter(self, data: bytes) -> int:
+        return sum((data[bit // 8] >> bit % 8 & 1) << place for place, bit in enumerate(self._bound().bits))
+
+    def _bound(self) -> "SignalFormat":
+        if self._counter is None:
+            raise ValueError(
+                f"{self} is of a message: give it to protect or expect_protected, or call of(database.message(..))"
+            )
+        return self._counter
+
+    def _bytes(self) -> list[int]:
+        """The places of the checksum's bytes."""
+        return sorted({bit // 8 for bit in self._checksum.bits}) if self._checksum else []
+
+    def _check(self, content: bytearray) -> None:
+        self._bound()
+        super()._check(content)
+
+    def _set_counter(self, content: bytearray, counter: int) -> None:
+        _place(content, self._bound(), counter)
+
+    def _set_crc(self, content: bytearray, crc: int) -> None:
+        if self._checksum is not None:
+            _place(content, self._checksum, crc)
+
+    def _crc(self, content: bytearray) -> int:
+        own = self._bytes()
+        return self._function(bytes(byte for place, byte in enumerate(content) if place not in own)) if own else 0
+
+    def __repr__(self) -> str:
+        return f"Signals({', '.join(repr(name) for name in self._names if name is not None)})"
+
+
+def _place(content: bytearray, signal: "SignalFormat", number: int) -> None:
+    """Sets the bits of a signal to those of a number."""
+    for place, bit in enumerate(signal.bits):
+        content[bit // 8] = content[bit // 8] & ~(1 << bit % 8) & 0xFF | (number >> place & 1) << bit % 8
+
+
+class Protection(NamesWhatThereIs):
+    """The protection of a message that is sent, which counts its frames; `RestBus.protect` returns it."""
+
+    _INSTEAD = {"fault": "inject('wrong crc', count=3)"}
+
+    def __init__(self, profile: Profile) -> None:
+        #: The profile.
+        self.profile = profile
+        self._next = profile.first
+        self._faults: list[Fault] = []
+
+    def inject(self, fault: Fault, count: int = 1) -> None:
+        """Has the next `count` frames go out with a `wrong crc`, with the counter before, `repeated`, or with one left out, as
+        where `some lost` are."""
+        if fault not in FAULTS:
+            raise ValueError(f"fault is one of {', '.join(FAULTS)}, not {fault!r}{meant(str(fault), FAULTS)}")
+        if isinstance(count, bool) or not isinstance(count, int) or count < 1:
+            raise ValueError(f"count is a number of frames, 1 or more, not {count!r}")
+        self._faults += [fault] * count
+
+    def applied(self, data: bytes) -> bytes:
+        """Returns the bytes of the next frame with its counter and its checksum."""
+        fault = self._faults.pop(0) if self._faults else None
+        self._next += {"repeated": -1, "some lost": 1}.get(fault or "", 0)
+        content = self.profile.protect(data, self._next)
+        self._next = (self._next + 1) % self.profile.modulo
+        if fault == "wrong crc":
+            spoiled = bytearray(content)
+            self.profile._set_crc(spoiled, self.profile._crc(spoiled) ^ 1)
+            content = bytes(spoiled)
+        return content
+
+
+class Checker:
+    """The check of a message that is received, one frame after the other."""
+
+    def __init__(self, profile: Profile) -> None:
+        #: The profile.
+        self.profile = profile
+        self._last: Optional[int] = None
+
+    def check(self, data: bytes) -> Status:
+        """Returns what the next frame is: `initial` is the first one, and `some lost` says that the counter went on by more
+        than 1, but not by more than the profile's `max_delta`."""
+        if not self.profile.is_right(data):
+            return "wrong crc"
+        counter, last = self.profile.counter(data), self._last
+        if counter >= self.profile.modulo:
+            return "wrong sequence"
+        self._last = counter
+        if last is None:
+            return "initial"
+        delta = (counter - last) % self.profile.modulo
+        if delta <= 1:
+            return "ok" if delta else "repeated"
+        return "some lost" if delta <= self.profile.max_delta else "wrong sequence"
