@@ -67,8 +67,8 @@ def public_names():
 
 #: Modules that users import, whether or not the documents do it in a line that is found above.
 PUBLIC = """
-    bench bus candump2bench commands e2e faults frames isotp programs pytest_plugin record replay rest_bus rules server signals
-    strategies uds virtual
+    bench bus candump2bench commands e2e faults frames isotp programs pytest_plugin record replay rest_bus rules server shapes
+    signals strategies uds virtual
 """
 
 
@@ -93,7 +93,7 @@ LAYERS = """
     _uds+uds
     _process
     _database+signals
-    e2e
+    e2e shapes
     _run+record+replay
     _expect
     bus isotp programs strategies

@@ -14,7 +14,12 @@ import pytest
 TOP = Path(__file__).resolve().parents[2]
 RECIPES, DOCUMENT = TOP / "examples" / "recipes", TOP / "docs" / "RECIPES.md"
 MOST_LINES = 25
-NEEDED = {"udsoncan": "udsoncan", "a_rest_bus": "canmatrix", "end_to_end_protection": "canmatrix"}
+NEEDED = {
+    "udsoncan": "udsoncan",
+    "a_rest_bus": "canmatrix",
+    "end_to_end_protection": "canmatrix",
+    "shapes_of_signals": "canmatrix",
+}
 
 
 def recipes():
@@ -41,7 +46,7 @@ def written(installed, tmp_path_factory):
 
 
 def test_all_recipes_are_there():
-    assert len(recipes()) == 16
+    assert len(recipes()) == 17
     named = re.findall(r"\]\(\.\./examples/recipes/test_(\w+)\.py\)", DOCUMENT.read_text(encoding="utf-8"))
     assert sorted(named) == sorted(recipes())
     for name, path in recipes().items():

@@ -18,7 +18,8 @@ read_record    what happened on a bus, as its record has it: a Record of Attempt
 is_virtual     whether this process runs in virtual time
 
 Modules beside these: canbusd.uds has a simulated ECU and a client of UDS, canbusd.e2e counters and checksums of messages,
-canbusd.pytest_plugin the fixture `canbusd`, canbusd.strategies frames and faults for Hypothesis. A name is imported when it is first used: only CanbusdBus and logs need python-can, and only the plugin needs
+canbusd.shapes values of signals over time, canbusd.pytest_plugin the fixture `canbusd`, canbusd.strategies frames and faults
+for Hypothesis. A name is imported when it is first used: only CanbusdBus and logs need python-can, and only the plugin needs
 pytest.
 """
 
@@ -96,7 +97,7 @@ _HOMES = {
 }
 
 #: Modules that a test has names of by `from canbusd import uds`.
-_MODULES = ["e2e", "uds"]
+_MODULES = ["e2e", "shapes", "uds"]
 
 
 def __getattr__(name: str) -> Any:

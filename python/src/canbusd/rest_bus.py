@@ -22,6 +22,7 @@ from canbusd._restbus.nodes import has, is_sendable, phases_of, sender
 from canbusd._restbus.schedule import MICROS, Schedule, micros
 from canbusd.e2e import Profile, Protection, profile_of
 from canbusd.frames import Frame
+from canbusd.shapes import Shape
 from canbusd.signals import Database, frame_of
 
 Self = TypeVar("Self", bound="RestBus")
@@ -89,13 +90,25 @@ def checked_rows(table: object) -> list[tuple[int, Value]]:
     return sorted(map(checked_row, rows), key=lambda row: row[0])
 
 
+class Playing:
+    """A shape that a signal has since this moment, in microseconds."""
+
+    def __init__(self, shape: Shape, since: int) -> None:
+        self._shape, self._since, self._number = shape, since, -1
+
+    def value(self, moment: int) -> Value:
+        """Returns the value of the next frame, which is sent at this moment."""
+        self._number += 1
+        return self._shape.at((moment - self._since) / MICROS, self._number)
+
+
 class RestMessage(NamesWhatThereIs):
     """A message that a rest bus sends."""
 
     # A signal is no attribute, also where one is set.
     __slots__ = (
-        "_accepted", "_cycle", "_frame", "_function", "_phase", "_protection", "_refused", "_rest", "_run", "_skipped",
-        "_tables", "_tick", "_values", "format", "interface", "is_running",
+        "_accepted", "_cycle", "_frame", "_function", "_phase", "_protection", "_refused", "_rest", "_run", "_shapes",
+        "_skipped", "_tables", "_tick", "_values", "format", "interface", "is_running",
     )  # fmt: skip
     _INSTEAD = {"*": "a signal is message['EngineSpeed'], and what the file says is in message.format"}
 
@@ -109,6 +122,8 @@ class RestMessage(NamesWhatThereIs):
         self._tick: Callable[[int], None] = functools.partial(self._send_due, 0)
         # The number of the run, by which what was due in an earlier one is known; and of the table of each signal.
         self._run, self._tables = 0, dict[str, int]()
+        # By its name, the shape of a signal, and when it began.
+        self._shapes: dict[str, Playing] = {}
         self._accepted = self._refused = self._skipped = 0
         #: What the file says of it.
         self.format = message
@@ -137,18 +152,33 @@ class RestMessage(NamesWhatThereIs):
             wanted = {**self._values, **values}
             self._frame = frame_of(self.format, self.format.encode(wanted, is_strict=False))
             self._values = wanted
+            for signal in values:
+                self._shapes.pop(signal, None)
 
-    def play(self, signal: str, table: Iterable[tuple[float, Value]]) -> None:
-        """Sets a signal by a table: each value at its moment, in seconds from now, until the next; in place of an earlier
-        table of the signal."""
+    def play(self, signal: str, table: Union[Shape, Iterable[tuple[float, Value]]]) -> None:
+        """Sets a signal by a shape of canbusd.shapes, from now on, or by a table: each value at its moment, in seconds from
+        now, until the next; in place of an earlier shape or table of the signal."""
+        if isinstance(table, Shape):
+            self._play_shape(signal, table)
+            return
         rows = checked_rows(table)
         for _, value in rows:
             self._check(signal, value)
         with self._rest.changing() as schedule:
             run = self._tables[signal] = self._tables.get(signal, 0) + 1
+            self._shapes.pop(signal, None)
             now = self._rest.now()
             for moment, value in rows:
                 schedule.add(now + moment, VALUES, functools.partial(self._turn_to, signal, run, value))
+
+    def _play_shape(self, signal: str, given: Shape) -> None:
+        shape = given.of(self.format.signal(signal))
+        for value in shape.ends:
+            self._check(signal, value)
+        with self._rest.changing():
+            # No table of it goes on.
+            self._tables[signal] = self._tables.get(signal, 0) + 1
+            self._shapes[signal] = Playing(shape, self._rest.now())
 
     def on_send(self, function: Optional[Callable[[Outgoing], None]]) -> None:
         """Has this function called before each frame, to set counters and checksums in it."""
@@ -169,7 +199,7 @@ class RestMessage(NamesWhatThereIs):
         with self._rest.changing():
             if values:
                 self.set(values)
-            self._rest.send_now(self, self._next())
+            self._rest.send_now(self, self._next(self._rest.now()))
 
     def start(self) -> None:
         """Sends it by its cycle time, from its phase after now on, if it has one, and isn't sent already."""
@@ -207,10 +237,13 @@ class RestMessage(NamesWhatThereIs):
         missed = max(0, self._rest.now() - due) // self._cycle
         self._skipped += missed
         self._rest.repeat(due + (missed + 1) * self._cycle, self.format.identifier, self._tick)
-        self._rest.collect(self, self._next())
+        self._rest.collect(self, self._next(due + missed * self._cycle))
 
-    def _next(self) -> Frame:
-        """The frame that is sent next."""
+    def _next(self, moment: int) -> Frame:
+        """The frame that is sent next, at this moment."""
+        if self._shapes:
+            self._values = {**self._values, **{name: one.value(moment) for name, one in self._shapes.items()}}
+            self._frame = frame_of(self.format, self.format.encode(self._values, is_strict=False))
         frame = self._frame
         if self._function is not None:
             outgoing = Outgoing(self.format, self._values, self._accepted)
@@ -238,8 +271,9 @@ class RestNode(NamesWhatThereIs):
         message, name = self._find(signal)
         message[name] = value
 
-    def play(self, signal: str, table: Iterable[tuple[float, Value]]) -> None:
-        """Sets a signal by a table: each value at its moment, in seconds from now, until the next."""
+    def play(self, signal: str, table: Union[Shape, Iterable[tuple[float, Value]]]) -> None:
+        """Sets a signal by a shape of canbusd.shapes, such as ``shapes.ramp(800, 3000, seconds=2)``, from now on, or by a table:
+        each value at its moment, in seconds from now, until the next."""
         message, name = self._find(signal)
         message.play(name, table)
 

@@ -6,7 +6,7 @@
 """
 
 from collections.abc import Iterable, Sequence
-from typing import TYPE_CHECKING, Optional, Union
+from typing import TYPE_CHECKING, Optional, Union, cast
 
 from canbusd._calls import explained
 from canbusd._expect.cyclic_checks import (
@@ -19,17 +19,20 @@ from canbusd._expect.cyclic_checks import (
     may_change,
     wrong_gaps,
 )
-from canbusd._expect.frame_matcher import Step, Wanted, wanted_of
+from canbusd._database.formats import MessageFormat, SignalFormat, plain
+from canbusd._expect.frame_matcher import SignalOf, Step, Wanted, wanted_of
 from canbusd._expect.received_frames import Seen, without_copies
+from canbusd._expect.signal_checks import Follower, Sample, is_between, limits_of, number_of
 from canbusd._session.arguments import check_within
 from canbusd._text import seconds_words, times
 from canbusd.e2e import GOOD, Checker, Profile, profile_of
-from canbusd.signals import Database
+from canbusd.frames import Frame
+from canbusd.shapes import Shape
+from canbusd.signals import Database, Value
 
 if TYPE_CHECKING:
     from can.message import Message
 
-    from canbusd._database.formats import MessageFormat
     from canbusd._expect.observer import Observer
 
 #: Seconds more than the periods take, in which cyclic frames may come that begin late or are late.
@@ -147,7 +150,115 @@ class Supervision:
         observer.take(frames[-1], channel)
         return [seen.frame.message(channel or observer.channel(seen)) for seen in frames]
 
-    def _message_of(self, id: Union[int, str]) -> "Optional[MessageFormat]":
+    @explained()
+    def expect_signal(
+        self,
+        signal: str,
+        *,
+        shape: Optional[Shape] = None,
+        tolerance: Optional[float] = None,
+        late: float = 0.01,
+        between: Optional[Sequence[float]] = None,
+        within: float = 1.0,
+        id: Union[int, str, None] = None,
+        channel: Optional[str] = None,
+    ) -> list[tuple[float, Value]]:
+        """Returns the values of a signal that follow a shape of canbusd.shapes, each with its moment in seconds from the first.
+
+        The shape has to be seen whole, a ramp to its end and a sine for a period, within these seconds; the values before it do
+        not count. The `tolerance` is in units of the signal, and by default a hundredth of what is between the shape's ends; a
+        value may be `late` by so many seconds.
+        Without a shape the values of all these seconds are returned, and have to be `between` two, else within the limits of
+        the database. AssertionError says how far the shape was followed, or which value is none of them.
+        """
+        __tracebackhide__ = True
+        check_within(within)
+        if shape is not None and between is not None:
+            raise ValueError("expect_signal has a shape or between, not both")
+        wanted = Wanted(id, signal=signal, between=None if shape else between, database=self.database, channel=channel)
+        formats = SignalOf(signal, self.database).formats
+        if shape is None:
+            return self._values_between(wanted, formats, between, within, channel)
+        if not isinstance(shape, Shape):
+            raise ValueError(f"shape is one of canbusd.shapes, such as ramp(800, 3000, seconds=2), not {shape!r}")
+        if not shape.is_of_time:
+            raise ValueError(f"{shape!r} can't be expected: its values are not those of a moment")
+        whole = shape.of(formats[0])
+        name = next((value for value in whole.ends if isinstance(value, str)), None)
+        if name is not None:
+            raise ValueError(f"the values of a shape that is expected are numbers, not {name!r}")
+        least, most = whole.span(0, whole.seconds)
+        allowed = (most - least) / 100 if tolerance is None else tolerance
+        check_within(allowed, "tolerance")
+        check_within(late, "late")
+        return self._followed(wanted, Follower(whole, allowed, late), whole, formats, within, channel)
+
+    def _followed(
+        self,
+        wanted: Wanted,
+        follower: Follower,
+        shape: Shape,
+        formats: Sequence[SignalFormat],
+        within: float,
+        channel: Optional[str],
+    ) -> list[tuple[float, Value]]:
+        __tracebackhide__ = True
+        observer, count = self._observing(), 0
+        observer.received.channels(channel)
+
+        def look() -> Optional[list[Sample]]:
+            nonlocal count
+            seen = [one for one in without_copies(observer.received.untaken(channel)) if wanted.is_of(one.frame)]
+            for one in seen[count:]:
+                count += 1
+                value = cast(Optional[Value], wanted.content(one.frame))
+                if value is not None:
+                    found = follower.add(Sample(one.moment / 1e6, value, number_of(value, formats), one))
+                    if found:
+                        return found
+            return None
+
+        found = observer.wait(look, lambda seen: wanted.is_of(seen.frame), within)
+        if found is None:
+            text = f"{wanted} does not follow {shape!r} within {seconds_words(within)}"
+            missed = observer.missed(channel)
+            raise AssertionError(f"{text}: {follower.failure()}{missed}{self._shown(wanted.signals)}")
+        observer.take(found[-1].seen, channel)
+        return [(round(one.moment - found[0].moment, 6), one.value) for one in found]
+
+    def _values_between(
+        self,
+        wanted: Wanted,
+        formats: Sequence[SignalFormat],
+        between: Optional[Sequence[float]],
+        within: float,
+        channel: Optional[str],
+    ) -> list[tuple[float, Value]]:
+        __tracebackhide__ = True
+        observer = self._observing()
+        least, most = limits_of(formats, between)
+        ends = f"{plain(least)} to {plain(most)}"
+
+        def is_wrong(frame: Frame) -> bool:
+            value = cast(Optional[Value], wanted.content(frame))
+            return value is not None and not is_between(value, formats, least, most)
+
+        wrong = observer.find(is_wrong, channel, within)
+        if wrong is not None:
+            value = wanted.content(wrong.frame)
+            line = observer.line(wrong, channel)
+            raise AssertionError(f"{wanted} was {value}, not from {ends}: {line}{self._shown(wanted.signals)}")
+        frames = [seen for seen in without_copies(observer.untaken(channel)) if wanted.content(seen.frame) is not None]
+        missed = observer.missed(channel)
+        if missed or not frames:
+            text = missed or f": there was none{observer.hint(wanted, channel)}"
+            raise AssertionError(f"whether {wanted} was from {ends} is not known{text}{self._shown(wanted.signals)}")
+        observer.take(frames[-1], channel)
+        began = frames[0].moment
+        values = ((seen.moment, cast(Value, wanted.content(seen.frame))) for seen in frames)
+        return [((moment - began) / 1e6, value) for moment, value in values]
+
+    def _message_of(self, id: Union[int, str]) -> Optional[MessageFormat]:
         """What the database says of the message with this name, or with this identifier; None where it says nothing."""
         if self.database is None:
             return None
