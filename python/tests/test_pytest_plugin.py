@@ -362,7 +362,7 @@ def test_what_a_marker_may_not_say(run):
     def test_a_bench(canbusd_bench):
         pass
 
-    @pytest.mark.canbusd("a", observe="a")
+    @pytest.mark.canbusd("a", pace_ms=3)
     def test_an_option_of_a_bench(canbusd_bench):
         pass
 
@@ -383,7 +383,7 @@ def test_what_a_marker_may_not_say(run):
     result.stdout.fnmatch_lines([f"{mark}('a,a'): names of a bus's interfaces are *, and 'a,a' has 'a' twice"])
     result.stdout.fnmatch_lines([f"{mark}('a', 'b'): canbusd_bench has one bus, not 2"])
     result.stdout.fnmatch_lines(
-        [f"{mark}('a', observe='a'): there is no option observe; there are faults, *, out, virtual"]
+        [f"{mark}('a', pace_ms=3): there is no option pace_ms; there are faults, *, database, virtual"]
     )
     result.stdout.fnmatch_lines([f"{mark}('a', database='nowhere.dbc'): *No such file*"])
     result.stdout.fnmatch_lines([f"{mark}('a', faults='next 1 lost'): *script line 1: bad line"])

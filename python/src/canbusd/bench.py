@@ -15,13 +15,16 @@ import os
 import re
 from collections.abc import Mapping, Sequence
 from pathlib import Path
-from typing import TYPE_CHECKING, Optional, Union, cast
+from typing import TYPE_CHECKING, Any, Optional, Union, cast
 
 from canbusd._calls import NamesWhatThereIs, explained
 from canbusd import _placement as placement
+from canbusd._expect.bench_time import PassesTime
+from canbusd._expect.observer import observed_of
 from canbusd._process.dialogue import MOST_INPUT as MOST_INPUT, BenchError as BenchError, Dialogue, moment_text
 from canbusd._process.program import audited
 from canbusd._process.program_run import Ack, bus_of, option_words, rates_of
+from canbusd._restbus.nodes import database_of
 from canbusd._restbus.simulated_nodes import HasRestBus
 from canbusd._run.log import read_log
 from canbusd._run.summary import write_page
@@ -52,7 +55,7 @@ def set_of(names: Optional[str]) -> tuple[str, ...]:
     return tuple(names.split(",")) if names and names != "-" else ()
 
 
-class Bench(Dialogue, HasRestBus["BenchRestBus"], NamesWhatThereIs):
+class Bench(PassesTime, Dialogue, HasRestBus["BenchRestBus"], NamesWhatThereIs):
     """A bus with these interfaces, as `"can0,can1"` or a list, and the options of `canbusd bench`.
 
     With a `bitrate` attempts take the time of their bits, and their moment is the end of their frame; with a
@@ -62,16 +65,9 @@ class Bench(Dialogue, HasRestBus["BenchRestBus"], NamesWhatThereIs):
     """
 
     _INSTEAD = {
-        **dict.fromkeys(("bus", "session"), "open('can0') returns a session"),
-        **dict.fromkeys(
-            ("end_rules", "rules_left", "status", "stats", "load", "restart"), "a session has it: open('can0')"
-        ),
-        **dict.fromkeys(("send", "receive", "recv"), "a session sends and receives: open('can0').send(0x123)"),
-        **dict.fromkeys(
-            ("expect", "expect_state", "state", "bus_off", "wait_for"),
-            "run() returns the attempts, a "
-            "session's receive() the frames, its status() the state; a Server has expectations",
-        ),
+        "session": "bus('can0') returns a session",
+        **dict.fromkeys(("status", "stats", "load", "restart"), "a session has it: bus('can0')"),
+        **dict.fromkeys(("send", "receive", "recv"), "a session sends and receives: bus('can0').send(0x123)"),
         **dict.fromkeys(("step", "tick"), "attempt() makes one, run() all"),
     }
 
@@ -91,12 +87,16 @@ class Bench(Dialogue, HasRestBus["BenchRestBus"], NamesWhatThereIs):
         data_bitrate: Optional[int] = None,
         dbitrate: Optional[int] = None,
         out: Union[str, "os.PathLike[str]", None] = None,
+        observe: Union[str, Sequence[str], None] = None,
+        database: Union[Database, str, "os.PathLike[str]", None] = None,
     ) -> None:
         words = option_words(ack, report, auto_restart=auto_restart, txqueue=txqueue, rxqueue=rxqueue, limit=limit)
         self._rates = rates_of(bitrate, data_bitrate, dbitrate)
         words += self._rates.words if self._rates else []
         self.names, faults = bus_of(names, faults)
-        super().__init__(out)
+        self.database = None if database is None else database_of(database)
+        PassesTime.__init__(self, observed_of(observe, self.names))
+        Dialogue.__init__(self, out)
         script = script_bytes(placement.script_of((self._number, self.names[0]), faults))
         self._sessions = 0
         self._sent: dict[str, list[Frame]] = {name: [] for name in self.names}
@@ -152,6 +152,16 @@ class Bench(Dialogue, HasRestBus["BenchRestBus"], NamesWhatThereIs):
             self._greet()
             return session
 
+    @explained()
+    def bus(self, channel: str, can_filters: Optional[Filters] = None, **options: Any) -> Session:
+        """Opens a session on this interface, as `open` does, of a bench whose frames can be expected from now on.
+
+        A test that uses it, its `send` and `recv`, and the expectations of the bench, is the same on a server. Time passes
+        while it waits, that of the bus.
+        """
+        self._observing()
+        return self.open(channel, can_filters, **options)
+
     @property
     def interfaces(self) -> list[str]:
         """The names of all interfaces."""
@@ -160,15 +170,24 @@ class Bench(Dialogue, HasRestBus["BenchRestBus"], NamesWhatThereIs):
     def _make_rest_bus(self, database: Database, interfaces: Mapping[str, str]) -> "BenchRestBus":
         from canbusd._restbus.bench_rest_bus import BenchRestBus
 
-        return BenchRestBus(database, interfaces, self)
+        rest = BenchRestBus(database, interfaces, self)
+        self._due.append(rest)
+        return rest
 
-    def inject(self, faults: Script) -> None:
+    def _attempt_now(self) -> Optional[Attempt]:
+        return self.attempt(at=self.now)
+
+    @explained()
+    def inject(self, faults: Script, interface: Optional[str] = None) -> None:
         """Gives the bus these rules of faults, after those that it has, from the next attempt on.
+
+        An `interface` may be named, as of a server with several buses.
 
         All of them are in force then, or none: Refused where they would be more than 64 with those that are left, and
         ValueError where one is wrong.
         """
         rules = rules_of(faults)
+        self._named(interface)
         check_rules(rules, self.names)
         with self._turn:
             if len(self._given) + len(rules) > MOST_RULES:
@@ -252,13 +271,13 @@ class Bench(Dialogue, HasRestBus["BenchRestBus"], NamesWhatThereIs):
 
     def _page(self, record: Record, path: Path) -> Path:
         """Writes the page of the run there."""
-        return write_page(record, path, self._rules, self._rates)
+        return write_page(record, path, self._rules, self._rates, self.database)
 
     def _finish(self, fault: str = "") -> None:
         try:
             super()._finish(fault)
         finally:
-            placement.keep((self._number, self.names[0]), self.names, 0, self._path("rec"))
+            placement.keep((self._number, self.names[0]), self.names, self._own_sessions, self._path("rec"))
 
     def _path(self, ending: str) -> Path:
         return self._out / f"{self.names[0]}.{ending}"

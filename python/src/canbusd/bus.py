@@ -11,7 +11,7 @@ import threading
 import time
 from collections.abc import Iterable, Iterator, Mapping, Sequence
 from math import isfinite
-from typing import TYPE_CHECKING, Any, Optional, TypeVar, Union, cast
+from typing import TYPE_CHECKING, Any, Optional, TypeVar, Union, cast, overload
 
 import canbusd._python_can  # noqa: F401  it says what is missing, so it comes first
 
@@ -39,7 +39,16 @@ from canbusd._session.protocol import (
     options,
 )
 from canbusd._session.raw_session import ERROR_CODES, RawSession, refusal
-from canbusd.frames import command_of, frame_of_message, identifier_word, passes_filters, without_origin
+from canbusd.frames import (
+    Frame,
+    command_of,
+    data_bytes,
+    frame_of_message,
+    frame_to_send,
+    identifier_word,
+    passes_filters,
+    without_origin,
+)
 
 if TYPE_CHECKING:
     from can.typechecking import AutoDetectedConfig
@@ -214,10 +223,37 @@ class CanbusdBus(InjectsFaults, NamesWhatThereIs, BusABC):
         # That of python-can 4.1 has no type.
         return self
 
-    def send(self, msg: Message, timeout: Optional[float] = None) -> None:
+    @overload
+    def send(self, msg: Union[Message, Frame], timeout: Optional[float] = None) -> None:
+        ...
+
+    @overload
+    def send(
+        self,
+        msg: int,
+        data: bytes = b"",
+        *,
+        timeout: Optional[float] = None,
+        is_extended_id: Optional[bool] = None,
+        is_fd: bool = False,
+    ) -> None:
+        ...
+
+    # The second argument has two names.
+    @explained()  # type: ignore[misc]
+    def send(
+        self,
+        msg: Union[Message, Frame, int],
+        data: Union[bytes, float, None] = None,
+        timeout: Optional[float] = None,
+        *,
+        is_extended_id: Optional[bool] = None,
+        is_fd: bool = False,
+    ) -> None:
         """Puts a message into the transmit queue of the interface.
 
-        Where this returns, the server has accepted it; it goes out once it wins arbitration.
+        Where this returns, the server has accepted it; it goes out once it wins arbitration. As on a bench it may be a Frame, or
+        an identifier with its data, ``send(0x123, b"\\x01")``, which has 29 bits above 7FF.
 
         :param timeout: seconds in which a full transmit queue may make room; none: a full one is an error at once
         :raises ~can.exceptions.CanOperationError: where the server refuses it; the ``error_code`` of ``no buffers`` is
@@ -225,6 +261,12 @@ class CanbusdBus(InjectsFaults, NamesWhatThereIs, BusABC):
         :raises ~can.exceptions.CanTimeoutError: where the queue was full until the timeout, or no answer came
         :raises ValueError: where this is no message that can be sent here
         """
+        if isinstance(msg, int):
+            given = b"" if data is None else data_bytes(data)
+            msg = frame_to_send(msg, given, is_extended_id=is_extended_id, is_fd=is_fd)
+        elif data is not None:
+            # Of a message it is the second argument.
+            timeout = cast(float, data)
         self._session.send(self._command(msg), timeout)
 
     def send_many(self, msgs: Iterable[Message], timeout: Optional[float] = None) -> None:
@@ -323,6 +365,10 @@ class CanbusdBus(InjectsFaults, NamesWhatThereIs, BusABC):
             if deadline is not None:
                 timeout = max(0.0, deadline - time.monotonic())
 
+    def send_periodic(self, msgs: Any, *args: Any, **kwargs: Any) -> CyclicSendTaskABC:
+        """Sends a message again and again, as python-can has it; it may be a Frame."""
+        return super().send_periodic(msgs.message() if isinstance(msgs, Frame) else msgs, *args, **kwargs)
+
     def _send_periodic_internal(self, *args: Any, **kwargs: Any) -> CyclicSendTaskABC:
         # Its thread sends under this lock, so not before it has the bus on which it goes on.
         with self._lock_send_periodic:
@@ -373,9 +419,9 @@ class CanbusdBus(InjectsFaults, NamesWhatThereIs, BusABC):
             return True
         return passes_filters(identifier_word(message), self._pairs, self._join)
 
-    def _command(self, msg: Message) -> str:
+    def _command(self, msg: Union[Message, Frame]) -> str:
         """The command that sends this message; ValueError where none does."""
-        if not isinstance(msg, Message):
+        if not isinstance(msg, (Message, Frame)):
             raise ValueError(f"msg is a can.Message, such as can.Message(arbitration_id=0x123, data=[1]), not {msg!r}")
         if msg.is_fd and not self._fd:
             raise ValueError("an FD frame needs a bus with fd=True")

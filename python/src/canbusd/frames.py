@@ -163,6 +163,14 @@ class Frame(NamesWhatThereIs):
         return Message(channel=channel, **vars(self))
 
 
+def frame_to_send(id: object, data: bytes = b"", *, is_extended_id: Optional[bool] = None, **more: object) -> Frame:
+    """Returns the frame of an identifier, which has 29 bits above 7FF unless `is_extended_id` says otherwise."""
+    if isinstance(id, bool) or not isinstance(id, int):
+        raise BadFrame(f"an identifier is a number, such as 0x123, not {id!r}")
+    extended = id > 0x7FF if is_extended_id is None else is_extended_id
+    return Frame(id, data, extended, **more)  # type: ignore[arg-type]
+
+
 def log_line(name: str, frame: Frame) -> str:
     """Returns the line of a log, as `candump -L` writes it: `(0000000001.000000) can0 123#1122`."""
     return f"({frame.timestamp:017.6f}) {name} {frame}"

@@ -10,11 +10,11 @@ then. What an attempt was, and why it failed, is in the record: `Server.attempts
 """
 
 import time
-from collections.abc import Callable, Sequence
+from collections.abc import Callable, Mapping, Sequence
 from typing import TYPE_CHECKING, Any, Optional, TypeVar, Union
 
 from canbusd._calls import explained
-from canbusd._expect.frame_matcher import Wanted
+from canbusd._expect.frame_matcher import Wanted, identifier
 from canbusd._expect.supervision import Supervision
 from canbusd._session.arguments import check_within
 from canbusd._session.connection import LONGEST_POLL, POLL
@@ -22,13 +22,13 @@ from canbusd._session.protocol import STATES, ErrorCounters, State, Stats, in_wo
 from canbusd._session.waits import seconds_until
 from canbusd._text import seconds_words
 from canbusd.faults import Faults, Script
+from canbusd.frames import Frame, frame_to_send
 from canbusd.signals import Value
 
 if TYPE_CHECKING:
     from can.message import Message
 
-    from canbusd._expect.observer import Observer
-    from canbusd._session.observing_session import ObservingSession
+    from canbusd._expect.observer import Observer, Watching
 
 #: The transmit error count from which an interface is bus off, and what a destroyed frame adds to it.
 OFF, DESTROYED = 256, 8
@@ -68,6 +68,33 @@ class Expectations(Supervision):
         """What was seen last, for the end of a failure."""
         return self._observing().shown(self.database, signals)
 
+    def _wait(self, predicate: Callable[[], T], timeout: float) -> Optional[T]:
+        """What the predicate returns once that is true; None if it is not within these seconds."""
+        return wait_for(predicate, timeout)
+
+    @explained("values are a dict, such as frame('EngineData', {'EngineSpeed': 800})")
+    def frame(
+        self,
+        id: Union[int, str],
+        data: Union[bytes, Mapping[str, Value]] = b"",
+        *,
+        is_extended_id: Optional[bool] = None,
+        is_fd: bool = False,
+    ) -> Frame:
+        """Returns a frame to send: of an identifier and bytes, or of a message of the database by its name and the values of its
+        signals. An identifier above 7FF has 29 bits unless `is_extended_id` says otherwise."""
+        if isinstance(id, str):
+            message, _ = identifier(id, self.database)
+            assert message is not None and self.database is not None
+            if not isinstance(data, Mapping) and data != b"":
+                raise ValueError(
+                    f"a message by its name has values, as frame({id!r}, {{'EngineSpeed': 800}}), not {data!r}"
+                )
+            return self.database.encode(id, data if isinstance(data, Mapping) else {})
+        if isinstance(data, Mapping):
+            raise ValueError(f"values are of a message by its name, as frame('EngineData', {dict(data)!r}), not {id!r}")
+        return frame_to_send(id, data, is_extended_id=is_extended_id, is_fd=is_fd)
+
     @explained()
     def error_counters(self, name: str) -> ErrorCounters:
         """Returns the state of an interface and its error counts, while the server runs."""
@@ -91,7 +118,7 @@ class Expectations(Supervision):
         observer = self._observing()
         drive = Drive(observer.session(name), name, self.inject)
         try:
-            counters = wait_for(drive.off, timeout)
+            counters = self._wait(drive.off, timeout)
             if counters is None:
                 raise AssertionError(f"{drive.failure(timeout)}{self._shown()}")
             # Where it restarts by itself it may be back.
@@ -104,7 +131,7 @@ class Expectations(Supervision):
     def wait_for(self, predicate: Callable[[], T], timeout: float = 1.0) -> T:
         """Calls the predicate until it returns something true, and returns that; TimeoutError after these seconds."""
         __tracebackhide__ = True
-        found = wait_for(predicate, timeout)
+        found = self._wait(predicate, timeout)
         if found is None:
             raise TimeoutError(f"the condition was not true within {seconds_words(timeout)}{self._shown()}")
         return found
@@ -215,7 +242,7 @@ class Expectations(Supervision):
 class Drive:
     """Destroys the next frames of an interface until it is bus off, and no frame after that."""
 
-    def __init__(self, bus: "ObservingSession", name: str, inject: Callable[[Faults, str], None]) -> None:
+    def __init__(self, bus: "Watching", name: str, inject: Callable[[Faults, str], None]) -> None:
         self._bus, self._name, self._inject = bus, name, inject
         self._counters, self._stats = bus.error_counters(), bus.stats()
         # When the last rule was injected: how many others there were, and how many frames the interface had done.

@@ -4,15 +4,15 @@ import contextlib
 import threading
 import time
 from collections import deque
-from collections.abc import Callable, Iterator, Sequence
+from collections.abc import Callable, Iterable, Iterator, Sequence
 from itertools import groupby, islice
-from typing import Optional, TypeVar
+from typing import Optional, Protocol, TypeVar, Union
 
 from canbusd._expect.frame_matcher import Wanted
 from canbusd._expect.received_frames import MOST_KEPT, MOST_SHOWN, Received, Seen, StateSeen, state_in, without_copies
 from canbusd._session.injection import TIMEOUT
 from canbusd._session.observing_session import ObservingSession, Reader, wait_for_input
-from canbusd._session.protocol import in_words
+from canbusd._session.protocol import ErrorCounters, Stats, in_words
 from canbusd._session.raw_session import fault
 from canbusd._session.waits import seconds_until
 from canbusd._text import seconds_words, times
@@ -52,12 +52,53 @@ def observed_by_default(buses: Sequence[Sequence[str]]) -> list[str]:
     return names if len(names) <= MOST_OBSERVED else [bus[0] for bus in buses]
 
 
+def observed_of(observe: Union[str, Sequence[str], None], names: Sequence[str]) -> list[str]:
+    """Returns the interfaces of a bus whose frames count; ValueError where one is none of it."""
+    if observe is None:
+        return observed_by_default([names])
+    if not isinstance(observe, Iterable):
+        raise ValueError(f"observe is the names of interfaces, such as 'can0,can1', or (), not {observe!r}")
+    named = observe.split(",") if isinstance(observe, str) and observe else list(observe)
+    wrong = next((name for name in named if name not in names), None)
+    if wrong is not None:
+        raise ValueError(f"observe is of interfaces, {', '.join(names)}, not {wrong!r}")
+    return list(dict.fromkeys(named))
+
+
+class Watching(Protocol):
+    """A session on an interface that receives what that does: of a server, or of a bench."""
+
+    channel: str
+    first: ErrorCounters
+
+    def error_counters(self) -> ErrorCounters:
+        """The state of the interface, and its error counts."""
+
+    def stats(self) -> Stats:
+        """The counts of the session and of its interface."""
+
+    def rules_left(self) -> int:
+        """How many rules the bus has that are not used up."""
+
+    def end_rules(self) -> None:
+        """Ends all rules of the bus."""
+
+    def hand_on(self, add: Callable[[str, str], None]) -> None:
+        """Hands on what has come."""
+
+    def close(self) -> None:
+        """Ends it."""
+
+
 class Observer:
     """The sessions of a server's own: one on each interface, unless none is observed; then on each whose state is asked.
 
     Who expects something reads them, and looks at all that came. A thread reads them meanwhile, so that nothing is
     dropped while the test does something else.
     """
+
+    #: What has the interfaces.
+    owner = "server"
 
     def __init__(
         self,
@@ -70,7 +111,7 @@ class Observer:
         # Says that a record is full, if it is so.
         self._full = full
         self.received = Received(buses, observed)
-        self._sessions: dict[str, ObservingSession] = {}
+        self._sessions: dict[str, Watching] = {}
         # By the name of each interface that is observed, how many frames its socket had dropped when it was last expected.
         self._dropped: dict[str, int] = {}
         self._lock = threading.RLock()
@@ -85,26 +126,37 @@ class Observer:
             # Of many interfaces only those whose frames count have one from the start.
             for name in names if len(names) <= MOST_WITH_STATES else observed:
                 self.session(name)
-            self._reader = Reader(list(self._sessions.values()), self._read_along)
+            self._begin_reading()
 
-    def session(self, name: str) -> ObservingSession:
+    def _begin_reading(self) -> None:
+        """Has a thread read what comes while nobody expects anything."""
+        self._reader = Reader(self._live(), self._read_along)
+
+    def _open(self, name: str) -> Watching:
+        """Opens a session on an interface."""
+        return ObservingSession(self._address, name, name in self.received.observed)
+
+    def _live(self) -> list[ObservingSession]:
+        """The sessions of a server."""
+        return [session for session in self._sessions.values() if isinstance(session, ObservingSession)]
+
+    def session(self, name: str) -> Watching:
         """Returns the session on an interface, which is opened where there is none."""
         with self._lock:
             found = self._sessions.get(name)
             if found is None:
                 if name not in self._all:
                     given = name if isinstance(name, str) else repr(name)
-                    known = f"no such interface; the server has {', '.join(self._all)}"
+                    known = f"no such interface; the {self.owner} has {', '.join(self._all)}"
                     raise fault("CanInitializationError", f"{given}: {known}")
-                found = ObservingSession(self._address, name, name in self.received.observed)
-                self._sessions[name] = found
+                found = self._sessions[name] = self._open(name)
                 self.received.begin(name, found.first)
             return found
 
     def settle(self) -> None:
         """Takes all that the interfaces have received up to now."""
         with self._lock:
-            sessions = list(self._sessions.values())
+            sessions = self._live()
         deadline = time.monotonic() + TIMEOUT
         for session in sessions:
             queued = session.stats().queued
@@ -143,7 +195,7 @@ class Observer:
             left = seconds_until(deadline)
             if left == 0:
                 return
-            wait_for_input(list(self._sessions.values()), left)
+            wait_for_input(self._live(), left)
             self._gather()
 
     def find(self, matches: Callable[[Frame], bool], channel: Optional[str], within: float) -> Optional[Seen]:
@@ -207,12 +259,15 @@ class Observer:
             said = (wanted.content(seen.frame) for seen in self.received.taken(channel))
             return next((content for content in said if content is not None), None)
 
-    def last_expected(self, matches: Callable[[Frame], bool], channel: Optional[str]) -> Optional[Seen]:
-        """Returns the last frame that matches, of those up to the last expectation and since `forget`."""
+    def last_taken(self, matches: Callable[[Frame], bool], channel: Optional[str]) -> Optional[Seen]:
+        """Returns the last frame that matches, of those up to the last expectation."""
         self.settle()
         with self._lock:
-            taken = self.received.taken(channel)
-            return next((seen for seen in taken if seen.moment > self._forgotten and matches(seen.frame)), None)
+            return next((seen for seen in self.received.taken(channel) if matches(seen.frame)), None)
+
+    def is_forgotten(self, seen: Seen) -> bool:
+        """Whether a frame came before the last `forget`."""
+        return seen.moment <= self._forgotten
 
     def said_instead(self, wanted: Wanted, channel: Optional[str]) -> str:
         """Says what was said in place of what is looked for, for the text of a failure; nothing if nothing was."""
@@ -358,7 +413,7 @@ class Observer:
         with self._lock:
             if self._waiting:
                 return
-            for session in self._sessions.values():
+            for session in self._live():
                 session.read()
         while self._hand_some_on():
             time.sleep(PAUSE_SECONDS)
@@ -366,7 +421,7 @@ class Observer:
     def _hand_some_on(self) -> bool:
         """Hands on some of the oldest frames of each session that has too many, and returns whether there was one."""
         with self._lock:
-            full = [session for session in self._sessions.values() if session.unread > MOST_UNREAD_FRAMES]
+            full = [session for session in self._live() if session.unread > MOST_UNREAD_FRAMES]
             for session in full:
                 session.hand_on_read(self.received.add, min(FRAMES_AT_ONCE, session.unread - MOST_UNREAD_FRAMES))
             return bool(full)

@@ -27,8 +27,10 @@ class Follower:
     tolerance, among those of the shape in that time.
     """
 
-    def __init__(self, shape: Shape, tolerance: float, late: float) -> None:
+    def __init__(self, shape: Shape, tolerance: float, late: float, before: Optional[float] = None) -> None:
         self._shape, self._tolerance, self._late = shape, tolerance, late
+        # When the value before the first was on the bus, if it is known.
+        self._before = before
         self._samples: list[Sample] = []
         # Where the shape may have begun: the places of these values.
         self._begun: list[int] = []
@@ -54,8 +56,9 @@ class Follower:
     def _span(self, begun: int, place: int) -> tuple[float, float]:
         """The values that the shape may have at a place, where it has begun at another, or since the one before."""
         since = self._samples[place].moment - self._samples[begun].moment
-        before = self._samples[begun].moment - self._samples[begun - 1].moment if begun else 0.0
-        return self._shape.span(since - self._late, since + before + self._late)
+        before = self._samples[begun - 1].moment if begun else self._before
+        gap = 0.0 if before is None else self._samples[begun].moment - before
+        return self._shape.span(since - self._late, since + gap + self._late)
 
     def _fits(self, begun: int, place: int) -> bool:
         least, most = self._span(begun, place)

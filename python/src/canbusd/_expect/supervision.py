@@ -131,8 +131,8 @@ class Supervision:
         wanted = Wanted(id, is_extended_id=is_extended_id, database=self.database, channel=channel)
         checker = Checker(profile_of(profile, self._message_of(id)))
         observer = self._observing()
-        before = observer.last_expected(wanted.matches, channel)
-        if before is not None:
+        before = observer.last_taken(wanted.matches, channel)
+        if before is not None and not observer.is_forgotten(before):
             checker.check(before.frame.data)
         frames = observer.collect(wanted.matches, channel, count, within)
         found = [(checker.check(seen.frame.data), seen) for seen in frames]
@@ -191,7 +191,9 @@ class Supervision:
         allowed = (most - least) / 100 if tolerance is None else tolerance
         check_within(allowed, "tolerance")
         check_within(late, "late")
-        return self._followed(wanted, Follower(whole, allowed, late), whole, formats, within, channel)
+        before = self._observing().last_taken(wanted.is_of, channel)
+        follower = Follower(whole, allowed, late, None if before is None else before.moment / 1e6)
+        return self._followed(wanted, follower, whole, formats, within, channel)
 
     def _followed(
         self,

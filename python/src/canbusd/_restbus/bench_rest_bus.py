@@ -1,7 +1,7 @@
 """The rest bus of a bench: frames are due at exact moments, and `run` goes from one to the next."""
 
 from collections.abc import Mapping
-from typing import TYPE_CHECKING
+from typing import TYPE_CHECKING, Optional
 
 from canbusd._calls import explained
 from canbusd._restbus.schedule import MICROS, micros
@@ -41,14 +41,27 @@ class BenchRestBus(RestBus):
         end = micros(until)
         with self.changing():
             while (due := self._schedule.first()) is not None and due < end:
-                attempts += self._go_to(max(due, micros(float(self._bench._moment))))
-                for message, frame in self._due(self._now):
-                    answer = self._answer(message, frame)
-                    if answer and answer not in PASSING:
-                        raise Refused(answer)
-                    message.count(answer)
+                attempts += self._go_to(max(due, self._bench._now))
+                self._put()
                 attempts += self._tried()
             return attempts + self._go_to(end)
+
+    def first_due(self) -> Optional[int]:
+        """When the next frame is due, for a bench whose time passes while a test waits."""
+        return None if self._is_closed else self._schedule.first()
+
+    def put_due(self, moment: int) -> None:
+        """Sends what is due at this moment, for such a bench."""
+        with self.changing():
+            self._now = moment
+            self._put()
+
+    def _put(self) -> None:
+        for message, frame in self._due(self._now):
+            answer = self._answer(message, frame)
+            if answer and answer not in PASSING:
+                raise Refused(answer)
+            message.count(answer)
 
     def close(self) -> None:
         """Ends it: its sessions are closed, if the bench still runs."""
@@ -58,7 +71,7 @@ class BenchRestBus(RestBus):
                 session.close()
 
     def now(self) -> int:
-        return self._now
+        return max(self._now, self._bench._now)
 
     def send_now(self, message: RestMessage, frame: Frame) -> None:
         answer = self._answer(message, frame)

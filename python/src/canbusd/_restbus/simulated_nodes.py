@@ -19,6 +19,8 @@ Library = Literal["can-isotp", "canbusd-run", "canbusd"]
 class HasRestBus(Generic[R]):
     """What a bench and a server have of a rest bus."""
 
+    database: "Optional[Database]"
+
     @property
     def interfaces(self) -> list[str]:
         """The names of all interfaces."""
@@ -44,14 +46,16 @@ class HasRestBus(Generic[R]):
         from canbusd._restbus.nodes import database_of, interfaces_of
 
         known = database_of(database)
-        return self._make_rest_bus(known, interfaces_of(known, without, nodes or {}, interface, self.interfaces))
+        found = interfaces_of(known, without, nodes or {}, interface, self.interfaces)
+        # Expectations then know its names, too.
+        self.database = known if self.database is None else self.database.with_more(known)
+        return self._make_rest_bus(known, found)
 
 
 class SimulatesNodes(HasRestBus["RestBus"]):
     """What a server has of simulated nodes."""
 
     address: str
-    database: "Optional[Database]"
     _result: Any
 
     def bus(self, channel: str, **kwargs: Any) -> "CanbusdBus":
@@ -61,8 +65,6 @@ class SimulatesNodes(HasRestBus["RestBus"]):
     def _make_rest_bus(self, database: "Database", interfaces: Mapping[str, str]) -> "RestBus":
         from canbusd._restbus.live_rest_bus import LiveRestBus
 
-        # Expectations then know its names, too.
-        self.database = database if self.database is None else self.database.with_more(database)
         return LiveRestBus(database, interfaces, self.bus, lambda: self._result is not None)
 
     @explained()

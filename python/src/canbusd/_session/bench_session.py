@@ -1,10 +1,13 @@
 """A session of a bench: a client of its bus with a raw socket."""
 
 import re
+from collections import deque
 from dataclasses import replace
+from types import TracebackType
 from typing import TYPE_CHECKING, Optional, Union
 
 from canbusd._calls import NamesWhatThereIs, explained
+from canbusd._session.arguments import check_within
 from canbusd._session.injection import InjectsFaults, Refused
 from canbusd._session.protocol import (
     LONGEST_MESSAGE,
@@ -17,12 +20,43 @@ from canbusd._session.protocol import (
     load_of,
     stats_of,
 )
-from canbusd.frames import Frame, MessageLike, command_of, frame_like, frame_of, without_origin
+from canbusd.frames import Frame, MessageLike, command_of, frame_like, frame_of, frame_to_send, without_origin
 
 if TYPE_CHECKING:
     from canbusd.bench import Bench
 
+NO_BUFFERS, BUS_OFF = "no buffers", "bus off"
 CLOSED = re.compile(r"[0-9]+ < closed ([0-9]+) ([0-9]+) >")
+
+
+class PeriodicSend:
+    """A frame that a session sends again and again."""
+
+    def __init__(self, session: "Session", frame: Frame, period: float, duration: Optional[float]) -> None:
+        self._session, self._frame, self._period = session, frame, round(period * 1e6)
+        self._next: Optional[int] = session._bench._now
+        self._end = None if duration is None else session._bench._now + round(duration * 1e6)
+
+    def stop(self) -> None:
+        """Ends it."""
+        self._next = None
+
+    def first_due(self) -> Optional[int]:
+        """When the next is due, in microseconds; None where it has ended."""
+        return self._next
+
+    def put_due(self, moment: int) -> None:
+        """Sends what is due at this moment."""
+        while self._next is not None and self._next <= moment:
+            if self._session._closed or (self._end is not None and self._next >= self._end):
+                self.stop()
+                return
+            try:
+                self._session._put(self._frame)
+            except Refused as fault:
+                if str(fault) not in (NO_BUFFERS, BUS_OFF):
+                    raise
+            self._next += self._period
 
 
 class Session(InjectsFaults, NamesWhatThereIs):
@@ -33,13 +67,14 @@ class Session(InjectsFaults, NamesWhatThereIs):
         self._closed = False
         # The numbers at its interface of the frames that it has sent.
         self._own: set[int] = set()
+        # Those that were taken from the socket, and not from here.
+        self._received: deque[Frame] = deque()
         #: The name of its interface.
         self.channel = channel
 
     _INSTEAD = {
-        **dict.fromkeys(("recv", "expect"), "receive() returns the frames that came"),
-        **dict.fromkeys(("state", "error_counters"), "status() returns the state and the counts"),
-        "bus_off": "inject(Faults().next(32, sender='can0').destroyed()), and 32 attempts of it",
+        **dict.fromkeys(("expect", "expect_no_frame", "expect_state", "bus_off", "wait_for"), "the Bench has it"),
+        "state": "error_counters().state",
     }
 
     @explained()
@@ -54,19 +89,20 @@ class Session(InjectsFaults, NamesWhatThereIs):
         bitrate_switch: bool = False,
         error_state_indicator: bool = False,
         dlc: int = 0,
+        timeout: Optional[float] = None,
     ) -> None:
         """Puts a frame into the transmit queue of the interface, or raises Refused.
 
         `frame` is a Frame, a message of python-can, or an identifier, which has 11 bits up to 7FF unless
-        `is_extended_id` says otherwise. `dlc` is the length that a remote frame asks for.
+        `is_extended_id` says otherwise. `dlc` is the length that a remote frame asks for. With a `timeout` time passes for up
+        to so many seconds, until a full queue has room.
         """
         if isinstance(frame, int):
-            extended = frame > 0x7FF if is_extended_id is None else is_extended_id
-            sent = Frame(
+            sent = frame_to_send(
                 frame,
                 data,
-                extended,
-                is_remote_frame,
+                is_extended_id=is_extended_id,
+                is_remote_frame=is_remote_frame,
                 is_fd=is_fd,
                 dlc=dlc,
                 bitrate_switch=bitrate_switch,
@@ -78,9 +114,14 @@ class Session(InjectsFaults, NamesWhatThereIs):
             )
         else:
             sent = frame_like(frame)
-        command, accepted = command_of(sent), self._bench._sent[self.channel]
+        if not timeout or not self._bench.pass_time(lambda: self._was_accepted(sent), timeout):
+            self._put(sent)
+
+    def _put(self, frame: Frame) -> None:
+        """Puts a frame into the transmit queue."""
+        command, accepted = command_of(frame), self._bench._sent[self.channel]
         with self._bench._turn:
-            accepted.append(sent)
+            accepted.append(frame)
             try:
                 self.call(command)
             except Refused:
@@ -88,11 +129,58 @@ class Session(InjectsFaults, NamesWhatThereIs):
                 raise
             self._own.add(len(accepted) - 1)
 
+    def _was_accepted(self, frame: Frame) -> bool:
+        """Puts a frame into the transmit queue, if that has room; returns whether it had."""
+        try:
+            self._put(frame)
+            return True
+        except Refused as fault:
+            if str(fault) != NO_BUFFERS:
+                raise
+            return False
+
     def receive(self) -> list[Frame]:
         """Takes what the socket has received, oldest first; error message frames too, if they were asked for."""
+        self._gather()
+        frames = list(self._received)
+        self._received.clear()
+        return frames
+
+    def recv(self, timeout: Optional[float] = None) -> Optional[Frame]:
+        """Returns the next frame, once time has passed until there is one: seconds of the bus.
+
+        None where none comes within these seconds, and without a timeout where nothing is left that could come.
+        """
+
+        def first() -> Optional[Frame]:
+            self._gather()
+            return self._received.popleft() if self._received else None
+
+        return first() or self._bench.pass_time(first, timeout)
+
+    def send_periodic(self, msgs: MessageLike, period: float, duration: Optional[float] = None) -> "PeriodicSend":
+        """Sends a frame each `period` seconds of the bus, while time passes, from now on and for the `duration`, until `stop()`
+        of what is returned. A full queue, or bus off, does not end it."""
+        check_within(period, "period")
+        if not period > 0:
+            raise ValueError(f"period is a number of seconds above 0, not {period!r}")
+        task = PeriodicSend(self, frame_like(msgs), period, duration)
+        self._bench._due.append(task)
+        return task
+
+    def handed_over(self) -> list[str]:
+        """Takes what the socket has received, as messages of the protocol."""
         number = self._live()
-        frames = (self._frame(message) for message in self._bench._ask(f"drain {number}\nfeed {number} < echo >"))
-        return [frame for frame in frames if frame is not None]
+        return self._bench._ask(f"drain {number}\nfeed {number} < echo >")
+
+    def _gather(self) -> None:
+        """Takes what the socket has received, for calls that return it."""
+        frames = map(self._frame, self.handed_over())
+        self._received.extend(frame for frame in frames if frame is not None)
+
+    def error_counters(self) -> ErrorCounters:
+        """Returns the state of the interface and its error counts, as `status` does."""
+        return self.status()
 
     def status(self) -> ErrorCounters:
         """Returns the state of the interface and its error counts."""
@@ -133,6 +221,19 @@ class Session(InjectsFaults, NamesWhatThereIs):
             answers = self._bench._ask(f"feed {self._live()} <{text}>< echo >")
             self._bench._follow(message)
         return answers
+
+    def shutdown(self) -> None:
+        """Closes its socket, if that is open, and the bench still runs."""
+        if not self._closed and self._bench._child.stdin is not None:
+            self.close()
+
+    def __enter__(self) -> "Session":
+        return self
+
+    def __exit__(
+        self, kind: Optional[type[BaseException]], fault: Optional[BaseException], _: Optional[TracebackType]
+    ) -> None:
+        self.shutdown()
 
     def close(self) -> tuple[int, int]:
         """Closes the socket; returns how many frames it had not read, and how many it dropped."""
