@@ -68,7 +68,7 @@ def public_names():
 #: Modules that users import, whether or not the documents do it in a line that is found above.
 PUBLIC = """
     bench bus candump2bench commands e2e faults frames isotp programs pytest_plugin record replay rest_bus rules server shapes
-    signals strategies uds virtual
+    signals steps strategies uds virtual
 """
 
 
@@ -87,7 +87,7 @@ def test_public_paths_can_be_imported():
 
 #: Rooms of the package, each with the modules at the top that users have of it; one imports of itself and of those before it.
 LAYERS = """
-    _text+_python_can+_calls+_whole_file+_placement+_crc+virtual+frames+rules+faults
+    _text+_python_can+_calls+_whole_file+_placement+_crc+virtual+frames+rules+faults+steps+_reports
     _session
     _isotp
     _uds+uds

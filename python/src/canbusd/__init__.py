@@ -15,6 +15,7 @@ RestBus        the messages of a database, sent as they are due: `Server.rest_bu
 Program        a program that a test started: `Server.start`
 load_database  the messages and signals of a file of DBC, KCD, ARXML or SYM: a Database
 read_record    what happened on a bus, as its record has it: a Record of Attempts
+step           names a step of a test, for its report
 is_virtual     whether this process runs in virtual time
 
 Modules beside these: canbusd.uds has a simulated ECU and a client of UDS, canbusd.e2e counters and checksums of messages,
@@ -44,6 +45,7 @@ if TYPE_CHECKING:
     from canbusd.rest_bus import RestBus
     from canbusd.server import Result, Server, ServerError
     from canbusd.signals import Database, DatabaseError, load_database
+    from canbusd.steps import step
     from canbusd.virtual import is_virtual
 
 #: The one of the program, of the wheel and of the folder canbusd-0.2.0.dist-info beside this package.
@@ -78,6 +80,7 @@ __all__ = [
     "is_virtual",
     "load_database",
     "read_record",
+    "step",
 ]
 
 _HOMES = {
@@ -93,6 +96,7 @@ _HOMES = {
     "rest_bus": ["RestBus"],
     "server": ["Result", "Server", "ServerError"],
     "signals": ["Database", "DatabaseError", "load_database"],
+    "steps": ["step"],
     "virtual": ["is_virtual"],
 }
 

@@ -68,7 +68,7 @@ class Bench(PassesTime, Dialogue, HasRestBus["BenchRestBus"], NamesWhatThereIs):
         "session": "bus('can0') returns a session",
         **dict.fromkeys(("status", "stats", "load", "restart"), "a session has it: bus('can0')"),
         **dict.fromkeys(("send", "receive", "recv"), "a session sends and receives: bus('can0').send(0x123)"),
-        **dict.fromkeys(("step", "tick"), "attempt() makes one, run() all"),
+        "tick": "attempt() makes one, run() all",
     }
 
     @explained()

@@ -20,7 +20,8 @@ import pytest
 
 from canbusd._expect.expectations import Expectations
 from canbusd._calls import no_such
-from canbusd import _placement as placement
+from canbusd import _placement as placement, steps
+from canbusd._reports import add_to_html, attach_to_allure
 from canbusd._process.program import SET_BY, ProgramNotFound, audited
 from canbusd._process.program_run import FOLDERS, RUNNING
 from canbusd._run import summary
@@ -44,6 +45,8 @@ CALLED = pytest.StashKey[bool]()
 USED = pytest.StashKey[bool]()
 FOR_FIXTURES = "the test takes neither the fixture canbusd nor canbusd_bench"
 PROGRAM = pytest.StashKey[bool]()
+#: What is known of the buses of a test, and the paths of their pages.
+TEXT, PAGES = pytest.StashKey[str](), pytest.StashKey[Sequence[str]]()
 
 
 def pytest_addoption(parser: pytest.Parser) -> None:
@@ -147,8 +150,12 @@ def pytest_runtest_makereport(item: pytest.Item) -> Generator[None, Any, None]:
     """Keeps whether the test failed, for the end of its fixtures. One that had to fail, by a mark xfail, did not."""
     outcome = yield
     report = outcome.get_result()
+    if report.when == "teardown":
+        add_to_html(item.config, report, item.stash.get(TEXT, ""), item.stash.get(PAGES, []))
     if report.failed:
         item.stash[FAILED] = True
+        if report.when == "call" and steps.current.done:
+            report.sections.append(("canbusd: steps", "\n".join(steps.current.lines())))
         if is_virtual() and not placement.is_there():
             report.sections.append(("canbusd: virtual time", f"repeat: {repeated_by(item.nodeid)}"))
 
@@ -160,6 +167,7 @@ def pytest_runtest_setup(item: pytest.Item) -> None:
     marker = item.get_closest_marker("canbusd")
     if marker is not None and marker.kwargs.get("virtual") and not is_virtual():
         pytest.fail("this test is for virtual time: python3 -m pytest --canbusd-virtual", pytrace=False)
+    steps.begin()
     if is_virtual():
         begin_test(item.nodeid)
     for run in list(RUNNING):
@@ -177,7 +185,10 @@ def pytest_runtest_call(item: pytest.Item) -> None:
 
 @pytest.hookimpl(trylast=True)  # type: ignore[misc]
 def pytest_runtest_teardown(item: pytest.Item) -> None:
-    """Warns of a marker of the test itself that was for no fixture; one of its module or class may be for others."""
+    """Adds the steps to the test's properties, and warns of a marker of the test itself that was for no fixture; one of its module
+    or class may be for others."""
+    if steps.current.done:
+        item.user_properties.append(("canbusd_steps", "\n".join(steps.current.lines())))
     marker = next((mark for mark in item.own_markers if mark.name == "canbusd"), None)
     if marker is None or (not marker.args and marker.kwargs.keys() == {"virtual"}):
         return
@@ -339,7 +350,11 @@ class Runs:
             self._item.user_properties += [("canbusd_page_relative", path) for path in map(self._from_junit, pages)]
             page = [f"page: {path}" for path in pages]
             sections.append("\n".join([*itertools.chain(*one.values()), *page]))
-        self._item.add_report_section("teardown", "canbusd", "\n\n".join(filter(None, sections)))
+            attach_to_allure(sections[-1], pages)
+            self._item.stash[PAGES] = [*self._item.stash.get(PAGES, []), *pages]
+        text = "\n\n".join(filter(None, sections))
+        self._item.stash[TEXT] = text
+        self._item.add_report_section("teardown", "canbusd", text)
 
     def _from_junit(self, page: str) -> str:
         """The path of a page from the folder of the JUnit file, which finds it where both were copied elsewhere."""

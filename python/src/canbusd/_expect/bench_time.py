@@ -1,5 +1,6 @@
 """The time of a bench, which passes while a test waits: attempts are made, and rest buses send what is due."""
 
+import contextlib
 from collections.abc import Callable, Sequence
 from typing import TYPE_CHECKING, Optional, Protocol, TypeVar
 
@@ -10,6 +11,7 @@ from canbusd._session.arguments import check_within
 from canbusd._session.bench_session import Session
 from canbusd.faults import Script
 from canbusd.record import Attempt
+from canbusd.steps import step
 
 if TYPE_CHECKING:
     from canbusd._session.protocol import Filters
@@ -140,6 +142,10 @@ class PassesTime(Expectations):
             self._observer = BenchObserver(self, self.names, self._observed)
             self._own_sessions = len(self._observed) if is_first else 0
         return self._observer
+
+    def step(self, title: str) -> "contextlib.AbstractContextManager[None]":
+        """Names a step of the test for its report, with the moment of the bench."""
+        return step(title, now=lambda: self.now)
 
     def expect_from_now(self) -> None:
         if self._observer is not None:

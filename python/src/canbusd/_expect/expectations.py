@@ -9,6 +9,7 @@ Only what sessions get is seen here: what they received since the last expectati
 then. What an attempt was, and why it failed, is in the record: `Server.attempts`.
 """
 
+import contextlib
 import time
 from collections.abc import Callable, Mapping, Sequence
 from typing import TYPE_CHECKING, Any, Optional, TypeVar, Union
@@ -24,6 +25,7 @@ from canbusd._text import seconds_words
 from canbusd.faults import Faults, Script
 from canbusd.frames import Frame, frame_to_send
 from canbusd.signals import Value
+from canbusd.steps import step
 
 if TYPE_CHECKING:
     from can.message import Message
@@ -71,6 +73,10 @@ class Expectations(Supervision):
     def _wait(self, predicate: Callable[[], T], timeout: float) -> Optional[T]:
         """What the predicate returns once that is true; None if it is not within these seconds."""
         return wait_for(predicate, timeout)
+
+    def step(self, title: str) -> "contextlib.AbstractContextManager[None]":
+        """Names a step of the test for its report: ``with server.step("the ECU wakes"): ..``."""
+        return step(title)
 
     @explained("values are a dict, such as frame('EngineData', {'EngineSpeed': 800})")
     def frame(
