@@ -1,10 +1,9 @@
 """A simulated ECU.
 
-It is asked by UDS: a session, security access, identifiers, a routine that takes longer than P2, trouble codes, a
-refusal on demand, and an answer of which a segment is lost.
+It is asked by UDS: a session, security access, a routine, trouble codes that take longer than P2, a refusal on demand,
+and an answer of which a segment is lost.
 """
 
-import time
 import pytest
 from canbusd import uds
 
@@ -16,16 +15,12 @@ def test_a_visit_to_the_workshop(canbusd):
     ) as tester:
         ecu.dids[0xF190], ecu.dtcs[0x123456] = b"WVWZZZ1JZXW000001", 0x09
         ecu.security(1, seed=b"\x12\x34")(lambda seed: seed[::-1])
-
-        @ecu.routine(0x0203, level=1)
-        def self_test(data):
-            time.sleep(0.2)
-            return b"\x00"
-
+        ecu.routine(0x0203, level=1)(lambda data: b"\x00")
         tester.session(3)
         tester.unlock(1, key=lambda seed: seed[::-1])
-        assert tester.routine(0x0203) == b"\x00" and tester.pending == 1
-        assert tester.dtcs(mask=0x08) == {0x123456: 0x09}
+        assert tester.routine(0x0203) == b"\x00"
+        ecu.delay(0x19, 0.2)
+        assert tester.dtcs(mask=0x08) == {0x123456: 0x09} and tester.pending == 1
         ecu.refuse(0x22, "conditionsNotCorrect")
         with pytest.raises(uds.NegativeResponse, match="conditionsNotCorrect"):
             tester.read(0xF190)
