@@ -279,3 +279,20 @@ def test_faults_need_python(car, library):
                 ValueError, match=f"^an end by {library} has no faults of segments: give isotp library="
             ):
                 tester.inject(fault("first frame", "lost"))
+
+
+def test_bus_off_while_a_message_comes(car):
+    with car.isotp("ecu", tx=0x7E8, rx=0x7E0, library="canbusd") as ecu:
+        with car.isotp("tester", tx=0x7E0, rx=0x7E8, library="canbusd") as tester:
+            # The tester's flow control takes it off the bus.
+            car.inject(Faults().next(32, sender="tester").destroyed())
+            with pytest.raises(IsoTpError):
+                ecu.send(bytes(100), timeout=WAIT)
+            car.expect_state("tester", "off", within=WAIT)
+            with pytest.raises(IsoTpError):
+                tester.recv(timeout=WAIT)
+            # A flow control that can't be sent ends its message only.
+            with car.bus("tester") as bus:
+                bus.restart()
+            ecu.send(VIN, timeout=WAIT)
+            assert tester.recv(timeout=WAIT) == VIN

@@ -343,6 +343,15 @@ def test_words_of_an_ecu_that_are_wrong(ecu, tester):
         tester.read_data_by_identifier(0xF190)
 
 
+def test_times_that_are_wrong(car):
+    with pytest.raises(ValueError, match="^p2_star is a number of seconds above 0, not 0$"):
+        uds.Ecu(car, "ecu", tx=0x7E8, rx=0x7E0, p2_star=0)
+    with pytest.raises(ValueError, match="^p2 is a number of seconds, 0 or more, not -1$"):
+        uds.Client(car, "tester", tx=0x7E0, rx=0x7E8, p2=-1)
+    with pytest.raises(ValueError, match="^channel is one of ecu, tester, not 'can7'$"):
+        uds.Ecu(car, "can7", tx=0x7E8, rx=0x7E0)
+
+
 def test_no_udsoncan(tester):
     if importlib.util.find_spec("udsoncan") is None:
         with pytest.raises(

@@ -266,7 +266,9 @@ class CanbusdBus(InjectsFaults, NamesWhatThereIs, BusABC):
             msg = frame_to_send(msg, given, is_extended_id=is_extended_id, is_fd=is_fd)
         elif data is not None:
             # Of a message it is the second argument.
-            timeout = cast(float, data)
+            if isinstance(data, bool) or not isinstance(data, (int, float)):
+                raise ValueError(f"timeout is a number of seconds, and data is of an identifier: {data!r}")
+            timeout = data
         self._session.send(self._command(msg), timeout)
 
     def send_many(self, msgs: Iterable[Message], timeout: Optional[float] = None) -> None:

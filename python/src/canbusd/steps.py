@@ -5,6 +5,7 @@
 """
 
 import contextlib
+import importlib
 import sys
 import time
 from collections.abc import Callable, Iterator
@@ -82,4 +83,4 @@ def step(title: str, *, now: Optional[Callable[[], float]] = None) -> Iterator[N
 
 def with_allure() -> Any:
     """Returns the module allure, where pytest has loaded its plugin; None elsewhere."""
-    return sys.modules.get("allure") if "allure_pytest" in sys.modules else None
+    return importlib.import_module("allure") if "allure_pytest" in sys.modules else None

@@ -1,6 +1,7 @@
 """The time of a bench, which passes while a test waits: attempts are made, and rest buses send what is due."""
 
 import contextlib
+import threading
 from collections.abc import Callable, Sequence
 from typing import TYPE_CHECKING, Optional, Protocol, TypeVar
 
@@ -40,6 +41,7 @@ class PassesTime(Expectations):
     names: tuple[str, ...]
     _rates: Optional[Rates]
     _moment: str
+    _turn: threading.RLock
     _sessions: int
 
     def __init__(self, observed: Sequence[str]) -> None:
@@ -77,6 +79,10 @@ class PassesTime(Expectations):
         seconds, or, without them, when nothing more can come."""
         if seconds is not None:
             check_within(seconds, "timeout")
+        with self._turn:
+            return self._passed(look, seconds)
+
+    def _passed(self, look: Callable[[], Optional[T]], seconds: Optional[float]) -> Optional[T]:
         end = None if seconds is None else self._now + round(seconds * MICROS)
         count, before = 0, self._now
         while True:

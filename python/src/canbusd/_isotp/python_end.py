@@ -252,7 +252,7 @@ class PythonIsoTp(IsoTp):
         due = [one for one in self._late if one[0] <= now]
         for one in due:
             self._late.remove(one)
-            self._give(one[1], self._options.tx)
+            self._reply(one[1])
         if self._incoming is not None and self._incoming.deadline <= now:
             self._fail(errno.ETIMEDOUT)
 
@@ -281,7 +281,7 @@ class PythonIsoTp(IsoTp):
             self._controls.append(segment)
         elif segment.name == FIRST and segment.number == 0:
             # Its length is in the next bytes, and above 4,095.
-            self._give(self._control(OVERFLOW), self._options.tx)
+            self._reply(self._control(OVERFLOW))
         elif segment.name == FIRST:
             self._incoming = Incoming(segment.number, segment.data)
             self._send_control(self._incoming)
@@ -321,10 +321,17 @@ class PythonIsoTp(IsoTp):
             if one.delay:
                 self._late.append((time.monotonic() + one.delay, one))
             else:
-                self._give(one, self._options.tx)
+                self._reply(one)
         incoming.deadline = time.monotonic() + LONGEST_GAP + max((one.delay for one in planned), default=0.0)
         if fault is not None and fault.kind == "overflow":
             self._incoming = None
+
+    def _reply(self, segment: Segment) -> None:
+        """Gives a flow control to the bus. Where that takes none, as at bus off, the message fails, and the thread goes on."""
+        try:
+            self._give(segment, self._options.tx)
+        except IsoTpError as fault:
+            self._fail(errno.ENETDOWN if fault.errno == errno.ENETDOWN else errno.ECOMM)
 
     def _control(self, status: int) -> Segment:
         return flow_control(status, self._options.block_size, self._options.stmin, self._addresses[0])

@@ -114,8 +114,9 @@ class Answers:
         if request[1] not in self.sessions:
             raise NegativeResponse(0x12)
         self._enter(request[1])
-        times = round(self._p2 * 1000).to_bytes(2, "big") + round(self._p2_star * 100).to_bytes(2, "big")
-        return bytes([0x50, request[1]]) + times
+        # In milliseconds, and in 10 milliseconds.
+        times = [min(round(self._p2 * 1000), 0xFFFF), min(round(self._p2_star * 100), 0xFFFF)]
+        return bytes([0x50, request[1]]) + b"".join(one.to_bytes(2, "big") for one in times)
 
     def _reset(self, request: bytes) -> bytes:
         check_length(request, 2, 2)

@@ -92,6 +92,8 @@ class Ecu(Answers, NamesWhatThereIs):
     ) -> None:
         for name, seconds in (("p2", p2), ("p2_star", p2_star), ("s3", s3)):
             check_within(seconds, name)
+        if not p2_star > 0:
+            raise ValueError(f"p2_star is a number of seconds above 0, not {p2_star!r}")
         super().__init__(p2, p2_star)
         self._s3 = s3
         #: The requests that came, oldest first.
