@@ -8,6 +8,7 @@ from canbusd.bench import Bench
 from canbusd.faults import Faults
 from canbusd.frames import Frame
 from canbusd.server import Server
+from canbusd.virtual import is_virtual
 from common import WAIT
 
 DBC = """VERSION ""
@@ -37,6 +38,11 @@ def ends(run):
     """Buses of the ECU and of the tester."""
     with run.bus("ecu") as ecu, run.bus("tester") as tester:
         yield ecu, tester
+
+
+def is_exact(run):
+    """Whether its time is: no load has anything be late."""
+    return isinstance(run, Bench) or is_virtual()
 
 
 def test_sending_and_receiving(run, ends):
@@ -73,8 +79,9 @@ def test_expectations(run, ends):
         run.expect_no_frame(0x104, within=WAIT)
     run.expect_from_now()
     task = ecu.send_periodic(can.Message(arbitration_id=0x105, data=b"\x07", is_extended_id=False), period=0.02)
-    gaps = run.expect_cyclic(0x105, period=0.02, tolerance=0.019, count=5)
-    assert len(gaps) == 5
+    if is_exact(run):
+        assert run.expect_cyclic(0x105, period=0.02, tolerance=0.001, count=5) == pytest.approx([0.02] * 5, abs=0.001)
+    run.expect_sequence(0x105, 0x105, within=WAIT)
     run.expect_no_change(0x105, within=0.1)
     task.stop()
     assert run.wait_for(lambda: tester.recv(timeout=0) or tester, timeout=WAIT)
@@ -126,7 +133,8 @@ def test_names_of_a_database(run, ends, tmp_path):
         run.expect_protected("EngineData", profile, count=5, within=WAIT)
         ecu.send(run.frame("EcuData", {"Lamp": 2}))
         assert run.expect(signal="Lamp", equals=2, within=WAIT).arbitration_id == 0x200
-        run.expect_cyclic("EngineData", period=0.01, tolerance=0.0099, count=5)
+        if is_exact(run):
+            run.expect_cyclic("EngineData", period=0.01, tolerance=0.001, count=5)
         rest.stop("Engine")
         run.expect_no_frame(0x300, within=0.05)
         run.expect_from_now()

@@ -125,8 +125,8 @@ def test_what_a_server_expects(dbc):
             # A busy machine has frames be late; on a bench their moments are exact.
             ramp = shapes.ramp(800, 3200, seconds=1)
             rest["Engine"].play("EngineSpeed", ramp)
-            values = server.expect_signal("EngineSpeed", shape=ramp, late=0.3, within=WAIT)
-            assert values[0][1] < 2000 and values[-1][1] >= 2400 and values[-1][0] >= 1
+            values = server.expect_signal("EngineSpeed", shape=ramp, late=0.5, within=WAIT)
+            assert values[0][1] < 2000 and values[-1][1] >= 1900 and values[-1][0] >= 1
             with pytest.raises(AssertionError) as fault:
                 server.expect_signal("EngineSpeed", shape=ramp, late=0.01, within=0.2)
             said = str(fault.value).split("\n")[0]

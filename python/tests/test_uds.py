@@ -23,7 +23,7 @@ def car():
 @pytest.fixture
 def ecu(car):
     """An ECU with a VIN."""
-    with uds.Ecu(car, "ecu", tx=0x7E8, rx=0x7E0, functional=0x7DF) as running:
+    with uds.Ecu(car, "ecu", tx=0x7E8, rx=0x7E0, functional=0x7DF, p2=WAIT) as running:
         running.dids[0xF190] = VIN
         yield running
 
@@ -56,8 +56,8 @@ def test_what_is_on_the_bus(car, tester):
 
 
 def test_sessions(ecu, tester):
-    # P2 in milliseconds, P2* in 10 milliseconds.
-    assert tester.request(b"\x10\x03") == bytes.fromhex("5003 0032 01F4")
+    # P2, 20 seconds, in milliseconds; P2*, 5 seconds, in 10 milliseconds.
+    assert tester.request(b"\x10\x03") == bytes.fromhex("5003 4E20 01F4")
     assert ecu.session == 3
     assert refused(tester.session, 0x44) == 0x12
     assert refused(tester.request, b"\x10") == 0x13
@@ -66,11 +66,11 @@ def test_sessions(ecu, tester):
 
 
 def test_a_session_ends_by_itself(car):
-    with uds.Ecu(car, "ecu", tx=0x7E8, rx=0x7E0, s3=0.2) as ecu:
+    with uds.Ecu(car, "ecu", tx=0x7E8, rx=0x7E0, s3=1.0) as ecu:
         with uds.Client(car, "tester", tx=0x7E0, rx=0x7E8, p2=WAIT) as tester:
             tester.session(3)
             for _ in range(3):
-                time.sleep(0.1)
+                time.sleep(0.5)
                 tester.tester_present()
             assert ecu.session == 3
             car.wait_for(lambda: ecu.session == 1, timeout=WAIT)
@@ -139,18 +139,18 @@ def test_routines(ecu, tester):
 
 
 def test_pending_responses(car):
-    with uds.Ecu(car, "ecu", tx=0x7E8, rx=0x7E0, p2=0.05, p2_star=0.2) as ecu:
+    with uds.Ecu(car, "ecu", tx=0x7E8, rx=0x7E0, p2=0.3, p2_star=0.5) as ecu:
         with uds.Client(car, "tester", tx=0x7E0, rx=0x7E8, p2=WAIT, p2_star=WAIT) as tester:
-            ecu.routine(0x0203)(lambda data: time.sleep(0.35) or b"\x01")
+            ecu.routine(0x0203)(lambda data: time.sleep(1.0) or b"\x01")
             assert tester.routine(0x0203) == b"\x01"
             # One after P2, then one each nine tenths of P2*.
             assert tester.pending == 2
             ecu.dids[0x0100] = b"\x05"
-            ecu.delay(0x22, 0.1)
+            ecu.delay(0x22, 0.6)
             assert (tester.read(0x0100), tester.pending) == (b"\x05", 1)
             assert (tester.read(0x0100), tester.pending) == (b"\x05", 0)
             # Also where no positive response was asked for.
-            ecu.delay(0x3E, 0.1)
+            ecu.delay(0x3E, 0.6)
             assert tester.request(b"\x3e\x80") == b"\x7e\x00"
 
 
@@ -272,7 +272,7 @@ def test_faults_of_segments(ecu, tester, segment, kind, number):
 def test_faults_of_single_frames(ecu, tester, kind):
     ecu.dids[0x0100] = b"\x05"
     ecu.inject(uds.fault("single frame", kind, count=2, delay=0.3))
-    tester._p2 = 0.15
+    tester._p2 = WAIT if kind == "twice" else 0.15
     for _ in range(2):
         if kind == "twice":
             assert tester.read(0x0100) == b"\x05"
@@ -362,7 +362,7 @@ def test_no_udsoncan(tester):
 
 def test_an_answer_that_takes_longer_than_p2(car):
     with uds.Ecu(car, "ecu", tx=0x7E8, rx=0x7E0) as ecu:
-        with uds.Client(car, "tester", tx=0x7E0, rx=0x7E8, p2=0.3, stmin=20) as tester:
+        with uds.Client(car, "tester", tx=0x7E0, rx=0x7E8, p2=1.0, stmin=45) as tester:
             ecu.dids[0x0100] = bytes(200)
-            # 28 consecutive frames, each 20 milliseconds after the one before.
+            # 28 consecutive frames, each 45 milliseconds after the one before.
             assert tester.read(0x0100) == bytes(200)
