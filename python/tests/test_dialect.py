@@ -116,7 +116,7 @@ def test_faults_and_states(run, ends):
         ):
             call()
     with pytest.raises(
-        ValueError, match="^interface is (an interface of the server, )?one of ecu, tester, not 'gateway'$"
+        ValueError, match="^interface is an interface of the (server|bench), one of ecu, tester, not 'gateway'$"
     ):
         run.inject("next 1 lastbit", "gateway")
 
@@ -193,6 +193,17 @@ def test_shapes_on_a_bench_are_exact(tmp_path):
                 bench.expect_signal("EngineSpeed", shape=other, tolerance=0.2, late=0.001, within=1)
 
 
+def test_two_rest_buses_of_which_one_ends(tmp_path):
+    pytest.importorskip("canmatrix")
+    (tmp_path / "car.dbc").write_text(DBC)
+    with Bench("engine,ecu", bitrate=500_000) as bench:
+        with bench.rest_bus(tmp_path / "car.dbc", without=["ECU"], interface="engine") as rest:
+            with bench.rest_bus(tmp_path / "car.dbc", without=["Engine"], interface="ecu"):
+                bench.expect("EngineData")
+            assert len(bench.expect_cyclic("EngineData", period=0.01, tolerance=0.0001, count=3)) == 3
+            assert rest.counts().refused == 0
+
+
 def test_frames_that_wait_for_ever():
     with Bench("ecu,tester", faults="always from ecu id 123 global bit", auto_restart=1) as bench, bench.bus(
         "ecu"
@@ -213,5 +224,5 @@ def test_a_bench_that_nobody_observes_is_as_it_was():
         assert bench.expect(0x124).channel == "tester"
         with pytest.raises(ValueError, match="^channel is one of the observed, tester, not 'ecu'$"):
             bench.expect(0x124, channel="ecu")
-    with pytest.raises(ValueError, match="^observe is of interfaces, ecu, tester, not 'gateway'$"):
+    with pytest.raises(ValueError, match="^observe is an interface of the bench, one of ecu, tester, not 'gateway'$"):
         Bench("ecu,tester", observe="gateway")

@@ -20,7 +20,6 @@ from typing import TYPE_CHECKING, Any, Optional, Union, cast
 from canbusd._calls import NamesWhatThereIs, explained
 from canbusd import _placement as placement
 from canbusd._expect.bench_time import PassesTime
-from canbusd._expect.observer import observed_of
 from canbusd._process.dialogue import MOST_INPUT as MOST_INPUT, BenchError as BenchError, Dialogue, moment_text
 from canbusd._process.program import audited
 from canbusd._process.program_run import Ack, bus_of, option_words, rates_of
@@ -95,7 +94,7 @@ class Bench(PassesTime, Dialogue, HasRestBus["BenchRestBus"], NamesWhatThereIs):
         words += self._rates.words if self._rates else []
         self.names, faults = bus_of(names, faults)
         self.database = None if database is None else database_of(database)
-        PassesTime.__init__(self, observed_of(observe, self.names))
+        PassesTime.__init__(self, observe)
         Dialogue.__init__(self, out)
         script = script_bytes(placement.script_of((self._number, self.names[0]), faults))
         self._sessions = 0

@@ -13,14 +13,14 @@ import select
 import subprocess
 import threading
 import time
-from collections.abc import Iterable, Mapping, Sequence
+from collections.abc import Mapping, Sequence
 from pathlib import Path
 from typing import TYPE_CHECKING, Any, NamedTuple, Optional, Union
 
 import canbusd
 from canbusd._calls import NamesWhatThereIs, explained
 from canbusd._expect.expectations import Expectations
-from canbusd._expect.observer import Observer, observed_by_default
+from canbusd._expect.observer import Observer, observed_of
 from canbusd import _placement as placement
 from canbusd._process.program import ServerError as ServerError, audited
 from canbusd._process.program_run import RUNNING, Ack, ProgramRun, option_words, rates_of
@@ -141,24 +141,13 @@ class Server(Expectations, SimulatesNodes, RunsPrograms, ProgramRun, NamesWhatTh
         self._txqueue = txqueue
         self._by_bus = bus_words(buses, faults, self._folder, self._number)
         self._prepare(record)
-        self._observed = self._observed_of(observe)
+        self._observed = observed_of(observe, self._names(), lambda name: self._first(name, "observe"))
         words = ["--until-eof", "--listen", listen, *options, "--out", str(self._out)]
         self._start("serve", *words, "--", *(bus[-1] for bus in self._by_bus.values()))
         #: Where clients connect: HOST:PORT, or a Unix path.
         self.address = self._listening()
         if self._observed:
             self._observing()
-
-    def _observed_of(self, observe: Union[str, Sequence[str], None]) -> list[str]:
-        """The interfaces whose frames count; ValueError where one is none of the server."""
-        if observe is None:
-            return observed_by_default(self._names())
-        if not isinstance(observe, Iterable):
-            raise ValueError(f"observe is the names of interfaces, such as 'can0,can1', or (), not {observe!r}")
-        named = observe.split(",") if isinstance(observe, str) and observe else observe
-        for name in named:
-            self._first(name, "observe")
-        return list(dict.fromkeys(named))
 
     def _prepare(self, record: str) -> None:
         """What is known of the run before it begins."""

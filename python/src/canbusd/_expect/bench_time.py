@@ -3,10 +3,11 @@
 import contextlib
 import threading
 from collections.abc import Callable, Sequence
-from typing import TYPE_CHECKING, Optional, Protocol, TypeVar
+from typing import TYPE_CHECKING, Optional, Protocol, TypeVar, Union
 
 from canbusd._expect.bench_observer import BenchObserver
 from canbusd._expect.expectations import Expectations
+from canbusd._expect.observer import observed_of
 from canbusd._process.rates import Rates
 from canbusd._session.arguments import check_within
 from canbusd._session.bench_session import Session
@@ -44,8 +45,8 @@ class PassesTime(Expectations):
     _turn: threading.RLock
     _sessions: int
 
-    def __init__(self, observed: Sequence[str]) -> None:
-        self._observed = observed
+    def __init__(self, observe: Union[str, Sequence[str], None]) -> None:
+        self._observed = observed_of(observe, [self.names], lambda name: self._named(name, "observe"))
         self._observer: Optional[BenchObserver] = None
         #: How many sessions are the package's own, if they were opened first.
         self._own_sessions = 0
@@ -98,10 +99,12 @@ class PassesTime(Expectations):
     def _step(self, end: Optional[int]) -> bool:
         """Makes the next attempt, or goes to the moment at which something is due, but not past this one; returns whether
         there was something."""
-        first = min((moment for one in self._due for moment in [one.first_due()] if moment is not None), default=None)
+        moments = [(moment, one) for one in self._due for moment in [one.first_due()] if moment is not None]
+        first = min((moment for moment, _ in moments), default=None)
         if first is not None and first <= self._now and (end is None or first < end):
-            for one in self._due:
-                one.put_due(self._now)
+            for moment, one in moments:
+                if moment <= self._now:
+                    one.put_due(self._now)
             return True
         limit = end if first is None else first if end is None else min(first, end)
         if self._was_tried(limit):
@@ -169,8 +172,8 @@ class PassesTime(Expectations):
         """Ends all rules of the bus, whoever gave them; lines of a script by the numbers of attempts stay."""
         self._observing().session(self._named(interface)).end_rules()
 
-    def _named(self, interface: Optional[str]) -> str:
+    def _named(self, interface: Optional[str], what: str = "interface") -> str:
         """The interface that is named, or the first; ValueError where it is none of the bus."""
         if interface is not None and interface not in self.names:
-            raise ValueError(f"interface is one of {', '.join(self.names)}, not {interface!r}")
+            raise ValueError(f"{what} is an interface of the bench, one of {', '.join(self.names)}, not {interface!r}")
         return interface or self.names[0]

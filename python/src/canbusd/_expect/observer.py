@@ -52,16 +52,17 @@ def observed_by_default(buses: Sequence[Sequence[str]]) -> list[str]:
     return names if len(names) <= MOST_OBSERVED else [bus[0] for bus in buses]
 
 
-def observed_of(observe: Union[str, Sequence[str], None], names: Sequence[str]) -> list[str]:
-    """Returns the interfaces of a bus whose frames count; ValueError where one is none of it."""
+def observed_of(
+    observe: Union[str, Sequence[str], None], buses: Sequence[Sequence[str]], check: Callable[[str], object]
+) -> list[str]:
+    """Returns the interfaces whose frames count, by an argument; `check` raises ValueError for a name that is none of them."""
     if observe is None:
-        return observed_by_default([names])
+        return observed_by_default(buses)
     if not isinstance(observe, Iterable):
         raise ValueError(f"observe is the names of interfaces, such as 'can0,can1', or (), not {observe!r}")
-    named = observe.split(",") if isinstance(observe, str) and observe else list(observe)
-    wrong = next((name for name in named if name not in names), None)
-    if wrong is not None:
-        raise ValueError(f"observe is of interfaces, {', '.join(names)}, not {wrong!r}")
+    named = observe.split(",") if isinstance(observe, str) and observe else observe
+    for name in named:
+        check(name)
     return list(dict.fromkeys(named))
 
 
