@@ -3,6 +3,7 @@
 import pytest
 
 from canbusd import e2e
+from canbusd._protected import profile_in
 from canbusd.bench import Bench
 from canbusd.server import Server
 from canbusd.signals import load_database
@@ -232,3 +233,68 @@ def test_what_a_server_expects(dbc):
             server.expect_protected(0x7FF, e2e.Profile5(1), count=1, within=0.05)
         with pytest.raises(ValueError, match="^count is a number of frames, 1 or more, not 0$"):
             server.expect_protected("EngineData", profile, count=0)
+
+
+ATTRIBUTES = """VERSION ""
+BU_: Engine ECU
+BO_ 256 One: 8 Engine
+ SG_ A : 32|8@1+ (1,0) [0|255] "" ECU
+BO_ 257 Two: 8 Engine
+ SG_ A : 32|8@1+ (1,0) [0|255] "" ECU
+BO_ 258 Five: 8 Engine
+ SG_ A : 0|8@1+ (1,0) [0|255] "" ECU
+BO_ 259 Plain: 8 Engine
+ SG_ A : 0|8@1+ (1,0) [0|255] "" ECU
+BO_ 260 Wrong: 8 Engine
+ SG_ A : 0|8@1+ (1,0) [0|255] "" ECU
+BA_DEF_ BO_ "GenMsgCycleTime" INT 0 65535;
+BA_DEF_ BO_ "E2EProfile" STRING ;
+BA_DEF_ BO_ "E2EDataId" INT 0 65535;
+BA_DEF_ BO_ "E2EDataIds" STRING ;
+BA_DEF_ BO_ "E2EDataIdMode" ENUM "both","alternating","low","nibble";
+BA_DEF_ BO_ "E2EOffset" INT 0 512;
+BA_DEF_ BO_ "E2EMaxDelta" INT 0 255;
+BA_DEF_DEF_ "GenMsgCycleTime" 10;
+BA_DEF_DEF_ "E2EProfile" "";
+BA_DEF_DEF_ "E2EDataId" 0;
+BA_DEF_DEF_ "E2EDataIds" "";
+BA_DEF_DEF_ "E2EDataIdMode" "both";
+BA_DEF_DEF_ "E2EOffset" 0;
+BA_DEF_DEF_ "E2EMaxDelta" 0;
+BA_ "E2EProfile" BO_ 256 "P01";
+BA_ "E2EDataId" BO_ 256 291;
+BA_ "E2EDataIdMode" BO_ 256 3;
+BA_ "E2EProfile" BO_ 257 "PROFILE_02";
+BA_ "E2EDataIds" BO_ 257 "1,2,3,4,5,6,7,8,9,10,11,12,13,14,15,0x10";
+BA_ "E2EProfile" BO_ 258 "5";
+BA_ "E2EDataId" BO_ 258 4660;
+BA_ "E2EOffset" BO_ 258 16;
+BA_ "E2EMaxDelta" BO_ 258 3;
+BA_ "E2EProfile" BO_ 260 "P04";
+"""
+
+
+def test_attributes_of_a_database(tmp_path):
+    pytest.importorskip("canmatrix")
+    (tmp_path / "car.dbc").write_text(ATTRIBUTES)
+    messages = {one.name: one for one in load_database(tmp_path / "car.dbc").messages}
+    assert profile_in(messages["One"]) == e2e.Profile1(0x123, "nibble")
+    assert profile_in(messages["Two"]) == e2e.Profile2(IDS)
+    assert profile_in(messages["Five"]) == e2e.Profile5(0x1234, offset=16, max_delta=3)
+    assert profile_in(messages["Plain"]) is None
+    with pytest.raises(
+        ValueError, match=r"car\.dbc:11: attributes of Wrong, E2EProfile=P04, .*: there are the profiles 1, 2, 5"
+    ):
+        profile_in(messages["Wrong"])
+    with Bench("engine,ecu", bitrate=500_000) as bench:
+        with bench.rest_bus(tmp_path / "car.dbc", without=["ECU"], interface="engine") as rest:
+            for name in ("One", "Two", "Five"):
+                rest.protect(name)
+            for name in ("One", "Two", "Five"):
+                assert len(bench.expect_protected(name, count=5)) == 5
+            with pytest.raises(
+                ValueError, match="^Plain in the database has no attribute E2EProfile: give a profile, such as"
+            ):
+                rest.protect("Plain")
+            with pytest.raises(ValueError, match="^the database has no attribute E2EProfile: give a profile"):
+                bench.expect_protected(0x7FF)

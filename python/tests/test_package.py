@@ -93,7 +93,7 @@ LAYERS = """
     _uds+uds
     _process
     _database+signals
-    e2e shapes
+    e2e+_protected shapes
     _run+record+replay
     _expect
     bus isotp programs strategies

@@ -83,14 +83,6 @@ class Profile:
         raise NotImplementedError
 
 
-def profile_of(profile: object, message: "Optional[MessageFormat]") -> Profile:
-    """Returns a profile for a message, if that is known; ValueError for what is none, or does not fit."""
-    if not isinstance(profile, Profile):
-        known = "Profile1, Profile2, Profile5, Profile11, Profile22 or Signals"
-        raise ValueError(f"profile is one of canbusd.e2e, {known}, not {profile!r}")
-    return profile if message is None else profile.of(message)
-
-
 def _nibble(content: bytearray, place: int, value: int) -> None:
     """Sets four bits, from this bit on."""
     shift = place % 8

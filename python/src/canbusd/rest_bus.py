@@ -20,7 +20,8 @@ from canbusd._calls import NamesWhatThereIs, explained
 from canbusd._database.formats import DatabaseError, MessageFormat, Value
 from canbusd._restbus.nodes import has, is_sendable, phases_of, sender
 from canbusd._restbus.schedule import MICROS, Schedule, micros
-from canbusd.e2e import Profile, Protection, profile_of
+from canbusd._protected import profile_of
+from canbusd.e2e import Profile, Protection
 from canbusd.frames import Frame
 from canbusd.shapes import Shape
 from canbusd.signals import Database, frame_of
@@ -187,8 +188,9 @@ class RestMessage(NamesWhatThereIs):
         with self._rest.changing():
             self._function = function
 
-    def protect(self, profile: Profile) -> Protection:
-        """Gives each frame the counter and the checksum of a profile of canbusd.e2e, after what `on_send` sets."""
+    def protect(self, profile: Optional[Profile] = None) -> Protection:
+        """Gives each frame the counter and the checksum of a profile of canbusd.e2e, after what `on_send` sets; without one of
+        that which the database has for it by attributes."""
         protection = Protection(profile_of(profile, self.format))
         with self._rest.changing():
             self._protection = protection
@@ -353,9 +355,10 @@ class RestBus(NamesWhatThereIs):
         self.message(message).on_send(function)
 
     @explained()
-    def protect(self, message: str, profile: Profile) -> Protection:
+    def protect(self, message: str, profile: Optional[Profile] = None) -> Protection:
         """Gives each frame of a message the counter and the checksum of a profile: ``rest.protect("EngineData",
-        e2e.Profile1(data_id=0x123))``. What is returned has `inject`, for wrong ones."""
+        e2e.Profile1(data_id=0x123))``, without one of that which the database has for it by attributes. What is returned has
+        `inject`, for wrong ones."""
         return self.message(message).protect(profile)
 
     @explained("values are a dict, such as {'EngineSpeed': 800}")

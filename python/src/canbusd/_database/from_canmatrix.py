@@ -61,6 +61,7 @@ def message_of(frame: Any, matrix: Any, path: str) -> MessageFormat:
         cycle_time=seconds(frame.cycle_time or frame.attribute("GenMsgCycleTime", db=matrix)),
         start_delay=seconds(frame.attributes.get("GenMsgStartDelayTime")),
         send_type=str(frame.attribute("GenMsgSendType", db=matrix, default="") or ""),
+        attributes={name: str(frame.attribute(name, db=matrix, default="")) for name in matrix.frame_defines},
         path=path,
     )
 

@@ -35,6 +35,7 @@ def message_of(message: Any, path: str) -> MessageFormat:
         cycle_time=float(message.cycle_time or 0) / 1000,
         start_delay=float(attribute(message, "GenMsgStartDelayTime") or 0) / 1000,
         send_type=str(message.send_type or ""),
+        attributes={name: str(one.value) for name, one in (getattr(message.dbc, "attributes", None) or {}).items()},
         path=path,
     )
 

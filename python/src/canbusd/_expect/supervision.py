@@ -25,7 +25,8 @@ from canbusd._expect.received_frames import Seen, without_copies
 from canbusd._expect.signal_checks import Follower, Sample, is_between, limits_of, number_of
 from canbusd._session.arguments import check_within
 from canbusd._text import seconds_words, times
-from canbusd.e2e import GOOD, Checker, Profile, profile_of
+from canbusd._protected import profile_of
+from canbusd.e2e import GOOD, Checker, Profile
 from canbusd.frames import Frame
 from canbusd.shapes import Shape
 from canbusd.signals import Database, Value
@@ -112,7 +113,7 @@ class Supervision:
     def expect_protected(
         self,
         id: Union[int, str],
-        profile: "Profile",
+        profile: Optional[Profile] = None,
         count: int = 10,
         *,
         within: float = 1.0,
@@ -121,7 +122,8 @@ class Supervision:
     ) -> "list[Message]":
         """Returns so many frames of this identifier, or of the message with this name, whose counters and checksums are right.
 
-        `profile` is one of canbusd.e2e, such as ``e2e.Profile1(data_id=0x123)``. The frames are those since the last
+        `profile` is one of canbusd.e2e, such as ``e2e.Profile1(data_id=0x123)``, by default that which the database has for the
+        message by attributes. The frames are those since the last
         expectation and within seconds; the first goes on from the one before it, if that was expected. AssertionError shows
         each frame that is wrong, and what it is.
         """
@@ -130,6 +132,7 @@ class Supervision:
         check_count(count, "frames")
         wanted = Wanted(id, is_extended_id=is_extended_id, database=self.database, channel=channel)
         checker = Checker(profile_of(profile, self._message_of(id)))
+        profile = checker.profile
         observer = self._observing()
         before = observer.last_taken(wanted.matches, channel)
         if before is not None and not observer.is_forgotten(before):
