@@ -215,6 +215,10 @@ bool order_has_news(void);
 /* Puts a message after the others. Where there is no room it is lost, and counted. */
 void outbox_put(const void *data, size_t length, uint64_t moment, int index, uint32_t message_flags);
 
+/* The same with the way of a message, where each has one. */
+void outbox_keep_ways(void);
+void outbox_put_way(const void *data, size_t length, const struct wire_note *note, const struct wire_way *way);
+
 /* Wakes who waits for the socket to be read: it has an error. */
 void outbox_ring(void);
 
@@ -248,6 +252,7 @@ void error_set(int error);
 
 /* Takes the error; 0 where there is none. */
 int error_take(void);
+bool error_is_set(void);
 
 /* ---- raw.c: CAN_RAW, and the options of the other protocols' sessions ---- */
 

@@ -8,6 +8,10 @@ void error_set(int error) {
     outbox_ring();
 }
 
+bool error_is_set(void) {
+    return socket_error;
+}
+
 int error_take(void) {
     int error = socket_error;
     socket_error = 0;

@@ -1,6 +1,7 @@
 /* The bridge of one CAN socket: it starts, waits, and ends. */
 #define _GNU_SOURCE
 #include "bridge.h"
+#include "j1939_host.h"
 
 #include <errno.h>
 #include <fcntl.h>
@@ -16,6 +17,7 @@
 static const struct protocol *const protocols[CAN_NPROTO] = {
     [CAN_RAW] = &raw_protocol,
     [CAN_BCM] = &bcm_protocol,
+    [CAN_J1939] = &j1939_protocol,
     [CAN_ISOTP] = &isotp_protocol,
 };
 const struct protocol *protocol;
@@ -118,6 +120,10 @@ static bool find_protocol(char digit) {
 int main(void) {
     struct sockaddr_un name;
     socklen_t length = sizeof name;
+    if (host_is_asked()) {
+        leave_program();
+        return host_run();
+    }
     if (getpeername(PROGRAM, (struct sockaddr *)&name, &length) ||
         length <= offsetof(struct sockaddr_un, sun_path) + sizeof WIRE_NAME ||
         !find_protocol(name.sun_path[sizeof WIRE_NAME])) {

@@ -39,8 +39,11 @@ static bool is_counted, is_stamped;
 static unsigned uncounted;
 static uint64_t count_at;
 
+/* Before the data of a message there is its way, where all have one. */
+static size_t way_size;
+
 static size_t size_of(size_t length) {
-    return sizeof(struct wire_note) + ((length + PLACE - 1) & ~(size_t)(PLACE - 1));
+    return sizeof(struct wire_note) + way_size + ((length + PLACE - 1) & ~(size_t)(PLACE - 1));
 }
 
 static struct wire_note *note_at(size_t at) {
@@ -65,7 +68,12 @@ static struct wire_note *place_for(size_t length) {
     return note_at(at);
 }
 
-static void put(const void *data, size_t length, const struct wire_note *note) {
+static char *data_of(struct wire_note *note) {
+    return (char *)(note + 1) + way_size;
+}
+
+/* Returns the place, or NULL where the message is lost. */
+static struct wire_note *put(const void *data, size_t length, const struct wire_note *note) {
     struct wire_note *place = place_for(length);
     if (!place) {
         outbox_flush();
@@ -76,13 +84,14 @@ static void put(const void *data, size_t length, const struct wire_note *note) {
     }
     if (!place) {
         dropped++;
-        return;
+        return NULL;
     }
     *place = *note;
     place->length = (uint32_t)length;
     place->head_length = (uint16_t)MIN(length, sizeof place->head);
     memcpy(place->head, data, place->head_length);
-    memcpy(place + 1, data, length);
+    memcpy(data_of(place), data, length);
+    return place;
 }
 
 void outbox_put(const void *data, size_t length, uint64_t moment, int index, uint32_t message_flags) {
@@ -92,6 +101,20 @@ void outbox_put(const void *data, size_t length, uint64_t moment, int index, uin
                              .message_flags = message_flags,
                              .is_stamped = is_stamped};
     put(data, length, &note);
+}
+
+void outbox_keep_ways(void) {
+    way_size = sizeof(struct wire_way);
+}
+
+void outbox_put_way(const void *data, size_t length, const struct wire_note *note, const struct wire_way *way) {
+    struct wire_note whole = *note;
+    whole.dropped = is_counted ? dropped : 0;
+    whole.is_stamped = is_stamped;
+    struct wire_note *place = put(data, length, &whole);
+    if (place) {
+        memcpy(place + 1, way, sizeof *way);
+    }
 }
 
 void outbox_ring(void) {
@@ -112,6 +135,9 @@ void outbox_has_room(void) {
 static uint64_t write_note(struct wire_note *note, uint64_t *notes, uint64_t bytes) {
     note->from = bytes;
     if (note->length) {
+        if (way_size) {
+            memcpy(&memory->received.ways[*notes % WIRE_NOTES], note + 1, way_size);
+        }
         memory->received.notes[(*notes)++ % WIRE_NOTES] = *note;
     }
     return bytes + note->length;
@@ -124,7 +150,7 @@ static unsigned lay_out(struct mmsghdr messages[BATCH], struct iovec parts[BATCH
     size_t at = first;
     for (unsigned i = 0; i < batch; i++, at = after(at)) {
         struct wire_note *note = note_at(at);
-        parts[i] = (struct iovec){note + 1, note->length};
+        parts[i] = (struct iovec){data_of(note), note->length};
         messages[i].msg_hdr = (struct msghdr){.msg_iov = &parts[i], .msg_iovlen = 1};
         bytes = write_note(note, &notes, bytes);
     }

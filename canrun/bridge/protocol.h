@@ -21,9 +21,13 @@ struct protocol {
     int (*getname)(struct sockaddr_can *address, bool is_peer);
     int (*setsockopt)(int option, const void *value, size_t length);
     int (*getsockopt)(int option, void *room, uint32_t *length);
+    /* Takes an option of SOL_SOCKET; false where it is for the outbox too. */
+    bool (*set_socket)(int option, int number);
     /* Sends a message. Where that has to wait it returns SENT_LATER, and the reply is given by the pipe in the end. */
     int (*sendmsg)(const struct wire_request *request, const char *data, size_t length, int reply_to,
                    struct wire_reply *reply);
+    /* Other requests, whose reply's data are written here. */
+    int (*request)(const struct wire_request *request, int reply_to, struct wire_reply *reply, char *data);
     /* A signal ends the wait of the write whose reply comes by this pipe. */
     void (*cancel)(int asks);
 
@@ -38,8 +42,10 @@ struct protocol {
     bool (*is_busy)(void);
     /* Whether more requests may come. */
     bool (*takes_requests)(void);
+    /* A descriptor that is to be ready before it has something due, or -1. */
+    int (*descriptor)(void);
 };
-extern const struct protocol raw_protocol, bcm_protocol, isotp_protocol;
+extern const struct protocol raw_protocol, bcm_protocol, isotp_protocol, j1939_protocol;
 
 /* The protocol of this bridge. */
 extern const struct protocol *protocol;

@@ -168,6 +168,13 @@ static int get_address(bool is_peer, struct reply *reply) {
 /* The interface that the socket is bound to as a device, of which CAN takes no notice. */
 static int device;
 
+static int set_socket_option(const struct wire_request *request) {
+    if (!protocol->set_socket || !protocol->set_socket(request->option, request->number)) {
+        outbox_set(request->option, request->number);
+    }
+    return 0;
+}
+
 /* Carries out a request whose data are these, and whose reply goes there; returns an errno, 0, or SENT_LATER. */
 static int carry_out(const struct wire_request *request, const char *data, size_t length, int to, struct reply *reply) {
     switch (request->kind) {
@@ -176,7 +183,7 @@ static int carry_out(const struct wire_request *request, const char *data, size_
     case WIRE_CONNECT: return take_address(protocol->connect, data, length);
     case WIRE_SET: return set_option(request->option, data, length);
     case WIRE_GET: return get_option(request->option, reply);
-    case WIRE_SOCKET_SET: outbox_set(request->option, request->number); return 0;
+    case WIRE_SOCKET_SET: return set_socket_option(request);
     case WIRE_SET_DEVICE: device = request->ifindex; return 0;
     case WIRE_GET_DEVICE: reply->head.value = device; return 0;
     case WIRE_ADDRESS: return get_address(request->option, reply);
@@ -184,7 +191,9 @@ static int carry_out(const struct wire_request *request, const char *data, size_
     case WIRE_CLOSE: return begin_close(to);
     case WIRE_CANCEL: return cancel(to);
     case WIRE_SHARE: return quick_share(to);
-    default: return refused(EINVAL, "library and bridge are not of the same version");
+    default:
+        return protocol->request ? protocol->request(request, to, &reply->head, reply->data)
+                                 : refused(EINVAL, "library and bridge are not of the same version");
     }
 }
 

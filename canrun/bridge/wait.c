@@ -17,7 +17,7 @@ static int wait_for(struct pollfd *polled, nfds_t count, int64_t nanoseconds) {
 }
 
 bool wait_for_input(int64_t nanoseconds, bool takes_requests) {
-    static struct pollfd polled[2 + INTERFACE_MOST];
+    static struct pollfd polled[3 + INTERFACE_MOST];
     short events = (short)((takes_requests ? POLLIN : 0) | (outbox_is_empty() ? 0 : POLLOUT));
     /* A socket that keeps its requests is ready to be read as long as it does. */
     int news = takes_requests && protocol->keeps_requests ? request_news() : -1;
@@ -29,10 +29,11 @@ bool wait_for_input(int64_t nanoseconds, bool takes_requests) {
     polled[1] = (struct pollfd){news, POLLIN, 0};
     /* Who has borrowed the session reads its replies; only its end is for this bridge. */
     short news_of_session = quick_lend() ? POLLRDHUP : POLLIN;
+    polled[2] = (struct pollfd){protocol->descriptor ? protocol->descriptor() : -1, POLLIN, 0};
     for (int i = 0; i < session_count; i++) {
-        polled[2 + i] = (struct pollfd){outbox_is_crowded() ? -1 : sessions[i]->fd, news_of_session, 0};
+        polled[3 + i] = (struct pollfd){outbox_is_crowded() ? -1 : sessions[i]->fd, news_of_session, 0};
     }
-    int ready = wait_for(polled, 2 + (nfds_t)session_count, is_kept ? 0 : nanoseconds);
+    int ready = wait_for(polled, 3 + (nfds_t)session_count, is_kept ? 0 : nanoseconds);
     quick_take_back();
     if (ready <= 0) {
         return is_kept;
@@ -42,7 +43,7 @@ bool wait_for_input(int64_t nanoseconds, bool takes_requests) {
         outbox_flush();
     }
     for (int i = 0; i < session_count; i++) {
-        if (polled[2 + i].revents) {
+        if (polled[3 + i].revents) {
             session_read(sessions[i], false);
         }
     }

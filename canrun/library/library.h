@@ -181,10 +181,10 @@ int share_make(const char *name);
 
 /* ---- notes.c: what is known of a datagram besides its bytes ---- */
 
-/* Finds the note of a datagram that has just been read, or looked at (`is_peeked`), and that begins with these bytes.
- * False where there are no notes. */
+/* Finds the note of a datagram that has just been read, or looked at (`is_peeked`), and that begins with these bytes;
+ * of J1939 also its way, else that is NULL. False where there are no notes. */
 bool note_of(struct wire_memory *memory, int fd, bool is_peeked, const void *head, size_t length,
-             struct wire_note *note);
+             struct wire_note *note, struct wire_way *way);
 
 /* Whether this process looks for notes, and that one was read from this socket without. */
 bool notes_are_looked_for(void);
@@ -214,6 +214,24 @@ int take_shown(int fd);
 
 /* Notes that this is a socket that may have an error which poll shows. */
 void note_error_of(int fd);
+
+/* Notes that this is one that has an error queue; whether it is. */
+void note_queue_of(int fd);
+bool has_error_queue(int fd);
+
+/* The events of a socket that has an error, for those of the kernel. */
+uint32_t error_events(int fd, uint32_t events);
+
+/* ---- watch.c ---- */
+
+/* ppoll, where one of the sockets has an error queue. */
+int watched_poll(struct pollfd *fds, nfds_t count, const struct timespec *timeout, const sigset_t *mask);
+
+/* ---- j1939.c ---- */
+
+/* Fills in where a message of J1939 comes from; the control messages of all sockets are there already. Returns 0, or -1
+ * and errno. */
+int j1939_describe(struct msghdr *message, size_t room, const struct wire_way *way, int index);
 
 /* Whether the next message of a socket says that it has an error, as far as that has not been taken; it is taken out.
  */

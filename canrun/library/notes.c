@@ -114,7 +114,7 @@ static void keep_found(struct wire_notes *received, uint64_t before, uint64_t at
 static bool is_looking;
 
 bool note_of(struct wire_memory *memory, int fd, bool is_peeked, const void *head, size_t length,
-             struct wire_note *note) {
+             struct wire_note *note, struct wire_way *way) {
     struct wire_notes *received = &memory->received;
     uint64_t found = __atomic_load_n(&received->found, __ATOMIC_RELAXED);
     uint64_t at = find(received, found, fd, is_peeked, head, length);
@@ -126,6 +126,9 @@ bool note_of(struct wire_memory *memory, int fd, bool is_peeked, const void *hea
     at = at ? at : range_of(received).end;
     if (at) {
         *note = received->notes[(at - 1) % WIRE_NOTES];
+    }
+    if (at && way) {
+        *way = received->ways[(at - 1) % WIRE_NOTES];
     }
     return at;
 }

@@ -136,15 +136,16 @@ static int get_device(int fd, int option, void *value, socklen_t *length) {
 }
 
 /* An option of SOL_SOCKET is the kernel's; of some the bridge has to know too. */
-static int set_socket_option(int fd, int option, const void *value, socklen_t length) {
-    int result = real()->setsockopt(fd, SOL_SOCKET, option, value, length);
+static int set_socket_option(const struct socket *sock, int option, const void *value, socklen_t length) {
+    int result = real()->setsockopt(sock->fd, SOL_SOCKET, option, value, length);
     bool is_told = option == SO_RCVBUF || option == SO_RCVBUFFORCE || option == SO_RXQ_OVFL ||
-                   option == SO_TIMESTAMPING_OLD || option == SO_TIMESTAMPING_NEW;
+                   option == SO_TIMESTAMPING_OLD || option == SO_TIMESTAMPING_NEW ||
+                   ((option == SO_BROADCAST || option == SO_PRIORITY) && sock->protocol->has_ways);
     if (!result && is_told) {
         int error = errno;
         struct wire_request request = {.kind = WIRE_SOCKET_SET, .option = option};
         memcpy(&request.number, value, sizeof request.number);
-        ask(fd, "setsockopt", &request, NULL, 0, NULL);
+        ask(sock->fd, "setsockopt", &request, NULL, 0, NULL);
         errno = error;
     }
     return result;
@@ -158,7 +159,7 @@ int can_setsockopt(const struct socket *sock, int level, int option, const void 
         return refuse("setsockopt", EOPNOTSUPP, "a CAN socket has no such option");
     }
     if (level == SOL_SOCKET) {
-        return set_socket_option(sock->fd, option, value, length);
+        return set_socket_option(sock, option, value, length);
     }
     if (!sock->protocol->level || level != sock->protocol->level) {
         return refuse_level(sock, "setsockopt");

@@ -25,6 +25,7 @@ struct protocol {
     int uncut_option;       /* the one whose value is returned whole, or not at all; 0: there is none */
     bool lingers;           /* close waits until what was accepted has been sent */
     bool shows_error;       /* a socket may have an error of its own, which poll shows */
+    bool has_ways;          /* it is J1939: messages have ways, and a socket an error queue */
 
     /* NULL: the kernel's own call. All memory is the program's, but for a message and the list of its pieces. */
     int (*bind)(const struct socket *sock, const struct sockaddr *address, socklen_t length);
@@ -35,7 +36,7 @@ struct protocol {
     ssize_t (*sendmsg)(const struct socket *sock, const struct msghdr *message, int flags);
     ssize_t (*recvmsg)(const struct socket *sock, struct msghdr *message, int flags);
 };
-extern const struct protocol raw_protocol, bcm_protocol, isotp_protocol, netlink_protocol;
+extern const struct protocol raw_protocol, bcm_protocol, isotp_protocol, j1939_protocol, netlink_protocol;
 
 /* They leave errno as it was. */
 struct socket socket_of(int fd);

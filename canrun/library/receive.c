@@ -92,9 +92,15 @@ int take_shown(int fd) {
     return error ? (int)refuse_read(error) : 0;
 }
 
+/* Takes what is known of a message without data; false where the datagram said something else. */
+static bool take_empty(int fd, struct wire_empty *empty) {
+    struct answer answer = {.data = empty, .room = sizeof *empty};
+    return !ask(fd, "read", &(struct wire_request){.kind = WIRE_EMPTY}, NULL, 0, &answer) && answer.value;
+}
+
 /* The next message; its length, or -1 and errno. A datagram without bytes says that the socket has an error; it is
- * followed by the next where another call has taken the error. */
-static ssize_t take(int fd, struct msghdr *message, int flags) {
+ * followed by the next where another call has taken the error; or, of J1939, that is a message without data. */
+static ssize_t take(int fd, struct msghdr *message, int flags, struct wire_empty *empty) {
     size_t control = message->msg_controllen;
     for (;;) {
         int before = errno;
@@ -109,6 +115,9 @@ static ssize_t take(int fd, struct msghdr *message, int flags) {
             return -1;
         }
         errno = before;
+        if (empty && take_empty(fd, empty)) {
+            return 0;
+        }
         message->msg_controllen = control;
     }
 }
@@ -134,12 +143,16 @@ static size_t copy_head(const struct msghdr *message, size_t length, char *head,
 }
 
 /* Fills in what is known of a received message besides its bytes. */
-static int describe(const struct socket *sock, struct msghdr *message, size_t control, const struct wire_note *note) {
-    if (message->msg_name && !make_name(sock, message, note->ifindex)) {
+static int describe(const struct socket *sock, struct msghdr *message, size_t control, const struct wire_empty *of) {
+    const struct wire_note *note = &of->note;
+    if (!sock->protocol->has_ways && message->msg_name && !make_name(sock, message, note->ifindex)) {
         return fail(EFAULT);
     }
     if (message->msg_control) {
         make_control(message, control, note);
+    }
+    if (sock->protocol->has_ways && j1939_describe(message, control, &of->way, note->ifindex)) {
+        return -1;
     }
     message->msg_flags |= (int)note->message_flags;
     return 0;
@@ -147,19 +160,21 @@ static int describe(const struct socket *sock, struct msghdr *message, size_t co
 
 /* Receives a message, and finds its note in the memory of the socket. */
 static ssize_t receive_noted(const struct socket *sock, struct msghdr *message, int flags, struct wire_memory *memory) {
-    struct wire_note note = {0};
-    char head[sizeof note.head];
+    struct wire_empty of = {0};
+    char head[sizeof of.note.head];
     void *name = message->msg_name;
     size_t control = message->msg_controllen;
     message->msg_name = NULL;
-    ssize_t length = take(sock->fd, message, flags);
+    ssize_t length = take(sock->fd, message, flags, sock->protocol->has_ways ? &of : NULL);
     message->msg_name = name;
     if (length < 0) {
         return -1;
     }
     size_t known = copy_head(message, room_of(message, (size_t)length), head, sizeof head);
-    note_of(memory, sock->fd, flags & MSG_PEEK, head, known, &note);
-    return describe(sock, message, control, &note) ? -1 : length;
+    if (length) {
+        note_of(memory, sock->fd, flags & MSG_PEEK, head, known, &of.note, sock->protocol->has_ways ? &of.way : NULL);
+    }
+    return describe(sock, message, control, &of) ? -1 : length;
 }
 
 /* Notes that a message is read whose note nobody looks for. */
@@ -179,7 +194,8 @@ ssize_t receive_message(const struct socket *sock, struct msghdr *message, int f
         if (notes_are_looked_for()) {
             note_plain(sock);
         }
-        *length = take(sock->fd, message, flags);
+        struct wire_empty empty;
+        *length = take(sock->fd, message, flags, sock->protocol->has_ways ? &empty : NULL);
     } else {
         struct shared *one = share_enter(sock);
         if (!one) {

@@ -16,7 +16,7 @@
 static const struct protocol *const protocols[CAN_NPROTO] = {
     [CAN_RAW] = &raw_protocol,
     [CAN_BCM] = &bcm_protocol,
-    [CAN_J1939] = &(const struct protocol){.type = SOCK_DGRAM}, /* as a kernel has it; here it has no bridge */
+    [CAN_J1939] = &j1939_protocol,
     [CAN_ISOTP] = &isotp_protocol,
 };
 
@@ -45,6 +45,9 @@ struct socket socket_of(int fd) {
     if (HAS(sock, shows_error)) {
         note_error_of(fd);
     }
+    if (HAS(sock, has_ways)) {
+        note_queue_of(fd);
+    }
     return sock;
 }
 
@@ -62,7 +65,7 @@ static bool has_protocol(int type, int number) {
     } else if (protocols[number] && protocols[number]->type != type) {
         refuse("socket", EPROTOTYPE, "CAN_RAW is SOCK_RAW, the others are SOCK_DGRAM");
     } else if (!protocol_of(number)) {
-        refuse("socket", EPROTONOSUPPORT, "of the protocols there are CAN_RAW, CAN_BCM and CAN_ISOTP");
+        refuse("socket", EPROTONOSUPPORT, "of the protocols there are CAN_RAW, CAN_BCM, CAN_J1939 and CAN_ISOTP");
     } else {
         return true;
     }

@@ -29,6 +29,34 @@ void note_error_of(int fd) {
     }
 }
 
+/* Those of them that have an error queue. */
+static uint64_t queues[KNOWN_MOST / WORD];
+static bool has_queues;
+
+void note_queue_of(int fd) {
+    uint64_t bit = 1ull << fd % WORD;
+    if (fd < KNOWN_MOST && !(__atomic_load_n(&queues[fd / WORD], __ATOMIC_RELAXED) & bit)) {
+        __atomic_fetch_or(&queues[fd / WORD], bit, __ATOMIC_RELAXED);
+        __atomic_store_n(&has_queues, true, __ATOMIC_RELAXED);
+    }
+}
+
+bool has_error_queue(int fd) {
+    bool is_noted =
+        fd >= 0 && fd < KNOWN_MOST && __atomic_load_n(&queues[fd / WORD], __ATOMIC_RELAXED) >> fd % WORD & 1;
+    struct socket sock = is_noted ? socket_of(fd) : (struct socket){0};
+    return HAS(sock, has_ways);
+}
+
+static bool is_any_queue(struct pollfd *fds, nfds_t count) {
+    bool is_any = false;
+    for (nfds_t i = 0; i < count && !is_any && __atomic_load_n(&has_queues, __ATOMIC_RELAXED); i++) {
+        struct pollfd one;
+        is_any = copy_from(&one, &fds[i], sizeof one) && has_error_queue(one.fd);
+    }
+    return is_any;
+}
+
 static bool is_known(int fd) {
     return fd >= 0 && fd < KNOWN_MOST && __atomic_load_n(&known[fd / WORD], __ATOMIC_RELAXED) >> fd % WORD & 1;
 }
@@ -48,8 +76,8 @@ void drop_error(int fd) {
     errno = before;
 }
 
-/* The events of a socket that has an error, for those of the kernel. The bits of poll are those of epoll. */
-static uint32_t events_of(int fd, uint32_t events) {
+/* The bits of poll are those of epoll. */
+uint32_t error_events(int fd, uint32_t events) {
     int waiting = 0, before = errno;
     syscall(SYS_ioctl, fd, FIONREAD, &waiting);
     errno = before;
@@ -65,17 +93,24 @@ static bool shows_error(int fd, uint32_t events) {
 static int polled(struct pollfd *fds, nfds_t count, int result) {
     for (nfds_t i = 0; i < count && result > 0 && __atomic_load_n(&has_known, __ATOMIC_RELAXED); i++) {
         if (shows_error(fds[i].fd, (uint32_t)fds[i].revents)) {
-            fds[i].revents = (short)events_of(fds[i].fd, (uint32_t)fds[i].revents);
+            fds[i].revents = (short)error_events(fds[i].fd, (uint32_t)fds[i].revents);
         }
     }
     return result;
 }
 
 EXPORT int poll(struct pollfd *fds, nfds_t count, int timeout) {
+    const struct timespec time = {timeout / 1000, timeout % 1000 * 1000000L};
+    if (is_any_queue(fds, count)) {
+        return watched_poll(fds, count, timeout < 0 ? NULL : &time, NULL);
+    }
     return polled(fds, count, real()->poll(fds, count, timeout));
 }
 
 EXPORT int ppoll(struct pollfd *fds, nfds_t count, const struct timespec *timeout, const sigset_t *mask) {
+    if (is_any_queue(fds, count)) {
+        return watched_poll(fds, count, timeout, mask);
+    }
     return polled(fds, count, real()->ppoll(fds, count, timeout, mask));
 }
 
@@ -84,7 +119,7 @@ EXPORT int ppoll(struct pollfd *fds, nfds_t count, const struct timespec *timeou
 static void mark(struct epoll_event *events, int count, int fd, uint64_t data) {
     for (int i = 0; i < count; i++) {
         if (events[i].data.u64 == data && events[i].events & (EPOLLIN | EPOLLRDNORM | EPOLLOUT)) {
-            events[i].events = events_of(fd, events[i].events);
+            events[i].events = error_events(fd, events[i].events);
         }
     }
 }

@@ -14,6 +14,7 @@
 #ifndef WIRE_H
 #define WIRE_H
 
+#include <linux/can.h>
 #include <stdint.h>
 
 #define WIRE_NAME "canbusd-can/"
@@ -33,12 +34,19 @@ enum wire_kind {
     WIRE_SET,     /* `option` of the protocol's level; the value follows */
     WIRE_GET,     /* the same; the value is the reply's data */
     WIRE_SOCKET_SET, /* `option` of SOL_SOCKET, which the kernel has set, so that the bridge knows of it */
+    WIRE_SOCKET_GET, /* the same, of which only the bridge knows; it is the reply's value */
     WIRE_SET_DEVICE, /* SO_BINDTODEVICE, which the kernel does not keep; the index is `ifindex` */
     WIRE_GET_DEVICE, /* the same; it is the reply's value */
     WIRE_ADDRESS,    /* the reply's data are the address of the socket; with an `option`, of its peer */
     WIRE_ERROR,      /* takes the socket's error, which is the reply's value; 0 where another has taken it */
     WIRE_CLOSE,      /* the socket is closed once a byte comes by what is no pipe, but one end of a pair; the end of a
                       * message is waited for until another comes, or the other end is gone */
+    WIRE_NOTICE, /* takes the first entry of the error queue, which is the reply's data; its value is of enum wire_noticed */
+    WIRE_WATCH,  /* the value is whether the socket has an error, or an entry in its error queue; with a `number` the reply
+                  * is given once it has */
+    WIRE_EMPTY,  /* takes the first message without data, which is the reply's data; its value, whether there is one */
+    WIRE_HOST,   /* connects to the host of the interface `ifindex`; where it is to be started the reply's data are its
+                  * abstract name */
     WIRE_CANCEL, /* a signal ends the wait of the request whose pipe this is the read end of; the reply is its own */
     WIRE_SHARE,  /* the memory of quick writes comes by what is no pipe, but one end of a pair (SCM_RIGHTS) */
 };
@@ -110,6 +118,33 @@ struct wire_note {
     uint32_t length;
     uint8_t head[20]; /* its first bytes */
 };
+/* Where a message of J1939 comes from and goes to. Of the error queue, besides: what happened, and to which message. */
+struct wire_way {
+    uint64_t name, to_name;
+    uint32_t pgn;
+    uint8_t from, to, priority;
+};
+struct wire_notice {
+    struct wire_way way;
+    uint64_t nanoseconds;
+    int32_t error, what; /* an enum wire_event */
+    uint32_t key;        /* how many messages the socket has sent before */
+    uint32_t size, done; /* bytes: all, and those that the receiver has */
+};
+enum wire_noticed { NOTICE_IS_THERE = 1, NOTICE_KEEPS = 2 /* the next datagram says something else */ };
+enum wire_event { EVENT_SENT, EVENT_BEGUN, EVENT_FAILED, EVENT_OFFERED, EVENT_BLOCK, EVENT_BROKEN };
+/* The longest message of J1939 that is received, which a datagram has room for. */
+#define WIRE_LARGEST_J1939 200000
+
+/* A write of J1939 begins with this: how long the message is of which the bytes follow, or the first of them, and where
+ * it goes. */
+struct wire_j1939 {
+    uint32_t size, has_address, address_length;
+    struct sockaddr_can address;
+};
+/* The least length of an address of J1939. */
+#define J1939_ADDRESS 24
+
 /* More than a socket has room for: the bridge gives it no more than WIRE_ROOM, and the kernel counts more than 512
  * bytes for each datagram. */
 #define WIRE_NOTES 8192
@@ -124,6 +159,13 @@ struct wire_notes {
     uint64_t found;    /* of these, up to the last whose note was found */
     uint32_t is_mixed; /* some are read without a look for their notes */
     struct wire_note notes[WIRE_NOTES];
+    struct wire_way ways[WIRE_NOTES]; /* of J1939, those of the same datagrams */
+};
+
+/* A message of J1939 without data. */
+struct wire_empty {
+    struct wire_note note;
+    struct wire_way way;
 };
 
 /* The memory that they share: one for each socket. The library makes it, and a bridge has it at descriptor WIRE_MEMORY.

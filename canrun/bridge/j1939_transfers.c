@@ -1,0 +1,458 @@
+/* The transfers of J1939: messages on their way, one frame long or several, from and to all sockets of an interface.
+ * Those of a socket begin one after the other; no two with the same ends go on at the same time. */
+#include "j1939_host.h"
+
+#include <errno.h>
+#include <stdlib.h>
+#include <string.h>
+
+/* Milliseconds that an abort is waited for; and the pause before what was refused is tried again: of 10 to 25. */
+enum { ABORT_TIME = 500, LEAST_PAUSE = 10, PAUSES = 16, RETRIES = 100 };
+
+static struct transfer *active, **active_end = &active;
+
+/* ---- the list, and the queues of sockets ---- */
+
+static struct transfer *make(const struct wire_way *way, enum transfer_kind kind, uint32_t size) {
+    struct transfer *transfer = calloc(1, sizeof *transfer);
+    uint8_t *data = malloc(size + 1);
+    if (!transfer || !data) {
+        free(transfer);
+        free(data);
+        return NULL;
+    }
+    transfer->way = *way;
+    transfer->kind = kind;
+    transfer->size = size;
+    transfer->data = data;
+    transfer->send_at = transfer->due = NEVER;
+    transfer->frame = NEVER;
+    return transfer;
+}
+
+static void tell(struct member *owner, int kind, uint32_t key, uint32_t size) {
+    struct j1939_told told = {.kind = kind, .key = key, .size = size};
+    member_tell(owner, &told, NULL, 0);
+}
+
+/* Counts what is no longer needed until this byte. */
+static void free_until(struct transfer *transfer, uint32_t end) {
+    while (transfer->owner && (transfer->freed < end || !transfer->size)) {
+        uint32_t length = MIN(SEGMENT, end - transfer->freed);
+        tell(transfer->owner, TOLD_FREED, transfer->key, length);
+        transfer->freed += length;
+        if (!transfer->size) {
+            return;
+        }
+    }
+}
+
+void transfer_drop_old(struct transfer *transfer) {
+    uint32_t next = transfer->freed + SEGMENT;
+    if (next < transfer->filled && next < transfer->confirmed * IN_PACKET) {
+        free_until(transfer, next);
+    }
+}
+
+/* Forgets a transfer that nothing will happen to any more; its end is reported then, as by the kernel. */
+static void forget_over(struct transfer *transfer) {
+    bool is_used = transfer->is_queued || transfer->send_at != NEVER || transfer->due != NEVER ||
+                   transfer->state == TRANSFER_ACTIVE || transfer->state == TRANSFER_ABORTING;
+    if (is_used) {
+        return;
+    }
+    if (transfer->is_sent) {
+        transfer_notice(transfer, transfer->error ? EVENT_FAILED : EVENT_SENT);
+    } else if (transfer->error) {
+        transfer_notice(transfer, EVENT_BROKEN);
+    }
+    free_until(transfer, transfer->filled);
+    if (transfer->owner) {
+        tell(transfer->owner, TOLD_ENDED, transfer->key, 0);
+    }
+    transfer_forget(transfer);
+}
+
+/* Those that are over keep their place until they are forgotten: their timers may run. */
+static void list(struct transfer *transfer) {
+    transfer->next = NULL;
+    *active_end = transfer;
+    active_end = &transfer->next;
+}
+
+void transfer_forget(struct transfer *transfer) {
+    for (struct transfer **place = &active; *place; place = &(*place)->next) {
+        if (*place == transfer) {
+            *place = transfer->next;
+            break;
+        }
+    }
+    for (active_end = &active; *active_end;) {
+        active_end = &(*active_end)->next;
+    }
+    free(transfer->data);
+    free(transfer);
+}
+
+static bool is_going_on(const struct transfer *transfer) {
+    return transfer->state == TRANSFER_ACTIVE || transfer->state == TRANSFER_ABORTING;
+}
+
+static bool is_end(uint64_t name, uint8_t address, uint64_t other_name, uint8_t other_address) {
+    return name ? name == other_name : address == other_address;
+}
+
+struct transfer *transfer_find(const struct wire_way *way, enum transfer_kind kind, bool is_reverse, bool is_sent) {
+    for (struct transfer *one = active; one; one = one->next) {
+        const struct wire_way *own = &one->way;
+        bool is_same = is_reverse ? is_end(own->name, own->from, way->to_name, way->to) &&
+                                        is_end(own->to_name, own->to, way->name, way->from)
+                                  : is_end(own->name, own->from, way->name, way->from) &&
+                                        is_end(own->to_name, own->to, way->to_name, way->to);
+        if (is_same && one->kind == kind && one->is_sent == is_sent && is_going_on(one)) {
+            return one;
+        }
+    }
+    return NULL;
+}
+
+struct transfer *transfer_receive(const struct wire_way *way, enum transfer_kind kind, uint32_t size) {
+    struct transfer *transfer = make(way, kind, size);
+    if (transfer) {
+        memset(transfer->data, 0, size);
+        transfer->filled = size;
+    }
+    return transfer;
+}
+
+bool transfer_activate(struct transfer *transfer) {
+    if (transfer->kind != TRANSFER_SIMPLE && transfer_find(&transfer->way, transfer->kind, false, transfer->is_sent)) {
+        return false;
+    }
+    transfer->state = TRANSFER_ACTIVE;
+    list(transfer);
+    return true;
+}
+
+/* ---- timers ---- */
+
+void transfer_go_on(struct transfer *transfer, unsigned milliseconds) {
+    transfer->send_at = clock_now() + milliseconds * MILLISECOND;
+}
+
+void transfer_wait(struct transfer *transfer, unsigned milliseconds) {
+    transfer->due = clock_now() + milliseconds * MILLISECOND;
+}
+
+void transfer_stop(struct transfer *transfer) {
+    transfer->send_at = transfer->due = NEVER;
+}
+
+/* A pause that differs from one to the next, so that two senders do not meet again and again. */
+static unsigned pause(void) {
+    static uint32_t state = 1;
+    state = state * 1664525u + 1013904223u;
+    return LEAST_PAUSE + (state >> 16) % PAUSES;
+}
+
+/* ---- the queue of a socket ---- */
+
+static void leave_queue(struct transfer *transfer) {
+    transfer->owner->queue = transfer->next_queued;
+    transfer->is_queued = false;
+}
+
+/* Where this is the first of its socket, the next one begins. */
+static void begin_next(struct transfer *transfer) {
+    struct member *owner = transfer->owner;
+    int error = transfer->error;
+    if (!owner || owner->queue != transfer) {
+        return;
+    }
+    leave_queue(transfer);
+    for (struct transfer *next; (next = owner->queue);) {
+        if (transfer_activate(next)) {
+            transfer_go_on(next, error ? pause() : 0);
+            return;
+        }
+        next->error = -EBUSY;
+        leave_queue(next);
+        forget_over(next);
+    }
+}
+
+void transfer_end(struct transfer *transfer) {
+    if (!is_going_on(transfer)) {
+        return;
+    }
+    transfer->state = TRANSFER_OVER;
+    begin_next(transfer);
+    forget_over(transfer);
+}
+
+void transfer_complete(struct transfer *transfer, const struct heard *heard) {
+    if (!transfer->is_sent) {
+        const struct heard whole = {.moment = heard->moment};
+        members_deliver(&transfer->way, transfer->data, transfer->size, &whole);
+    }
+    transfer_end(transfer);
+}
+
+/* ---- what goes wrong ---- */
+
+void transfer_notice(const struct transfer *transfer, enum wire_event what) {
+    struct j1939_told told = {.kind = TOLD_NOTICE};
+    told.notice = (struct wire_notice){.way = transfer->way,
+                                       .error = transfer->error,
+                                       .what = what,
+                                       .key = transfer->key,
+                                       .size = transfer->size,
+                                       .done = MIN(transfer->confirmed * IN_PACKET, transfer->size)};
+    if (transfer->kind == TRANSFER_SIMPLE) {
+        told.notice.done = transfer->size;
+    }
+    for (struct member *member = members; member && !transfer->is_sent; member = member->next) {
+        if (member_wants(member, &transfer->way)) {
+            member_tell(member, &told, NULL, 0);
+        }
+    }
+    if (transfer->owner) {
+        member_tell(transfer->owner, &told, NULL, 0);
+    }
+}
+
+void transfer_tell_error(const struct transfer *transfer) {
+    if (transfer->owner) {
+        member_tell(transfer->owner, &(struct j1939_told){.kind = TOLD_ERROR, .error = transfer->error}, NULL, 0);
+    }
+}
+
+static void abort_it(struct transfer *transfer, uint8_t reason) {
+    transfer->error = errno_of_abort(reason);
+    transfer->state = TRANSFER_ABORTING;
+    transfer_send_abort(transfer, reason);
+    transfer_tell_error(transfer);
+}
+
+void transfer_cancel(struct transfer *transfer, uint8_t reason) {
+    if (transfer->state == TRANSFER_ACTIVE) {
+        transfer_wait(transfer, ABORT_TIME);
+        abort_it(transfer, reason);
+    }
+    if (!transfer->is_sent) {
+        transfer_notice(transfer, EVENT_BROKEN);
+    }
+}
+
+/* What was to come has not come in time. */
+static void time_out(struct transfer *transfer) {
+    transfer->due = NEVER;
+    if (transfer->state == TRANSFER_ABORTING) {
+        transfer_end(transfer);
+        return;
+    }
+    if (transfer->kind == TRANSFER_SIMPLE) {
+        transfer->error = transfer->state == TRANSFER_ACTIVE ? -ETIME : transfer->error;
+        transfer->state = TRANSFER_OVER;
+        begin_next(transfer);
+    } else if (transfer->state == TRANSFER_ACTIVE) {
+        transfer_wait(transfer, ABORT_TIME);
+        abort_it(transfer, ABORT_TIMEOUT);
+    }
+    if (!transfer->is_sent) {
+        transfer_notice(transfer, EVENT_BROKEN);
+    }
+    forget_over(transfer);
+}
+
+/* A frame was refused, and not for want of room. */
+static void fail(struct transfer *transfer, int error) {
+    if (error == ENETDOWN) {
+        return; /* It is given up in its time. */
+    }
+    if (transfer->kind == TRANSFER_SIMPLE) {
+        transfer->error = -error;
+        transfer->due = NEVER;
+        transfer_end(transfer);
+    } else {
+        transfer_cancel(transfer, ABORT_OTHER);
+    }
+}
+
+/* ---- going on ---- */
+
+static void go_on(struct transfer *transfer) {
+    transfer->send_at = NEVER;
+    if (!is_going_on(transfer)) {
+        forget_over(transfer);
+        return;
+    }
+    int error = transfer_send_next(transfer);
+    if (!error) {
+        transfer->retries = 0;
+        if (transfer->kind == TRANSFER_SIMPLE) {
+            begin_next(transfer);
+        }
+    } else if (error == ENOBUFS && (raw_waits() || transfer->retries++ < RETRIES)) {
+        transfer_go_on(transfer, pause());
+    } else if (error == ENOBUFS) {
+        transfer->error = -ENETUNREACH;
+        transfer->due = NEVER;
+        transfer_end(transfer);
+    } else {
+        fail(transfer, error);
+    }
+}
+
+const struct member *transfers_echo(uint64_t number) {
+    for (struct transfer *one = active; one; one = one->next) {
+        if (one->kind == TRANSFER_SIMPLE && one->frame == number && is_going_on(one)) {
+            return one->owner;
+        }
+    }
+    return NULL;
+}
+
+void transfers_sent(uint64_t number) {
+    for (struct transfer *one = active; one; one = one->next) {
+        if (one->kind == TRANSFER_SIMPLE && one->frame == number && is_going_on(one)) {
+            transfer_stop(one);
+            one->state = TRANSFER_OVER;
+            forget_over(one);
+            return;
+        }
+    }
+}
+
+/* The first whose time to go on has come, or that has waited in vain until what is known; NULL where there is none. */
+static struct transfer *next_due(uint64_t now, uint64_t known) {
+    struct transfer *best = NULL;
+    uint64_t soonest = NEVER;
+    for (struct transfer *one = active; one; one = one->next) {
+        uint64_t moment = MIN(one->send_at <= now ? one->send_at : NEVER, one->due <= known ? one->due : NEVER);
+        if (moment < soonest) {
+            soonest = moment;
+            best = one;
+        }
+    }
+    return best;
+}
+
+uint64_t transfers_due(uint64_t now, uint64_t known) {
+    uint64_t soonest = NEVER;
+    for (struct transfer *one; (one = next_due(now, known));) {
+        if (one->send_at <= now && one->send_at <= one->due) {
+            go_on(one);
+        } else {
+            time_out(one);
+        }
+    }
+    for (const struct transfer *one = active; one; one = one->next) {
+        soonest = MIN(soonest, MIN(one->send_at, one->due));
+    }
+    return soonest;
+}
+
+/* ---- what a socket sends ---- */
+
+static void append(struct member *owner, struct transfer *transfer) {
+    struct transfer **last = &owner->queue;
+    while (*last) {
+        last = &(*last)->next_queued;
+    }
+    *last = transfer;
+    transfer->is_queued = true;
+}
+
+static enum transfer_kind kind_of(uint32_t size) {
+    return size <= ONE_FRAME ? TRANSFER_SIMPLE : size <= TP_LONGEST ? TRANSFER_TP : TRANSFER_ETP;
+}
+
+/* Whether such a message can be sent. Returns an errno, or 0. */
+static int check(const struct wire_way *way, uint32_t size) {
+    if (is_of_transport(way->pgn)) {
+        return refused(EDOM, "this group is that of transfers themselves");
+    }
+    if (size > ETP_LONGEST) {
+        return refused(EMSGSIZE, "a message has 117440505 bytes at most");
+    }
+    if (size > TP_LONGEST && is_to_all(way)) {
+        return refused(EDESTADDRREQ, "to all, a message has 1785 bytes at most");
+    }
+    return 0;
+}
+
+/* It is the first of its socket: where another goes on between the same ends all are given up. */
+static int begin(struct transfer *transfer) {
+    struct member *owner = transfer->owner;
+    if (transfer_activate(transfer)) {
+        transfer_go_on(transfer, 0);
+        return 0;
+    }
+    while (owner->queue) {
+        struct transfer *first = owner->queue;
+        first->error = EBUSY;
+        leave_queue(first);
+        forget_over(first);
+    }
+    return refused(EBUSY, "another socket sends a message between the same addresses");
+}
+
+int transfer_send(struct member *owner, const struct j1939_ask *ask, const void *data, size_t length) {
+    struct wire_way way = ask->way;
+    int error = check(&way, ask->size);
+    error = error ? error : host_resolve(&way, data, length);
+    if (error) {
+        return error;
+    }
+    struct transfer *transfer = make(&way, kind_of(ask->size), ask->size);
+    if (!transfer) {
+        return refused(ENOMEM, "no memory for a message");
+    }
+    transfer->owner = owner;
+    transfer->is_sent = transfer->is_from_us = true;
+    transfer->is_to_us = names_are_local(way.to);
+    transfer->key = ask->key;
+    transfer->total = (ask->size + IN_PACKET - 1) / IN_PACKET;
+    transfer->block = transfer->kind == TRANSFER_ETP ? 255 : MIN(255u, transfer->total);
+    transfer->last = is_to_all(&way) ? transfer->total : 0;
+    memcpy(transfer->data, data, length);
+    transfer->filled = (uint32_t)length;
+    bool is_first = !owner->queue;
+    append(owner, transfer);
+    return is_first ? begin(transfer) : 0;
+}
+
+void transfer_fill(struct member *owner, uint32_t key, const void *data, size_t length) {
+    struct transfer *one = active;
+    while (one && !(one->owner == owner && one->key == key)) {
+        one = one->next;
+    }
+    for (struct transfer *queued = owner->queue; queued && !one; queued = queued->next_queued) {
+        one = queued->key == key ? queued : NULL;
+    }
+    if (!one || length > one->size - one->filled) {
+        tell(owner, TOLD_FREED, key, (uint32_t)length);
+        return;
+    }
+    memcpy(one->data + one->filled, data, length);
+    one->filled += (uint32_t)length;
+}
+
+void transfers_leave(struct member *owner) {
+    while (owner->queue) {
+        struct transfer *first = owner->queue;
+        leave_queue(first);
+        first->error = ESHUTDOWN;
+        if (first->state == TRANSFER_NEW) {
+            transfer_forget(first);
+        }
+    }
+    struct transfer *next;
+    for (struct transfer *one = active; one; one = next) {
+        next = one->next;
+        if (one->owner == owner) {
+            transfer_forget(one);
+        }
+    }
+}

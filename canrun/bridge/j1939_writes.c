@@ -1,0 +1,217 @@
+/* What a socket of J1939 writes: its messages go to the host as far as SO_SNDBUF has room for their segments; a write
+ * waits for the rest. */
+#include "j1939.h"
+
+#include <errno.h>
+#include <stdlib.h>
+#include <string.h>
+#include <sys/socket.h>
+
+/* Writes that wait, at most. */
+#define TURNS 64
+/* How many bytes the kernel counts for a segment: of its buffer, whose size is a power of two, some are no data. */
+#define BUFFER_HEAD 256
+#define BUFFER_LEAST 512
+#define BUFFER_OTHER 384
+/* The least and, without privilege, the most that SO_SNDBUF may be. */
+#define ROOM_LEAST 4608
+#define ROOM_MOST 212992
+
+struct turn {
+    struct turn *next;
+    int reply_to;
+    bool may_wait, is_first;
+    struct wire_way way;
+    uint32_t key, size;
+    size_t length, done;
+    char data[];
+};
+static struct turn *turns;
+static unsigned turn_count;
+
+static uint32_t keys, keys_before; /* messages until now; and those before they were counted anew */
+static unsigned pending;           /* messages that are not over */
+static int used, room = ROOM_MOST;
+/* The message whose rest the next write has. */
+static struct {
+    uint32_t key, left;
+} open;
+
+static int cost_of(uint32_t length) {
+    int size = BUFFER_LEAST;
+    while (size < (int)length + BUFFER_OTHER) {
+        size *= 2;
+    }
+    return size + BUFFER_HEAD;
+}
+
+void writes_set_room(int number) {
+    room = MAX(ROOM_LEAST, MIN(MAX(number, 0), ROOM_MOST) * 2);
+}
+
+int writes_room(void) {
+    return room;
+}
+
+void writes_count_anew(void) {
+    keys_before = keys;
+}
+
+uint32_t writes_number(const struct wire_notice *notice) {
+    bool is_of_sent = notice->what == EVENT_SENT || notice->what == EVENT_BEGUN || notice->what == EVENT_FAILED;
+    return is_of_sent ? notice->key - keys_before : notice->key;
+}
+
+bool writes_are_pending(void) {
+    return pending || turns;
+}
+
+bool writes_have_place(void) {
+    return turn_count < TURNS;
+}
+
+void writes_free(uint32_t length) {
+    used -= cost_of(length);
+}
+
+void writes_end(uint32_t key) {
+    pending--;
+    if (open.key == key) {
+        open.left = 0;
+    }
+}
+
+/* How many bytes of a write there is room for, and what they count. */
+static size_t fitting(const struct turn *turn, int *cost) {
+    size_t length = 0, left = turn->length - turn->done;
+    *cost = 0;
+    do {
+        size_t part = MIN(left - length, SEGMENT);
+        if (used + *cost >= room) {
+            break;
+        }
+        *cost += cost_of((uint32_t)part);
+        length += part;
+    } while (length < left);
+    return length;
+}
+
+/* Hands the next bytes to the host. Returns an errno, or 0. */
+static int hand_on(struct turn *turn, size_t length, int cost) {
+    struct j1939_ask ask = {
+        .kind = ASK_SEND, .key = turn->key, .size = turn->size, .is_first = turn->is_first, .way = turn->way};
+    int error = link_ask(&ask, turn->data + turn->done, length);
+    if (error && error != EBUSY) {
+        return error;
+    }
+    /* One that is refused as another is active was begun, and has its end. */
+    used += cost;
+    pending += turn->is_first;
+    keys += turn->is_first;
+    open.left = turn->is_first ? turn->size : open.left;
+    open.key = turn->key;
+    open.left -= MIN((uint32_t)length, open.left);
+    turn->is_first = false;
+    turn->done += length;
+    return error;
+}
+
+/* Goes on with a write, as far as there is room. Returns an errno; 0: all of it was handed on; or SENT_LATER. */
+static int go_on(struct turn *turn) {
+    bool is_over = false;
+    while (!is_over) {
+        int cost, error = error_take();
+        if (error) {
+            return refused(error, "a message before did not get through");
+        }
+        size_t length = fitting(turn, &cost);
+        if (!cost) {
+            return turn->may_wait ? SENT_LATER : refused(EAGAIN, "SO_SNDBUF has no room");
+        }
+        turn->key = turn->is_first ? keys : open.key;
+        error = hand_on(turn, length, cost);
+        if (error) {
+            return error;
+        }
+        is_over = turn->done == turn->length;
+    }
+    return 0;
+}
+
+/* What a write returns: what was handed on counts where it has waited in vain. */
+static void finish(const struct turn *turn, int error) {
+    bool is_part = turn->done && (error == EAGAIN || error == EINTR);
+    request_reply(turn->reply_to, is_part ? 0 : error, (int)turn->done);
+}
+
+static void take_out(struct turn **place, int error) {
+    struct turn *turn = *place;
+    *place = turn->next;
+    turn_count--;
+    finish(turn, error);
+    free(turn);
+}
+
+void writes_go_on(void) {
+    while (turns) {
+        int error = go_on(turns);
+        if (error == SENT_LATER) {
+            return;
+        }
+        take_out(&turns, error);
+    }
+}
+
+void writes_cancel(int asks) {
+    for (struct turn **place = &turns; *place; place = &(*place)->next) {
+        if (is_same_pipe((*place)->reply_to, asks)) {
+            take_out(place, refused(EINTR, "a signal came while it waited"));
+            return;
+        }
+    }
+}
+
+void writes_leave(void) {
+    while (turns) {
+        take_out(&turns, refused(ENODEV, "the server is gone"));
+    }
+    pending = 0;
+    used = 0;
+    open.left = 0;
+}
+
+static struct turn *make(const struct wire_way *way, uint32_t size, const char *data, size_t length, int reply_to) {
+    struct turn *turn = malloc(sizeof *turn + length);
+    if (turn) {
+        *turn = (struct turn){.reply_to = reply_to, .is_first = true, .way = *way, .size = size, .length = length};
+        memcpy(turn->data, data, length);
+    }
+    return turn;
+}
+
+int writes_add(const struct wire_request *request, const struct wire_way *way, uint32_t size, const char *data,
+               size_t length, int reply_to) {
+    bool is_rest = request->option;
+    if (is_rest && !open.left) {
+        return 0; /* The message is over, and what is left of it with it, as in the kernel. */
+    }
+    if (!is_rest && open.left && open.left != size) {
+        return refused(EIO, "the rest of the message before has another length");
+    }
+    if (turns && request->number == WIRE_NO_WAIT) {
+        return refused(EAGAIN, "another write waits");
+    }
+    struct turn *turn = make(way, size, data, length, reply_to), **last = &turns;
+    if (!turn) {
+        return refused(ENOMEM, "no memory for a message");
+    }
+    turn->is_first = !open.left;
+    turn->may_wait = request->number != WIRE_NO_WAIT;
+    while (*last) {
+        last = &(*last)->next;
+    }
+    *last = turn;
+    turn_count++;
+    writes_go_on();
+    return SENT_LATER;
+}

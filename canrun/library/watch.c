@@ -1,0 +1,95 @@
+/* poll of a socket that has an error queue, as one of J1939: the kernel shows POLLERR once there is an entry, also where
+ * nothing else is waited for. Its bridge says so by a pipe, which is waited for beside the socket. */
+#define _GNU_SOURCE
+#include "library.h"
+
+#include <errno.h>
+#include <fcntl.h>
+#include <string.h>
+#include <sys/syscall.h>
+
+/* The most sockets of one poll that are looked at. */
+#define MOST 1024
+
+/* What is waited for: the program's descriptors, and after them a pipe for each socket with an error queue. */
+struct watch {
+    struct pollfd all[2 * MOST];
+    nfds_t count, with_pipes;
+    int of[MOST]; /* the descriptor of each pipe, by its place */
+};
+
+/* Whether the socket has an error, or an entry in its error queue. */
+static bool is_shown(int fd) {
+    struct answer answer = {0};
+    int before = errno;
+    bool is_shown = !ask(fd, "poll", &(struct wire_request){.kind = WIRE_WATCH}, NULL, 0, &answer) && answer.value;
+    errno = before;
+    return is_shown;
+}
+
+static void add_pipe(struct watch *watch, nfds_t place) {
+    int ends[2], before = errno;
+    struct wire_request request = {.kind = WIRE_WATCH, .number = 1};
+    if (syscall(SYS_pipe2, ends, O_CLOEXEC)) {
+        errno = before;
+        return;
+    }
+    if (put_request(watch->all[place].fd, ends[1], &request, NULL, 0)) {
+        syscall(SYS_close, ends[0]);
+    } else {
+        watch->of[watch->with_pipes - watch->count] = (int)place;
+        watch->all[watch->with_pipes++] = (struct pollfd){ends[0], POLLIN, 0};
+    }
+    syscall(SYS_close, ends[1]);
+    errno = before;
+}
+
+static void close_pipes(struct watch *watch) {
+    int before = errno;
+    for (nfds_t i = watch->count; i < watch->with_pipes; i++) {
+        syscall(SYS_close, watch->all[i].fd);
+    }
+    errno = before;
+}
+
+static short shown_events(const struct pollfd *one) {
+    int is_select = 0;
+    real()->getsockopt(one->fd, SOL_SOCKET, SO_SELECT_ERR_QUEUE, &is_select, &(socklen_t){sizeof is_select});
+    short events = (short)error_events(one->fd, (uint32_t)one->revents);
+    return (short)(events | (is_select ? one->events & POLLPRI : 0));
+}
+
+/* Copies the events back; returns how many descriptors have some. */
+static int give_events(const struct watch *watch, struct pollfd *fds, const bool *has_error) {
+    int ready = 0;
+    for (nfds_t i = 0; i < watch->count; i++) {
+        fds[i].revents = watch->all[i].revents;
+        fds[i].revents = has_error[i] ? shown_events(&fds[i]) : fds[i].revents;
+        ready += fds[i].revents != 0;
+    }
+    return ready;
+}
+
+int watched_poll(struct pollfd *fds, nfds_t count, const struct timespec *timeout, const sigset_t *mask) {
+    struct watch watch = {.count = count, .with_pipes = count};
+    bool has_error[MOST] = {false}, is_ready = false;
+    if (count > MOST || !copy_from(watch.all, fds, count * sizeof *fds)) {
+        return real()->ppoll(fds, count, timeout, mask);
+    }
+    for (nfds_t i = 0; i < count; i++) {
+        has_error[i] = has_error_queue(fds[i].fd) && is_shown(fds[i].fd);
+        is_ready |= has_error[i];
+    }
+    bool waits = !is_ready && !(timeout && !timeout->tv_sec && !timeout->tv_nsec);
+    for (nfds_t i = 0; i < count && waits; i++) {
+        if (has_error_queue(fds[i].fd)) {
+            add_pipe(&watch, i);
+        }
+    }
+    int result = real()->ppoll(watch.all, watch.with_pipes, is_ready ? &(struct timespec){0, 0} : timeout, mask);
+    for (nfds_t i = count; i < watch.with_pipes; i++) {
+        has_error[watch.of[i - count]] |= result > 0 && watch.all[i].revents & POLLIN;
+    }
+    close_pipes(&watch);
+    return result < 0 ? result : give_events(&watch, fds, has_error);
+}
