@@ -250,6 +250,9 @@ int64_t outbox_counts_due(void);
 /* The next call that takes it returns this errno: a read, a write of ISO-TP, or SO_ERROR. */
 void error_set(int error);
 
+/* The same, but who was woken for an error that nobody has taken is not woken again. */
+void error_change(int error);
+
 /* Takes the error; 0 where there is none. */
 int error_take(void);
 bool error_is_set(void);

@@ -8,6 +8,13 @@ void error_set(int error) {
     outbox_ring();
 }
 
+void error_change(int error) {
+    if (!socket_error) {
+        outbox_ring();
+    }
+    socket_error = error;
+}
+
 bool error_is_set(void) {
     return socket_error;
 }

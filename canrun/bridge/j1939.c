@@ -244,7 +244,10 @@ static struct wire_empty empties[EMPTIES];
 static unsigned first_empty, empty_count;
 
 static void take_message(const struct j1939_told *told, const char *data, size_t length) {
-    struct wire_note note = {.nanoseconds = told->moment, .ifindex = own_index, .message_flags = told->flags};
+    const uint32_t stamps = SOF_TIMESTAMPING_SOFTWARE | SOF_TIMESTAMPING_RX_SOFTWARE;
+    struct wire_note note = {.nanoseconds = told->moment, .message_flags = told->flags};
+    note.ifindex = told->is_frame ? own_index : 0;
+    note.is_stamped = told->is_frame && (errors_wanted & stamps) == stamps;
     if (length) {
         outbox_put_way(data, length, &note, &told->notice.way);
     } else if (empty_count < EMPTIES) {
@@ -263,13 +266,13 @@ static void take_told(const struct j1939_told *told, const char *data, size_t le
         break;
     case TOLD_ERROR:
         if (!errors_are_on) {
-            error_set(told->error);
+            error_change(told->error);
         }
         break;
     case TOLD_FREED: writes_free(told->size); break;
     case TOLD_ENDED: writes_end(told->key); break;
     case TOLD_GONE:
-        error_set(ENODEV);
+        error_change(ENODEV);
         own_index = 0;
         writes_leave();
         break;

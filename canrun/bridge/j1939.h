@@ -67,6 +67,7 @@ struct j1939_told {
         TOLD_GONE,    /* the server is gone */
     } kind;
     int32_t error;
+    bool is_frame; /* the message is one frame, which has come by an interface and has a moment */
     uint32_t flags, size, key;
     uint64_t moment;
     struct wire_notice notice;

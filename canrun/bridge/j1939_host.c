@@ -90,7 +90,7 @@ static void name_heard(struct heard *heard) {
         way->name = names_at(way->from);
     } else if (heard->length == sizeof way->name) {
         memcpy(&way->name, heard->data, sizeof way->name);
-        names_claimed(way->name, way->from);
+        names_claimed(way->name, way->from, heard->moment);
     }
     way->to_name = names_at(way->to);
 }
@@ -98,7 +98,7 @@ static void name_heard(struct heard *heard) {
 static void take_frame(const struct item *item) {
     canid_t id = item->frame.can_id;
     uint32_t pgn = id >> 8 & J1939_PGN_MAX;
-    struct heard heard = {.moment = item->moment};
+    struct heard heard = {.is_frame = true, .moment = item->moment};
     if (!(id & CAN_EFF_FLAG) || id & (CAN_RTR_FLAG | CAN_ERR_FLAG) || item->is_fd || (uint8_t)id == J1939_NO_ADDR) {
         return;
     }
@@ -113,6 +113,7 @@ static void take_frame(const struct item *item) {
     bool is_own = item->message_flags & MSG_CONFIRM;
     heard.sender = is_own ? transfers_echo(item->number) : NULL;
     heard.is_local = heard.sender || (item->message_flags & MSG_DONTROUTE && !is_own);
+    names_expire(item->moment);
     name_heard(&heard);
     if (transfers_take(&heard)) {
         return;
@@ -206,6 +207,16 @@ static int interface_asked(void) {
     return slash ? interface_index(slash + 1) : 0;
 }
 
+/* The socket by which bridges come in, until the last has left. */
+static int door = PROGRAM;
+
+void host_close(void) {
+    if (door >= 0) {
+        close(door);
+    }
+    door = -1;
+}
+
 /* Opens the interface: all extended frames come, and its own. */
 static int open_interface(void) {
     const struct can_filter all = {CAN_EFF_FLAG, CAN_EFF_FLAG | CAN_RTR_FLAG};
@@ -217,7 +228,7 @@ static int open_interface(void) {
 /* Only for the user who has started it. */
 static void let_in(void) {
     struct ucred peer = {0};
-    int fd = accept4(PROGRAM, NULL, NULL, SOCK_CLOEXEC | SOCK_NONBLOCK);
+    int fd = accept4(door, NULL, NULL, SOCK_CLOEXEC | SOCK_NONBLOCK);
     if (fd < 0) {
         return;
     }
@@ -237,7 +248,7 @@ static void refuse_all(int error) {
     if (poll(&polled, 1, PATIENCE * 1000) > 0) {
         let_in();
     }
-    close(PROGRAM);
+    host_close();
     if (members) {
         member_tell(members, &told, refusal, strlen(refusal));
         polled = (struct pollfd){members->fd, POLLIN | POLLRDHUP, 0};
@@ -250,7 +261,7 @@ static void wait_for_all(int64_t nanoseconds) {
     static struct pollfd polled[2 + MEMBERS];
     struct timespec left = {nanoseconds / (int64_t)SECOND, nanoseconds % (int64_t)SECOND};
     nfds_t count = 2;
-    polled[0] = (struct pollfd){PROGRAM, POLLIN, 0};
+    polled[0] = (struct pollfd){door, POLLIN, 0};
     polled[1] = (struct pollfd){sessions[0]->fd, POLLIN, 0};
     for (struct member *member = members; member; member = member->next) {
         polled[count++] = (struct pollfd){member->fd, (short)(POLLIN | (member->backlog ? POLLOUT : 0)), 0};
@@ -277,6 +288,14 @@ static void wait_for_all(int64_t nanoseconds) {
     }
 }
 
+/* As in the kernel, what was being received when the last socket was closed is given up in its time. */
+static void end_transfers(void) {
+    while (!members && transfers_go_on() && !sessions_ended()) {
+        first_waiting = end_waiting;
+        wait_for_all(host_due());
+    }
+}
+
 int host_run(void) {
     protocol = &host_protocol;
     close(WIRE_MEMORY);
@@ -293,7 +312,8 @@ int host_run(void) {
         }
         wait_for_all(members || (due >= 0 && due < (int64_t)SECOND) ? due : (int64_t)SECOND);
     }
-    close(PROGRAM);
+    host_close();
+    end_transfers();
     while (members) {
         member_tell(members, &(struct j1939_told){.kind = TOLD_GONE}, NULL, 0);
         member_remove(members);

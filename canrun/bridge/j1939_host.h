@@ -21,6 +21,7 @@ struct heard {
     struct wire_way way;
     bool is_from_us, is_to_us; /* its addresses are those of sockets here */
     bool is_local;             /* sent by this interface, and not by a transfer of several frames */
+    bool is_frame;             /* and no message that has come whole */
     const struct member *sender;
     uint64_t moment;
     size_t length;
@@ -31,6 +32,8 @@ struct heard {
 
 bool host_is_asked(void);
 int host_run(void);
+/* Lets no more sockets in. */
+void host_close(void);
 
 /* Sends a frame, whose names are resolved; an errno, or 0, and its number. */
 int host_put(const struct wire_way *way, const uint8_t *data, size_t length, uint64_t *number);
@@ -65,11 +68,13 @@ bool names_are_local(uint8_t address);
  * without a name. */
 uint64_t names_at(uint8_t address);
 uint8_t names_address(uint64_t name);
-/* A claim was on the bus; one is to be sent: then false where no socket has the name. */
-void names_claimed(uint64_t name, uint8_t address);
+/* A claim was on the bus at this moment; one is to be sent: then false where no socket has the name. */
+void names_claimed(uint64_t name, uint8_t address, uint64_t moment);
 bool names_claim(uint64_t name, uint8_t address);
 /* Claims that nobody has contested until this moment are good; returns when the next is. */
 uint64_t names_due(uint64_t known);
+/* The same for those that were good before the frame of this moment. */
+void names_expire(uint64_t moment);
 
 /* ---- j1939_transfers.c: messages on their way ---- */
 
@@ -128,6 +133,7 @@ void transfers_sent(uint64_t number);
 /* Goes on with those whose time has come, and gives up those that have waited in vain until what is known; returns when
  * the next is. */
 uint64_t transfers_due(uint64_t now, uint64_t known);
+bool transfers_go_on(void);
 
 /* ---- j1939_send.c: the frames of transfers ---- */
 

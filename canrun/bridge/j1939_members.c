@@ -139,7 +139,7 @@ static int send_of(struct member *member, const struct j1939_ask *ask, const voi
 static void leave(struct member *member) {
     unbind(member);
     if (member_count == 1) {
-        close(PROGRAM);
+        host_close();
     }
     reply(member, 0);
 }
@@ -208,6 +208,7 @@ bool members_want(const struct wire_way *way) {
 
 void members_deliver(const struct wire_way *way, const void *data, size_t length, const struct heard *heard) {
     struct j1939_told told = {.kind = TOLD_MESSAGE, .moment = heard->moment, .notice = {.way = *way}};
+    told.is_frame = heard->is_frame;
     told.flags = heard->is_local ? MSG_DONTROUTE : 0;
     told.size = (uint32_t)length;
     for (struct member *member = members; member; member = member->next) {

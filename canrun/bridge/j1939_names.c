@@ -11,7 +11,8 @@
 struct node {
     struct node *next;
     uint64_t name;
-    uint64_t due;    /* when its claim is good, or NEVER */
+    uint64_t due;    /* when its claim is good, by the clock, or NEVER; */
+    uint64_t until;  /* and by the moments of frames */
     uint8_t address; /* that it has claimed last */
     unsigned users;  /* sockets that are bound to the name */
 };
@@ -118,7 +119,7 @@ bool names_claim(uint64_t name, uint8_t address) {
 }
 
 /* The node claims this address: who has it keeps it only with a lower name. */
-static void contest(struct node *node, uint8_t address) {
+static void contest(struct node *node, uint8_t address, uint64_t moment) {
     if (node->address != address) {
         take_address(node);
     }
@@ -136,9 +137,10 @@ static void contest(struct node *node, uint8_t address) {
         }
     }
     node->due = clock_now() + CLAIM_TIME;
+    node->until = moment + CLAIM_TIME;
 }
 
-void names_claimed(uint64_t name, uint8_t address) {
+void names_claimed(uint64_t name, uint8_t address, uint64_t moment) {
     struct node *node = find(name);
     if (!name || (node && node->address == address)) {
         return;
@@ -152,7 +154,23 @@ void names_claimed(uint64_t name, uint8_t address) {
         take_address(node);
         forget_idle(node);
     } else {
-        contest(node, address);
+        contest(node, address, moment);
+    }
+}
+
+static void make_good(struct node *node) {
+    node->due = NEVER;
+    give_address(node);
+    forget_idle(node);
+}
+
+void names_expire(uint64_t moment) {
+    struct node *next;
+    for (struct node *node = nodes; node; node = next) {
+        next = node->next;
+        if (node->due != NEVER && node->until <= moment) {
+            make_good(node);
+        }
     }
 }
 
@@ -162,9 +180,7 @@ uint64_t names_due(uint64_t known) {
     for (struct node *node = nodes; node; node = next) {
         next = node->next;
         if (node->due <= known) {
-            node->due = NEVER;
-            give_address(node);
-            forget_idle(node);
+            make_good(node);
         } else {
             soonest = MIN(soonest, node->due);
         }

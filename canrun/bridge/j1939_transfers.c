@@ -353,6 +353,10 @@ uint64_t transfers_due(uint64_t now, uint64_t known) {
     return soonest;
 }
 
+bool transfers_go_on(void) {
+    return active != NULL;
+}
+
 /* ---- what a socket sends ---- */
 
 static void append(struct member *owner, struct transfer *transfer) {

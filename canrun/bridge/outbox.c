@@ -110,7 +110,6 @@ void outbox_keep_ways(void) {
 void outbox_put_way(const void *data, size_t length, const struct wire_note *note, const struct wire_way *way) {
     struct wire_note whole = *note;
     whole.dropped = is_counted ? dropped : 0;
-    whole.is_stamped = is_stamped;
     struct wire_note *place = put(data, length, &whole);
     if (place) {
         memcpy(place + 1, way, sizeof *way);

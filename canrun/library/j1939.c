@@ -66,11 +66,12 @@ static int j1939_bind(const struct socket *sock, const struct sockaddr *address,
     if (can.can_family != AF_CAN) {
         return refuse("bind", EINVAL, "the address is not of AF_CAN");
     }
-    int result = -1;
+    int before = errno, result = -1;
     errno = ECONNREFUSED;
     for (int i = 0; i < TRIES && result && errno == ECONNREFUSED; i++) {
         result = provide_host(sock, can.can_ifindex) ? -1 : ask_to_bind(sock, "bind", WIRE_BIND, &can);
     }
+    errno = result ? errno : before;
     return result;
 }
 
@@ -123,6 +124,19 @@ static int j1939_setsockopt(const struct socket *sock, int level, int option, co
     return result;
 }
 
+/* The priority of the socket is 7 less that of its messages. */
+static int get_priority(const struct socket *sock, void *value, socklen_t *length, socklen_t has) {
+    int priority = 0;
+    struct answer answer = {.data = &priority, .room = sizeof priority};
+    const struct wire_request request = {.kind = WIRE_GET, .option = SO_J1939_SEND_PRIO};
+    if (ask(sock->fd, "getsockopt", &request, NULL, 0, &answer)) {
+        return -1;
+    }
+    priority = 7 - priority;
+    has = MIN(has, (socklen_t)sizeof priority);
+    return copy_to(value, &priority, has) && copy_to(length, &has, sizeof has) ? 0 : fail(EFAULT);
+}
+
 static int j1939_getsockopt(const struct socket *sock, int level, int option, void *value, socklen_t *length) {
     socklen_t has;
     if (!copy_from(&has, length, sizeof has)) {
@@ -135,6 +149,9 @@ static int j1939_getsockopt(const struct socket *sock, int level, int option, vo
             return -1;
         }
         return copy_to(value, &answer.value, has) && copy_to(length, &has, sizeof has) ? 0 : fail(EFAULT);
+    }
+    if (level == SOL_SOCKET && option == SO_PRIORITY) {
+        return get_priority(sock, value, length, has);
     }
     int result = can_getsockopt(sock, level, option, value, length);
     bool is_short = !result && level == SOL_CAN_J1939 && has < sizeof(int);

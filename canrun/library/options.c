@@ -189,13 +189,13 @@ static int take_shown_error(int fd) {
 }
 
 /* The values of SO_DOMAIN, SO_TYPE, SO_PROTOCOL and SO_ERROR for a CAN socket; -1 for other options. The kernel's CAN
- * sockets have no protocol there. */
+ * sockets have no protocol there, but for those of J1939. */
 static int socket_fact(const struct socket *sock, int option) {
     switch (option) {
     case SO_ERROR: return take_shown_error(sock->fd);
     case SO_DOMAIN: return sock->protocol->family;
     case SO_TYPE: return sock->protocol->type;
-    case SO_PROTOCOL: return 0;
+    case SO_PROTOCOL: return sock->protocol->has_ways ? CAN_J1939 : 0;
     default: return -1;
     }
 }
