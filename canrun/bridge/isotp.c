@@ -238,6 +238,11 @@ static bool isotp_is_busy(void) {
     return isotp_is_sending() || turns;
 }
 
+static bool isotp_is_full(unsigned kept) {
+    (void)kept;
+    return isotp_is_busy();
+}
+
 static int isotp_sendmsg(const struct wire_request *request, const char *data, size_t length, int reply_to,
                          struct wire_reply *reply) {
     (void)reply;
@@ -327,7 +332,7 @@ static int64_t isotp_due(void) {
 }
 
 const struct protocol isotp_protocol = {
-    .keeps_requests = true,
+    .is_full = isotp_is_full,
     .bind = isotp_bind,
     .getname = isotp_getname,
     .setsockopt = isotp_setsockopt,

@@ -340,6 +340,7 @@ static int j1939_request(const struct wire_request *request, int reply_to, struc
 }
 
 const struct protocol j1939_protocol = {
+    .is_full = writes_are_full,
     .open = outbox_keep_ways,
     .bind = j1939_bind,
     .connect = j1939_connect,

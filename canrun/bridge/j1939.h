@@ -81,6 +81,9 @@ int writes_add(const struct wire_request *request, const struct wire_way *way, u
                size_t length, int reply_to);
 void writes_cancel(int asks);
 bool writes_have_place(void);
+/* Whether the socket is not ready to be written, as the kernel has it; not where so many requests are in it that others
+ * would find no room. */
+bool writes_are_full(unsigned kept);
 /* Goes on with those that wait, as far as there is room. */
 void writes_go_on(void);
 /* A segment of this length has been sent; the message of this key is over; the host is gone. */

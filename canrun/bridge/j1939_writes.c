@@ -9,6 +9,8 @@
 
 /* Writes that wait, at most. */
 #define TURNS 64
+/* Requests that stay in the socket, at most. */
+#define KEPT 64
 /* How many bytes the kernel counts for a segment: of its buffer, whose size is a power of two, some are no data. */
 #define BUFFER_HEAD 256
 #define BUFFER_LEAST 512
@@ -64,6 +66,10 @@ uint32_t writes_number(const struct wire_notice *notice) {
 
 bool writes_are_pending(void) {
     return pending || turns;
+}
+
+bool writes_are_full(unsigned kept) {
+    return used >= room / 2 && kept < KEPT;
 }
 
 bool writes_have_place(void) {
@@ -141,7 +147,7 @@ static int go_on(struct turn *turn) {
 /* What a write returns: what was handed on counts where it has waited in vain. */
 static void finish(const struct turn *turn, int error) {
     bool is_part = turn->done && (error == EAGAIN || error == EINTR);
-    request_reply(turn->reply_to, is_part ? 0 : error, (int)turn->done);
+    request_reply(turn->reply_to, is_part ? 0 : error, (int)turn->done | (writes_are_full(0) ? WIRE_FULL : 0));
 }
 
 static void take_out(struct turn **place, int error) {

@@ -9,7 +9,9 @@
 #include <stddef.h>
 
 struct protocol {
-    bool keeps_requests; /* a request stays in the socket while its message is being sent: the program finds no room */
+    /* Where a protocol has this, requests stay in the socket while it is so, and the program finds no room; so many are
+     * there already. */
+    bool (*is_full)(unsigned kept);
 
     /* Called before the first request. */
     void (*open)(void);

@@ -21,14 +21,14 @@ struct reply {
     char data[WIRE_REPLY];
 };
 
-/* While a message is being sent, of a protocol that keeps requests, its request stays in the socket, so that the
- * program's end has no room, and is not ready to be written. So do those that come after it, which are read all the
- * same. */
+/* While a protocol is full the request that has filled it stays in the socket, so that the program's end has no room, and
+ * is not ready to be written. So do those that come after it, which are read all the same. */
 static int kept_length;
 static unsigned kept_count;
 
 void request_release(void) {
-    while (kept_count && !protocol_is_busy()) {
+    bool is_full = kept_count && protocol->is_full(kept_count);
+    while (kept_count && !is_full) {
         if (recv(PROGRAM, &(char){0}, 1, MSG_DONTWAIT) >= 0) {
             kept_count--;
         } else if (errno != ECONNRESET) {
@@ -190,6 +190,7 @@ static int carry_out(const struct wire_request *request, const char *data, size_
     case WIRE_ERROR: reply->head.value = error_take(); return 0;
     case WIRE_CLOSE: return begin_close(to);
     case WIRE_CANCEL: return cancel(to);
+    case WIRE_FILL: return 0;
     case WIRE_SHARE: return quick_share(to);
     default:
         return protocol->request ? protocol->request(request, to, &reply->head, reply->data)
@@ -198,7 +199,7 @@ static int carry_out(const struct wire_request *request, const char *data, size_
 }
 
 static ssize_t next_request(struct msghdr *message) {
-    if (!protocol->keeps_requests) {
+    if (!protocol->is_full) {
         return recvmsg(PROGRAM, message, MSG_DONTWAIT | MSG_CMSG_CLOEXEC);
     }
     setsockopt(PROGRAM, SOL_SOCKET, SO_PEEK_OFF, &kept_length, sizeof kept_length);
@@ -219,7 +220,7 @@ int request_news(void) {
 }
 
 bool request_is_kept(void) {
-    if (!protocol->keeps_requests) {
+    if (!protocol->is_full) {
         return false;
     }
     setsockopt(PROGRAM, SOL_SOCKET, SO_PEEK_OFF, &kept_length, sizeof kept_length);

@@ -20,7 +20,7 @@ bool wait_for_input(int64_t nanoseconds, bool takes_requests) {
     static struct pollfd polled[3 + INTERFACE_MOST];
     short events = (short)((takes_requests ? POLLIN : 0) | (outbox_is_empty() ? 0 : POLLOUT));
     /* A socket that keeps its requests is ready to be read as long as it does. */
-    int news = takes_requests && protocol->keeps_requests ? request_news() : -1;
+    int news = takes_requests && protocol->is_full ? request_news() : -1;
     bool is_kept = news >= 0 && request_is_kept();
     /* A socket whose other end is closed is ready for ever, though nobody asks. */
     bool is_closing = !takes_requests && program_is_gone();

@@ -8,22 +8,6 @@
 #include <string.h>
 #include <sys/syscall.h>
 
-/* While a message is being sent its request takes room in the socket, so that this is not ready to be written: it is at
- * a quarter of SO_SNDBUF. */
-#define FILLERS 64
-static size_t add_fillers(int fd, size_t length, struct iovec fillers[FILLERS]) {
-    static char nothing[16384];
-    int room = 0;
-    socklen_t size = sizeof room;
-    real()->getsockopt(fd, SOL_SOCKET, SO_SNDBUF, &room, &size);
-    size_t count = 0;
-    for (; count < FILLERS && length < (size_t)room / 4; count++) {
-        fillers[count] = (struct iovec){nothing, MIN(sizeof nothing, (size_t)room / 4 - length)};
-        length += fillers[count].iov_len;
-    }
-    return count;
-}
-
 /* A write has failed: where that was by the error of the socket, nobody else hears of it. */
 static void forget_error(int fd) {
     static const int known[] = {EMSGSIZE, ECOMM, EBADMSG, EILSEQ, ETIMEDOUT};

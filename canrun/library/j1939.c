@@ -12,6 +12,7 @@
 #include <string.h>
 #include <sys/syscall.h>
 #include <sys/un.h>
+#include <time.h>
 
 /* The most bytes that go with one request: whole segments of 1785. */
 #define PIECE (36 * 1785)
@@ -183,6 +184,18 @@ static int read_address(const struct msghdr *message, struct wire_j1939 *head) {
                : fail(EFAULT);
 }
 
+/* The socket is not ready to be written until the bridge takes this out of it. */
+static void fill(int fd) {
+    struct iovec fillers[FILLERS];
+    struct pollfd polled = {fd, POLLOUT, 0};
+    int before = errno;
+    if (syscall(SYS_ppoll, &polled, 1L, &(struct timespec){0, 0}, NULL, 0L) > 0 && polled.revents == POLLOUT) {
+        size_t count = add_fillers(fd, 0, fillers);
+        ask(fd, "write", &(struct wire_request){.kind = WIRE_FILL}, fillers, count, NULL);
+    }
+    errno = before;
+}
+
 static ssize_t j1939_sendmsg(const struct socket *sock, const struct msghdr *message, int flags) {
     size_t size = room_of(message, SIZE_MAX / 2), done = 0;
     struct wire_j1939 head = {.size = (uint32_t)MIN(size, UINT32_MAX)};
@@ -202,10 +215,17 @@ static ssize_t j1939_sendmsg(const struct socket *sock, const struct msghdr *mes
                                        .length = (uint32_t)(sizeof head + part)};
         size_t count = pieces_from(message, done, part, pieces + 1);
         if (ask(sock->fd, "write", &request, pieces, 1 + count, &answer)) {
+            if (errno == EAGAIN) {
+                fill(sock->fd);
+            }
             return done && (errno == EAGAIN || errno == EINTR) ? (ssize_t)done : -1;
         }
-        done += (size_t)answer.value;
-        if ((size_t)answer.value < part) {
+        size_t taken = (size_t)(answer.value & ~WIRE_FULL);
+        if (answer.value & WIRE_FULL) {
+            fill(sock->fd);
+        }
+        done += taken;
+        if (taken < part) {
             break;
         }
     } while (done < size);

@@ -10,6 +10,7 @@
 #include <stddef.h>
 #include <sys/socket.h>
 #include <sys/types.h>
+#include <sys/uio.h>
 
 /* A descriptor, as a call finds it. */
 struct socket {
@@ -69,6 +70,11 @@ int ask_to_bind(const struct socket *sock, const char *call, enum wire_kind kind
 
 /* Makes the request of a write. Returns 0, or -1 and errno. */
 int begin_write(const struct msghdr *message, struct wire_request *request);
+
+/* While a socket has no room for writes a request takes room in it, so that it is not ready to be written: it is at a
+ * quarter of SO_SNDBUF. Adds what is missing; returns how many pieces that are. */
+#define FILLERS 64
+size_t add_fillers(int fd, size_t length, struct iovec fillers[FILLERS]);
 
 /* Writes the index of the interface that a message is sent to by its address, if it has one. Returns 0, or -1 and
  * errno. */

@@ -40,6 +40,19 @@ int begin_write(const struct msghdr *message, struct wire_request *request) {
     return length > WIRE_LARGEST ? refuse("write", EINVAL, "the message is too long") : 0;
 }
 
+size_t add_fillers(int fd, size_t length, struct iovec fillers[FILLERS]) {
+    static char nothing[16384];
+    int room = 0;
+    socklen_t size = sizeof room;
+    real()->getsockopt(fd, SOL_SOCKET, SO_SNDBUF, &room, &size);
+    size_t count = 0;
+    for (; count < FILLERS && length < (size_t)room / 4; count++) {
+        fillers[count] = (struct iovec){nothing, MIN(sizeof nothing, (size_t)room / 4 - length)};
+        length += fillers[count].iov_len;
+    }
+    return count;
+}
+
 int read_target(const struct msghdr *message, int32_t *index) {
     struct sockaddr_can can = {0};
     if (!message->msg_name) {

@@ -45,6 +45,7 @@ enum wire_kind {
     WIRE_WATCH,  /* the value is whether the socket has an error, or an entry in its error queue; with a `number` the reply
                   * is given once it has */
     WIRE_EMPTY,  /* takes the first message without data, which is the reply's data; its value, whether there is one */
+    WIRE_FILL,   /* does nothing, but takes room in the socket while that has none for writes */
     WIRE_HOST,   /* connects to the host of the interface `ifindex`; where it is to be started the reply's data are its
                   * abstract name */
     WIRE_CANCEL, /* a signal ends the wait of the request whose pipe this is the read end of; the reply is its own */
@@ -142,6 +143,8 @@ struct wire_j1939 {
     uint32_t size, has_address, address_length;
     struct sockaddr_can address;
 };
+/* In the value of the reply to a write of J1939: the socket has no more room. */
+#define WIRE_FULL (1 << 30)
 /* The least length of an address of J1939. */
 #define J1939_ADDRESS 24
 

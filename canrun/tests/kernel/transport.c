@@ -155,6 +155,10 @@ static void flood_segments(int fd, int number, int flags) {
     say(" %d %s", done, done < number ? strerrorname_np(errno) : "all");
 }
 CASE(room_behind_transfer, SENDER, send_to(a, OTHER, GROUP, 9), flood_segments(a, 1000, MSG_DONTWAIT))
+CASE(room_events, SENDER, send_to(a, OTHER, GROUP, 9), take(b, 1), flood_segments(a, 100, MSG_DONTWAIT), events(a, POLLOUT),
+     flood_segments(a, 50, MSG_DONTWAIT), events(a, POLLOUT), CTS(2, 1), take(b, 2), DONE(9, 2), take_last(b, 150),
+     until(a, POLLOUT), events(a, POLLOUT))
+CASE(room_events_of_long, SENDER, send_flags(a, OTHER, GROUP, 100000, MSG_DONTWAIT), events(a, POLLIN | POLLOUT))
 CASE(room_small, SENDER, DO(set(a, SOL_SOCKET, SO_SNDBUF, 3000)), send_to(a, OTHER, GROUP, 9),
      flood_segments(a, 1000, MSG_DONTWAIT))
 CASE(room_of_long, SENDER, send_flags(a, OTHER, GROUP, 100000, MSG_DONTWAIT), send_flags(a, OTHER, GROUP, 100, MSG_DONTWAIT),
