@@ -42,6 +42,7 @@ PLAIN = (
     "bcm",
     pytest.param("isotp", marks=pytest.mark.quiet),
     pytest.param("isotp_state", marks=pytest.mark.quiet),
+    "j1939",
     "edges",
     "devices",
     "rows",

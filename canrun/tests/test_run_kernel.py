@@ -27,6 +27,7 @@ SAME = (
     "bcm",
     "isotp",
     "isotp_state",
+    "j1939",
     "edges",
     "devices",
     "rows",

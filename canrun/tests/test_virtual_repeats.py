@@ -19,7 +19,7 @@ RUNS = 5
 SEED = ("--seed", "5", "--jitter", "300")
 
 SAME = [
-    *(("nodes", ""), ("tools", ""), ("isotp", ""), ("bcm", ""), ("worst_case", ""), ("senders", "")),
+    *(("nodes", ""), ("tools", ""), ("isotp", ""), ("j1939", ""), ("bcm", ""), ("worst_case", ""), ("senders", "")),
     ("bus_off", "auto"),
     *(pytest.param(*words, marks=needs_can) for words in (("bus_off", "program"), ("pytest", ""))),
     *(pytest.param("python", kind, marks=needs_can) for kind in ("socketcan", "canbusd")),

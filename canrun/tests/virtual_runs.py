@@ -29,6 +29,7 @@ def nodes(tmp_path_factory):
         "forger",
         "full",
         "isotp",
+        "j1939",
         "lent",
         "many",
         "orphans",
