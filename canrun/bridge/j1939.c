@@ -8,8 +8,8 @@
 #include <sys/socket.h>
 
 static struct j1939_socket own = {.pgn = J1939_NO_PGN, .from = J1939_NO_ADDR, .to = J1939_NO_ADDR};
-static int own_index;                /* of the interface that it is bound to */
-static uint32_t pgn = J1939_NO_PGN;  /* of what is sent to no other */
+static int own_index;               /* of the interface that it is bound to */
+static uint32_t pgn = J1939_NO_PGN; /* of what is sent to no other */
 static uint8_t priority = 6;
 static struct j1939_filter *filters;
 static size_t filter_count;
@@ -203,12 +203,8 @@ static int check_write(const struct wire_j1939 *head) {
 
 static struct wire_way way_of(const struct wire_j1939 *head) {
     const struct sockaddr_can *to = &head->address;
-    struct wire_way way = {.name = own.name,
-                           .to_name = own.to_name,
-                           .pgn = pgn,
-                           .from = own.from,
-                           .to = own.to,
-                           .priority = priority};
+    struct wire_way way = {
+        .name = own.name, .to_name = own.to_name, .pgn = pgn, .from = own.from, .to = own.to, .priority = priority};
     if (head->has_address && (to->can_addr.j1939.name || to->can_addr.j1939.addr != J1939_NO_ADDR)) {
         way.to_name = to->can_addr.j1939.name;
         way.to = to->can_addr.j1939.addr;

@@ -52,6 +52,8 @@ void member_remove(struct member *member);
 /* Sends what waited for room. */
 void member_flush(struct member *member);
 void member_tell(struct member *member, const struct j1939_told *told, const void *data, size_t length);
+/* So many bytes, from the beginning of a segment on, count no longer for SO_SNDBUF. */
+void member_tell_freed(struct member *member, uint32_t length);
 /* Whether a socket, or any, receives what comes by this way. */
 bool member_wants(const struct member *member, const struct wire_way *way);
 bool members_want(const struct wire_way *way);
@@ -102,24 +104,23 @@ struct transfer {
     uint64_t send_at, due; /* when it goes on, and when it is given up, by the clock; or NEVER */
 };
 
-/* Begins to send a message of this size. Returns an errno, or 0. */
-int transfer_send(struct member *owner, const struct j1939_ask *ask, const void *data, size_t length);
-/* Adds the next bytes; those of a transfer that is over are forgotten. */
-void transfer_fill(struct member *owner, uint32_t key, const void *data, size_t length);
-/* Gives up all that a socket is sending. */
-void transfers_leave(struct member *owner);
 /* One that goes on between these ends, in this direction or the other; NULL where none does. */
 struct transfer *transfer_find(const struct wire_way *way, enum transfer_kind kind, bool is_reverse, bool is_sent);
-/* A new one that is received, with its room; NULL where there is no memory. */
+/* A new one, without data, or with room for what is received; NULL where there is no memory. */
 struct transfer *transfer_receive(const struct wire_way *way, enum transfer_kind kind, uint32_t size);
+struct transfer *transfer_make(const struct wire_way *way, enum transfer_kind kind, uint32_t size);
+/* It goes on from now; false where another does between the same ends. */
 bool transfer_activate(struct transfer *transfer);
+/* Forgets it where nothing will happen to it any more; or whatever may. */
+void transfer_settle(struct transfer *transfer);
 void transfer_forget(struct transfer *transfer);
 /* The receiver has confirmed some: a segment before that counts no longer. */
 void transfer_drop_old(struct transfer *transfer);
-/* Stops its timers. */
-void transfer_stop(struct transfer *transfer);
+/* Its timers: it goes on after some milliseconds, or after a pause; it is given up; or neither. */
 void transfer_go_on(struct transfer *transfer, unsigned milliseconds);
+void transfer_try_again(struct transfer *transfer);
 void transfer_wait(struct transfer *transfer, unsigned milliseconds);
+void transfer_stop(struct transfer *transfer);
 /* It has come to its end, or has failed; the socket's next one begins. */
 void transfer_complete(struct transfer *transfer, const struct heard *heard);
 void transfer_end(struct transfer *transfer);
@@ -134,6 +135,19 @@ void transfers_sent(uint64_t number);
  * the next is. */
 uint64_t transfers_due(uint64_t now, uint64_t known);
 bool transfers_go_on(void);
+/* Forgets those of a socket. */
+void transfers_leave(const struct member *owner);
+
+/* ---- j1939_queue.c: the messages of a socket, one after the other ---- */
+
+/* Takes a message with its first bytes. Returns an errno, or 0. */
+int queue_send(struct member *owner, const struct j1939_ask *ask, const void *data, size_t length);
+/* Adds the next bytes; those of a message that is over are forgotten. */
+void queue_fill(struct member *owner, uint32_t key, const void *data, size_t length);
+/* Where this is the first of its socket, the next one begins. */
+void queue_begin_next(struct transfer *transfer);
+/* Gives up all that the socket sends. */
+void queue_leave(struct member *owner);
 
 /* ---- j1939_send.c: the frames of transfers ---- */
 
@@ -154,14 +168,11 @@ enum abort_reason {
     ABORT_BUSY = 1,
     ABORT_RESOURCE = 2,
     ABORT_TIMEOUT = 3,
-    ABORT_GENERIC = 4,
     ABORT_FAULT = 5,
     ABORT_UNEXPECTED = 6,
-    ABORT_SEQUENCE = 7,
     ABORT_DUPLICATE = 8,
     ABORT_OFFSET_PGN = 10,
     ABORT_CTS_PGN = 14,
-    ABORT_TOO_BIG = 15,
     ABORT_OTHER = 250
 };
 
@@ -174,7 +185,7 @@ uint32_t number_at(const uint8_t *data, unsigned bytes);
 int errno_of_abort(uint8_t reason);
 /* Sends what is next. Returns an errno, or 0. */
 int transfer_send_next(struct transfer *transfer);
-/* Sends an abort of what came by this way; `is_back` to whom it came from. */
+/* Sends an abort to whom this came from, about messages of this group; or to the other end of a transfer. */
 void send_abort(const struct heard *heard, enum transfer_kind kind, uint8_t reason, uint32_t pgn);
 void transfer_send_abort(const struct transfer *transfer, uint8_t reason);
 

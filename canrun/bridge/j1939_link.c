@@ -21,7 +21,7 @@ static struct kept {
     struct j1939_told told;
     size_t length;
     char data[];
-} *kept, **kept_end = &kept;
+} * kept, **kept_end = &kept;
 
 int link_fd(void) {
     return fd;

@@ -38,7 +38,7 @@ void member_add(int fd) {
 
 /* The socket is bound no longer, and what it sends is given up. */
 static void unbind(struct member *member) {
-    transfers_leave(member);
+    queue_leave(member);
     if (member->is_bound) {
         names_release(member->socket.name, member->socket.from);
     }
@@ -90,6 +90,14 @@ void member_tell(struct member *member, const struct j1939_told *told, const voi
     }
 }
 
+void member_tell_freed(struct member *member, uint32_t length) {
+    do {
+        struct j1939_told told = {.kind = TOLD_FREED, .size = MIN(length, SEGMENT)};
+        member_tell(member, &told, NULL, 0);
+        length -= told.size;
+    } while (length);
+}
+
 void member_flush(struct member *member) {
     for (struct told *first; (first = member->backlog) && put(member, &first->head, first->data, first->length);) {
         member->backlog = first->next;
@@ -129,9 +137,9 @@ static int change_member(struct member *member, const struct j1939_socket *socke
 
 static int send_of(struct member *member, const struct j1939_ask *ask, const void *data, size_t length) {
     if (ask->is_first) {
-        return transfer_send(member, ask, data, length);
+        return queue_send(member, ask, data, length);
     }
-    transfer_fill(member, ask->key, data, length);
+    queue_fill(member, ask->key, data, length);
     return 0;
 }
 
@@ -192,9 +200,9 @@ static bool passes(const struct member *member, const struct wire_way *way) {
 
 bool member_wants(const struct member *member, const struct wire_way *way) {
     const struct j1939_socket *socket = &member->socket;
-    bool is_for_it = socket->is_promiscuous ||
-                     (is_to(socket, way) && (!socket->is_connected || is_from_peer(socket, way)) &&
-                      (!is_pgn(socket->pgn) || socket->pgn == way->pgn));
+    bool is_for_it =
+        socket->is_promiscuous || (is_to(socket, way) && (!socket->is_connected || is_from_peer(socket, way)) &&
+                                   (!is_pgn(socket->pgn) || socket->pgn == way->pgn));
     return member->is_bound && is_for_it && passes(member, way);
 }
 

@@ -1,6 +1,6 @@
-/* The names of J1939, and the addresses that their nodes have claimed, as net/can/j1939/bus.c and address-claim.c of the
- * kernel have them. A claim is good once nobody has contested it for 250 ms; one that the host sends counts when it was
- * on the bus. */
+/* The names of J1939, and the addresses that their nodes have claimed, as net/can/j1939/bus.c and address-claim.c of
+ * the kernel have them. A claim is good once nobody has contested it for 250 ms; one that the host sends counts when it
+ * was on the bus. */
 #include "j1939_host.h"
 
 #include <errno.h>

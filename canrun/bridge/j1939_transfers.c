@@ -13,7 +13,7 @@ static struct transfer *active, **active_end = &active;
 
 /* ---- the list, and the queues of sockets ---- */
 
-static struct transfer *make(const struct wire_way *way, enum transfer_kind kind, uint32_t size) {
+struct transfer *transfer_make(const struct wire_way *way, enum transfer_kind kind, uint32_t size) {
     struct transfer *transfer = calloc(1, sizeof *transfer);
     uint8_t *data = malloc(size + 1);
     if (!transfer || !data) {
@@ -30,32 +30,16 @@ static struct transfer *make(const struct wire_way *way, enum transfer_kind kind
     return transfer;
 }
 
-static void tell(struct member *owner, int kind, uint32_t key, uint32_t size) {
-    struct j1939_told told = {.kind = kind, .key = key, .size = size};
-    member_tell(owner, &told, NULL, 0);
-}
-
-/* Counts what is no longer needed until this byte. */
-static void free_until(struct transfer *transfer, uint32_t end) {
-    while (transfer->owner && (transfer->freed < end || !transfer->size)) {
-        uint32_t length = MIN(SEGMENT, end - transfer->freed);
-        tell(transfer->owner, TOLD_FREED, transfer->key, length);
-        transfer->freed += length;
-        if (!transfer->size) {
-            return;
-        }
-    }
-}
-
 void transfer_drop_old(struct transfer *transfer) {
     uint32_t next = transfer->freed + SEGMENT;
-    if (next < transfer->filled && next < transfer->confirmed * IN_PACKET) {
-        free_until(transfer, next);
+    if (transfer->owner && next < transfer->filled && next < transfer->confirmed * IN_PACKET) {
+        member_tell_freed(transfer->owner, SEGMENT);
+        transfer->freed = next;
     }
 }
 
-/* Forgets a transfer that nothing will happen to any more; its end is reported then, as by the kernel. */
-static void forget_over(struct transfer *transfer) {
+/* The end is reported only now, as by the kernel. */
+void transfer_settle(struct transfer *transfer) {
     bool is_used = transfer->is_queued || transfer->send_at != NEVER || transfer->due != NEVER ||
                    transfer->state == TRANSFER_ACTIVE || transfer->state == TRANSFER_ABORTING;
     if (is_used) {
@@ -66,9 +50,10 @@ static void forget_over(struct transfer *transfer) {
     } else if (transfer->error) {
         transfer_notice(transfer, EVENT_BROKEN);
     }
-    free_until(transfer, transfer->filled);
     if (transfer->owner) {
-        tell(transfer->owner, TOLD_ENDED, transfer->key, 0);
+        struct j1939_told told = {.kind = TOLD_ENDED, .key = transfer->key};
+        member_tell_freed(transfer->owner, transfer->filled - transfer->freed);
+        member_tell(transfer->owner, &told, NULL, 0);
     }
     transfer_forget(transfer);
 }
@@ -117,7 +102,7 @@ struct transfer *transfer_find(const struct wire_way *way, enum transfer_kind ki
 }
 
 struct transfer *transfer_receive(const struct wire_way *way, enum transfer_kind kind, uint32_t size) {
-    struct transfer *transfer = make(way, kind, size);
+    struct transfer *transfer = transfer_make(way, kind, size);
     if (transfer) {
         memset(transfer->data, 0, size);
         transfer->filled = size;
@@ -148,46 +133,22 @@ void transfer_stop(struct transfer *transfer) {
     transfer->send_at = transfer->due = NEVER;
 }
 
-/* A pause that differs from one to the next, so that two senders do not meet again and again. */
-static unsigned pause(void) {
+/* The pause differs from one to the next, so that two senders do not meet again and again. */
+void transfer_try_again(struct transfer *transfer) {
     static uint32_t state = 1;
     state = state * 1664525u + 1013904223u;
-    return LEAST_PAUSE + (state >> 16) % PAUSES;
+    transfer_go_on(transfer, LEAST_PAUSE + (state >> 16) % PAUSES);
 }
 
-/* ---- the queue of a socket ---- */
-
-static void leave_queue(struct transfer *transfer) {
-    transfer->owner->queue = transfer->next_queued;
-    transfer->is_queued = false;
-}
-
-/* Where this is the first of its socket, the next one begins. */
-static void begin_next(struct transfer *transfer) {
-    struct member *owner = transfer->owner;
-    int error = transfer->error;
-    if (!owner || owner->queue != transfer) {
-        return;
-    }
-    leave_queue(transfer);
-    for (struct transfer *next; (next = owner->queue);) {
-        if (transfer_activate(next)) {
-            transfer_go_on(next, error ? pause() : 0);
-            return;
-        }
-        next->error = -EBUSY;
-        leave_queue(next);
-        forget_over(next);
-    }
-}
+/* ---- the end ---- */
 
 void transfer_end(struct transfer *transfer) {
     if (!is_going_on(transfer)) {
         return;
     }
     transfer->state = TRANSFER_OVER;
-    begin_next(transfer);
-    forget_over(transfer);
+    queue_begin_next(transfer);
+    transfer_settle(transfer);
 }
 
 void transfer_complete(struct transfer *transfer, const struct heard *heard) {
@@ -254,7 +215,7 @@ static void time_out(struct transfer *transfer) {
     if (transfer->kind == TRANSFER_SIMPLE) {
         transfer->error = transfer->state == TRANSFER_ACTIVE ? -ETIME : transfer->error;
         transfer->state = TRANSFER_OVER;
-        begin_next(transfer);
+        queue_begin_next(transfer);
     } else if (transfer->state == TRANSFER_ACTIVE) {
         transfer_wait(transfer, ABORT_TIME);
         abort_it(transfer, ABORT_TIMEOUT);
@@ -262,7 +223,7 @@ static void time_out(struct transfer *transfer) {
     if (!transfer->is_sent) {
         transfer_notice(transfer, EVENT_BROKEN);
     }
-    forget_over(transfer);
+    transfer_settle(transfer);
 }
 
 /* A frame was refused, and not for want of room. */
@@ -284,17 +245,17 @@ static void fail(struct transfer *transfer, int error) {
 static void go_on(struct transfer *transfer) {
     transfer->send_at = NEVER;
     if (!is_going_on(transfer)) {
-        forget_over(transfer);
+        transfer_settle(transfer);
         return;
     }
     int error = transfer_send_next(transfer);
     if (!error) {
         transfer->retries = 0;
         if (transfer->kind == TRANSFER_SIMPLE) {
-            begin_next(transfer);
+            queue_begin_next(transfer);
         }
     } else if (error == ENOBUFS && (raw_waits() || transfer->retries++ < RETRIES)) {
-        transfer_go_on(transfer, pause());
+        transfer_try_again(transfer);
     } else if (error == ENOBUFS) {
         transfer->error = -ENETUNREACH;
         transfer->due = NEVER;
@@ -318,7 +279,7 @@ void transfers_sent(uint64_t number) {
         if (one->kind == TRANSFER_SIMPLE && one->frame == number && is_going_on(one)) {
             transfer_stop(one);
             one->state = TRANSFER_OVER;
-            forget_over(one);
+            transfer_settle(one);
             return;
         }
     }
@@ -353,105 +314,7 @@ uint64_t transfers_due(uint64_t now, uint64_t known) {
     return soonest;
 }
 
-bool transfers_go_on(void) {
-    return active != NULL;
-}
-
-/* ---- what a socket sends ---- */
-
-static void append(struct member *owner, struct transfer *transfer) {
-    struct transfer **last = &owner->queue;
-    while (*last) {
-        last = &(*last)->next_queued;
-    }
-    *last = transfer;
-    transfer->is_queued = true;
-}
-
-static enum transfer_kind kind_of(uint32_t size) {
-    return size <= ONE_FRAME ? TRANSFER_SIMPLE : size <= TP_LONGEST ? TRANSFER_TP : TRANSFER_ETP;
-}
-
-/* Whether such a message can be sent. Returns an errno, or 0. */
-static int check(const struct wire_way *way, uint32_t size) {
-    if (is_of_transport(way->pgn)) {
-        return refused(EDOM, "this group is that of transfers themselves");
-    }
-    if (size > ETP_LONGEST) {
-        return refused(EMSGSIZE, "a message has 117440505 bytes at most");
-    }
-    if (size > TP_LONGEST && is_to_all(way)) {
-        return refused(EDESTADDRREQ, "to all, a message has 1785 bytes at most");
-    }
-    return 0;
-}
-
-/* It is the first of its socket: where another goes on between the same ends all are given up. */
-static int begin(struct transfer *transfer) {
-    struct member *owner = transfer->owner;
-    if (transfer_activate(transfer)) {
-        transfer_go_on(transfer, 0);
-        return 0;
-    }
-    while (owner->queue) {
-        struct transfer *first = owner->queue;
-        first->error = EBUSY;
-        leave_queue(first);
-        forget_over(first);
-    }
-    return refused(EBUSY, "another socket sends a message between the same addresses");
-}
-
-int transfer_send(struct member *owner, const struct j1939_ask *ask, const void *data, size_t length) {
-    struct wire_way way = ask->way;
-    int error = check(&way, ask->size);
-    error = error ? error : host_resolve(&way, data, length);
-    if (error) {
-        return error;
-    }
-    struct transfer *transfer = make(&way, kind_of(ask->size), ask->size);
-    if (!transfer) {
-        return refused(ENOMEM, "no memory for a message");
-    }
-    transfer->owner = owner;
-    transfer->is_sent = transfer->is_from_us = true;
-    transfer->is_to_us = names_are_local(way.to);
-    transfer->key = ask->key;
-    transfer->total = (ask->size + IN_PACKET - 1) / IN_PACKET;
-    transfer->block = transfer->kind == TRANSFER_ETP ? 255 : MIN(255u, transfer->total);
-    transfer->last = is_to_all(&way) ? transfer->total : 0;
-    memcpy(transfer->data, data, length);
-    transfer->filled = (uint32_t)length;
-    bool is_first = !owner->queue;
-    append(owner, transfer);
-    return is_first ? begin(transfer) : 0;
-}
-
-void transfer_fill(struct member *owner, uint32_t key, const void *data, size_t length) {
-    struct transfer *one = active;
-    while (one && !(one->owner == owner && one->key == key)) {
-        one = one->next;
-    }
-    for (struct transfer *queued = owner->queue; queued && !one; queued = queued->next_queued) {
-        one = queued->key == key ? queued : NULL;
-    }
-    if (!one || length > one->size - one->filled) {
-        tell(owner, TOLD_FREED, key, (uint32_t)length);
-        return;
-    }
-    memcpy(one->data + one->filled, data, length);
-    one->filled += (uint32_t)length;
-}
-
-void transfers_leave(struct member *owner) {
-    while (owner->queue) {
-        struct transfer *first = owner->queue;
-        leave_queue(first);
-        first->error = ESHUTDOWN;
-        if (first->state == TRANSFER_NEW) {
-            transfer_forget(first);
-        }
-    }
+void transfers_leave(const struct member *owner) {
     struct transfer *next;
     for (struct transfer *one = active; one; one = next) {
         next = one->next;
@@ -459,4 +322,8 @@ void transfers_leave(struct member *owner) {
             transfer_forget(one);
         }
     }
+}
+
+bool transfers_go_on(void) {
+    return active != NULL;
 }

@@ -35,9 +35,7 @@ static uint32_t keys, keys_before; /* messages until now; and those before they 
 static unsigned pending;           /* messages that are not over */
 static int used, room = ROOM_MOST;
 /* The message whose rest the next write has. */
-static struct {
-    uint32_t key, left;
-} open;
+static struct { uint32_t key, left; } open;
 
 static int cost_of(uint32_t length) {
     int size = BUFFER_LEAST;

@@ -21,8 +21,8 @@ struct reply {
     char data[WIRE_REPLY];
 };
 
-/* While a protocol is full the request that has filled it stays in the socket, so that the program's end has no room, and
- * is not ready to be written. So do those that come after it, which are read all the same. */
+/* While a protocol is full the request that has filled it stays in the socket, so that the program's end has no room,
+ * and is not ready to be written. So do those that come after it, which are read all the same. */
 static int kept_length;
 static unsigned kept_count;
 

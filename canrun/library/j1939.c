@@ -113,9 +113,10 @@ static int j1939_setsockopt(const struct socket *sock, int level, int option, co
     if (level == SOL_SOCKET && (option == SO_SNDBUF || option == SO_SNDBUFFORCE)) {
         /* The size of the pair is that of requests, and not of messages. */
         struct wire_request request = {.kind = WIRE_SOCKET_SET, .option = option};
-        return length < sizeof number                              ? fail(EINVAL)
-               : !copy_from(&request.number, value, sizeof number) ? fail(EFAULT)
-                                                                   : ask(sock->fd, "setsockopt", &request, NULL, 0, NULL);
+        return length < sizeof number ? fail(EINVAL)
+               : !copy_from(&request.number, value, sizeof number)
+                   ? fail(EFAULT)
+                   : ask(sock->fd, "setsockopt", &request, NULL, 0, NULL);
     }
     int result = can_setsockopt(sock, level, option, value, length);
     bool is_flag = level == SOL_CAN_J1939 && (option == SO_J1939_PROMISC || option == SO_J1939_ERRQUEUE);
@@ -178,8 +179,8 @@ static size_t pieces_from(const struct msghdr *message, size_t from, size_t leng
 static int read_address(const struct msghdr *message, struct wire_j1939 *head) {
     head->has_address = message->msg_name != NULL;
     head->address_length = message->msg_namelen;
-    return !message->msg_name || copy_from(&head->address, message->msg_name,
-                                           MIN(message->msg_namelen, sizeof head->address))
+    return !message->msg_name ||
+                   copy_from(&head->address, message->msg_name, MIN(message->msg_namelen, sizeof head->address))
                ? 0
                : fail(EFAULT);
 }
@@ -242,8 +243,7 @@ static void put_control(struct msghdr *message, size_t room, int level, int type
         return;
     }
     message->msg_flags |= left < CMSG_LEN(length) ? MSG_CTRUNC : 0;
-    struct cmsghdr head = {
-        .cmsg_len = MIN(left, CMSG_LEN(length)), .cmsg_level = level, .cmsg_type = type};
+    struct cmsghdr head = {.cmsg_len = MIN(left, CMSG_LEN(length)), .cmsg_level = level, .cmsg_type = type};
     char *place = (char *)message->msg_control + used;
     copy_to(place, &head, sizeof head);
     copy_to(place + CMSG_LEN(0), data, head.cmsg_len - CMSG_LEN(0));
@@ -311,12 +311,9 @@ static struct attributes attributes_of(const struct wire_notice *notice) {
 }
 
 static struct sock_extended_err entry_of(const struct wire_notice *notice, int stamps) {
-    static const uint32_t infos[] = {[EVENT_SENT] = SCM_TSTAMP_ACK,
-                                     [EVENT_BEGUN] = SCM_TSTAMP_SCHED,
-                                     [EVENT_FAILED] = J1939_EE_INFO_TX_ABORT,
-                                     [EVENT_OFFERED] = J1939_EE_INFO_RX_RTS,
-                                     [EVENT_BLOCK] = J1939_EE_INFO_RX_DPO,
-                                     [EVENT_BROKEN] = J1939_EE_INFO_RX_ABORT};
+    static const uint32_t infos[] = {[EVENT_SENT] = SCM_TSTAMP_ACK,           [EVENT_BEGUN] = SCM_TSTAMP_SCHED,
+                                     [EVENT_FAILED] = J1939_EE_INFO_TX_ABORT, [EVENT_OFFERED] = J1939_EE_INFO_RX_RTS,
+                                     [EVENT_BLOCK] = J1939_EE_INFO_RX_DPO,    [EVENT_BROKEN] = J1939_EE_INFO_RX_ABORT};
     bool is_stamp = notice->what == EVENT_SENT || notice->what == EVENT_BEGUN;
     bool is_failure = notice->what == EVENT_FAILED || notice->what == EVENT_BROKEN;
     return (struct sock_extended_err){.ee_errno = is_failure ? (uint32_t)notice->error : ENOMSG,

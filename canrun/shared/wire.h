@@ -41,9 +41,10 @@ enum wire_kind {
     WIRE_ERROR,      /* takes the socket's error, which is the reply's value; 0 where another has taken it */
     WIRE_CLOSE,      /* the socket is closed once a byte comes by what is no pipe, but one end of a pair; the end of a
                       * message is waited for until another comes, or the other end is gone */
-    WIRE_NOTICE, /* takes the first entry of the error queue, which is the reply's data; its value is of enum wire_noticed */
-    WIRE_WATCH,  /* the value is whether the socket has an error, or an entry in its error queue; with a `number` the reply
-                  * is given once it has */
+    WIRE_NOTICE,     /* takes the first entry of the error queue, which is the reply's data; its value is of enum
+                        wire_noticed */
+    WIRE_WATCH,  /* the value is whether the socket has an error, or an entry in its error queue; with a `number` the
+                  * reply  is given once it has */
     WIRE_EMPTY,  /* takes the first message without data, which is the reply's data; its value, whether there is one */
     WIRE_FILL,   /* does nothing, but takes room in the socket while that has none for writes */
     WIRE_HOST,   /* connects to the host of the interface `ifindex`; where it is to be started the reply's data are its

@@ -30,7 +30,8 @@ static void says_name(int fd, bool is_peer, socklen_t room) {
     struct sockaddr_can can = {0};
     socklen_t length = room;
     errno = 0;
-    result(is_peer ? getpeername(fd, (struct sockaddr *)&can, &length) : getsockname(fd, (struct sockaddr *)&can, &length));
+    result(is_peer ? getpeername(fd, (struct sockaddr *)&can, &length)
+                   : getsockname(fd, (struct sockaddr *)&can, &length));
     say("/%u:%d,%llX,%X,%X", length, can.can_ifindex != 0, (unsigned long long)can.can_addr.j1939.name,
         can.can_addr.j1939.pgn, can.can_addr.j1939.addr);
 }
@@ -58,17 +59,18 @@ CASE(connected_receives, a = node(OWN), b = line(), DO(connect(a, WAY("can0", 0,
 #define J1939(option) SOL_CAN_J1939, SO_J1939_##option
 CASE(options_usual, a = j1939(), get(a, J1939(PROMISC), 4), get(a, J1939(SEND_PRIO), 4), get(a, J1939(ERRQUEUE), 4),
      get(a, J1939(FILTER), 4), get(a, SOL_CAN_J1939, 9, 4))
-CASE(options_flags, a = j1939(), DO(set(a, J1939(PROMISC), 1)), get(a, J1939(PROMISC), 4), DO(set(a, J1939(PROMISC), 5)),
-     DO(set(a, J1939(PROMISC), 0)), get(a, J1939(PROMISC), 4), DO(set(a, J1939(PROMISC), -1)), get(a, J1939(PROMISC), 4),
-     DO(set(a, J1939(ERRQUEUE), 7)), get(a, J1939(ERRQUEUE), 4), DO(set(a, J1939(ERRQUEUE), 0)))
+CASE(options_flags, a = j1939(), DO(set(a, J1939(PROMISC), 1)), get(a, J1939(PROMISC), 4),
+     DO(set(a, J1939(PROMISC), 5)), DO(set(a, J1939(PROMISC), 0)), get(a, J1939(PROMISC), 4),
+     DO(set(a, J1939(PROMISC), -1)), get(a, J1939(PROMISC), 4), DO(set(a, J1939(ERRQUEUE), 7)),
+     get(a, J1939(ERRQUEUE), 4), DO(set(a, J1939(ERRQUEUE), 0)))
 CASE(options_priority, a = j1939(), DO(set(a, J1939(SEND_PRIO), 3)), get(a, J1939(SEND_PRIO), 4),
      get(a, SOL_SOCKET, SO_PRIORITY, 4), DO(set(a, J1939(SEND_PRIO), 8)), DO(set(a, J1939(SEND_PRIO), -1)),
      DO(set(a, J1939(SEND_PRIO), 0)), get(a, J1939(SEND_PRIO), 4))
 CASE(options_socket_priority, a = j1939(), DO(set(a, SOL_SOCKET, SO_PRIORITY, 5)), get(a, J1939(SEND_PRIO), 4),
      DO(set(a, SOL_SOCKET, SO_PRIORITY, 0)), get(a, J1939(SEND_PRIO), 4))
 CASE(options_lengths, a = j1939(), SETS(a, J1939(PROMISC), "abcdefgh", 3), SETS(a, J1939(PROMISC), "abcdefgh", 8),
-     SETS(a, J1939(SEND_PRIO), "abc", 2), get(a, J1939(PROMISC), 3), get(a, J1939(PROMISC), 0), get(a, J1939(PROMISC), 9),
-     SETS(a, J1939(PROMISC), nowhere, 4))
+     SETS(a, J1939(SEND_PRIO), "abc", 2), get(a, J1939(PROMISC), 3), get(a, J1939(PROMISC), 0),
+     get(a, J1939(PROMISC), 9), SETS(a, J1939(PROMISC), nowhere, 4))
 CASE(options_unknown, a = j1939(), DO(set(a, SOL_CAN_J1939, 0, 1)), DO(set(a, SOL_CAN_J1939, 5, 1)),
      DO(set(a, SOL_CAN_RAW, 1, 1)), get(a, SOL_CAN_RAW, 1, 4))
 static char *text(size_t length) {
@@ -88,14 +90,13 @@ CASE(send_to_all, a = broadcast(node(OWN)), b = line(), send_to(a, ALL, GROUP, 1
      DO(write(a, "x", 1)), take(b, 3))
 CASE(send_group_to_all, a = node(OWN), b = line(), send_to(a, OTHER, GROUP_TO_ALL, 2), take(b, 1))
 CASE(send_no_group, a = node(OWN), b = line(), send_to(a, OTHER, NO_GROUP, 2), take(b, 1))
-CASE(send_short_address, a = node(OWN),
-     DO(sendto(a, "x", 1, 0, (struct sockaddr *)way("can0", 0, GROUP, OTHER), 23)))
+CASE(send_short_address, a = node(OWN), DO(sendto(a, "x", 1, 0, (struct sockaddr *)way("can0", 0, GROUP, OTHER), 23)))
 CASE(send_inet, a = node(OWN), DO(sendto(a, "x", 1, 0, TO((&(struct sockaddr_can){AF_INET, 1, {{0}}})))))
 CASE(send_other_interface, a = node(OWN), DO(sendto(a, "x", 1, 0, WAY("can1", 0, GROUP, OTHER))))
 CASE(send_any_interface, a = node(OWN), b = line(), DO(sendto(a, "x", 1, 0, WAY(NULL, 0, GROUP, OTHER))), take(b, 1))
 CASE(send_group_with_destination, a = node(OWN), send_to(a, OTHER, GROUP + 1, 1))
-CASE(send_transport, a = node(OWN), send_to(a, OTHER, 0xEC00, 8), send_to(a, OTHER, 0xEB00, 8), send_to(a, OTHER, 0xC800, 8),
-     send_to(a, OTHER, 0xC700, 8))
+CASE(send_transport, a = node(OWN), send_to(a, OTHER, 0xEC00, 8), send_to(a, OTHER, 0xEB00, 8),
+     send_to(a, OTHER, 0xC800, 8), send_to(a, OTHER, 0xC700, 8))
 CASE(send_too_long_to_all, a = broadcast(node(OWN)), send_to(a, ALL, GROUP_TO_ALL, 1786))
 CASE(send_nowhere, a = node(OWN), DO(sendto(a, nowhere, 4, 0, WAY("can0", 0, GROUP, OTHER))))
 #define SENDS(length) CASE(send_##length, a = node(OWN), b = line(), send_to(a, OTHER, GROUP, length), take(b, 1))
@@ -115,7 +116,8 @@ HEARD(get_one, node(OWN), HEARS(b, 0x19238090, 1, 2, 3), receive(a))
 HEARD(get_8, node(OWN), HEARS(b, 0x0C238090, 1, 2, 3, 4, 5, 6, 7, 8), receive(a))
 HEARD(get_other_address, node(OWN), HEARS(b, 0x1923A090, 1), receive_none(a))
 HEARD(get_to_all, node(OWN), HEARS(b, 0x18FE1290, 1), HEARS(b, 0x1923FF90, 1), receive_none(a))
-HEARD(get_to_all_broadcast, broadcast(node(OWN)), HEARS(b, 0x18FE1290, 1), HEARS(b, 0x1923FF90, 2), receive(a), receive(a))
+HEARD(get_to_all_broadcast, broadcast(node(OWN)), HEARS(b, 0x18FE1290, 1), HEARS(b, 0x1923FF90, 2), receive(a),
+      receive(a))
 HEARD(get_promiscuous, node(OWN), DO(set(a, J1939(PROMISC), 1)), HEARS(b, 0x1923A090, 1), HEARS(b, 0x18FE1290, 2),
       receive(a), receive(a))
 HEARD(get_without_address, node(ALL), HEARS(b, 0x1923A090, 1), HEARS(b, 0x18FE1290, 2), receive_none(a), broadcast(a),
@@ -155,7 +157,8 @@ FILTERED(filter_group, KEEPS(a, {.pgn = GROUP, .pgn_mask = 0x3FFFF}), HEARS(b, 0
 FILTERED(filter_address, KEEPS(a, {.addr = OTHER, .addr_mask = 0xFF}), HEARS(b, 0x192380A0, 1), HEARS(b, 0x19238090, 2),
          receive(a), receive_none(a))
 FILTERED(filter_two, KEEPS(a, {.addr = OTHER, .addr_mask = 0xFF}, {.pgn = 0x12400, .pgn_mask = 0x3FFFF}),
-         HEARS(b, 0x192380A0, 1), HEARS(b, 0x192480A0, 2), HEARS(b, 0x19238090, 3), receive(a), receive(a), receive_none(a))
+         HEARS(b, 0x192380A0, 1), HEARS(b, 0x192480A0, 2), HEARS(b, 0x19238090, 3), receive(a), receive(a),
+         receive_none(a))
 FILTERED(filter_past_mask, KEEPS(a, {.addr = OTHER | 1, .addr_mask = 0xF0}), HEARS(b, 0x192380A0, 1),
          HEARS(b, 0x19238095, 2), receive(a), receive_none(a))
 FILTERED(filter_name, KEEPS(a, {.name = OTHER_NAME, .name_mask = ~0ull}), HEARS(b, 0x19238090, 1), receive_none(a),

@@ -230,10 +230,8 @@ static void say_entry(const struct cmsghdr *one) {
 
 void notice_into(int fd, size_t room, size_t control) {
     _Alignas(8) char controls[300], data[100];
-    struct msghdr message = {.msg_iov = &(struct iovec){data, room},
-                             .msg_iovlen = 1,
-                             .msg_control = controls,
-                             .msg_controllen = control};
+    struct msghdr message = {
+        .msg_iov = &(struct iovec){data, room}, .msg_iovlen = 1, .msg_control = controls, .msg_controllen = control};
     struct pollfd polled = {fd, 0, 0};
     poll(&polled, 1, 4000);
     errno = 0;

@@ -43,8 +43,8 @@ CASE(send_next_waits, RTS(9), send_to(a, OTHER, GROUP, 3), take(b, 0), CTS(2, 1)
 CASE(send_to_two, SENDER, c = node(THIRD), send_to(a, OTHER, GROUP, 9), send_to(c, OTHER, GROUP, 9), take(b, 2))
 CASE(send_same_by_two, SENDER, c = node(OWN), send_to(a, OTHER, GROUP, 9), take(b, 1), send_to(c, OTHER, GROUP, 9),
      send_to(c, OTHER, GROUP, 3), take(b, 1))
-CASE(send_rts_back, RTS(9), CONTROLS(b, 0x10, 9, 0, 2, 2, 0, 0x23, 1), take(b, 1), CTS(2, 1), take(b, 2), packets(b, 1, 2),
-     take(b, 1), receive(a))
+CASE(send_rts_back, RTS(9), CONTROLS(b, 0x10, 9, 0, 2, 2, 0, 0x23, 1), take(b, 1), CTS(2, 1), take(b, 2),
+     packets(b, 1, 2), take(b, 1), receive(a))
 CASE(send_no_wait, SENDER, send_flags(a, OTHER, GROUP, 16, MSG_DONTWAIT), take(b, 1))
 CASE(send_priority, SENDER, DO(set(a, SOL_CAN_J1939, SO_J1939_SEND_PRIO, 3)), send_to(a, OTHER, GROUP, 9), take(b, 1))
 CASE(send_group_to_all, SENDER, send_to(a, OTHER, GROUP_TO_ALL, 9), take(b, 1))
@@ -63,7 +63,8 @@ CASE(bam_get_order, TO_ALL, BAM(20, 3), BAM_DATA(2), BAM_DATA(1), BAM_DATA(3), p
 CASE(bam_get_late, TO_ALL, BAM(10, 2), BAM_DATA(1), pass(900), BAM_DATA(2), receive_none(a))
 CASE(bam_get_again, TO_ALL, BAM(10, 2), BAM_DATA(1), BAM(10, 2), BAM_DATA(1), BAM_DATA(2), receive_none(a))
 CASE(bam_to_one, SENDER, CONTROLS(b, 0x20, 10, 0, 2, 0xFF, 0x12, 0xFE, 0), packets(b, 1, 2), take(b, 0))
-CASE(bam_own_interface, TO_ALL, c = broadcast(node(OTHER)), send_to(a, ALL, GROUP_TO_ALL, 20), receive(c), receive_none(a))
+CASE(bam_own_interface, TO_ALL, c = broadcast(node(OTHER)), send_to(a, ALL, GROUP_TO_ALL, 20), receive(c),
+     receive_none(a))
 CASE(bam_short_data, TO_ALL, BAM(10, 2), HEARS(b, 0x18EBFF90, 1, 2), BAM_DATA(1), BAM_DATA(2), receive_none(a))
 
 /* What is not over when the last socket is closed would end in the next case. */
@@ -75,36 +76,42 @@ CASE(get_in_blocks, SENDER, REQUESTS(30, 5, 2), take(b, 1), packets(b, 1, 2), ta
 CASE(get_other_address, SENDER, HEARS(b, 0x18ECA090, 0x10, 10, 0, 2, 2, 0, 0x23, 1), take(b, 0))
 CASE(get_promiscuous, SENDER, DO(set(a, SOL_CAN_J1939, SO_J1939_PROMISC, 1)),
      HEARS(b, 0x18ECA090, 0x10, 10, 0, 2, 2, 0, 0x23, 1), take(b, 0), receive(a), receive_none(a))
-CASE(get_unwanted_group, a = j1939(), DO(bind(a, WAY("can0", 0, 0x12400, OWN))), b = line(), REQUESTS(10, 2, 2), take(b, 0))
+CASE(get_unwanted_group, a = j1939(), DO(bind(a, WAY("can0", 0, 0x12400, OWN))), b = line(), REQUESTS(10, 2, 2),
+     take(b, 0))
 CASE(get_by_second_socket, a = j1939(), DO(bind(a, WAY("can0", 0, 0x12400, OWN))), c = node(OWN), b = line(),
      REQUESTS(10, 2, 2), take(b, 1), packets(b, 1, 2), take(b, 1), receive(c), receive_none(a))
-CASE(get_by_both, SENDER, c = node(OWN), REQUESTS(10, 2, 2), take(b, 1), packets(b, 1, 2), take(b, 1), receive(c), receive(a))
+CASE(get_by_both, SENDER, c = node(OWN), REQUESTS(10, 2, 2), take(b, 1), packets(b, 1, 2), take(b, 1), receive(c),
+     receive(a))
 CASE(get_8, SENDER, REQUESTS(8, 2, 2), take(b, 1))
 CASE(get_1786, SENDER, CONTROLS(b, 0x10, 0xFA, 6, 255, 255, 0, 0x23, 1), take(b, 1))
-CASE(get_wrong_total, SENDER, REQUESTS(10, 3, 3), take(b, 1), packets(b, 1, 2), take(b, 0), packets(b, 3, 1), take(b, 1))
+CASE(get_wrong_total, SENDER, REQUESTS(10, 3, 3), take(b, 1), packets(b, 1, 2), take(b, 0), packets(b, 3, 1),
+     take(b, 1))
 CASE(get_at_most_0, SENDER, REQUESTS(10, 2, 0), take(b, 1), take(b, 0), ENDS)
 CASE(get_no_data, SENDER, REQUESTS(10, 2, 2), take(b, 1), pass(1400), take(b, 1), receive_none(a), error_of(a))
 CASE(get_rest_missing, SENDER, REQUESTS(20, 3, 3), take(b, 1), packets(b, 1, 2), pass(900), take(b, 1), receive_none(a))
 CASE(get_packet_missing, SENDER, REQUESTS(20, 3, 3), take(b, 1), packets(b, 1, 1), packets(b, 3, 1), take(b, 0), ENDS)
-CASE(get_packet_twice, SENDER, REQUESTS(20, 3, 3), take(b, 1), packets(b, 1, 1), packets(b, 1, 3), take(b, 1), receive(a))
+CASE(get_packet_twice, SENDER, REQUESTS(20, 3, 3), take(b, 1), packets(b, 1, 1), packets(b, 1, 3), take(b, 1),
+     receive(a))
 CASE(get_packet_0, SENDER, REQUESTS(20, 3, 3), take(b, 1), packets(b, 0, 1), take(b, 1))
 CASE(get_packet_9, SENDER, REQUESTS(20, 3, 3), take(b, 1), packets(b, 9, 1), take(b, 1))
 CASE(get_short_packet, SENDER, REQUESTS(20, 3, 3), take(b, 1), HEARS(b, 0x18EB8090, 1, 2, 3), take(b, 1))
 CASE(get_packets_of_nothing, SENDER, packets(b, 1, 2), take(b, 0), receive_none(a))
-CASE(get_packet_after_end, SENDER, REQUESTS(10, 2, 2), take(b, 1), packets(b, 1, 2), take(b, 1), packets(b, 3, 1), take(b, 0))
+CASE(get_packet_after_end, SENDER, REQUESTS(10, 2, 2), take(b, 1), packets(b, 1, 2), take(b, 1), packets(b, 3, 1),
+     take(b, 0))
 CASE(get_short_control, SENDER, CONTROLS(b, 0x10, 10, 0, 2), take(b, 0))
 CASE(get_odd_control, SENDER, CONTROLS(b, 0x30, 10, 0, 2, 2, 0, 0x23, 1), take(b, 0))
-CASE(get_request_again, SENDER, REQUESTS(10, 2, 2), take(b, 1), REQUESTS(10, 2, 2), take(b, 1),
-     REQUESTS(10, 2, 2), take(b, 1), ENDS)
-CASE(get_request_of_other_group, SENDER, REQUESTS(10, 2, 2), take(b, 1), CONTROLS(b, 0x10, 10, 0, 2, 2, 0, 0x24, 1), take(b, 1),
-     packets(b, 1, 2), take(b, 1), receive(a))
+CASE(get_request_again, SENDER, REQUESTS(10, 2, 2), take(b, 1), REQUESTS(10, 2, 2), take(b, 1), REQUESTS(10, 2, 2),
+     take(b, 1), ENDS)
+CASE(get_request_of_other_group, SENDER, REQUESTS(10, 2, 2), take(b, 1), CONTROLS(b, 0x10, 10, 0, 2, 2, 0, 0x24, 1),
+     take(b, 1), packets(b, 1, 2), take(b, 1), receive(a))
 CASE(get_request_to_all, TO_ALL, HEARS(b, 0x18ECFF90, 0x10, 10, 0, 2, 2, 0, 0x23, 1), take(b, 0))
-CASE(get_aborted, SENDER, REQUESTS(10, 2, 2), take(b, 1), ABORTS(3), packets(b, 1, 2), take(b, 0), receive_none(a), error_of(a))
+CASE(get_aborted, SENDER, REQUESTS(10, 2, 2), take(b, 1), ABORTS(3), packets(b, 1, 2), take(b, 0), receive_none(a),
+     error_of(a))
 CASE(get_from_two, SENDER, REQUESTS(10, 2, 2), HEARS(b, 0x18EC80A0, 0x10, 11, 0, 2, 2, 0, 0x23, 1), take(b, 2),
-     packets(b, 1, 1), HEARS(b, 0x18EB80A0, 1, 2, 2, 2, 2, 2, 2, 2), packets(b, 2, 1), HEARS(b, 0x18EB80A0, 2, 3, 3, 3, 3, 3, 3, 3),
-     take(b, 2), receive(a), receive(a))
-CASE(get_by_priority, SENDER, HEARS(b, 0x1CEC8090, 0x10, 10, 0, 2, 2, 0, 0x23, 1), take(b, 1), packets(b, 1, 2), take(b, 1),
-     receive(a))
+     packets(b, 1, 1), HEARS(b, 0x18EB80A0, 1, 2, 2, 2, 2, 2, 2, 2), packets(b, 2, 1),
+     HEARS(b, 0x18EB80A0, 2, 3, 3, 3, 3, 3, 3, 3), take(b, 2), receive(a), receive(a))
+CASE(get_by_priority, SENDER, HEARS(b, 0x1CEC8090, 0x10, 10, 0, 2, 2, 0, 0x23, 1), take(b, 1), packets(b, 1, 2),
+     take(b, 1), receive(a))
 
 #define ASKS(length, more) EXTENDED_CONTROLS(b, 0x14, length, more, 0, 0, 0, 0x23, 1)
 #define CLEARS(number, first) EXTENDED_CONTROLS(b, 0x15, number, first, 0, 0, 0, 0x23, 1)
@@ -116,8 +123,8 @@ CASE(extended_send_whole, SENDER, send_to(a, OTHER, GROUP, 1800), take(b, 1), CL
 CASE(extended_send_aborted, SENDER, send_to(a, OTHER, GROUP, 1800), take(b, 1),
      EXTENDED_CONTROLS(b, 0xFF, 2, 0xFF, 0xFF, 0xFF, 0, 0x23, 1), pass(50), error_of(a))
 CASE(extended_get, SENDER, ASKS(0xFA, 6), take(b, 1), EXTENDED_CONTROLS(b, 0x16, 255, 0, 0, 0, 0, 0x23, 1),
-     extended_packets(b, 1, 255), take(b, 1), EXTENDED_CONTROLS(b, 0x16, 1, 255, 0, 0, 0, 0x23, 1), extended_packets(b, 1, 1),
-     take(b, 1), receive(a))
+     extended_packets(b, 1, 255), take(b, 1), EXTENDED_CONTROLS(b, 0x16, 1, 255, 0, 0, 0, 0x23, 1),
+     extended_packets(b, 1, 1), take(b, 1), receive(a))
 CASE(extended_get_too_short, SENDER, ASKS(0xF9, 6), take(b, 1))
 CASE(extended_get_without_offset, SENDER, ASKS(0xFA, 6), take(b, 1), extended_packets(b, 1, 1), take(b, 1))
 CASE(extended_get_offset_of_other_group, SENDER, ASKS(0xFA, 6), take(b, 1),
@@ -135,14 +142,15 @@ BOTH_SEND(10000)
 BOTH_SEND(20000)
 CASE(both_ways, BOTH, send_to(a, OTHER, GROUP, 100), send_to(c, OWN, GROUP, 200), receive(c), receive(a))
 CASE(both_interfaces, a = node(OWN), c = node_on("can1", OTHER), send_to(a, OTHER, GROUP, 3000), receive(c))
-CASE(both_several, BOTH, send_to(a, OTHER, GROUP, 9), send_to(a, OTHER, GROUP, 5), send_to(a, OTHER, GROUP, 20), receive(c),
-     receive(c), receive(c))
+CASE(both_several, BOTH, send_to(a, OTHER, GROUP, 9), send_to(a, OTHER, GROUP, 5), send_to(a, OTHER, GROUP, 20),
+     receive(c), receive(c), receive(c))
 CASE(both_cut, BOTH, send_to(a, OTHER, GROUP, 100), receive_into(c, 10, 300, 24), receive_none(c))
 CASE(both_in_pieces, BOTH,
-     DO(sendmsg(a, &(struct msghdr){.msg_name = way("can0", 0, GROUP, OTHER),
-                                    .msg_namelen = 24,
-                                    .msg_iov = (struct iovec[]){{"\1\2\3", 3}, {"", 0}, {"\4\5\6\7\10\11\12\13", 8}},
-                                    .msg_iovlen = 3},
+     DO(sendmsg(a,
+                &(struct msghdr){.msg_name = way("can0", 0, GROUP, OTHER),
+                                 .msg_namelen = 24,
+                                 .msg_iov = (struct iovec[]){{"\1\2\3", 3}, {"", 0}, {"\4\5\6\7\10\11\12\13", 8}},
+                                 .msg_iovlen = 3},
                 0)),
      receive(c))
 
@@ -155,20 +163,21 @@ static void flood_segments(int fd, int number, int flags) {
     say(" %d %s", done, done < number ? strerrorname_np(errno) : "all");
 }
 CASE(room_behind_transfer, SENDER, send_to(a, OTHER, GROUP, 9), flood_segments(a, 1000, MSG_DONTWAIT))
-CASE(room_events, SENDER, send_to(a, OTHER, GROUP, 9), take(b, 1), flood_segments(a, 100, MSG_DONTWAIT), events(a, POLLOUT),
-     flood_segments(a, 50, MSG_DONTWAIT), events(a, POLLOUT), CTS(2, 1), take(b, 2), DONE(9, 2), take_last(b, 150),
-     until(a, POLLOUT), events(a, POLLOUT))
+CASE(room_events, SENDER, send_to(a, OTHER, GROUP, 9), take(b, 1), flood_segments(a, 100, MSG_DONTWAIT),
+     events(a, POLLOUT), flood_segments(a, 50, MSG_DONTWAIT), events(a, POLLOUT), CTS(2, 1), take(b, 2), DONE(9, 2),
+     take_last(b, 150), until(a, POLLOUT), events(a, POLLOUT))
 CASE(room_events_of_long, SENDER, send_flags(a, OTHER, GROUP, 100000, MSG_DONTWAIT), events(a, POLLIN | POLLOUT))
 CASE(room_small, SENDER, DO(set(a, SOL_SOCKET, SO_SNDBUF, 3000)), send_to(a, OTHER, GROUP, 9),
      flood_segments(a, 1000, MSG_DONTWAIT))
-CASE(room_of_long, SENDER, send_flags(a, OTHER, GROUP, 100000, MSG_DONTWAIT), send_flags(a, OTHER, GROUP, 100, MSG_DONTWAIT),
-     send_flags(a, OTHER, GROUP, 12535, MSG_DONTWAIT), take(b, 1))
-CASE(room_waits, SENDER, DO(set(a, SOL_SOCKET, SO_SNDBUF, 3000)), send_to(a, OTHER, GROUP, 9),
-     flood_segments(a, 7, 0), BESIDE(100, ABORTS(2)), flood_segments(a, 1, 0))
+CASE(room_of_long, SENDER, send_flags(a, OTHER, GROUP, 100000, MSG_DONTWAIT),
+     send_flags(a, OTHER, GROUP, 100, MSG_DONTWAIT), send_flags(a, OTHER, GROUP, 12535, MSG_DONTWAIT), take(b, 1))
+CASE(room_waits, SENDER, DO(set(a, SOL_SOCKET, SO_SNDBUF, 3000)), send_to(a, OTHER, GROUP, 9), flood_segments(a, 7, 0),
+     BESIDE(100, ABORTS(2)), flood_segments(a, 1, 0))
 CASE(room_interrupted, SENDER, signals(0), DO(set(a, SOL_SOCKET, SO_SNDBUF, 3000)), send_to(a, OTHER, GROUP, 9),
      flood_segments(a, 7, 0), soon(), flood_segments(a, 1, 0), caught())
-CASE(close_waits, SENDER, send_to(a, OTHER, GROUP, 9), take(b, 1), BESIDE(100, CTS(2, 1), pass(50), DONE(9, 2)), lasts_from(),
-     close(a), lasted(100), take(b, 2))
-CASE(close_interrupted, SENDER, signals(0), send_to(a, OTHER, GROUP, 9), take(b, 1), soon(), lasts_from(), close(a), lasted(1000),
-     CTS(2, 1), take(b, 0))
-CASE(close_waits_for_abort, SENDER, send_to(a, OTHER, GROUP, 9), take(b, 1), lasts_from(), close(a), lasted(1500), take(b, 1))
+CASE(close_waits, SENDER, send_to(a, OTHER, GROUP, 9), take(b, 1), BESIDE(100, CTS(2, 1), pass(50), DONE(9, 2)),
+     lasts_from(), close(a), lasted(100), take(b, 2))
+CASE(close_interrupted, SENDER, signals(0), send_to(a, OTHER, GROUP, 9), take(b, 1), soon(), lasts_from(), close(a),
+     lasted(1000), CTS(2, 1), take(b, 0))
+CASE(close_waits_for_abort, SENDER, send_to(a, OTHER, GROUP, 9), take(b, 1), lasts_from(), close(a), lasted(1500),
+     take(b, 1))

@@ -1,8 +1,8 @@
 /* A node that speaks J1939, at an address of an interface:
  *
  *     j1939 INTERFACE ADDRESS receive N        writes the lengths of N messages
- *     j1939 INTERFACE ADDRESS send TO LENGTH   sends a message, and writes when which error of its socket has come, if any
- *     j1939 INTERFACE ADDRESS claim            claims the address, and writes when it can be used
+ *     j1939 INTERFACE ADDRESS send TO LENGTH   sends a message, and writes when which error of its socket has come, if
+ * any j1939 INTERFACE ADDRESS claim            claims the address, and writes when it can be used
  */
 #include "node.h"
 
