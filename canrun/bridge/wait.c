@@ -29,11 +29,14 @@ bool wait_for_input(int64_t nanoseconds, bool takes_requests) {
     polled[1] = (struct pollfd){news, POLLIN, 0};
     /* Who has borrowed the session reads its replies; only its end is for this bridge. */
     short news_of_session = quick_lend() ? POLLRDHUP : POLLIN;
-    polled[2] = (struct pollfd){protocol->descriptor ? protocol->descriptor() : -1, POLLIN, 0};
     for (int i = 0; i < session_count; i++) {
-        polled[3 + i] = (struct pollfd){outbox_is_crowded() ? -1 : sessions[i]->fd, news_of_session, 0};
+        polled[2 + i] = (struct pollfd){outbox_is_crowded() ? -1 : sessions[i]->fd, news_of_session, 0};
     }
-    int ready = wait_for(polled, 3 + (nfds_t)session_count, is_kept ? 0 : nanoseconds);
+    nfds_t count = 2 + (nfds_t)session_count;
+    if (protocol->descriptor) {
+        polled[count++] = (struct pollfd){protocol->descriptor(), POLLIN, 0};
+    }
+    int ready = wait_for(polled, count, is_kept ? 0 : nanoseconds);
     quick_take_back();
     if (ready <= 0) {
         return is_kept;
@@ -43,7 +46,7 @@ bool wait_for_input(int64_t nanoseconds, bool takes_requests) {
         outbox_flush();
     }
     for (int i = 0; i < session_count; i++) {
-        if (polled[3 + i].revents) {
+        if (polled[2 + i].revents) {
             session_read(sessions[i], false);
         }
     }
