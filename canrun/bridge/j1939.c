@@ -165,6 +165,8 @@ static bool set_socket(int option, int number) {
     case SO_PRIORITY: priority = (uint8_t)(7 - MIN(MAX(number, 0), 7)); return true;
     case SO_SNDBUF:
     case SO_SNDBUFFORCE: writes_set_room(number); return true;
+    case SO_RCVBUF:
+    case SO_RCVBUFFORCE: outbox_set(option, MAX(number, 2 * WIRE_LARGEST_J1939)); return true;
     case SO_TIMESTAMPING_OLD:
     case SO_TIMESTAMPING_NEW:
         if (number & ~errors_wanted & SOF_TIMESTAMPING_OPT_ID) {
@@ -252,6 +254,16 @@ static void take_message(const struct j1939_told *told, const char *data, size_t
     }
 }
 
+/* The server is gone, or the host: the socket has an error, and is bound to nothing. */
+static void leave(void) {
+    link_close();
+    if (own_index) {
+        own_index = 0;
+        error_change(ENODEV);
+        writes_leave();
+    }
+}
+
 static void take_told(const struct j1939_told *told, const char *data, size_t length) {
     struct wire_notice notice = told->notice;
     switch (told->kind) {
@@ -267,11 +279,7 @@ static void take_told(const struct j1939_told *told, const char *data, size_t le
         break;
     case TOLD_FREED: writes_free(told->size); break;
     case TOLD_ENDED: writes_end(told->key); break;
-    case TOLD_GONE:
-        error_change(ENODEV);
-        own_index = 0;
-        writes_leave();
-        break;
+    case TOLD_GONE: leave(); break;
     default: break;
     }
 }
@@ -291,6 +299,13 @@ static int64_t j1939_due(void) {
         link_close();
     }
     return -1;
+}
+
+/* The longest message has room in the socket. */
+static void open_socket(void) {
+    const int room = WIRE_LARGEST_J1939;
+    setsockopt(PROGRAM, SOL_SOCKET, SO_SNDBUF, &room, sizeof room);
+    outbox_keep_ways();
 }
 
 /* The close of a socket waits also until the host knows. */
@@ -337,7 +352,7 @@ static int j1939_request(const struct wire_request *request, int reply_to, struc
 
 const struct protocol j1939_protocol = {
     .is_full = writes_are_full,
-    .open = outbox_keep_ways,
+    .open = open_socket,
     .bind = j1939_bind,
     .connect = j1939_connect,
     .getname = j1939_getname,

@@ -28,7 +28,9 @@ int link_fd(void) {
 }
 
 void link_close(void) {
-    close(fd);
+    if (fd >= 0) {
+        close(fd);
+    }
     fd = -1;
 }
 
@@ -112,6 +114,7 @@ static int reply(void) {
         if (length >= 0) {
             keep(&told, (size_t)length);
         } else if (fd >= 0 && poll(&(struct pollfd){fd, POLLIN, 0}, 1, PATIENCE * 1000) <= 0 && clock_now() >= until) {
+            link_close(); /* A reply that comes late is none to another request. */
             return refused(ETIMEDOUT, "the host of the interface does not reply");
         }
     }

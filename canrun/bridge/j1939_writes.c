@@ -35,7 +35,7 @@ static uint32_t keys, keys_before; /* messages until now; and those before they 
 static unsigned pending;           /* messages that are not over */
 static int used, room = ROOM_MOST;
 /* The message whose rest the next write has. */
-static struct { uint32_t key, left; } open;
+static uint32_t open_key, open_left; /* how many bytes that is */
 
 static int cost_of(uint32_t length) {
     int size = BUFFER_LEAST;
@@ -80,8 +80,8 @@ void writes_free(uint32_t length) {
 
 void writes_end(uint32_t key) {
     pending--;
-    if (open.key == key) {
-        open.left = 0;
+    if (open_key == key) {
+        open_left = 0;
     }
 }
 
@@ -112,9 +112,9 @@ static int hand_on(struct turn *turn, size_t length, int cost) {
     used += cost;
     pending += turn->is_first;
     keys += turn->is_first;
-    open.left = turn->is_first ? turn->size : open.left;
-    open.key = turn->key;
-    open.left -= MIN((uint32_t)length, open.left);
+    open_left = turn->is_first ? turn->size : open_left;
+    open_key = turn->key;
+    open_left -= MIN((uint32_t)length, open_left);
     turn->is_first = false;
     turn->done += length;
     return error;
@@ -132,7 +132,7 @@ static int go_on(struct turn *turn) {
         if (!cost) {
             return turn->may_wait ? SENT_LATER : refused(EAGAIN, "SO_SNDBUF has no room");
         }
-        turn->key = turn->is_first ? keys : open.key;
+        turn->key = turn->is_first ? keys : open_key;
         error = hand_on(turn, length, cost);
         if (error) {
             return error;
@@ -181,7 +181,7 @@ void writes_leave(void) {
     }
     pending = 0;
     used = 0;
-    open.left = 0;
+    open_left = 0;
 }
 
 static struct turn *make(const struct wire_way *way, uint32_t size, const char *data, size_t length, int reply_to) {
@@ -196,10 +196,10 @@ static struct turn *make(const struct wire_way *way, uint32_t size, const char *
 int writes_add(const struct wire_request *request, const struct wire_way *way, uint32_t size, const char *data,
                size_t length, int reply_to) {
     bool is_rest = request->option;
-    if (is_rest && !open.left) {
+    if (is_rest && !open_left) {
         return 0; /* The message is over, and what is left of it with it, as in the kernel. */
     }
-    if (!is_rest && open.left && open.left != size) {
+    if (!is_rest && open_left && open_left != size) {
         return refused(EIO, "the rest of the message before has another length");
     }
     if (turns && request->number == WIRE_NO_WAIT) {
@@ -209,7 +209,7 @@ int writes_add(const struct wire_request *request, const struct wire_way *way, u
     if (!turn) {
         return refused(ENOMEM, "no memory for a message");
     }
-    turn->is_first = !open.left;
+    turn->is_first = !open_left;
     turn->may_wait = request->number != WIRE_NO_WAIT;
     while (*last) {
         last = &(*last)->next;
