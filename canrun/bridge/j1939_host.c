@@ -10,6 +10,7 @@
 #include <string.h>
 #include <sys/socket.h>
 #include <sys/un.h>
+#include <time.h>
 #include <unistd.h>
 
 #define MEMBERS 1000
@@ -131,11 +132,21 @@ static void host_receive(const struct item *item, int index) {
     }
 }
 
+static uint64_t moment;
+
+uint64_t host_moment(void) {
+    struct timespec now;
+    clock_gettime(CLOCK_REALTIME, &now);
+    return moment ? moment : (uint64_t)now.tv_sec * SECOND + (uint64_t)now.tv_nsec;
+}
+
 static void take_waiting(void) {
     while (first_waiting != end_waiting) {
         struct item item = waiting[first_waiting++ % WAITING];
+        moment = item.moment;
         take_frame(&item);
     }
+    moment = 0;
 }
 
 /* ---- time ---- */

@@ -35,6 +35,8 @@ int host_run(void);
 /* Lets no more sockets in. */
 void host_close(void);
 
+/* The moment of the frame that is being taken, else that of now, since 1970. */
+uint64_t host_moment(void);
 /* Sends a frame, whose names are resolved; an errno, or 0, and its number. */
 int host_put(const struct wire_way *way, const uint8_t *data, size_t length, uint64_t *number);
 /* Resolves the names of a message that is to be sent. Returns an errno, or 0. */

@@ -165,6 +165,7 @@ void transfer_notice(const struct transfer *transfer, enum wire_event what) {
     struct j1939_told told = {.kind = TOLD_NOTICE};
     told.notice = (struct wire_notice){.way = transfer->way,
                                        .error = transfer->error,
+                                       .nanoseconds = host_moment(),
                                        .what = what,
                                        .key = transfer->key,
                                        .size = transfer->size,

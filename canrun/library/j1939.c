@@ -93,16 +93,13 @@ static int flag_result(int value) {
 }
 
 static int set_filters(const struct socket *sock, const void *value, socklen_t length) {
-    struct j1939_filter filters[J1939_FILTER_MAX];
+    const size_t size = sizeof(struct j1939_filter);
     length = value ? length : 0;
-    if (length % sizeof *filters || length > sizeof filters) {
+    if (length % size || length / size > J1939_FILTER_MAX) {
         return refuse("setsockopt", EINVAL, "these are no filters, or more than 512");
     }
-    if (!copy_from(filters, value, length)) {
-        return fail(EFAULT);
-    }
     struct wire_request request = {.kind = WIRE_SET, .option = SO_J1939_FILTER, .length = length};
-    return ask(sock->fd, "setsockopt", &request, &(struct iovec){filters, length}, 1, NULL);
+    return ask(sock->fd, "setsockopt", &request, &(struct iovec){(void *)value, length}, 1, NULL);
 }
 
 static int j1939_setsockopt(const struct socket *sock, int level, int option, const void *value, socklen_t length) {
@@ -126,7 +123,7 @@ static int j1939_setsockopt(const struct socket *sock, int level, int option, co
     return result;
 }
 
-/* The priority of the socket is 7 less that of its messages. */
+/* The priority of the socket is 7 less the one of its messages. */
 static int get_priority(const struct socket *sock, void *value, socklen_t *length, socklen_t has) {
     int priority = 0;
     struct answer answer = {.data = &priority, .room = sizeof priority};
@@ -265,7 +262,7 @@ int j1939_describe(struct msghdr *message, size_t room, const struct wire_way *w
     }
     char others[512];
     size_t length = MIN(message->msg_controllen, sizeof others);
-    copy_from(others, message->msg_control, length);
+    length = copy_from(others, message->msg_control, length) ? length : 0;
     message->msg_controllen = 0;
     if (way->to != J1939_NO_ADDR) {
         put_control(message, room, SOL_CAN_J1939, SCM_J1939_DEST_ADDR, &way->to, sizeof way->to);

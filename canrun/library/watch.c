@@ -9,7 +9,7 @@
 #include <sys/syscall.h>
 
 /* The most sockets of one poll that are looked at. */
-#define MOST 1024
+#define MOST 256
 
 /* What is waited for: the program's descriptors, and after them a pipe for each socket with an error queue. */
 struct watch {

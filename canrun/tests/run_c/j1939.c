@@ -122,16 +122,20 @@ static unsigned take_notice(int fd) {
     char control[300];
     struct msghdr message = {.msg_control = control, .msg_controllen = sizeof control};
     struct sock_extended_err entry = {0};
+    struct timespec stamp = {0, 0};
     if (recvmsg(fd, &message, MSG_ERRQUEUE) < 0) {
         CHECK(errno == EAGAIN);
         return 0;
     }
     for (struct cmsghdr *one = CMSG_FIRSTHDR(&message); one; one = CMSG_NXTHDR(&message, one)) {
-        if (one->cmsg_level == SOL_CAN_J1939 && one->cmsg_type == SCM_J1939_ERRQUEUE) {
+        if (one->cmsg_level == SOL_SOCKET && one->cmsg_type == SO_TIMESTAMPING) {
+            memcpy(&stamp, CMSG_DATA(one), sizeof stamp);
+        } else if (one->cmsg_level == SOL_CAN_J1939 && one->cmsg_type == SCM_J1939_ERRQUEUE) {
             memcpy(&entry, CMSG_DATA(one), sizeof entry);
         }
     }
     CHECK(entry.ee_errno == ENOMSG && entry.ee_origin == SO_EE_ORIGIN_TIMESTAMPING);
+    CHECK(labs(stamp.tv_sec - time(NULL)) < 60);
     return entry.ee_info + 1;
 }
 
