@@ -197,6 +197,19 @@ static int64_t host_due(void) {
     return -1;
 }
 
+void host_settle_claims(void) {
+    uint64_t now = clock_now();
+    while (session_count && sessions[0]->fd >= 0 && names_due(known) <= now) {
+        struct pollfd polled = {sessions[0]->fd, POLLIN, 0};
+        int64_t pause = learn(clock_now());
+        if (pause &&
+            ppoll(&polled, 1, &(struct timespec){pause / (int64_t)SECOND, pause % (int64_t)SECOND}, NULL) > 0) {
+            session_read(sessions[0], false);
+        }
+        take_waiting();
+    }
+}
+
 /* ---- the process ---- */
 
 static const struct protocol host_protocol = {.receive = host_receive, .due = host_due};

@@ -35,6 +35,8 @@ int host_run(void);
 /* Lets no more sockets in. */
 void host_close(void);
 
+/* Claims whose time has passed are good before the next message is resolved, or were contested. */
+void host_settle_claims(void);
 /* The moment of the frame that is being taken, else that of now, since 1970. */
 uint64_t host_moment(void);
 /* Sends a frame, whose names are resolved; an errno, or 0, and its number. */

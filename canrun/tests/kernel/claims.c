@@ -37,8 +37,8 @@ CASE(send_to_name_after_last_close, a = node(OWN), LINE, other_claims(b, OTHER_N
      a = node(OWN), send_to_name(a, OTHER_NAME, GROUP, 1))
 CASE(name_moves, a = node(OWN), LINE, other_claims(b, OTHER_NAME, OTHER), pass(CLAIMED),
      other_claims(b, OTHER_NAME, THIRD), pass(CLAIMED), send_to_name(a, OTHER_NAME, GROUP, 1), take(b, 1))
-CASE(name_gives_up, a = node(OWN), LINE, other_claims(b, OTHER_NAME, OTHER), pass(CLAIMED),
-     other_claims(b, OTHER_NAME, J1939_IDLE_ADDR), pass(50), send_to_name(a, OTHER_NAME, GROUP, 1))
+CASE(name_gives_up, a = broadcast(node(OWN)), LINE, other_claims(b, OTHER_NAME, OTHER), receive(a), pass(CLAIMED),
+     other_claims(b, OTHER_NAME, J1939_IDLE_ADDR), receive(a), send_to_name(a, OTHER_NAME, GROUP, 1))
 CASE(lower_name_wins, a = node(OWN), LINE, other_claims(b, OTHER_NAME, OTHER), pass(CLAIMED),
      other_claims(b, LOW_NAME, OTHER), pass(CLAIMED), send_to_name(a, OTHER_NAME, GROUP, 1),
      send_to_name(a, LOW_NAME, GROUP, 2), take(b, 1))
@@ -50,9 +50,9 @@ CASE(loser_claims_again, a = node(OWN), LINE, other_claims(b, LOW_NAME, OTHER), 
      other_claims(b, OTHER_NAME, OTHER), pass(CLAIMED), send_to_name(a, OTHER_NAME, GROUP, 1),
      send_to_name(a, LOW_NAME, GROUP, 2), take(b, 1))
 CASE(own_claim_contested, a = broadcast(named(OTHER_NAME, OWN)), LINE, claim(a, OTHER_NAME, OWN), pass(CLAIMED),
-     other_claims(b, LOW_NAME, OWN), pass(50), send_to(a, OTHER, GROUP, 1))
+     other_claims(b, LOW_NAME, OWN), receive(a), send_to(a, OTHER, GROUP, 1))
 CASE(own_claim_defended, a = broadcast(named(LOW_NAME, OWN)), LINE, claim(a, LOW_NAME, OWN), pass(CLAIMED),
-     other_claims(b, OTHER_NAME, OWN), pass(50), send_to(a, OTHER, GROUP, 1), take(b, 2))
+     other_claims(b, OTHER_NAME, OWN), receive(a), send_to(a, OTHER, GROUP, 1), take(b, 2))
 CASE(own_claim_of_other, a = broadcast(named(OWN_NAME, OWN)), LINE, claim(a, OWN_NAME, OWN), pass(CLAIMED),
      DO(bind(a, WAY("can0", OWN_NAME, NO_GROUP, THIRD))), claim(a, OWN_NAME, THIRD), send_to(a, OTHER, GROUP, 1),
      pass(CLAIMED), send_to(a, OTHER, GROUP, 1), take(b, 3))
