@@ -138,7 +138,7 @@ static int change_member(struct member *member, const struct j1939_socket *socke
 static int send_of(struct member *member, const struct j1939_ask *ask, const void *data, size_t length) {
     if (ask->is_first) {
         host_settle_claims();
-        return queue_send(member, ask, data, length);
+        return queue_send(member, ask, data, MIN(length, ask->size));
     }
     queue_fill(member, ask->key, data, length);
     return 0;

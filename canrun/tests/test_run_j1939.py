@@ -20,6 +20,7 @@ from running import (  # noqa: F401
     written,
 )
 from serving import come_true, serving
+from test_run_kernel import answers, file_of, probe
 from virtual_runs import case, nodes  # noqa: F401  the fixture
 
 PYTHON = "/usr/bin/python3"
@@ -181,3 +182,13 @@ def test_virtual(tmp_path, nodes):  # noqa: F811
     # After its request was on the bus, which takes 131 bits and 29 stuffed ones at most, of 2 microseconds.
     given_up = float(sent[3].split(" after ")[1].split()[0])
     assert 1.25 + 131 * 2e-6 <= given_up <= 1.25 + 160 * 2e-6, sent
+
+
+@needs_gcc
+def test_virtual_answers(tmp_path, nodes):  # noqa: F811
+    """each case has the kernel's answer in virtual time too, though frames take their time"""
+    kernel = answers(file_of("answers.txt"))
+    left = case("answers", tmp_path / "run", nodes, PROBE=probe(str(tmp_path)))
+    got = answers(left["answers"].decode())
+    assert len(got) > 250
+    assert not {name: (kernel[name], answer) for name, answer in got.items() if answer != kernel[name]}
