@@ -33,6 +33,13 @@ extern struct wire_memory *memory;
 int refused(int error, const char *why);
 extern const char *refusal;
 
+/* ---- keeper.c: the keeper of the interfaces, which is this program with a listening socket in place of a program's ----
+ */
+
+bool keeper_is_asked_for(void);
+/* Serves until the server is gone. */
+void keeper_run(void);
+
 /* ---- session.c: a session of the server, on one interface ---- */
 
 /* The options and filters of a socket. */

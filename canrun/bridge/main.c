@@ -124,6 +124,11 @@ int main(void) {
         leave_program();
         return host_run();
     }
+    if (keeper_is_asked_for()) {
+        leave_program();
+        keeper_run();
+        return 0;
+    }
     if (getpeername(PROGRAM, (struct sockaddr *)&name, &length) ||
         length <= offsetof(struct sockaddr_un, sun_path) + sizeof WIRE_NAME ||
         !find_protocol(name.sun_path[sizeof WIRE_NAME])) {

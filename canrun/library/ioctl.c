@@ -2,6 +2,8 @@
 #define _GNU_SOURCE
 #include "library.h"
 
+#include "links.h"
+
 #include <errno.h>
 #include <linux/can.h>
 #include <linux/sockios.h>
@@ -22,7 +24,13 @@ static bool is_of_stamp(unsigned long request) {
            request == SIOCGSTAMPNS_NEW;
 }
 
-/* The facts of an interface of the server, which always is up. */
+/* Of the flags a request has room for the first 16. */
+static short flags_of(int index) {
+    struct link_facts facts = links_facts(index);
+    return (short)link_flags(&facts);
+}
+
+/* The facts of an interface of the server. */
 static int fact_of_interface(unsigned long request, struct ifreq *interface) {
     if (request == SIOCGIFNAME) {
         char name[IFNAMSIZ];
@@ -39,11 +47,11 @@ static int fact_of_interface(unsigned long request, struct ifreq *interface) {
     switch (request) {
     case SIOCGIFINDEX: interface->ifr_ifindex = index; break;
     case SIOCGIFMTU: interface->ifr_mtu = CANFD_MTU; break;
-    case SIOCGIFFLAGS: interface->ifr_flags = IFF_UP | IFF_RUNNING | IFF_NOARP; break;
+    case SIOCGIFFLAGS: interface->ifr_flags = flags_of(index); break;
     case SIOCGIFTXQLEN: interface->ifr_qlen = queue_length(); break;
     case SIOCGIFMETRIC: interface->ifr_metric = 0; break;
     case SIOCGIFMAP: memset(&interface->ifr_map, 0, sizeof interface->ifr_map); break;
-    case SIOCSIFFLAGS: return interface->ifr_flags & IFF_UP ? 0 : refuse("ioctl", EPERM, "interfaces are always up");
+    case SIOCSIFFLAGS: return links_set_up(index, interface->ifr_flags & IFF_UP);
     default:
         memset(&interface->ifr_hwaddr, 0, sizeof interface->ifr_hwaddr);
         interface->ifr_hwaddr.sa_family = ARPHRD_CAN;

@@ -1,0 +1,224 @@
+/* The interfaces of a keeper: what the server says of each, and what only its error message frames say. */
+#define _GNU_SOURCE
+#include "cards.h"
+
+#include "../shared/address.h"
+#include "bridge.h"
+
+#include <errno.h>
+#include <linux/can/error.h>
+#include <linux/can/netlink.h>
+#include <poll.h>
+#include <stdio.h>
+#include <stdlib.h>
+#include <string.h>
+#include <sys/socket.h>
+#include <unistd.h>
+
+static struct card *cards[INTERFACE_MOST];
+
+static void lose(struct card *card) {
+    close(card->fd);
+    card->fd = -1;
+}
+
+/* ---- what the server says ---- */
+
+static uint32_t state_of(const char *word) {
+    static const char *const words[] = {"active", "warning", "passive", "off"};
+    for (uint32_t i = 0; i < sizeof words / sizeof *words; i++) {
+        if (!strcmp(word, words[i])) {
+            return CAN_STATE_ERROR_ACTIVE + i;
+        }
+    }
+    return CAN_STATE_STOPPED;
+}
+
+static void set_state(struct card *card, uint32_t state) {
+    bool had_carrier = link_has_carrier(&card->facts);
+    card->facts.state = state;
+    card->has_news |= link_has_carrier(&card->facts) != had_carrier;
+    if (state != CAN_STATE_BUS_OFF) {
+        card->restart_at = NEVER;
+    } else if (card->facts.restart_ms && card->restart_at == NEVER) {
+        card->restart_at = clock_now() + card->facts.restart_ms * (SECOND / 1000);
+    }
+}
+
+/* The state that an error message frame says, as linux/can/error.h has it. */
+static uint32_t state_said(const struct canfd_frame *frame) {
+    const uint8_t passive = CAN_ERR_CRTL_RX_PASSIVE | CAN_ERR_CRTL_TX_PASSIVE;
+    const uint8_t warning = CAN_ERR_CRTL_RX_WARNING | CAN_ERR_CRTL_TX_WARNING;
+    return frame->can_id & CAN_ERR_BUSOFF    ? CAN_STATE_BUS_OFF
+           : frame->can_id & CAN_ERR_RESTARTED ? CAN_STATE_ERROR_ACTIVE
+           : frame->data[1] & passive          ? CAN_STATE_ERROR_PASSIVE
+           : frame->data[1] & warning          ? CAN_STATE_ERROR_WARNING
+                                               : CAN_STATE_ERROR_ACTIVE;
+}
+
+/* Counts an error, as drivers do, and changes of the state for the worse, as can_change_state of the kernel. */
+static void count(struct card *card, const struct canfd_frame *frame) {
+    struct link_facts *facts = &card->facts;
+    facts->bus_errors += (frame->can_id & CAN_ERR_BUSERROR) != 0;
+    facts->lost_arbitrations += (frame->can_id & CAN_ERR_LOSTARB) != 0;
+    facts->restarts += (frame->can_id & CAN_ERR_RESTARTED) != 0;
+    if (frame->can_id & (CAN_ERR_BUSOFF | CAN_ERR_RESTARTED | CAN_ERR_CRTL)) {
+        uint32_t state = state_said(frame);
+        bool is_worse = state > facts->state;
+        facts->warnings += is_worse && state == CAN_STATE_ERROR_WARNING;
+        facts->passives += is_worse && state == CAN_STATE_ERROR_PASSIVE;
+        facts->offs += is_worse && state == CAN_STATE_BUS_OFF;
+        set_state(card, state);
+    }
+}
+
+static void handle(struct card *card, const char *text) {
+    struct link_facts *facts = &card->facts;
+    struct item item;
+    char word[16];
+    unsigned long done, lost, refusals;
+    unsigned tec, rec;
+    if (message_to_item(text, &item)) {
+        count(card, &item.frame);
+    } else if (sscanf(text, "status %15s %u %u", word, &tec, &rec) == 3) {
+        facts->tec = (uint16_t)tec;
+        facts->rec = (uint16_t)rec;
+        set_state(card, state_of(word));
+    } else if (sscanf(text, "stats %*u %*u %*u %*u %lu %*u %lu %lu", &done, &lost, &refusals) == 3) {
+        facts->done = done;
+        facts->lost = lost;
+        facts->refused = refusals;
+    } else if (!strcmp(text, "echo")) {
+        card->is_answered = true;
+    } else if (!strncmp(text, "error ", 6)) {
+        snprintf(card->refusal, sizeof card->refusal, "%s", text + 6);
+    } else {
+        sscanf(text, "load %*u %*u %u %u", &facts->bitrate, &facts->data_bitrate);
+    }
+}
+
+/* Handles the messages in the input; a part of one waits for the rest. */
+static void handle_input(struct card *card) {
+    char *at = card->input, *end = at + card->have, *last;
+    while ((last = memchr(at, '>', (size_t)(end - at)))) {
+        char *first = memrchr(at, '<', (size_t)(last - at));
+        at = last + 1;
+        if (first) {
+            first += 1 + strspn(first + 1, " ");
+            for (; last > first && last[-1] == ' '; last--) {
+            }
+            *last = 0;
+            handle(card, first);
+        }
+    }
+    card->have = (size_t)(end - at);
+    memmove(card->input, at, card->have);
+    card->have = card->have < sizeof card->input ? card->have : 0;
+}
+
+void card_read(struct card *card) {
+    ssize_t length =
+        recv(card->fd, card->input + card->have, sizeof card->input - card->have, MSG_DONTWAIT);
+    if (length > 0) {
+        card->have += (size_t)length;
+        handle_input(card);
+    } else if (length == 0 || (errno != EAGAIN && errno != EINTR)) {
+        lose(card);
+    }
+}
+
+bool card_ask(struct card *card, const char *commands) {
+    char text[256];
+    int length = snprintf(text, sizeof text, "%s< status >< stats >< load >< echo >", commands);
+    uint64_t until = clock_now() + PATIENCE * SECOND;
+    card->is_answered = false;
+    card->refusal[0] = 0;
+    if (card->fd >= 0 && send(card->fd, text, (size_t)length, MSG_DONTWAIT | MSG_NOSIGNAL) != length) {
+        lose(card);
+    }
+    while (card->fd >= 0 && !card->is_answered) {
+        uint64_t now = clock_now();
+        struct timespec left = {0, 0};
+        struct pollfd polled = {card->fd, POLLIN, 0};
+        left.tv_sec = now < until ? (time_t)((until - now) / SECOND) : 0;
+        left.tv_nsec = now < until ? (long)((until - now) % SECOND) : 0;
+        if (ppoll(&polled, 1, &left, NULL) == 0) {
+            return false;
+        }
+        card_read(card);
+    }
+    return card->is_answered;
+}
+
+/* ---- its session ---- */
+
+static struct card *refuse(struct link_reply *why, int error, const char *text) {
+    why->error = error;
+    snprintf(why->text, sizeof why->text, "%s", text);
+    return NULL;
+}
+
+/* Whether there are signs of errors before this session: they were not counted. */
+static bool had_errors(const struct link_facts *facts) {
+    return facts->state != CAN_STATE_ERROR_ACTIVE || facts->tec || facts->rec || facts->lost;
+}
+
+static struct card *open_card(const char *name, struct link_reply *why) {
+    struct address address;
+    const char *where = getenv("CANBUSD_ADDRESS");
+    struct card *card = calloc(1, sizeof *card);
+    char text[160];
+    if (!card || !address_read(where && *where ? where : ADDRESS_DEFAULT, &address) ||
+        (card->fd = address_connect(&address)) < 0) {
+        free(card);
+        return refuse(why, ENODEV, "there is no server at CANBUSD_ADDRESS");
+    }
+    card->restart_at = NEVER;
+    snprintf(text, sizeof text, "< open %s >< rawmode >< filter 0 >< errdata 1 >< errmask %X >", name, CAN_ERR_MASK);
+    if (!card_ask(card, text) || *card->refusal) {
+        bool is_full = !strcmp(card->refusal, "too many sessions");
+        snprintf(text, sizeof text, "the server says: %s", *card->refusal ? card->refusal : "nothing");
+        if (card->fd >= 0) {
+            close(card->fd);
+        }
+        free(card);
+        return refuse(why, is_full ? EUSERS : ENODEV, text);
+    }
+    card->facts.is_known = true;
+    card->facts.has_counts = !had_errors(&card->facts);
+    card->has_news = false;
+    return card;
+}
+
+struct card *card_of(int index, bool opens, struct link_reply *why) {
+    char name[IFNAMSIZ];
+    if (!interface_name(index, name)) {
+        return refuse(why, ENODEV, "no interface of the server has this index");
+    }
+    struct card **place = &cards[index - INTERFACE_FIRST];
+    if (!*place && opens) {
+        *place = open_card(name, why);
+    }
+    return *place;
+}
+
+/* ---- changes ---- */
+
+void card_set_restart(struct card *card, uint32_t milliseconds) {
+    card->facts.restart_ms = milliseconds;
+    card->restart_at = NEVER;
+    set_state(card, card->facts.state);
+}
+
+/* An interface stays on the bus: the server has no command that takes it off. To set one down that is bus off restarts
+ * it, as if it had been set up again. */
+int card_set_up(struct card *card, bool is_up, struct link_reply *why) {
+    if (is_up) {
+        return 0;
+    }
+    snprintf(why->text, sizeof why->text, "an interface that is set down stays on the bus; one that is bus off restarts");
+    if (card->facts.state == CAN_STATE_BUS_OFF && !card_ask(card, "< restart >")) {
+        refuse(why, ETIMEDOUT, "the server does not reply");
+    }
+    return why->error;
+}

@@ -1,0 +1,332 @@
+/* Interfaces of the server as links: what a message of the program asks, and the answer to it. */
+#define _GNU_SOURCE
+#include "links.h"
+
+#include "keeper.h"
+#include "library.h"
+
+#include <errno.h>
+#include <linux/can/netlink.h>
+#include <string.h>
+#include <sys/syscall.h>
+
+/* The most of a refused request that is sent back with the refusal. */
+#define ECHOED 1024
+
+/* ---- attributes ---- */
+
+/* The attribute of this type among these; NULL where there is none. The last one counts. */
+static const struct nlattr *find(const void *attributes, size_t length, unsigned type) {
+    const char *at = attributes;
+    const struct nlattr *found = NULL;
+    while (length >= sizeof *found) {
+        const struct nlattr *one = (const void *)at;
+        if (one->nla_len < sizeof *one || one->nla_len > length) {
+            break;
+        }
+        size_t step = MIN((size_t)NLMSG_ALIGN(one->nla_len), length);
+        found = (one->nla_type & NLA_TYPE_MASK) == type ? one : found;
+        at += step;
+        length -= step;
+    }
+    return found;
+}
+
+static size_t length_of(const struct nlattr *one) {
+    return one ? one->nla_len - sizeof *one : 0;
+}
+
+static const struct nlattr *find_in(const struct nlattr *nest, unsigned type) {
+    return nest ? find(nest + 1, length_of(nest), type) : NULL;
+}
+
+/* Copies a value of this length; false where there is none. */
+static bool get(const struct nlattr *one, void *value, size_t length) {
+    if (length_of(one) < length) {
+        return false;
+    }
+    memcpy(value, one + 1, length);
+    return true;
+}
+
+static bool is_text(const struct nlattr *one, const char *text) {
+    return one && strlen(text) <= length_of(one) && !memcmp(one + 1, text, strlen(text)) &&
+           (length_of(one) == strlen(text) || !((const char *)(one + 1))[strlen(text)]);
+}
+
+/* ---- what is asked ---- */
+
+struct question {
+    const struct nlmsghdr *head;
+    struct ifinfomsg link;
+    const void *attributes;
+    size_t length; /* of these */
+};
+
+static const struct nlattr *attribute(const struct question *question, unsigned type) {
+    return find(question->attributes, question->length, type);
+}
+
+/* Reads a message about links; false where it is another. That of a dump may have a short head. */
+static bool read_question(const struct nlmsghdr *head, struct question *question) {
+    bool is_of_link = head->nlmsg_type == RTM_GETLINK || head->nlmsg_type == RTM_NEWLINK ||
+                      head->nlmsg_type == RTM_SETLINK || head->nlmsg_type == RTM_DELLINK;
+    size_t body = head->nlmsg_len - sizeof *head;
+    if (!is_of_link || body < sizeof(struct rtgenmsg)) {
+        return false;
+    }
+    *question = (struct question){.head = head};
+    memcpy(&question->link, head + 1, MIN(body, sizeof question->link));
+    if (body > sizeof question->link) {
+        question->attributes = (const char *)(head + 1) + sizeof question->link;
+        question->length = body - sizeof question->link;
+    }
+    return true;
+}
+
+/* The interface of the server that is named, by its index or its name; 0 for none. The kernel's own come first. */
+static int index_asked(const struct question *question) {
+    char name[IFNAMSIZ] = "";
+    if (question->link.ifi_index) {
+        return interface_name(question->link.ifi_index, name) ? question->link.ifi_index : 0;
+    }
+    const struct nlattr *named = attribute(question, IFLA_IFNAME);
+    named = named ? named : attribute(question, IFLA_ALT_IFNAME);
+    if (!named) {
+        return 0;
+    }
+    memcpy(name, named + 1, strnlen((const char *)(named + 1), MIN(length_of(named), sizeof name - 1)));
+    return real()->if_nametoindex(name) ? 0 : interface_index(name);
+}
+
+bool links_are_asked(const struct nlmsghdr *asked) {
+    struct question question;
+    uint32_t master = 0;
+    if (asked->nlmsg_type != RTM_GETLINK || !(asked->nlmsg_flags & NLM_F_DUMP) || !read_question(asked, &question) ||
+        question.link.ifi_family == AF_BRIDGE) {
+        return false;
+    }
+    const struct nlattr *kind = find_in(attribute(&question, IFLA_LINKINFO), IFLA_INFO_KIND);
+    get(attribute(&question, IFLA_MASTER), &master, sizeof master);
+    return !master && (!kind || is_text(kind, "can"));
+}
+
+/* ---- answers ---- */
+
+/* Puts what has come of a request: an errno, or 0 where that is asked for. A text says why, as that of the kernel's
+ * extended acknowledgements. */
+static void put_verdict(struct outgoing *out, const struct nlmsghdr *asked, int error, const char *why) {
+    struct {
+        struct nlmsghdr head;
+        struct nlmsgerr error;
+        char more[ECHOED + sizeof(struct nlattr) + sizeof((struct link_reply *)0)->text];
+    } verdict = {.error = {.error = -error, .msg = *asked}};
+    char *end = verdict.more;
+    size_t echoed = asked->nlmsg_len - sizeof *asked;
+    if (!error && !(asked->nlmsg_flags & NLM_F_ACK)) {
+        return;
+    }
+    verdict.head = (struct nlmsghdr){.nlmsg_type = NLMSG_ERROR, .nlmsg_seq = asked->nlmsg_seq};
+    if (error && echoed <= ECHOED) {
+        memcpy(end, asked + 1, echoed);
+        end += NLMSG_ALIGN(echoed);
+    } else {
+        verdict.head.nlmsg_flags |= NLM_F_CAPPED;
+    }
+    if (error && *why && out->explains) {
+        struct nlattr text = {(uint16_t)(sizeof text + strlen(why) + 1), NLMSGERR_ATTR_MSG};
+        verdict.head.nlmsg_flags |= NLM_F_ACK_TLVS;
+        memcpy(end, &text, sizeof text);
+        memcpy(end + sizeof text, why, strlen(why) + 1);
+        end += NLMSG_ALIGN(text.nla_len);
+    }
+    verdict.head.nlmsg_len = (uint32_t)(end - (char *)&verdict);
+    mail_put(out, LINK_ANSWER, &verdict.head, &verdict, verdict.head.nlmsg_len);
+}
+
+/* Where the server does not reply there is an interface all the same, of which nothing is known. */
+static void put_link(struct outgoing *out, const struct nlmsghdr *asked, int index) {
+    struct link_message message;
+    struct link_reply reply;
+    if (keeper_ask(&(struct link_request){.kind = LINK_ASK, .index = index, .count = 1}, -1, &reply)) {
+        int before = errno;
+        refuse("netlink", reply.error, reply.text);
+        errno = before;
+        reply.facts->is_known = false;
+    }
+    link_write(&message, index, reply.facts, (uint32_t)queue_length());
+    message.head.nlmsg_seq = asked->nlmsg_seq;
+    mail_put(out, LINK_ANSWER, &message.head, &message, message.head.nlmsg_len);
+}
+
+size_t links_dump(const struct nlmsghdr *asked, int *index, char *room, size_t size) {
+    struct link_message message;
+    struct link_reply reply;
+    struct question question;
+    char name[IFNAMSIZ];
+    bool is_chosen = read_question(asked, &question) && attribute(&question, IFLA_LINKINFO);
+    uint32_t queue = (uint32_t)queue_length();
+    size_t done = 0;
+    struct link_request request = {.kind = LINK_LOOK, .index = *index, .count = LINK_SEVERAL};
+    keeper_ask(&request, -1, &reply);
+    for (int i = 0; i < LINK_SEVERAL && interface_name(*index, name); i++) {
+        link_write(&message, *index, &reply.facts[i], queue);
+        if (done && done + message.head.nlmsg_len > size) {
+            break;
+        }
+        message.head.nlmsg_seq = asked->nlmsg_seq;
+        message.head.nlmsg_flags = NLM_F_MULTI | (is_chosen ? NLM_F_DUMP_FILTERED : 0);
+        memcpy(room + done, &message, message.head.nlmsg_len);
+        done += message.head.nlmsg_len;
+        ++*index;
+    }
+    return done;
+}
+
+struct link_facts links_facts(int index) {
+    struct link_reply reply;
+    keeper_ask(&(struct link_request){.kind = LINK_LOOK, .index = index, .count = 1}, -1, &reply);
+    return *reply.facts;
+}
+
+/* ---- changes ---- */
+
+/* The bit rate that is asked for: as such, or by a time quantum in nanoseconds, and their number in a bit. */
+static uint32_t rate_asked(const struct nlattr *data, unsigned type) {
+    struct can_bittiming timing;
+    if (!get(find_in(data, type), &timing, sizeof timing)) {
+        return 0;
+    }
+    uint64_t bit = (uint64_t)timing.tq * (1 + timing.prop_seg + timing.phase_seg1 + timing.phase_seg2);
+    return timing.bitrate || !timing.tq ? timing.bitrate : (uint32_t)(1000000000 / bit);
+}
+
+static void note(const char *text) {
+    static char said[sizeof((struct link_reply *)0)->text];
+    char line[256];
+    if (*text && strcmp(said, text) != 0) {
+        strcpy(said, text);
+        int length = snprintf(line, sizeof line, "canbusd-run: note: %s\n", text);
+        syscall(SYS_write, STDERR_FILENO, line, (size_t)length);
+    }
+}
+
+/* Has the keeper make a change. Returns an errno, and why; or 0. */
+static int ask_for_change(const struct link_request *request, struct link_reply *reply) {
+    int error = keeper_ask(request, -1, reply);
+    if (!error) {
+        note(reply->text);
+    }
+    return error;
+}
+
+/* Names, queues and the like are the server's. Returns an errno, and why; or 0. */
+static int check_fixed(const struct question *question, int index, char *why) {
+    static const struct {
+        unsigned type;
+        const char *why;
+    } fixed[] = {{IFLA_MTU, "the MTU of an interface of canbusd is 72"},
+                 {IFLA_TXQLEN, "canbusd serve --txqueue says how long transmit queues are"},
+                 {IFLA_MASTER, "an interface of canbusd has no master"},
+                 {IFLA_NET_NS_PID, "an interface of canbusd is in no namespace"},
+                 {IFLA_NET_NS_FD, "an interface of canbusd is in no namespace"},
+                 {IFLA_ADDRESS, "an interface of CAN has no address"}};
+    char name[IFNAMSIZ];
+    const struct nlattr *named = attribute(question, IFLA_IFNAME);
+    interface_name(index, name);
+    uint32_t number;
+    for (size_t i = 0; i < sizeof fixed / sizeof *fixed; i++) {
+        const struct nlattr *one = attribute(question, fixed[i].type);
+        bool is_same = (fixed[i].type == IFLA_MTU && get(one, &number, sizeof number) && number == CANFD_MTU) ||
+                       (fixed[i].type == IFLA_TXQLEN && get(one, &number, sizeof number) &&
+                        number == (uint32_t)queue_length());
+        if (one && !is_same) {
+            strcpy(why, fixed[i].why);
+            return EOPNOTSUPP;
+        }
+    }
+    if (named && !is_text(named, name)) {
+        strcpy(why, "canbusd serve names interfaces");
+        return EOPNOTSUPP;
+    }
+    return 0;
+}
+
+/* As in the kernel, no mask of flags that are not 0 is one of all. */
+static uint32_t flags_changed(const struct ifinfomsg *link) {
+    return link->ifi_flags && !link->ifi_change ? UINT32_MAX : link->ifi_change;
+}
+
+/* Carries out a request to change an interface. Returns an errno, and why; or 0. */
+static int change(const struct question *question, int index, struct link_reply *reply) {
+    const struct nlattr *info = attribute(question, IFLA_LINKINFO), *data = find_in(info, IFLA_INFO_DATA);
+    const struct nlattr *kind = find_in(info, IFLA_INFO_KIND);
+    struct can_ctrlmode modes = {0};
+    uint32_t number;
+    *reply = (struct link_reply){0};
+    if ((question->head->nlmsg_flags & NLM_F_EXCL) && question->head->nlmsg_flags & NLM_F_CREATE) {
+        note("ip link add: the server has this interface already");
+        return 0;
+    }
+    if (data && !is_text(kind, "can")) {
+        strcpy(reply->text, "an interface of canbusd is of type can");
+        return EOPNOTSUPP;
+    }
+    int error = check_fixed(question, index, reply->text);
+    if (error) {
+        return error;
+    }
+    get(find_in(data, IFLA_CAN_CTRLMODE), &modes, sizeof modes);
+    struct link_request request = {.kind = LINK_CHANGE,
+                                   .index = index,
+                                   .count = 1,
+                                   .bitrate = rate_asked(data, IFLA_CAN_BITTIMING),
+                                   .data_bitrate = rate_asked(data, IFLA_CAN_DATA_BITTIMING),
+                                   .modes = modes.flags,
+                                   .modes_changed = modes.mask,
+                                   .link_flags = question->link.ifi_flags,
+                                   .link_changed = flags_changed(&question->link),
+                                   .restarts = find_in(data, IFLA_CAN_RESTART)};
+    request.has_restart_ms = get(find_in(data, IFLA_CAN_RESTART_MS), &number, sizeof number);
+    request.restart_ms = request.has_restart_ms ? number : 0;
+    return ask_for_change(&request, reply);
+}
+
+int links_set_up(int index, bool is_up) {
+    struct link_request request = {.kind = LINK_CHANGE,
+                                   .index = index,
+                                   .count = 1,
+                                   .link_flags = is_up ? IFF_UP : 0,
+                                   .link_changed = IFF_UP};
+    struct link_reply reply;
+    return ask_for_change(&request, &reply) ? refuse("ioctl", reply.error, reply.text) : 0;
+}
+
+int links_watch(int fd) {
+    struct link_reply reply;
+    return keeper_ask(&(struct link_request){.kind = LINK_WATCH}, fd, &reply)
+               ? refuse("netlink", reply.error, reply.text)
+               : 0;
+}
+
+bool links_answer(const struct nlmsghdr *asked, struct outgoing *out) {
+    struct question question;
+    struct link_reply reply = {0};
+    int index = read_question(asked, &question) ? index_asked(&question) : 0;
+    bool is_get = asked->nlmsg_type == RTM_GETLINK;
+    if (!index || (is_get && asked->nlmsg_flags & NLM_F_DUMP)) {
+        return false;
+    }
+    if (is_get) {
+        put_link(out, asked, index);
+    }
+    /* As a card's, an interface can't be removed, which is no error. */
+    int error = is_get || asked->nlmsg_type == RTM_DELLINK ? 0 : change(&question, index, &reply);
+    if (error) {
+        int before = errno;
+        refuse("netlink", error, reply.text);
+        errno = before;
+    }
+    put_verdict(out, asked, error, reply.text);
+    return true;
+}
