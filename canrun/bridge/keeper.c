@@ -50,15 +50,16 @@ static int check_rates(const struct link_request *asked, const struct link_facts
     return error ? error : check_rate(asked->data_bitrate, facts->data_bitrate, "dbitrate", reply);
 }
 
-/* The modes that each interface has can be set, and only these. */
+/* Each interface has FD, and no mode else. */
 static int check_modes(const struct link_request *asked, struct link_reply *reply) {
-    const uint32_t fixed = CAN_CTRLMODE_FD | CAN_CTRLMODE_BERR_REPORTING;
     uint32_t on = asked->modes & asked->modes_changed, off = ~asked->modes & asked->modes_changed;
-    if (on & ~fixed) {
+    if (on & CAN_CTRLMODE_BERR_REPORTING) {
+        return refuse(reply, EOPNOTSUPP, "canbusd serve --report has a bus report each error");
+    }
+    if (on & ~(uint32_t)CAN_CTRLMODE_FD) {
         return refuse(reply, EOPNOTSUPP, "an interface of canbusd has no such mode");
     }
-    return off & fixed ? refuse(reply, EOPNOTSUPP, "an interface of canbusd carries FD frames, and reports each error")
-                       : 0;
+    return off & CAN_CTRLMODE_FD ? refuse(reply, EOPNOTSUPP, "an interface of canbusd always carries FD frames") : 0;
 }
 
 /* As can_restart_now of the kernel. */
@@ -87,7 +88,8 @@ static int change(struct card *card, const struct link_request *asked, struct li
     if (!error && asked->link_changed & IFF_UP) {
         error = card_set_up(card, asked->link_flags & IFF_UP, reply);
     }
-    card->has_news |= !error;
+    /* As the kernel reports changes of the device. */
+    card->has_news |= !error && (asked->has_restart_ms || asked->restarts || asked->bitrate || asked->modes_changed);
     return error;
 }
 

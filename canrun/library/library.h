@@ -8,6 +8,7 @@
 #include "../shared/wire.h"
 #include "protocol.h"
 
+#include <dirent.h>
 #include <ifaddrs.h>
 #include <net/if.h>
 #include <fcntl.h>
@@ -80,6 +81,26 @@
     X(fdopen)             \
     X(fileno)             \
     X(syscall)            \
+    X(open)               \
+    X(open64)             \
+    X(openat)             \
+    X(openat64)           \
+    X(fopen)              \
+    X(fopen64)            \
+    X(stat)               \
+    X(stat64)             \
+    X(lstat)              \
+    X(lstat64)            \
+    X(fstatat)            \
+    X(fstatat64)          \
+    X(statx)              \
+    X(access)             \
+    X(faccessat)          \
+    X(opendir)            \
+    X(closedir)           \
+    X(rewinddir)          \
+    X(readdir)            \
+    X(readdir64)          \
     X(sendmmsg)
 
 struct real {

@@ -111,6 +111,11 @@ bool links_are_asked(const struct nlmsghdr *asked) {
     return !master && (!kind || is_text(kind, "can"));
 }
 
+bool links_are_all(const struct nlmsghdr *asked) {
+    struct question question;
+    return read_question(asked, &question) && find_in(attribute(&question, IFLA_LINKINFO), IFLA_INFO_KIND);
+}
+
 /* ---- answers ---- */
 
 /* Puts what has come of a request: an errno, or 0 where that is asked for. A text says why, as that of the kernel's
@@ -162,9 +167,8 @@ static void put_link(struct outgoing *out, const struct nlmsghdr *asked, int ind
 size_t links_dump(const struct nlmsghdr *asked, int *index, char *room, size_t size) {
     struct link_message message;
     struct link_reply reply;
-    struct question question;
     char name[IFNAMSIZ];
-    bool is_chosen = read_question(asked, &question) && attribute(&question, IFLA_LINKINFO);
+    bool is_chosen = links_are_all(asked);
     uint32_t queue = (uint32_t)queue_length();
     size_t done = 0;
     struct link_request request = {.kind = LINK_LOOK, .index = *index, .count = LINK_SEVERAL};
@@ -259,7 +263,10 @@ static uint32_t flags_changed(const struct ifinfomsg *link) {
 
 /* Carries out a request to change an interface. Returns an errno, and why; or 0. */
 static int change(const struct question *question, int index, struct link_reply *reply) {
-    const struct nlattr *info = attribute(question, IFLA_LINKINFO), *data = find_in(info, IFLA_INFO_DATA);
+    /* The kernel takes it of RTM_NEWLINK only. */
+    bool has_info = question->head->nlmsg_type == RTM_NEWLINK;
+    const struct nlattr *info = has_info ? attribute(question, IFLA_LINKINFO) : NULL;
+    const struct nlattr *data = find_in(info, IFLA_INFO_DATA);
     const struct nlattr *kind = find_in(info, IFLA_INFO_KIND);
     struct can_ctrlmode modes = {0};
     uint32_t number;

@@ -25,6 +25,9 @@ bool links_answer(const struct nlmsghdr *asked, struct outgoing *out);
 /* Whether this asks for all links, also for ours. */
 bool links_are_asked(const struct nlmsghdr *asked);
 
+/* Whether such a request is for ours only: those of type can. A kernel without CAN takes that for all types. */
+bool links_are_all(const struct nlmsghdr *asked);
+
 /* Writes messages of the interfaces from this one on, as far as there is room, which is for at least one; returns their
  * length. `index` becomes that of the next, and is past the last in the end. */
 size_t links_dump(const struct nlmsghdr *asked, int *index, char *room, size_t size);

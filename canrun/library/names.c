@@ -43,20 +43,24 @@ int name_of_index(int index, char name[IFNAMSIZ]) {
 }
 
 EXPORT unsigned if_nametoindex(const char *name) {
+    int before = errno;
     unsigned index = real()->if_nametoindex(name);
     if (index) {
         return index;
     }
     /* A program without a CAN socket asks for others. */
     int found = find_index(name, strstr(name, "can"));
+    errno = found < 0 ? errno : before;
     return found < 0 ? 0 : (unsigned)found;
 }
 
 EXPORT char *if_indextoname(unsigned index, char name[IF_NAMESIZE]) {
+    int before = errno;
     if (real()->if_indextoname(index, name)) {
         return name;
     }
     if (!name_of_index((int)index, name)) {
+        errno = before;
         return name;
     }
     errno = ENXIO;

@@ -113,7 +113,11 @@ static bool replace(const char *data, size_t length, struct outgoing *out) {
             return false;
         }
         char name[IFNAMSIZ];
-        if (links_are_asked(head) && interface_name(INTERFACE_FIRST, name)) {
+        if (!(head->nlmsg_flags & NLM_F_REQUEST)) {
+            if (!put_plain(out, head)) {
+                return false;
+            }
+        } else if (links_are_asked(head) && interface_name(INTERFACE_FIRST, name)) {
             is_ours |= put_dump(out, head, INTERFACE_FIRST);
         } else if (links_answer(head, out)) {
             is_ours = true;
@@ -196,6 +200,19 @@ static ssize_t give(struct msghdr *message, const char *data, size_t length, int
     return (ssize_t)(flags & MSG_TRUNC ? length : done);
 }
 
+/* The end of a dump that is for none of the kernel's links. */
+static bool put_done(struct outgoing *out, const struct nlmsghdr *asked) {
+    struct {
+        struct nlmsghdr head;
+        int error;
+    } done = {{.nlmsg_len = sizeof done,
+               .nlmsg_type = NLMSG_DONE,
+               .nlmsg_flags = NLM_F_MULTI | NLM_F_DUMP_FILTERED,
+               .nlmsg_seq = asked->nlmsg_seq},
+              0};
+    return mail_put(out, LINK_ANSWER, asked, &done, sizeof done);
+}
+
 /* Asks for what comes after this part of a dump: the next part, or the kernel's links. */
 static bool go_on(int fd, const struct nlmsghdr *asked, int index) {
     struct outgoing *out = mmap(NULL, sizeof *out, PROT_READ | PROT_WRITE, MAP_PRIVATE | MAP_ANONYMOUS, -1, 0);
@@ -203,7 +220,9 @@ static bool go_on(int fd, const struct nlmsghdr *asked, int index) {
     if (out == MAP_FAILED) {
         return false;
     }
-    bool is_put = interface_name(index, name) ? put_dump(out, asked, index) : put_plain(out, asked);
+    bool is_put = interface_name(index, name) ? put_dump(out, asked, index)
+                  : links_are_all(asked)      ? put_done(out, asked)
+                                              : put_plain(out, asked);
     bool is_sent = is_put && real()->send(fd, out->data, out->length, 0) >= 0;
     munmap(out, sizeof *out);
     return is_sent;

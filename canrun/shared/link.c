@@ -11,8 +11,8 @@
 #define FLAG_ECHO 0x40000
 #define OPERATES_DOWN 2
 #define OPERATES_UP 6
-/* Each bus carries FD frames, and reports each error. */
-#define MODES (CAN_CTRLMODE_FD | CAN_CTRLMODE_BERR_REPORTING)
+/* Each bus carries FD frames. Whether it reports each error (--report) is not known here. */
+#define MODES CAN_CTRLMODE_FD
 /* As the kernel has it for a device with a queue: frames go in the order in which they came. */
 #define QUEUEING "pfifo_fast"
 
@@ -95,6 +95,7 @@ static void put_device(struct link_message *message, const struct link_facts *fa
     put_rate(message, IFLA_CAN_DATA_BITTIMING, facts->data_bitrate);
     put_only_rate(message, IFLA_CAN_BITRATE_CONST, facts->bitrate);
     put_only_rate(message, IFLA_CAN_DATA_BITRATE_CONST, facts->data_bitrate);
+    put_number(message, IFLA_CAN_BITRATE_MAX, 0);
     struct nlattr *more = put(message, IFLA_CAN_CTRLMODE_EXT, NULL, 0);
     put_number(message, IFLA_CAN_CTRLMODE_SUPPORTED, MODES);
     end(message, more);
