@@ -116,6 +116,16 @@ bool links_are_all(const struct nlmsghdr *asked) {
     return read_question(asked, &question) && find_in(attribute(&question, IFLA_LINKINFO), IFLA_INFO_KIND);
 }
 
+bool addresses_are_asked(const struct nlmsghdr *asked) {
+    struct ifaddrmsg address;
+    char name[IFNAMSIZ];
+    if (asked->nlmsg_type != RTM_GETADDR || asked->nlmsg_len < sizeof *asked + sizeof address) {
+        return false;
+    }
+    memcpy(&address, asked + 1, sizeof address);
+    return asked->nlmsg_flags & NLM_F_DUMP && interface_name((int)address.ifa_index, name);
+}
+
 /* ---- answers ---- */
 
 /* Puts what has come of a request: an errno, or 0 where that is asked for. A text says why, as that of the kernel's

@@ -28,6 +28,9 @@ bool links_are_asked(const struct nlmsghdr *asked);
 /* Whether such a request is for ours only: those of type can. A kernel without CAN takes that for all types. */
 bool links_are_all(const struct nlmsghdr *asked);
 
+/* Whether this asks for the addresses of an interface of the server, which has none. */
+bool addresses_are_asked(const struct nlmsghdr *asked);
+
 /* Writes messages of the interfaces from this one on, as far as there is room, which is for at least one; returns their
  * length. `index` becomes that of the next, and is past the last in the end. */
 size_t links_dump(const struct nlmsghdr *asked, int *index, char *room, size_t size);

@@ -96,6 +96,19 @@ static bool put_dump(struct outgoing *out, const struct nlmsghdr *asked, int ind
     return mail_put(out, LINK_DUMP, asked, data, length);
 }
 
+/* The end of a dump that is for none of the kernel's links. */
+static bool put_done(struct outgoing *out, const struct nlmsghdr *asked) {
+    struct {
+        struct nlmsghdr head;
+        int error;
+    } done = {{.nlmsg_len = sizeof done,
+               .nlmsg_type = NLMSG_DONE,
+               .nlmsg_flags = NLM_F_MULTI | NLM_F_DUMP_FILTERED,
+               .nlmsg_seq = asked->nlmsg_seq},
+              0};
+    return mail_put(out, LINK_ANSWER, asked, &done, sizeof done);
+}
+
 static bool put_plain(struct outgoing *out, const struct nlmsghdr *asked) {
     void *place = extend(out, asked->nlmsg_len);
     if (place) {
@@ -104,29 +117,34 @@ static bool put_plain(struct outgoing *out, const struct nlmsghdr *asked) {
     return place;
 }
 
+/* Puts the answer to a message; false where it is the kernel's. */
+static bool put_answer(struct outgoing *out, const struct nlmsghdr *asked) {
+    char name[IFNAMSIZ];
+    if (!(asked->nlmsg_flags & NLM_F_REQUEST)) {
+        return false;
+    }
+    if (links_are_asked(asked)) {
+        return interface_name(INTERFACE_FIRST, name) && put_dump(out, asked, INTERFACE_FIRST);
+    }
+    return addresses_are_asked(asked) ? put_done(out, asked) : links_answer(asked, out);
+}
+
 /* Puts answers, and what is the kernel's as it is. False where nothing is ours, or is no message. */
 static bool replace(const char *data, size_t length, struct outgoing *out) {
-    bool is_ours = false;
+    bool has_ours = false;
     for (size_t at = 0; at + sizeof(struct nlmsghdr) <= length;) {
         const struct nlmsghdr *head = (const void *)(data + at);
         if (head->nlmsg_len < sizeof *head || head->nlmsg_len > length - at) {
             return false;
         }
-        char name[IFNAMSIZ];
-        if (!(head->nlmsg_flags & NLM_F_REQUEST)) {
-            if (!put_plain(out, head)) {
-                return false;
-            }
-        } else if (links_are_asked(head) && interface_name(INTERFACE_FIRST, name)) {
-            is_ours |= put_dump(out, head, INTERFACE_FIRST);
-        } else if (links_answer(head, out)) {
-            is_ours = true;
-        } else if (!put_plain(out, head)) {
+        bool is_ours = put_answer(out, head);
+        has_ours |= is_ours;
+        if (!is_ours && !put_plain(out, head)) {
             return false;
         }
         at += NLMSG_ALIGN(head->nlmsg_len);
     }
-    return is_ours;
+    return has_ours;
 }
 
 /* The messages of a program, and what takes their place: a thread may have a small stack. */
@@ -198,19 +216,6 @@ static ssize_t give(struct msghdr *message, const char *data, size_t length, int
     }
     message->msg_flags |= done < length ? MSG_TRUNC : 0;
     return (ssize_t)(flags & MSG_TRUNC ? length : done);
-}
-
-/* The end of a dump that is for none of the kernel's links. */
-static bool put_done(struct outgoing *out, const struct nlmsghdr *asked) {
-    struct {
-        struct nlmsghdr head;
-        int error;
-    } done = {{.nlmsg_len = sizeof done,
-               .nlmsg_type = NLMSG_DONE,
-               .nlmsg_flags = NLM_F_MULTI | NLM_F_DUMP_FILTERED,
-               .nlmsg_seq = asked->nlmsg_seq},
-              0};
-    return mail_put(out, LINK_ANSWER, asked, &done, sizeof done);
 }
 
 /* Asks for what comes after this part of a dump: the next part, or the kernel's links. */

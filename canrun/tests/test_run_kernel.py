@@ -43,14 +43,14 @@ def answers(text):
     return dict(re.findall(r"^(\w+:\w+):(.*)$", text, re.M))
 
 
-def file_of(name):
-    with open(os.path.join(KERNEL, name), encoding="utf-8") as file:
+def file_of(name, folder=KERNEL):
+    with open(os.path.join(folder, name), encoding="utf-8") as file:
         return file.read()
 
 
-def differences():
+def differences(folder=KERNEL):
     """What is expected to differ: the lines of LIMITS, and the cases."""
-    text = re.sub(r"^#.*\n", "", file_of("differences.txt"), flags=re.M)
+    text = re.sub(r"^#.*\n", "", file_of("differences.txt", folder), flags=re.M)
     return re.findall(r"^(?!\w+:\w+:)(.+)$", text, re.M), answers(text)
 
 
@@ -59,20 +59,35 @@ def plain(page):
     return " ".join(re.sub(r"\\f.|\\(?=-)|^\.\S+", "", page, flags=re.M).split())
 
 
-def probe(folder):
-    """Compiles the program of the cases."""
+def probe(folder, *more, libraries=()):
+    """Compiles the program of the cases, also with those of more folders."""
     path = os.path.join(folder, "probe")
-    sources = [os.path.join(KERNEL, name) for name in sorted(os.listdir(KERNEL)) if name.endswith(".c")]
-    subprocess.run(["gcc", *FLAGS, "-o", path, *sources], check=True)
+    sources = [os.path.join(of, name) for of in (KERNEL, *more) for name in sorted(os.listdir(of)) if name.endswith(".c")]
+    subprocess.run(["gcc", *FLAGS, "-o", path, *sources, *libraries], check=True)
     return path
 
 
-def answered(program, cases):
+def answered(program, cases, options=(*FAST, "can0,can1", "vcan0")):
     """What canbusd-run answers to these cases, with a server of their own."""
-    with serving(*FAST, "can0,can1", "vcan0") as server:
+    with serving(*options) as server:
         written = passes(server, program, *cases, patience=300)
         server.end()
     return answers(written)
+
+
+def unlike(program, cases, folder, **how):
+    """The cases whose answers are not those of the kernel, nor those of differences.txt."""
+    kernel = answers(file_of("answers.txt", folder))
+    assert cases == list(kernel), "answers.txt is of other cases: canrun/tests/kernel/answers renews it"
+    with concurrent.futures.ThreadPoolExecutor(LOTS) as pool:
+        lots = pool.map(lambda number: answered(program, cases[number::LOTS], **how), range(LOTS))
+        got = {case: answer for lot in lots for case, answer in lot.items()}
+    expected = {**kernel, **differences(folder)[1]}
+    return [
+        f"{case}\n  kernel  {kernel[case]}\n  wanted  {expected[case]}\n  answered{got.get(case)}"
+        for case in cases
+        if got.get(case) != expected[case]
+    ]
 
 
 def boots(*words):
@@ -88,28 +103,24 @@ def boots(*words):
 @needs_gcc
 def test_answers(tmp_path):
     """canbusd-run answers each case as the kernel did, or as differences.txt says"""
-    kernel, program = answers(file_of("answers.txt")), probe(str(tmp_path))
+    program = probe(str(tmp_path))
     cases = subprocess.run([program, "--list"], stdout=subprocess.PIPE, text=True, check=True).stdout.split()
-    assert cases == list(kernel), "answers.txt is of other cases: canrun/tests/kernel/answers renews it"
-    with concurrent.futures.ThreadPoolExecutor(LOTS) as pool:
-        lots = pool.map(lambda number: answered(program, cases[number::LOTS]), range(LOTS))
-        got = {case: answer for lot in lots for case, answer in lot.items()}
-    expected = {**kernel, **differences()[1]}
-    wrong = [
-        f"{case}\n  kernel  {kernel[case]}\n  wanted  {expected[case]}\n  answered{got.get(case)}"
-        for case in cases
-        if got.get(case) != expected[case]
-    ]
+    wrong = unlike(program, cases, KERNEL)
     assert not wrong, "\n".join(wrong)
+
+
+def check_differences(folder):
+    """Fails unless what differs is in LIMITS, and does differ."""
+    limits = plain(file_of("../../../canbusd-run.1").split(".SH LIMITS")[1].split(".SH ENVIRONMENT")[0])
+    lines, cases = differences(folder)
+    kernel = answers(file_of("answers.txt", folder))
+    assert lines and not [line for line in lines if line not in limits]
+    assert not [case for case, answer in cases.items() if kernel.get(case, answer) == answer]
 
 
 def test_differences():
     """what differs is in LIMITS, and does differ"""
-    limits = plain(file_of("../../../canbusd-run.1").split(".SH LIMITS")[1].split(".SH ENVIRONMENT")[0])
-    lines, cases = differences()
-    kernel = answers(file_of("answers.txt"))
-    assert lines and not [line for line in lines if line not in limits]
-    assert not [case for case, answer in cases.items() if kernel.get(case, answer) == answer]
+    check_differences(KERNEL)
 
 
 @pytest.mark.slow

@@ -1,0 +1,302 @@
+"""canbusd-run: interfaces by netlink. Each case of links/ has the answer that a kernel with a card gave; programs as users have
+them find interfaces, change them, and recover them from bus off; and what that costs a server.
+"""
+
+import contextlib
+import os
+import re
+import signal
+import subprocess
+import time
+
+import pytest
+
+from running import FAST, command, compiled, environment, needs_gcc, passes, run, started
+from serving import ROOT, come_true, plain, serving
+from test_run_kernel import KERNEL, boots, check_differences, probe, unlike
+
+LINKS = os.path.join(ROOT, "canrun", "tests", "links")
+#: The server of the cases; the cards are can2 and can3.
+CARDS = ("--bitrate", "500000", "can0,can1", "vcan0", "can2,can3")
+#: A frame of can0 is destroyed until its sender is bus off.
+ATTACK = f"can0,can1@{ROOT}/examples/bus_off_attack.script"
+
+needs_ip = pytest.mark.skipif(not os.path.exists("/usr/sbin/ip"), reason="no ip: apt-get install iproute2")
+needs_libsocketcan = pytest.mark.skipif(
+    not os.path.exists("/usr/include/libsocketcan.h"), reason="no libsocketcan: apt-get install libsocketcan-dev"
+)
+IP = "/usr/sbin/ip"
+
+
+def keepers(server):
+    """The numbers of the keepers of a server."""
+    wanted = f"CANBUSD_ADDRESS={environment(server)['CANBUSD_ADDRESS']}".encode()
+    found = []
+    for process in filter(str.isdigit, os.listdir("/proc")):
+        with contextlib.suppress(OSError):
+            with open(f"/proc/{process}/comm", encoding="utf-8") as comm:
+                name = comm.read().strip()
+            with open(f"/proc/{process}/environ", "rb") as environ:
+                if name == "canbusd-links" and wanted in environ.read().split(b"\0"):
+                    found.append(int(process))
+    return found
+
+
+def ended(server):
+    """Ends a server, whose keepers end with it."""
+    server.end()
+    assert come_true(lambda: not keepers(server)), "a keeper is left"
+
+
+@contextlib.contextmanager
+def bus(*words):
+    """A server whose keepers end with it."""
+    with serving(*words) as server:
+        yield server
+        ended(server)
+
+
+def state_of(server, name="can0"):
+    """State and counters as `ip` writes them."""
+    shown = passes(server, IP, "-details", "link", "show", name)
+    return re.search(r"state (\S+) \(berr-counter tx (\d+) rx (\d+)\)", shown).groups()
+
+
+def comes_to(server, state, name="can0"):
+    assert come_true(lambda: state_of(server, name)[0] == state), state_of(server, name)
+
+
+@needs_gcc
+@needs_ip
+@needs_libsocketcan
+def test_answers(tmp_path):
+    """canbusd-run answers each case as the kernel did, or as differences.txt says"""
+    program = probe(str(tmp_path), LINKS, libraries=("-lsocketcan",))
+    listed = subprocess.run([program, "--list"], stdout=subprocess.PIPE, text=True, check=True).stdout.split()
+    cases = [case for case in listed if os.path.exists(os.path.join(LINKS, f"{case.split(':')[0]}.c"))]
+    assert len(cases) >= 120
+    wrong = unlike(program, cases, LINKS, options=CARDS)
+    assert not wrong, "\n".join(wrong)
+
+
+def test_differences():
+    """what differs is in LIMITS, and does differ"""
+    check_differences(LINKS)
+
+
+@pytest.mark.slow
+def test_recorded():
+    """answers.txt has what the kernel answers"""
+    booted = boots(os.path.join(KERNEL, "answers"), "links")
+    with open(os.path.join(LINKS, "answers.txt"), encoding="utf-8") as file:
+        recorded = file.read()
+    assert re.findall(r"^\w+:.*$", booted, re.M) == re.findall(r"^\w+:.*$", recorded, re.M)
+
+
+# ---- bus off ----
+
+
+@needs_gcc
+@needs_ip
+def test_bus_off(tmp_path):
+    """state, carrier, counters and counts are the server's, before and after a restart"""
+    writer = compiled("send_one", str(tmp_path))
+    with bus(*FAST, ATTACK) as server:
+        assert state_of(server) == ("ERROR-ACTIVE", "0", "0")
+        passes(server, writer, "can0")
+        comes_to(server, "BUS-OFF")
+        shown = passes(server, IP, "-details", "-statistics", "link", "show", "can0")
+        assert "<NO-CARRIER,NOARP,UP,ECHO>" in shown and "state DOWN" in shown
+        assert re.search(r"bus-off\n\s+0 +0 +0 +1 +1 +1 ", shown), shown
+        assert "can0" in passes(server, IP, "-o", "link", "list", "up")
+        passes(server, IP, "link", "set", "can0", "type", "can", "restart")
+        comes_to(server, "ERROR-ACTIVE")
+        shown = passes(server, IP, "-details", "-statistics", "link", "show", "can0")
+        assert re.search(r"bus-off\n\s+1 +0 +0 +1 +1 +1 ", shown), shown
+        assert "<NOARP,UP,LOWER_UP,ECHO>" in shown
+        assert run(server, IP, "link", "set", "can0", "type", "can", "restart").returncode == 2
+
+
+@needs_gcc
+@needs_ip
+def test_restart_ms(tmp_path):
+    """restart-ms restarts an interface after the program that set it has ended, and refuses restarts by hand"""
+    writer = compiled("send_one", str(tmp_path))
+    with bus(*FAST, ATTACK) as server:
+        passes(server, IP, "link", "set", "can0", "up", "type", "can", "restart-ms", "300")
+        begun = time.monotonic()
+        passes(server, writer, "can0")
+        refused = run(server, IP, "link", "set", "can0", "type", "can", "restart")
+        assert (refused.returncode, refused.stderr) == (2, "Error: restart-ms restarts the interface.\n")
+        shown = r"bus-off\n\s+1 +0 +0 +1 +1 +1 "
+
+        def is_restarted():
+            return re.search(shown, passes(server, IP, "-details", "-statistics", "link", "show", "can0"))
+
+        assert come_true(is_restarted)
+        assert time.monotonic() - begun >= 0.3
+        assert state_of(server) == ("ERROR-ACTIVE", "0", "0")
+
+
+@needs_gcc
+@needs_ip
+def test_monitor(tmp_path):
+    """`ip monitor link` writes that the carrier goes, and comes"""
+    writer = compiled("send_one", str(tmp_path))
+    with bus(*FAST, ATTACK) as server, started(server, IP, "monitor", "link") as monitor:
+        assert come_true(lambda: keepers(server))
+        assert state_of(server) == ("ERROR-ACTIVE", "0", "0")
+        passes(server, writer, "can0")
+        comes_to(server, "BUS-OFF")
+        passes(server, IP, "link", "set", "can0", "type", "can", "restart")
+        comes_to(server, "ERROR-ACTIVE")
+        wanted = (r"can0: <NO-CARRIER,NOARP,UP,ECHO>", r"can0: <NOARP,UP,LOWER_UP,ECHO>")
+        lines = []
+        for pattern in wanted:
+            while not (lines and re.search(pattern, lines[-1])):
+                lines.append(monitor.stdout.readline())
+                assert len(lines) < 50 and lines[-1], lines
+        os.killpg(monitor.pid, signal.SIGKILL)
+
+
+# ---- what it costs ----
+
+
+@needs_ip
+def test_dump_of_many():
+    """a list of 256 interfaces starts nothing, has no session, and takes a moment"""
+    names = [[f"b{number}x{one}" for one in range(16)] for number in range(16)]
+    with bus(*FAST, *(",".join(names_of_bus) for names_of_bus in names)) as server:
+        shown = passes(server, IP, "-details", "-o", "link", "show")
+        assert all(f": {name}: <NOARP,UP,LOWER_UP,ECHO>" in shown for of_bus in names for name in of_bus)
+        assert not keepers(server)
+        passes(server, IP, "link", "show", "b3x4")
+        again = passes(server, IP, "-details", "-o", "link", "show")
+        assert len(re.findall("can <FD> state ERROR-ACTIVE", again)) == 1
+        assert len(keepers(server)) == 1
+
+
+@needs_ip
+def test_sessions():
+    """questions take one session of the server in all, and a thousand leave room for 63"""
+    with bus(*FAST, "can0,can1") as server:
+        script = "for i in $(seq 100); do ip link show can0; done | grep -c link/can"
+        assert passes(server, "sh", "-c", script, env=environment(server, PATH="/usr/sbin:/usr/bin:/bin")) == "100\n"
+        assert len(keepers(server)) == 1
+
+
+@needs_ip
+def test_full():
+    """where the server has no session left the interface is found all the same, and standard error says why"""
+    with bus(*FAST, "can0,can1") as server:
+        clients = [plain(server, "can0") for _ in range(63)]
+        script = f"echo ready; read line; {IP} -details link show can0"
+        with started(server, "sh", "-c", script, stdin=subprocess.PIPE) as shell:
+            assert shell.stdout.readline() == "ready\n"
+            clients.append(plain(server, "can0"))
+            output, errors = shell.communicate("go on\n", timeout=60)
+            assert "can0: <NOARP" in output and "state ERROR" not in output
+            assert "Too many users: the server says: too many sessions" in errors
+        for client in clients:
+            client.close()
+
+
+@pytest.mark.skipif(os.geteuid() != 0, reason="not root, so there is no other user")
+@needs_ip
+def test_other_user():
+    """another user's program is not served by this one's keeper, but has its own"""
+    with bus(*FAST, "can0,can1") as server:
+        passes(server, IP, "link", "set", "can0", "type", "can", "restart-ms", "100")
+        words = ["setpriv", "--reuid=65534", "--regid=65534", "--clear-groups", command(), "--", IP]
+        shown = subprocess.run(
+            [*words, "-details", "link", "show", "can0"], env=environment(server), capture_output=True, text=True, check=False
+        )
+        assert "restart-ms 0" in shown.stdout, shown
+        assert len(keepers(server)) == 2
+
+
+# ---- other programs ----
+
+
+def test_pyroute2(tmp_path):
+    """pyroute2 finds interfaces, reads their state, and sets them up"""
+    pytest.importorskip("pyroute2", reason="no pyroute2: apt-get install python3-pyroute2")
+    writer = compiled("send_one", str(tmp_path))
+    program = """
+import pyroute2, subprocess, sys, time
+ip = pyroute2.IPRoute()
+index, = ip.link_lookup(ifname="can0")
+def attribute(name):
+    return ip.get_links(index)[0].get_attr(name)
+print(attribute("IFLA_IFNAME"), attribute("IFLA_MTU"), attribute("IFLA_OPERSTATE"))
+print(attribute("IFLA_LINKINFO").get_attr("IFLA_INFO_KIND"))
+print("can0" in [one.get_attr("IFLA_IFNAME") for one in ip.get_links()], len(ip.get_addr(index=index)))
+ip.link("set", index=index, state="up")
+subprocess.run([sys.argv[1], "can0"], check=True)
+while attribute("IFLA_OPERSTATE") != "DOWN":
+    time.sleep(0.01)
+print(attribute("IFLA_CARRIER"))
+ip.link("set", index=index, state="down")
+ip.link("set", index=index, state="up")
+print(attribute("IFLA_OPERSTATE"))
+try:
+    ip.link_lookup(ifname="can9"), ip.link("set", ifname="can9", state="up")
+except pyroute2.NetlinkError as error:
+    print(error.code)
+"""
+    with bus(*FAST, ATTACK) as server:
+        written = passes(server, "/usr/bin/python3", "-c", program, writer)
+        assert written == "can0 72 UP\ncan\nTrue 0\n0\nUP\n19\n"
+
+
+@needs_ip
+def test_python_can():
+    """python-can detects the interfaces of the server"""
+    program = "import can; print(sorted(one['channel'] for one in can.detect_available_configs('socketcan')))"
+    with bus(*FAST, "can0,can1", "vcan0") as server:
+        path = environment(server, PATH=f"{os.environ['PATH']}:/usr/sbin")
+        written = passes(server, "/usr/bin/python3", "-c", program, env=path)
+        assert written.splitlines()[-1] == "['can0', 'can1', 'vcan0']"
+
+
+QT = "/usr/lib/qt5/bin/canbusutil"
+
+
+@pytest.mark.skipif(not os.path.exists(QT), reason="no canbusutil: apt-get install libqt5serialbus5-bin libqt5serialbus5-plugins")
+def test_qt():
+    """Qt's list of devices has the interfaces of the server"""
+    with bus(*FAST, "can0,can1", "vcan0") as server:
+        written = passes(server, QT, "-d", "socketcan", env=environment(server, QT_QPA_PLATFORM="offscreen"))
+        assert [line for line in written.split() if "can" in line] == ["can0", "can1", "vcan0"]
+
+
+# ---- virtual time ----
+
+
+@needs_gcc
+@needs_ip
+def test_virtual(tmp_path):
+    """in virtual time restart-ms is as long as it says: a minute takes a moment"""
+    writer = compiled("send_one", str(tmp_path))
+    script = f"""
+export PATH=/usr/sbin:$PATH CANBUSD_ADDRESS={tmp_path}/bus
+canbusd serve --listen $CANBUSD_ADDRESS --bitrate 500000 {ATTACK} >{tmp_path}/server &
+canbusd-run --wait ip link set can0 type can restart-ms 60000
+canbusd-run {writer} can0
+sleep 59
+canbusd-run ip -details link show can0 | grep -o 'state [A-Z-]* (.*)'
+sleep 2
+canbusd-run ip -details link show can0 | grep -o 'state [A-Z-]* (.*)'
+kill %1
+"""
+    folder = str(tmp_path / "bin")
+    os.mkdir(folder)
+    os.symlink(command(), os.path.join(folder, "canbusd-run"))
+    os.symlink(os.path.join(ROOT, "canbusd"), os.path.join(folder, "canbusd"))
+    path = {**os.environ, "PATH": f"{folder}:{os.environ['PATH']}"}
+    begun = time.monotonic()
+    run_of = subprocess.run(
+        [command(), "--virtual", "bash", "-c", script], env=path, capture_output=True, text=True, timeout=200, check=False
+    )
+    assert run_of.stdout == "state BUS-OFF (berr-counter tx 256 rx 0)\nstate ERROR-ACTIVE (berr-counter tx 0 rx 0)\n", run_of
+    assert time.monotonic() - begun < 50
