@@ -33,9 +33,9 @@ extern struct wire_memory *memory;
 int refused(int error, const char *why);
 extern const char *refusal;
 
-/* ---- keeper.c: the keeper of the interfaces, which is this program with a listening socket in place of a program's ----
- */
+/* ---- keeper.c: the keeper of the interfaces, see ../shared/link.h ---- */
 
+/* Whether PROGRAM is no socket of a program, but one that a keeper listens at. */
 bool keeper_is_asked_for(void);
 /* Serves until the server is gone. */
 void keeper_run(void);

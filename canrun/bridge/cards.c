@@ -49,7 +49,7 @@ static void set_state(struct card *card, uint32_t state) {
 static uint32_t state_said(const struct canfd_frame *frame) {
     const uint8_t passive = CAN_ERR_CRTL_RX_PASSIVE | CAN_ERR_CRTL_TX_PASSIVE;
     const uint8_t warning = CAN_ERR_CRTL_RX_WARNING | CAN_ERR_CRTL_TX_WARNING;
-    return frame->can_id & CAN_ERR_BUSOFF    ? CAN_STATE_BUS_OFF
+    return frame->can_id & CAN_ERR_BUSOFF      ? CAN_STATE_BUS_OFF
            : frame->can_id & CAN_ERR_RESTARTED ? CAN_STATE_ERROR_ACTIVE
            : frame->data[1] & passive          ? CAN_STATE_ERROR_PASSIVE
            : frame->data[1] & warning          ? CAN_STATE_ERROR_WARNING
@@ -117,8 +117,7 @@ static void handle_input(struct card *card) {
 }
 
 void card_read(struct card *card) {
-    ssize_t length =
-        recv(card->fd, card->input + card->have, sizeof card->input - card->have, MSG_DONTWAIT);
+    ssize_t length = recv(card->fd, card->input + card->have, sizeof card->input - card->have, MSG_DONTWAIT);
     if (length > 0) {
         card->have += (size_t)length;
         handle_input(card);
@@ -216,7 +215,8 @@ int card_set_up(struct card *card, bool is_up, struct link_reply *why) {
     if (is_up) {
         return 0;
     }
-    snprintf(why->text, sizeof why->text, "an interface that is set down stays on the bus; one that is bus off restarts");
+    snprintf(why->text, sizeof why->text,
+             "an interface that is set down stays on the bus; one that is bus off restarts");
     if (card->facts.state == CAN_STATE_BUS_OFF && !card_ask(card, "< restart >")) {
         refuse(why, ETIMEDOUT, "the server does not reply");
     }

@@ -33,7 +33,8 @@ static int check_rate(uint32_t asked, uint32_t rate, const char *option, struct 
     if (!asked || asked == rate) {
         return 0;
     }
-    snprintf(text, sizeof text, "the bus has %u bits a second: canbusd serve --%s %u gives it these", rate, option, asked);
+    snprintf(text, sizeof text, "the bus has %u bits a second: canbusd serve --%s %u gives it these", rate, option,
+             asked);
     return refuse(reply, EINVAL, text);
 }
 
@@ -41,7 +42,8 @@ static int check_rate(uint32_t asked, uint32_t rate, const char *option, struct 
 static int check_rates(const struct link_request *asked, const struct link_facts *facts, struct link_reply *reply) {
     if (asked->bitrate && !facts->bitrate) {
         snprintf(reply->text, sizeof reply->text,
-                 "the bus has no bit rate, and goes on by --pace: canbusd serve --bitrate %u gives it one", asked->bitrate);
+                 "the bus has no bit rate, and goes on by --pace: canbusd serve --bitrate %u gives it one",
+                 asked->bitrate);
     }
     if (!facts->bitrate) {
         return 0;
@@ -225,8 +227,7 @@ static bool read_request(int connection, struct link_request *request, int *fd) 
         .msg_iov = &part, .msg_iovlen = 1, .msg_control = &control, .msg_controllen = sizeof control};
     struct pollfd polled = {connection, POLLIN, 0};
     *fd = -1;
-    ssize_t length =
-        poll(&polled, 1, 1000) > 0 ? recvmsg(connection, &message, MSG_DONTWAIT | MSG_CMSG_CLOEXEC) : -1;
+    ssize_t length = poll(&polled, 1, 1000) > 0 ? recvmsg(connection, &message, MSG_DONTWAIT | MSG_CMSG_CLOEXEC) : -1;
     const struct cmsghdr *rights = length > 0 ? CMSG_FIRSTHDR(&message) : NULL;
     if (rights && rights->cmsg_type == SCM_RIGHTS) {
         memcpy(fd, CMSG_DATA(rights), sizeof *fd);

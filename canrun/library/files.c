@@ -64,10 +64,9 @@ static bool write_fact(const struct place *place, char *text, size_t size) {
     }
     return !strcmp(place->file, "flags")
                ? snprintf(text, size, "0x%x\n", link_flags(&facts) & (IFF_UP | IFF_NOARP | FLAG_ECHO))
-           : !strcmp(place->file, "operstate")
-               ? snprintf(text, size, "%s\n", link_has_carrier(&facts) ? "up" : "down")
-           : !strcmp(place->file, "carrier") ? snprintf(text, size, "%d\n", link_has_carrier(&facts))
-                                             : false;
+           : !strcmp(place->file, "operstate") ? snprintf(text, size, "%s\n", link_has_carrier(&facts) ? "up" : "down")
+           : !strcmp(place->file, "carrier")   ? snprintf(text, size, "%d\n", link_has_carrier(&facts))
+                                               : false;
 }
 
 /* Writes the text of a file; false where there is no such file. */
@@ -76,29 +75,28 @@ static bool write_text(const struct place *place, char *text, size_t size) {
     const struct {
         const char *file;
         int number;
-    } numbers[] = {{"type", ARPHRD_CAN},        {"mtu", CANFD_MTU},       {"addr_len", 0},
-                   {"dev_port", 0},             {"ifindex", place->index}, {"iflink", place->index},
-                   {"link_mode", 0},            {"dormant", 0},           {"netdev_group", 0},
-                   {"tx_queue_len", queue_length()}};
+    } numbers[] = {{"type", ARPHRD_CAN},      {"mtu", CANFD_MTU},
+                   {"addr_len", 0},           {"dev_port", 0},
+                   {"ifindex", place->index}, {"iflink", place->index},
+                   {"link_mode", 0},          {"dormant", 0},
+                   {"netdev_group", 0},       {"tx_queue_len", queue_length()}};
     for (size_t i = 0; i < sizeof numbers / sizeof *numbers; i++) {
         if (!strcmp(place->file, numbers[i].file)) {
             return snprintf(text, size, "%d\n", numbers[i].number);
         }
     }
     interface_name(place->index, name);
-    return !strcmp(place->file, "dev_id") ? snprintf(text, size, "0x0\n")
-           : !strcmp(place->file, "address") || !strcmp(place->file, "broadcast")
-               ? snprintf(text, size, "\n")
-           : !strcmp(place->file, "uevent")
-               ? snprintf(text, size, "INTERFACE=%s\nIFINDEX=%d\n", name, place->index)
-               : write_fact(place, text, size);
+    return !strcmp(place->file, "dev_id")                                         ? snprintf(text, size, "0x0\n")
+           : !strcmp(place->file, "address") || !strcmp(place->file, "broadcast") ? snprintf(text, size, "\n")
+           : !strcmp(place->file, "uevent") ? snprintf(text, size, "INTERFACE=%s\nIFINDEX=%d\n", name, place->index)
+                                            : write_fact(place, text, size);
 }
 
 /* Opens a file; returns its descriptor, or -1 and errno. */
 static int open_place(const struct place *place, int flags) {
     char text[128];
     if (!*place->file) {
-        return real()->open(FOLDER, flags);
+        return fail(EACCES);
     }
     if (!write_text(place, text, sizeof text)) {
         return fail(flags & O_CREAT ? EACCES : ENOENT);
@@ -131,13 +129,13 @@ static const char *stand_in(const char *path, char room[PATH_MAX]) {
 
 /* ---- files ---- */
 
-#define MODE_OF(flags)                                             \
-    mode_t mode = 0;                                               \
-    if (flags & O_CREAT || (flags & O_TMPFILE) == O_TMPFILE) {     \
-        va_list list;                                              \
-        va_start(list, flags);                                     \
-        mode = va_arg(list, mode_t);                               \
-        va_end(list);                                              \
+#define MODE_OF(flags)                                         \
+    mode_t mode = 0;                                           \
+    if (flags & O_CREAT || (flags & O_TMPFILE) == O_TMPFILE) { \
+        va_list list;                                          \
+        va_start(list, flags);                                 \
+        mode = va_arg(list, mode_t);                           \
+        va_end(list);                                          \
     }
 
 EXPORT int open(const char *path, int flags, ...) {
@@ -263,6 +261,11 @@ static void set_list(const DIR *from, const DIR *to) {
 
 EXPORT DIR *opendir(const char *path) {
     const size_t length = sizeof FOLDER - 2; /* without the last slash */
+    struct place place;
+    if (find_place(path, &place)) {
+        errno = *place.file ? ENOTDIR : EACCES;
+        return NULL;
+    }
     DIR *stream = real()->opendir(path);
     if (stream && !strncmp(path, FOLDER, length) && !path[length + strspn(path + length, "/")]) {
         set_list(NULL, stream);

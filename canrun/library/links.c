@@ -251,9 +251,9 @@ static int check_fixed(const struct question *question, int index, char *why) {
     uint32_t number;
     for (size_t i = 0; i < sizeof fixed / sizeof *fixed; i++) {
         const struct nlattr *one = attribute(question, fixed[i].type);
-        bool is_same = (fixed[i].type == IFLA_MTU && get(one, &number, sizeof number) && number == CANFD_MTU) ||
-                       (fixed[i].type == IFLA_TXQLEN && get(one, &number, sizeof number) &&
-                        number == (uint32_t)queue_length());
+        bool is_same =
+            (fixed[i].type == IFLA_MTU && get(one, &number, sizeof number) && number == CANFD_MTU) ||
+            (fixed[i].type == IFLA_TXQLEN && get(one, &number, sizeof number) && number == (uint32_t)queue_length());
         if (one && !is_same) {
             strcpy(why, fixed[i].why);
             return EOPNOTSUPP;
@@ -310,11 +310,8 @@ static int change(const struct question *question, int index, struct link_reply 
 }
 
 int links_set_up(int index, bool is_up) {
-    struct link_request request = {.kind = LINK_CHANGE,
-                                   .index = index,
-                                   .count = 1,
-                                   .link_flags = is_up ? IFF_UP : 0,
-                                   .link_changed = IFF_UP};
+    struct link_request request = {
+        .kind = LINK_CHANGE, .index = index, .count = 1, .link_flags = is_up ? IFF_UP : 0, .link_changed = IFF_UP};
     struct link_reply reply;
     return ask_for_change(&request, &reply) ? refuse("ioctl", reply.error, reply.text) : 0;
 }

@@ -129,13 +129,13 @@ static bool put_answer(struct outgoing *out, const struct nlmsghdr *asked) {
     return addresses_are_asked(asked) ? put_done(out, asked) : links_answer(asked, out);
 }
 
-/* Puts answers, and what is the kernel's as it is. False where nothing is ours, or is no message. */
+/* Puts answers, and what is the kernel's as it is, up to what is no message. False where nothing is ours. */
 static bool replace(const char *data, size_t length, struct outgoing *out) {
     bool has_ours = false;
     for (size_t at = 0; at + sizeof(struct nlmsghdr) <= length;) {
         const struct nlmsghdr *head = (const void *)(data + at);
         if (head->nlmsg_len < sizeof *head || head->nlmsg_len > length - at) {
-            return false;
+            break;
         }
         bool is_ours = put_answer(out, head);
         has_ours |= is_ours;

@@ -136,8 +136,7 @@ static void put_interface(struct link_message *message, int index, const struct 
 void link_write(struct link_message *message, int index, const struct link_facts *facts, uint32_t queue) {
     message->head =
         (struct nlmsghdr){.nlmsg_len = offsetof(struct link_message, attributes), .nlmsg_type = RTM_NEWLINK};
-    message->link =
-        (struct ifinfomsg){.ifi_type = ARPHRD_CAN, .ifi_index = index, .ifi_flags = link_flags(facts)};
+    message->link = (struct ifinfomsg){.ifi_type = ARPHRD_CAN, .ifi_index = index, .ifi_flags = link_flags(facts)};
     put_interface(message, index, facts, queue);
     if (facts->is_known) {
         put_stats(message, facts);

@@ -10,7 +10,7 @@ import subprocess
 
 import pytest
 
-from running import FAST, FLAGS, compiled, needs_gcc, passes
+from running import FAST, FLAGS, compiled, environment, needs_gcc, passes
 from serving import ROOT, serving
 
 KERNEL = os.path.join(ROOT, "canrun", "tests", "kernel")
@@ -59,18 +59,20 @@ def plain(page):
     return " ".join(re.sub(r"\\f.|\\(?=-)|^\.\S+", "", page, flags=re.M).split())
 
 
-def probe(folder, *more, libraries=()):
+def probe(folder, *more, flags=()):
     """Compiles the program of the cases, also with those of more folders."""
     path = os.path.join(folder, "probe")
-    sources = [os.path.join(of, name) for of in (KERNEL, *more) for name in sorted(os.listdir(of)) if name.endswith(".c")]
-    subprocess.run(["gcc", *FLAGS, "-o", path, *sources, *libraries], check=True)
+    sources = [
+        os.path.join(of, name) for of in (KERNEL, *more) for name in sorted(os.listdir(of)) if name.endswith(".c")
+    ]
+    subprocess.run(["gcc", *FLAGS, "-o", path, *sources, *flags], check=True)
     return path
 
 
-def answered(program, cases, options=(*FAST, "can0,can1", "vcan0")):
+def answered(program, cases, options=(*FAST, "can0,can1", "vcan0"), settings=(), **how):
     """What canbusd-run answers to these cases, with a server of their own."""
     with serving(*options) as server:
-        written = passes(server, program, *cases, patience=300)
+        written = passes(server, program, *cases, patience=300, env=environment(server, **dict(settings)), **how)
         server.end()
     return answers(written)
 

@@ -11,7 +11,7 @@ import time
 
 import pytest
 
-from running import FAST, command, compiled, environment, needs_gcc, passes, run, started
+from running import FAST, SANITIZERS, command, compiled, environment, needs_gcc, passes, run, sanitized_command, started
 from serving import ROOT, come_true, plain, serving
 from test_run_kernel import KERNEL, boots, check_differences, probe, unlike
 
@@ -66,17 +66,38 @@ def comes_to(server, state, name="can0"):
     assert come_true(lambda: state_of(server, name)[0] == state), state_of(server, name)
 
 
+def cases_of(program):
+    """The cases of links/."""
+    listed = subprocess.run([program, "--list"], stdout=subprocess.PIPE, text=True, check=True).stdout.split()
+    cases = [case for case in listed if os.path.exists(os.path.join(LINKS, f"{case.split(':')[0]}.c"))]
+    assert len(cases) >= 120
+    return cases
+
+
 @needs_gcc
 @needs_ip
 @needs_libsocketcan
 def test_answers(tmp_path):
     """canbusd-run answers each case as the kernel did, or as differences.txt says"""
-    program = probe(str(tmp_path), LINKS, libraries=("-lsocketcan",))
-    listed = subprocess.run([program, "--list"], stdout=subprocess.PIPE, text=True, check=True).stdout.split()
-    cases = [case for case in listed if os.path.exists(os.path.join(LINKS, f"{case.split(':')[0]}.c"))]
-    assert len(cases) >= 120
-    wrong = unlike(program, cases, LINKS, options=CARDS)
+    program = probe(str(tmp_path), LINKS, flags=["-lsocketcan"])
+    wrong = unlike(program, cases_of(program), LINKS, options=CARDS)
     assert not wrong, "\n".join(wrong)
+
+
+@pytest.mark.sanitized
+@needs_gcc
+@needs_ip
+@needs_libsocketcan
+def test_answers_sanitized(tmp_path):
+    """so it does with sanitizers, which report nothing"""
+    folder = str(tmp_path)
+    program = probe(folder, LINKS, flags=[*SANITIZERS, "-lsocketcan"])
+    reports = f"log_path={folder}/report:verify_asan_link_order=0:detect_stack_use_after_return=0"
+    settings = {"ASAN_OPTIONS": f"{reports}:detect_leaks=0", "UBSAN_OPTIONS": f"log_path={folder}/report"}
+    how = {"options": CARDS, "settings": settings, "runner": sanitized_command()}
+    wrong = unlike(program, cases_of(program), LINKS, **how)
+    assert not wrong, "\n".join(wrong)
+    assert not [file for file in os.listdir(folder) if file.startswith("report")]
 
 
 def test_differences():
@@ -209,7 +230,11 @@ def test_other_user():
         passes(server, IP, "link", "set", "can0", "type", "can", "restart-ms", "100")
         words = ["setpriv", "--reuid=65534", "--regid=65534", "--clear-groups", command(), "--", IP]
         shown = subprocess.run(
-            [*words, "-details", "link", "show", "can0"], env=environment(server), capture_output=True, text=True, check=False
+            [*words, "-details", "link", "show", "can0"],
+            env=environment(server),
+            capture_output=True,
+            text=True,
+            check=False,
         )
         assert "restart-ms 0" in shown.stdout, shown
         assert len(keepers(server)) == 2
@@ -262,7 +287,9 @@ def test_python_can():
 QT = "/usr/lib/qt5/bin/canbusutil"
 
 
-@pytest.mark.skipif(not os.path.exists(QT), reason="no canbusutil: apt-get install libqt5serialbus5-bin libqt5serialbus5-plugins")
+@pytest.mark.skipif(
+    not os.path.exists(QT), reason="no canbusutil: apt-get install libqt5serialbus5-bin libqt5serialbus5-plugins"
+)
 def test_qt():
     """Qt's list of devices has the interfaces of the server"""
     with bus(*FAST, "can0,can1", "vcan0") as server:
@@ -296,7 +323,14 @@ kill %1
     path = {**os.environ, "PATH": f"{folder}:{os.environ['PATH']}"}
     begun = time.monotonic()
     run_of = subprocess.run(
-        [command(), "--virtual", "bash", "-c", script], env=path, capture_output=True, text=True, timeout=200, check=False
+        [command(), "--virtual", "bash", "-c", script],
+        env=path,
+        capture_output=True,
+        text=True,
+        timeout=200,
+        check=False,
     )
-    assert run_of.stdout == "state BUS-OFF (berr-counter tx 256 rx 0)\nstate ERROR-ACTIVE (berr-counter tx 0 rx 0)\n", run_of
+    assert (
+        run_of.stdout == "state BUS-OFF (berr-counter tx 256 rx 0)\nstate ERROR-ACTIVE (berr-counter tx 0 rx 0)\n"
+    ), run_of
     assert time.monotonic() - begun < 50

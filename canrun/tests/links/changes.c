@@ -10,8 +10,8 @@ CHANGES(up_without_ack, flags(indexed(message_of(RTM_NEWLINK, 0), "can2"), IFF_U
 CHANGES(nothing, TO_CAN2)
 CHANGES(nothing_of_kind, kind(TO_CAN2, "can"))
 CHANGES(down, flags(TO_CAN2, 0, IFF_UP))
-CASE(down_and_up, reset(), a = route(0), answers(a, flags(TO_CAN2, 0, IFF_UP)), answers(a, flags(TO_CAN2, IFF_UP, IFF_UP)),
-     head_of("can2"), device_value("can2", IFLA_CAN_STATE))
+CASE(down_and_up, reset(), a = route(0), answers(a, flags(TO_CAN2, 0, IFF_UP)),
+     answers(a, flags(TO_CAN2, IFF_UP, IFF_UP)), head_of("can2"), device_value("can2", IFLA_CAN_STATE))
 CASE(down_is_down, reset(), a = route(0), answers(a, flags(TO_CAN2, 0, IFF_UP)), head_of("can2"),
      device_value("can2", IFLA_CAN_STATE), reset())
 CHANGES(restart, device(TO_CAN2, "can", IFLA_CAN_RESTART, &(uint32_t){1}, 4))
@@ -21,9 +21,9 @@ CASE(restart_with_restart_ms, reset(), a = route(0), answers(a, flags(TO_CAN2, 0
      answers(a, flags(restart_ms(TO_CAN2, 100), IFF_UP, IFF_UP)),
      answers(a, device(TO_CAN2, "can", IFLA_CAN_RESTART, &(uint32_t){1}, 4)), reset())
 CHANGES(restart_ms_up, restart_ms(TO_CAN2, 100))
-CASE(restart_ms_down, reset(), a = route(0), answers(a, flags(TO_CAN2, 0, IFF_UP)), answers(a, restart_ms(TO_CAN2, 250)),
-     answers(a, flags(TO_CAN2, IFF_UP, IFF_UP)), device_value("can2", IFLA_CAN_RESTART_MS), reset(),
-     device_value("can2", IFLA_CAN_RESTART_MS))
+CASE(restart_ms_down, reset(), a = route(0), answers(a, flags(TO_CAN2, 0, IFF_UP)),
+     answers(a, restart_ms(TO_CAN2, 250)), answers(a, flags(TO_CAN2, IFF_UP, IFF_UP)),
+     device_value("can2", IFLA_CAN_RESTART_MS), reset(), device_value("can2", IFLA_CAN_RESTART_MS))
 CASE(rate_down, reset(), a = route(0), answers(a, flags(TO_CAN2, 0, IFF_UP)), answers(a, bit_rate(TO_CAN2, 500000)),
      answers(a, flags(TO_CAN2, IFF_UP, IFF_UP)), rate_of("can2"))
 CASE(rate_and_up, reset(), a = route(0), answers(a, flags(TO_CAN2, 0, IFF_UP)),
@@ -32,9 +32,11 @@ CASE(rate_other, reset(), a = route(0), answers(a, flags(TO_CAN2, 0, IFF_UP)), a
      rate_of("can2"), reset())
 CHANGES(rate_up, bit_rate(TO_CAN2, 500000))
 CASE(rate_odd, reset(), a = route(0), answers(a, flags(TO_CAN2, 0, IFF_UP)), answers(a, bit_rate(TO_CAN2, 7)), reset())
-CASE(modes_none, reset(), a = route(0), answers(a, flags(TO_CAN2, 0, IFF_UP)), answers(a, modes(TO_CAN2, 0, 0)), reset())
-#define MODE(name, mask, value) \
-    CASE(name, reset(), a = route(0), answers(a, flags(TO_CAN2, 0, IFF_UP)), answers(a, modes(TO_CAN2, mask, value)), reset())
+CASE(modes_none, reset(), a = route(0), answers(a, flags(TO_CAN2, 0, IFF_UP)), answers(a, modes(TO_CAN2, 0, 0)),
+     reset())
+#define MODE(name, mask, value)                                                                                       \
+    CASE(name, reset(), a = route(0), answers(a, flags(TO_CAN2, 0, IFF_UP)), answers(a, modes(TO_CAN2, mask, value)), \
+         reset())
 MODE(mode_loopback, CAN_CTRLMODE_LOOPBACK, CAN_CTRLMODE_LOOPBACK)
 MODE(mode_no_loopback, CAN_CTRLMODE_LOOPBACK, 0)
 MODE(mode_not_in_mask, 0, CAN_CTRLMODE_LOOPBACK)
@@ -71,8 +73,8 @@ CASE(events_of_other_group, reset(), a = route(RTMGRP_NEIGH), b = route(0), tell
 CASE(events_by_membership, reset(), a = route(0), b = route(0),
      SETS(a, SOL_NETLINK, NETLINK_ADD_MEMBERSHIP, &(int){RTNLGRP_LINK}, sizeof(int)), tells(b, TO_CAN2),
      events_of(a, "can2"))
-CASE(events_of_down, reset(), a = route(RTMGRP_LINK), b = route(0), tells(b, flags(TO_CAN2, 0, IFF_UP)), events_of(a, "can2"),
-     reset())
+CASE(events_of_down, reset(), a = route(RTMGRP_LINK), b = route(0), tells(b, flags(TO_CAN2, 0, IFF_UP)),
+     events_of(a, "can2"), reset())
 
 /* By ioctl. */
 static struct ifreq *request_of(const char *name, int flags) {
@@ -81,9 +83,10 @@ static struct ifreq *request_of(const char *name, int flags) {
     strcpy(one.ifr_name, name);
     return &one;
 }
-CASE(ioctl_up, reset(), a = socket(AF_INET, SOCK_DGRAM, 0), DO(ioctl(a, SIOCSIFFLAGS, request_of("can2", IFF_UP | IFF_NOARP))),
-     head_of("can2"))
-CASE(ioctl_down, reset(), a = socket(AF_INET, SOCK_DGRAM, 0), DO(ioctl(a, SIOCSIFFLAGS, request_of("can2", IFF_NOARP))), reset())
+CASE(ioctl_up, reset(), a = socket(AF_INET, SOCK_DGRAM, 0),
+     DO(ioctl(a, SIOCSIFFLAGS, request_of("can2", IFF_UP | IFF_NOARP))), head_of("can2"))
+CASE(ioctl_down, reset(), a = socket(AF_INET, SOCK_DGRAM, 0), DO(ioctl(a, SIOCSIFFLAGS, request_of("can2", IFF_NOARP))),
+     reset())
 CASE(ioctl_none, a = socket(AF_INET, SOCK_DGRAM, 0), DO(ioctl(a, SIOCSIFFLAGS, request_of("can9", IFF_UP))))
 static void flags_by_ioctl(const char *name) {
     struct ifreq one = *request_of(name, 0);

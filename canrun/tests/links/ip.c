@@ -53,10 +53,12 @@ CASE(ip_tutorial_restart, reset(), status_of("link set can2 down"),
      shows("-details link show can2", "restart-ms 100"), status_of("link set can2 type can restart"), reset())
 CASE(ip_tutorial_parts, reset(), status_of("link set down can2"), status_of("link set can2 type can bitrate 500000"),
      status_of("link set up can2"), shows("-details link show can2", "state ERROR-ACTIVE"))
-CASE(ip_other_rate, reset(), status_of("link set can2 down"), status_of("link set can2 type can bitrate 125000"), reset())
-CASE(ip_fd, reset(), status_of("link set can2 down"), status_of("link set can2 type can bitrate 500000 dbitrate 500000 fd on"),
+CASE(ip_other_rate, reset(), status_of("link set can2 down"), status_of("link set can2 type can bitrate 125000"),
      reset())
-CASE(ip_loopback, reset(), status_of("link set can2 down"), status_of("link set can2 type can bitrate 500000 loopback on"),
+CASE(ip_fd, reset(), status_of("link set can2 down"),
+     status_of("link set can2 type can bitrate 500000 dbitrate 500000 fd on"), reset())
+CASE(ip_loopback, reset(), status_of("link set can2 down"),
+     status_of("link set can2 type can bitrate 500000 loopback on"),
      status_of("link set can2 type can bitrate 500000 loopback off"), reset())
 CASE(ip_down, reset(), status_of("link set can2 down"), shows("link show can2", "<[^>]*>"), reset())
 CASE(ip_restart_words, reset(), shows("link set can2 type can restart", ".*"))

@@ -1,5 +1,5 @@
-/* Cases of links by netlink, ip(8), libsocketcan and /sys/class/net, beside those of ../kernel: can2 and can3 are cards on one
- * bus of 500,000 bits a second. */
+/* Cases of links by netlink, ip(8), libsocketcan and /sys/class/net, beside those of ../kernel: can2 and can3 are cards
+ * on one bus of 500,000 bits a second. */
 #ifndef LINKS_H
 #define LINKS_H
 
@@ -12,7 +12,8 @@
 /* Sets can2 up with its bit rate and no restart-ms, as each case that changes it finds it. */
 void reset(void);
 
-/* What ip(8) writes for these words, as far as this regular expression describes it; `-` where it does not. Its status. */
+/* What ip(8) writes for these words, as far as this regular expression describes it; `-` where it does not. Its status.
+ */
 void shows(const char *words, const char *expression);
 void status_of(const char *words);
 /* The same of words that are for a shell. */

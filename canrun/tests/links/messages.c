@@ -17,10 +17,10 @@ ASKS(get_with_mask, number(named(GET(0), "can2"), IFLA_EXT_MASK, 9))
 ASKS(get_lo, named(GET(0), "lo"))
 ASKS(get_vcan, named(GET(0), "vcan0"))
 CASE(get_negative_index, a = route(0), b = 0, answers(a, ({
-                                                  struct asked *one = get_link(0);
-                                                  one->link.ifi_index = -5;
-                                                  one;
-                                              })))
+                                                          struct asked *one = get_link(0);
+                                                          one->link.ifi_index = -5;
+                                                          one;
+                                                      })))
 CASE(get_without_request, a = route(0), answers(a, ({
                                                     struct asked *one = named(get_link(0), "can2");
                                                     one->head.nlmsg_flags = 0;
@@ -77,18 +77,20 @@ DUMPS(dump_of_kind, kind(GET(NLM_F_DUMP), "can"), "can2")
 DUMPS(dump_of_kind_without_lo, kind(GET(NLM_F_DUMP), "can"), "lo")
 DUMPS(dump_of_vxcan, kind(GET(NLM_F_DUMP), "vxcan"), "can2")
 DUMPS(dump_of_master, number(GET(NLM_F_DUMP), IFLA_MASTER, 1), "can2")
-CASE(dump_short, a = route(0), dumps(a, ({
-                                         struct asked *one = get_link(NLM_F_DUMP);
-                                         one->head.nlmsg_len = sizeof one->head + sizeof(struct rtgenmsg);
-                                         one;
-                                     }),
-                                     "can2"))
-CASE(dump_of_bridges, a = route(0), dumps(a, ({
-                                              struct asked *one = get_link(NLM_F_DUMP);
-                                              one->link.ifi_family = AF_BRIDGE;
-                                              one;
-                                          }),
-                                          "can2"))
+CASE(dump_short, a = route(0),
+     dumps(a, ({
+               struct asked *one = get_link(NLM_F_DUMP);
+               one->head.nlmsg_len = sizeof one->head + sizeof(struct rtgenmsg);
+               one;
+           }),
+           "can2"))
+CASE(dump_of_bridges, a = route(0),
+     dumps(a, ({
+               struct asked *one = get_link(NLM_F_DUMP);
+               one->link.ifi_family = AF_BRIDGE;
+               one;
+           }),
+           "can2"))
 
 /* Two messages at once. */
 static void two(int fd, struct asked *one, struct asked *other) {
