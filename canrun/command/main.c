@@ -2,6 +2,7 @@
 #define _GNU_SOURCE
 #include "program.h"
 #include "server.h"
+#include "static.h"
 #include "virtual.h"
 
 #include "../shared/address.h"
@@ -23,7 +24,7 @@ enum { STATUS_FAULT = 125, STATUS_NOT_RUN = 126, STATUS_NOT_FOUND = 127 };
 
 /* clang-format off */
 static const char HELP[] =
-    "usage: canbusd-run [--address ADDR] [--interfaces NAME,..] [--wait] [--] PROGRAM [ARGUMENT ..]\n"
+    "usage: canbusd-run [--address ADDR] [--interfaces NAME,..] [--wait | --static] [--] PROGRAM [ARGUMENT ..]\n"
     "       canbusd-run --virtual [--date D] [--until S] [--stall S] [--seed N] [--jitter MICROS] [--] PROGRAM ..\n"
     "       canbusd-run --help | --version\n"
     "\n"
@@ -36,6 +37,8 @@ static const char HELP[] =
     "  --interfaces NAME,..  the interfaces that PROGRAM finds, which `any` is too (default: all of the server)\n"
     "  --wait                wait for a server that is not there yet, and in each write for room in a full\n"
     "                        transmit queue; without it the run fails, and the write with ENOBUFS\n"
+    "  --static              for programs that are linked statically or with musl, or of Go, too: another process makes\n"
+    "                        their calls (Linux 5.19 or later); a call takes some 50 microseconds longer\n"
     "\n"
     "With --virtual the clock of PROGRAM, and of all that it starts, a server too, is simulated: it stands still while\n"
     "one of them runs, and jumps to the next moment once all wait. Hours take seconds, and each run is the same. CAN\n"
@@ -56,7 +59,8 @@ static const char HELP[] =
 
 struct words {
     const char *address, *interfaces;
-    int waits, is_virtual;
+    int waits, is_virtual, is_static;
+    int is_supervised;        /* with the library: PROGRAM gets a supervisor */
     const char *virtual_word; /* an option that only --virtual has */
     struct virtual_options virtual;
     char **program;
@@ -106,6 +110,11 @@ static int check_words(const struct words *words) {
     if (words->virtual_word && !words->is_virtual) {
         return fault("only --virtual has this option", words->virtual_word);
     }
+    if (words->is_static && (words->is_virtual || words->waits || getenv(RUN_SETTING))) {
+        return fault(words->waits ? "--static has no --wait: writes that find no room fail with ENOBUFS"
+                                  : "--static has no virtual time: what Go and static programs wait for is not seen",
+                     NULL);
+    }
     if (words->is_virtual && (words->address || words->interfaces || words->waits)) {
         return fault("--virtual has no --address, --interfaces or --wait: PROGRAM starts the server, and canbusd-run "
                      "again for programs with CAN sockets",
@@ -125,6 +134,10 @@ static int read_words(char **at, struct words *words) {
         }
         if (!strcmp(*at, "--wait")) {
             words->waits = 1;
+        } else if (!strcmp(*at, "--static")) {
+            words->is_static = 1;
+        } else if (!strcmp(*at, "--supervised")) {
+            words->is_supervised = 1;
         } else if (!strcmp(*at, "--ready")) {
             words->is_ready = 1;
         } else if (!strcmp(*at, "--virtual")) {
@@ -211,19 +224,39 @@ static int preload(const char *name) {
     return 0;
 }
 
-static int become(char **program) {
+static int become(char **program, int is_supervised) {
     char path[PATH_MAX];
     int error = program_find(program[0], path);
     if (!error) {
         const char *obstacle = program_obstacle(path);
         if (obstacle) {
-            fprintf(stderr, "canbusd-run: note: %s %s, so its CAN sockets are the kernel's\n", path, obstacle);
+            fprintf(stderr, PROGRAM_NOTE, path, obstacle, program_cure(path));
         }
-        execv(path, program);
+        if (is_supervised && program_is_of_musl(path)) {
+            unsetenv("LD_PRELOAD");
+        }
+        int status = is_supervised ? static_run(path, program) : execv(path, program);
+        if (status >= 0) {
+            return status;
+        }
         error = errno;
     }
     fault(program[0], strerror(error));
     return error == ENOENT ? STATUS_NOT_FOUND : STATUS_NOT_RUN;
+}
+
+/* Begins anew with the library, by which a supervisor makes the calls of the program. */
+static int begin_supervised(char **program) {
+    size_t count = 0;
+    while (program[count]) {
+        count++;
+    }
+    char *words[count + 4];
+    memcpy(words, (char *[]){"canbusd-run", "--supervised", "--"}, 3 * sizeof *words);
+    memcpy(words + 3, program, (count + 1) * sizeof *words);
+    setenv(STATIC_SETTING, "1", 1);
+    execv("/proc/self/exe", words);
+    return fault("/proc/self/exe can't be run", strerror(errno));
 }
 
 /* Runs the program or the child, and all that it starts, with a simulated clock. */
@@ -267,7 +300,10 @@ int main(int count, char **all) {
     if (words.is_ready) {
         personality(ADDR_NO_RANDOMIZE); /* Its children have the addresses of other runs. */
         status = preload(VIRTUAL_LIBRARY);
-        return status ? status : become(words.program);
+        return status ? status : become(words.program, 0);
+    }
+    if (words.is_supervised) {
+        return become(words.program, 1);
     }
     if (!words.address) {
         words.address = address && *address ? address : ADDRESS_DEFAULT;
@@ -282,5 +318,5 @@ int main(int count, char **all) {
     }
     status = words.interfaces ? show_interfaces(words.interfaces, server.interfaces) : 0;
     status = status ? status : preload(LIBRARY);
-    return status ? status : become(words.program);
+    return status ? status : words.is_static ? begin_supervised(words.program) : become(words.program, 0);
 }

@@ -70,14 +70,18 @@ static bool is_loader_of_musl(int fd, const Elf64_Phdr *segment) {
            strstr(loader, "ld-musl");
 }
 
-static const char *elf_obstacle(int fd) {
+static const char OF_MUSL[] = "is linked with musl, and not with glibc";
+
+/* Why a program of this file takes no library; one of 32 bit has no other way either. */
+static const char *elf_obstacle(int fd, bool *is_32_bit) {
     Elf64_Ehdr head;
     Elf64_Phdr segment;
     bool is_dynamic = false, is_go = false, is_musl = false;
     if (!read_at(fd, &head, sizeof head, 0) || memcmp(head.e_ident, ELFMAG, SELFMAG) != 0) {
         return NULL; /* A script: what counts is what it runs. */
     }
-    if (head.e_ident[EI_CLASS] != ELFCLASS64) {
+    *is_32_bit = head.e_ident[EI_CLASS] != ELFCLASS64;
+    if (*is_32_bit) {
         return "is a 32-bit program";
     }
     for (size_t i = 0; i < head.e_phnum && read_at(fd, &segment, sizeof segment, head.e_phoff + i * head.e_phentsize);
@@ -88,7 +92,7 @@ static const char *elf_obstacle(int fd) {
     }
     return is_go         ? "is a Go program, which calls the kernel itself"
            : !is_dynamic ? "is linked statically"
-           : is_musl     ? "is linked with musl, and not with glibc"
+           : is_musl     ? OF_MUSL
                          : NULL;
 }
 
@@ -116,16 +120,36 @@ static bool is_harmless(const char *path) {
     return strstr(path, "/valgrind/");
 }
 
-const char *program_bypass(const char *path) {
-    if (is_harmless(path)) {
-        return NULL;
-    }
+/* The same of the file of this path. */
+static const char *file_obstacle(const char *path, bool *is_32_bit) {
     int fd = open(path, O_RDONLY | O_CLOEXEC);
-    const char *obstacle = fd >= 0 ? elf_obstacle(fd) : NULL;
+    const char *obstacle = fd >= 0 ? elf_obstacle(fd, is_32_bit) : NULL;
     if (fd >= 0) {
         close(fd);
     }
     return obstacle;
+}
+
+const char *program_bypass(const char *path) {
+    bool is_32_bit = false;
+    const char *obstacle = is_harmless(path) ? NULL : file_obstacle(path, &is_32_bit);
+    return getenv(STATIC_SETTING) && !is_32_bit ? NULL : obstacle;
+}
+
+bool program_takes_library(const char *path) {
+    bool is_32_bit;
+    return !file_obstacle(path, &is_32_bit);
+}
+
+bool program_is_of_musl(const char *path) {
+    bool is_32_bit;
+    return file_obstacle(path, &is_32_bit) == OF_MUSL;
+}
+
+const char *program_cure(const char *path) {
+    bool is_32_bit = false, has_obstacle = file_obstacle(path, &is_32_bit);
+    return has_obstacle && !is_32_bit && !getenv(STATIC_SETTING) ? "; with canbusd-run --static they are the server's"
+                                                                 : "";
 }
 
 const char *program_obstacle(const char *path) {

@@ -12,13 +12,12 @@
 
 /* Names the program of this file, which may be one that PATH finds; NULL for none. */
 static void note(const char *file, bool is_searched) {
-    char path[PATH_MAX], line[PATH_MAX + 128];
+    char path[PATH_MAX], line[PATH_MAX + 192];
     int before = errno;
     bool is_found = file && (is_searched ? !program_find(file, path) : snprintf(path, PATH_MAX, "%s", file) < PATH_MAX);
     const char *obstacle = is_found ? program_bypass(path) : NULL;
     if (obstacle) {
-        int length = snprintf(line, sizeof line, "canbusd-run: note: %s %s, so its CAN sockets are the kernel's\n",
-                              path, obstacle);
+        int length = snprintf(line, sizeof line, PROGRAM_NOTE, path, obstacle, program_cure(path));
         syscall(SYS_write, STDERR_FILENO, line, MIN((size_t)length, sizeof line - 1));
     }
     errno = before;

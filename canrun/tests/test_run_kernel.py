@@ -69,10 +69,11 @@ def probe(folder, *more, flags=()):
     return path
 
 
-def answered(program, cases, options=(*FAST, "can0,can1", "vcan0"), settings=(), **how):
+def answered(program, cases, options=(*FAST, "can0,can1", "vcan0"), settings=(), run_options=(), **how):
     """What canbusd-run answers to these cases, with a server of their own."""
     with serving(*options) as server:
-        written = passes(server, program, *cases, patience=300, env=environment(server, **dict(settings)), **how)
+        how = {"env": environment(server, **dict(settings)), "options": run_options, **how}
+        written = passes(server, program, *cases, patience=300, **how)
         server.end()
     return answers(written)
 

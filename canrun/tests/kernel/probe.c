@@ -77,7 +77,7 @@ static void alone(const struct probe *probe) {
     timer_create(CLOCK_MONOTONIC, &event, &timer);
     timer_settime(timer, 0, &(struct itimerspec){.it_value = {LONGEST, 0}}, NULL);
     probe->run();
-    for (int fd = readers[1] + 1; fd < 64; fd++) {
+    for (int fd = readers[1] + 1; fd < 1024; fd++) {
         close(fd);
     }
     _exit(0);

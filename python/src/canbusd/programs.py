@@ -230,10 +230,13 @@ class RunsPrograms:
         """ServerError where the server has ended, with what is not possible then."""
         raise NotImplementedError
 
-    def run(self, words: Words, wait: bool = False, **kwargs: Any) -> "subprocess.CompletedProcess[Any]":
+    def run(
+        self, words: Words, wait: bool = False, static: bool = False, **kwargs: Any
+    ) -> "subprocess.CompletedProcess[Any]":
         """Runs a program whose CAN sockets are those of this server to its end: ``"cansend can0 123#"``, or a list of words.
 
-        With ``wait`` its writes wait where the transmit queue is full. The other arguments are those of subprocess.run,
+        With ``wait`` its writes wait where the transmit queue is full; with ``static`` it may be a program that is linked
+        statically, or of Go. The other arguments are those of subprocess.run,
         but for ``shell``: a str is split into words as a shell does, and what only a shell does is a ValueError. So
         it raises FileNotFoundError where there is no such program; with ``check`` a status other than 0 is an error, too.
         """
@@ -241,9 +244,11 @@ class RunsPrograms:
         found = words_of(words)
         self._check_runs("no program can be run on its buses")
         check_program(found[0], kwargs.get("env"), kwargs.get("cwd"))
-        return subprocess.run([*self._run_words(wait), *found], **kwargs)
+        return subprocess.run([*self._run_words(wait, static), *found], **kwargs)
 
-    def start(self, words: Words, wait: bool = False, may_end: bool = False, **kwargs: Any) -> Program:
+    def start(
+        self, words: Words, wait: bool = False, may_end: bool = False, static: bool = False, **kwargs: Any
+    ) -> Program:
         """Starts such a program, one that stays, as ``"candump can0"``; the end of the server ends it.
 
         If it has ended by itself before, :meth:`stop` is a ServerError, and so a failure of the test, unless it
@@ -258,7 +263,7 @@ class RunsPrograms:
         self._check_runs("no program can be started on its buses")
         check_program(found[0], kwargs.get("env"), kwargs.get("cwd"))
         path = self._folder / f"program{len(self._programs)}"
-        program = Program(found, self._run_words(wait), path, may_end, **kwargs)
+        program = Program(found, self._run_words(wait, static), path, may_end, **kwargs)
         self._programs.append(program)
         return program
 
@@ -271,8 +276,9 @@ class RunsPrograms:
         pairs = os.fsdecode(subprocess.run(words, stdout=subprocess.PIPE, check=True).stdout).split("\0")
         return dict(pair.split("=", 1) for pair in pairs if pair)
 
-    def _run_words(self, wait: bool = False) -> list[str]:
-        return [find_program("canbusd-run"), "--address", self.address, *(["--wait"] if wait else []), "--"]
+    def _run_words(self, wait: bool = False, static: bool = False) -> list[str]:
+        options = [*(["--wait"] if wait else []), *(["--static"] if static else [])]
+        return [find_program("canbusd-run"), "--address", self.address, *options, "--"]
 
     def _end_programs(self) -> list[str]:
         """Ends what :meth:`start` has started; what is wrong with those that had ended before."""

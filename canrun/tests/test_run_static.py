@@ -1,0 +1,159 @@
+"""canbusd-run --static: programs that take no library. The cases of kernel/ and links/ in a program that is linked statically
+have the kernel's answers, but for what differs there and in static.txt; programs of Go and musl; signals and forks.
+"""
+
+import concurrent.futures
+import contextlib
+import os
+import re
+import shutil
+import signal
+import subprocess
+
+import pytest
+
+from running import FAST, command, compiled, environment, needs_gcc, passes, run, started
+from serving import ROOT, come_true, serving
+from serving import plain as session
+from test_run_kernel import KERNEL, LOTS, answered, answers, differences, file_of, probe
+from test_run_kernel import plain as words_of
+from test_run_links import CARDS, LINKS, needs_ip, needs_libsocketcan
+
+STATIC = ("--static",)
+
+
+def supports(kernel=os.uname().release):
+    """Whether this kernel has what --static needs."""
+    return tuple(map(int, re.findall(r"\d+", kernel)[:2])) >= (5, 19)
+
+
+pytestmark = [needs_gcc, pytest.mark.skipif(not supports(), reason="a kernel before Linux 5.19")]
+
+
+def known_differences():
+    text = re.sub(r"^#.*\n", "", file_of("static.txt"), flags=re.M)
+    return re.findall(r"^(?!\w+:\w+:)(.+)$", text, re.M), answers(text)
+
+
+def unlike(program, cases, folder, **how):
+    """The cases of a folder that have another answer than the kernel's, and than what differs says."""
+    wanted = {**answers(file_of("answers.txt", folder)), **differences(folder)[1], **known_differences()[1]}
+    with concurrent.futures.ThreadPoolExecutor(LOTS) as pool:
+        lots = pool.map(lambda number: answered(program, cases[number::LOTS], **how), range(LOTS))
+        got = {case: answer for lot in lots for case, answer in lot.items()}
+    return [f"{case}:{got.get(case)}\n  wanted {wanted[case]}" for case in cases if got.get(case) != wanted[case]]
+
+
+@needs_ip
+@needs_libsocketcan
+@pytest.mark.parametrize("folder", [KERNEL, LINKS], ids=["kernel", "links"])
+def test_answers(tmp_path, folder):
+    """a static program has the kernel's answers, but for what static.txt says"""
+    program = probe(str(tmp_path), LINKS, flags=["-static", "-lsocketcan"])
+    listed = subprocess.run([program, "--list"], stdout=subprocess.PIPE, text=True, check=True).stdout.split()
+    cases = [case for case in listed if case in answers(file_of("answers.txt", folder))]
+    how = {"options": CARDS} if folder == LINKS else {}
+    wrong = unlike(program, cases, folder, run_options=STATIC, **how)
+    assert not wrong, "\n".join(wrong)
+
+def test_differences():
+    """what differs is in LIMITS, and does differ"""
+    limits = words_of(file_of("../../../canbusd-run.1").split(".SH LIMITS")[1].split(".SH ENVIRONMENT")[0])
+    lines, cases = known_differences()
+    kernel = {**answers(file_of("answers.txt")), **answers(file_of("answers.txt", LINKS))}
+    assert lines and not [line for line in lines if line not in limits]
+    assert not [case for case, answer in cases.items() if kernel.get(case, answer) == answer]
+
+
+#: Those of test_run_c.py that need nothing else than can0 and can1 on one bus, and do not look at how the library works.
+SAME = ("calls", "options", "filters", "own", "fd", "epoll", "threads", "bcm", "rows", "isotp")
+
+
+@pytest.mark.parametrize("name", SAME)
+def test_programs(tmp_path, name):
+    """programs that are linked statically find what those with the library find"""
+    program = compiled(name, str(tmp_path), "-static")
+    with serving(*FAST, "can0,can1", "vcan0") as server:
+        passes(server, program, options=STATIC, patience=200)
+        server.end()
+
+
+@pytest.mark.parametrize("kind", ["restarted", "interrupted"])
+def test_signals(tmp_path, kind):
+    """a wait that a signal interrupts loses no frame"""
+    program = compiled("interrupted", str(tmp_path), "-static")
+    with serving(*FAST, "can0,can1") as server:
+        passes(server, program, kind, options=STATIC, patience=200)
+        server.end()
+
+
+@pytest.mark.skipif(not shutil.which("go"), reason="no go: apt-get install golang-go")
+def test_go(tmp_path):
+    """a program of Go finds its interface by net.InterfaceByName, and answers a thousand frames"""
+    node = str(tmp_path / "node")
+    subprocess.run(["go", "build", "-o", node, os.path.join(ROOT, "examples", "go", "node.go")], check=True)
+    with serving(*FAST, "can0,can1") as server:
+        with started(server, node, "can0", options=STATIC) as child:
+            assert child.stdout.readline() == "ready\n"
+            tester = session(server, "can1")
+            for number in range(1000):
+                tester.write(f"< send 123 1 {number % 255:02X} >")
+                assert tester.frame() == ("124", bytes([number % 255 + 1]))
+            os.killpg(child.pid, signal.SIGTERM)
+            assert child.wait(20) == -signal.SIGTERM
+        server.end()
+
+
+@pytest.mark.skipif(not shutil.which("musl-gcc"), reason="no musl-gcc: apt-get install musl-tools")
+def test_musl(tmp_path):
+    """a program that is linked with musl sends a frame"""
+    program = str(tmp_path / "send_one")
+    source = os.path.join(ROOT, "canrun", "tests", "run_c", "send_one.c")
+    headers = ["-idirafter", "/usr/include", "-idirafter", "/usr/include/x86_64-linux-gnu"]
+    subprocess.run(["musl-gcc", "-std=gnu11", "-O1", *headers, "-o", program, source], check=True)
+    with serving(*FAST, "can0,can1") as server:
+        tester = session(server, "can1")
+        passes(server, program, "can0", options=STATIC)
+        assert tester.frame() == ("123", bytes([1, 0, 0, 0]))
+        server.end()
+
+
+def test_process(tmp_path):
+    """the program keeps its process number and its status, and nothing is left of the supervisor"""
+    program = compiled("send_one", str(tmp_path), "-static")
+    with serving(*FAST, "can0,can1") as server:
+        shown = run(server, "sh", "-c", f"echo $$; exec {program} none", options=STATIC)
+        assert shown.returncode == 1
+        with started(server, "sh", "-c", f"echo $$; {program} can0; exec sleep 60", options=STATIC) as child:
+            assert int(child.stdout.readline()) == child.pid
+        assert come_true(lambda: not supervisors(server))
+        server.end()
+
+
+def supervisors(server):
+    """The supervisors of programs that have this server's address."""
+    wanted = f"CANBUSD_ADDRESS={environment(server)['CANBUSD_ADDRESS']}".encode()
+    found = []
+    for process in filter(str.isdigit, os.listdir("/proc")):
+        with contextlib.suppress(OSError):
+            with open(f"/proc/{process}/comm", encoding="utf-8") as comm:
+                name = comm.read().strip()
+            with open(f"/proc/{process}/environ", "rb") as environ:
+                if name == "canbusd-static" and wanted in environ.read().split(b"\0"):
+                    found.append(int(process))
+    return found
+
+
+def test_refused(tmp_path):
+    """what --static can't do is refused, and a program that needs it is told of it"""
+    program = compiled("send_one", str(tmp_path), "-static")
+    with serving(*FAST, "can0,can1") as server:
+        note = run(server, program, "can0").stderr
+        assert note.startswith(f"canbusd-run: note: {program} is linked statically, so its CAN sockets are the kernel's; ")
+        assert "with canbusd-run --static they are the server's" in note
+        for options, why in (("--wait", "--static has no --wait"), ("--virtual", "--static has no virtual time")):
+            refused = run(server, program, "can0", options=("--static", options))
+            assert refused.returncode == 125 and why in refused.stderr
+        inside = run(server, command(), "--static", program, "can0", options=("--virtual",), env=dict(os.environ))
+        assert inside.returncode == 125 and "--static has no virtual time" in inside.stderr
+        server.end()
