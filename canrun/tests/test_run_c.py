@@ -213,5 +213,6 @@ def test_static(tmp_path):
     with serving("can0,can1") as server:
         ended = run(server, path)
         assert ended.stderr.startswith(
-            f"canbusd-run: note: {path} is linked statically, so its CAN sockets are the kernel's\n"
+            f"canbusd-run: note: {path} is linked statically, so its CAN sockets are the kernel's; "
+            "with canbusd-run --static they are the server's\n"
         )

@@ -504,7 +504,8 @@ def test_obstacles(tmp_path):
     (tmp_path / "small").chmod(0o755)
     with serving("can0,can1") as server:
         assert run(server, built["dynamic"]).stderr == ""
-        note = "canbusd-run: note: {} {}, so its CAN sockets are the kernel's\n"
+        plain = "canbusd-run: note: {} {}, so its CAN sockets are the kernel's\n"
+        note = plain.replace("\n", "; with canbusd-run --static they are the server's\n")
         static = run(server, built["static"])
         assert (static.returncode, static.stderr) == (0, note.format(built["static"], "is linked statically"))
         # A shell, or Python, starts it: the same line.
@@ -522,13 +523,13 @@ def test_obstacles(tmp_path):
         shutil.copy(built["static"], tmp_path / "valgrind" / "memcheck-amd64-linux")
         assert run(server, "sh", "-c", str(tmp_path / "valgrind" / "memcheck-amd64-linux")).stderr == ""
         small = run(server, str(tmp_path / "small"))
-        assert small.stderr.startswith(note.format(tmp_path / "small", "is a 32-bit program"))
+        assert small.stderr.startswith(plain.format(tmp_path / "small", "is a 32-bit program"))
         if os.geteuid() == 0:
             shutil.copy(built["dynamic"], tmp_path / "other")
             os.chown(tmp_path / "other", 65534, 65534)
             os.chmod(tmp_path / "other", 0o755 | stat.S_ISUID)
             other = run(server, str(tmp_path / "other"))
-            assert other.stderr == note.format(tmp_path / "other", "is setuid, setgid or has capabilities")
+            assert other.stderr == plain.format(tmp_path / "other", "is setuid, setgid or has capabilities")
         server.end()
 
 

@@ -35,8 +35,17 @@ static void netlink(void) {
                   {.ifi_family = AF_PACKET, .ifi_index = (int)if_nametoindex("can0")}};
     int fd = socket(PF_NETLINK, SOCK_RAW, NETLINK_ROUTE);
     CHECK(fd >= 0);
-    FAILS(send(fd, &question, sizeof question, 0), ENODEV);
-    FAILS(sendto(fd, &question, sizeof question, 0, NULL, 0), ENODEV);
+    struct {
+        struct nlmsghdr head;
+        struct ifinfomsg interface;
+        char attributes[2048];
+    } answer;
+    for (int i = 0; i < 2; i++) {
+        CHECK((i ? sendto(fd, &question, sizeof question, 0, NULL, 0) : send(fd, &question, sizeof question, 0)) ==
+              sizeof question);
+        CHECK(recv(fd, &answer, sizeof answer, 0) == (ssize_t)answer.head.nlmsg_len);
+        CHECK(answer.head.nlmsg_type == RTM_NEWLINK && answer.interface.ifi_index == question.interface.ifi_index);
+    }
     FAILS(send(fd, (void *)16, sizeof question, 0), EFAULT);
     question.interface.ifi_index = (int)if_nametoindex("lo");
     CHECK(send(fd, &question, sizeof question, 0) == sizeof question);

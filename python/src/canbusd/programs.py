@@ -236,9 +236,9 @@ class RunsPrograms:
         """Runs a program whose CAN sockets are those of this server to its end: ``"cansend can0 123#"``, or a list of words.
 
         With ``wait`` its writes wait where the transmit queue is full; with ``static`` it may be a program that is linked
-        statically, or of Go. The other arguments are those of subprocess.run,
-        but for ``shell``: a str is split into words as a shell does, and what only a shell does is a ValueError. So
-        it raises FileNotFoundError where there is no such program; with ``check`` a status other than 0 is an error, too.
+        statically, or of Go. The other arguments are those of subprocess.run, but for ``shell``: a str is split into words
+        as a shell does, and what only a shell does is a ValueError. So it raises FileNotFoundError where there is no such
+        program; with ``check`` a status other than 0 is an error, too.
         """
         check_no_shell(kwargs)
         found = words_of(words)
