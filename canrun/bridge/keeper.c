@@ -184,6 +184,10 @@ static bool has_cards(void) {
 
 /* The facts as they are now; of each interface that is known, where several are looked at. */
 static void look(const struct link_request *asked, struct link_reply *reply) {
+    for (int i = 0; i < INTERFACE_MOST; i++) {
+        struct link_reply ignored;
+        reply->last = card_of(INTERFACE_FIRST + i, false, &ignored) ? INTERFACE_FIRST + i : reply->last;
+    }
     for (int i = 0; i < MIN(asked->count, LINK_SEVERAL); i++) {
         struct link_reply ignored;
         struct card *card = card_of(asked->index + i, false, &ignored);

@@ -174,17 +174,21 @@ static void put_link(struct outgoing *out, const struct nlmsghdr *asked, int ind
     mail_put(out, LINK_ANSWER, &message.head, &message, message.head.nlmsg_len);
 }
 
-size_t links_dump(const struct nlmsghdr *asked, int *index, char *room, size_t size) {
+size_t links_dump(const struct nlmsghdr *asked, struct dump *dump, char *room, size_t size) {
     struct link_message message;
-    struct link_reply reply;
+    struct link_reply reply = {0};
     char name[IFNAMSIZ];
     bool is_chosen = links_are_all(asked);
     uint32_t queue = (uint32_t)queue_length();
     size_t done = 0;
-    struct link_request request = {.kind = LINK_LOOK, .index = *index, .count = LINK_SEVERAL};
-    keeper_ask(&request, -1, &reply);
-    for (int i = 0; i < LINK_SEVERAL && interface_name(*index, name); i++) {
-        link_write(&message, *index, &reply.facts[i], queue);
+    if (!dump->has_asked || dump->next <= dump->last) {
+        struct link_request request = {.kind = LINK_LOOK, .index = dump->next, .count = LINK_SEVERAL};
+        keeper_ask(&request, -1, &reply);
+        dump->last = reply.last;
+        dump->has_asked = true;
+    }
+    for (int i = 0; i < LINK_SEVERAL && interface_name(dump->next, name); i++) {
+        link_write(&message, dump->next, &reply.facts[i], queue);
         if (done && done + message.head.nlmsg_len > size) {
             break;
         }
@@ -192,7 +196,7 @@ size_t links_dump(const struct nlmsghdr *asked, int *index, char *room, size_t s
         message.head.nlmsg_flags = NLM_F_MULTI | (is_chosen ? NLM_F_DUMP_FILTERED : 0);
         memcpy(room + done, &message, message.head.nlmsg_len);
         done += message.head.nlmsg_len;
-        ++*index;
+        dump->next++;
     }
     return done;
 }

@@ -31,9 +31,14 @@ bool links_are_all(const struct nlmsghdr *asked);
 /* Whether this asks for the addresses of an interface of the server, which has none. */
 bool addresses_are_asked(const struct nlmsghdr *asked);
 
-/* Writes messages of the interfaces from this one on, as far as there is room, which is for at least one; returns their
- * length. `index` becomes that of the next, and is past the last in the end. */
-size_t links_dump(const struct nlmsghdr *asked, int *index, char *room, size_t size);
+/* How far a dump has come: the next interface, and the last one of which something is known, once that was asked for. */
+struct dump {
+    int next, last;
+    bool has_asked;
+};
+
+/* Writes messages of the next interfaces, as far as there is room, which is for at least one; returns their length. */
+size_t links_dump(const struct nlmsghdr *asked, struct dump *dump, char *room, size_t size);
 
 /* The facts of an interface, as far as they are known. */
 struct link_facts links_facts(int index);

@@ -84,15 +84,15 @@ bool mail_put(struct outgoing *out, enum link_mail type, const struct nlmsghdr *
     return mail;
 }
 
-/* The request of a dump, which begins at this interface. */
-static bool put_dump(struct outgoing *out, const struct nlmsghdr *asked, int index) {
+/* The request of a dump that has come so far. */
+static bool put_dump(struct outgoing *out, const struct nlmsghdr *asked, const struct dump *dump) {
     char data[MAIL];
-    size_t length = sizeof index + asked->nlmsg_len;
+    size_t length = sizeof *dump + asked->nlmsg_len;
     if (length > sizeof data) {
         return false;
     }
-    memcpy(data, &index, sizeof index);
-    memcpy(data + sizeof index, asked, asked->nlmsg_len);
+    memcpy(data, dump, sizeof *dump);
+    memcpy(data + sizeof *dump, asked, asked->nlmsg_len);
     return mail_put(out, LINK_DUMP, asked, data, length);
 }
 
@@ -119,12 +119,13 @@ static bool put_plain(struct outgoing *out, const struct nlmsghdr *asked) {
 
 /* Puts the answer to a message; false where it is the kernel's. */
 static bool put_answer(struct outgoing *out, const struct nlmsghdr *asked) {
+    const struct dump start = {.next = INTERFACE_FIRST};
     char name[IFNAMSIZ];
     if (!(asked->nlmsg_flags & NLM_F_REQUEST)) {
         return false;
     }
     if (links_are_asked(asked)) {
-        return interface_name(INTERFACE_FIRST, name) && put_dump(out, asked, INTERFACE_FIRST);
+        return interface_name(start.next, name) && put_dump(out, asked, &start);
     }
     return addresses_are_asked(asked) ? put_done(out, asked) : links_answer(asked, out);
 }
@@ -219,15 +220,15 @@ static ssize_t give(struct msghdr *message, const char *data, size_t length, int
 }
 
 /* Asks for what comes after this part of a dump: the next part, or the kernel's links. */
-static bool go_on(int fd, const struct nlmsghdr *asked, int index) {
+static bool go_on(int fd, const struct nlmsghdr *asked, const struct dump *dump) {
     struct outgoing *out = mmap(NULL, sizeof *out, PROT_READ | PROT_WRITE, MAP_PRIVATE | MAP_ANONYMOUS, -1, 0);
     char name[IFNAMSIZ];
     if (out == MAP_FAILED) {
         return false;
     }
-    bool is_put = interface_name(index, name) ? put_dump(out, asked, index)
-                  : links_are_all(asked)      ? put_done(out, asked)
-                                              : put_plain(out, asked);
+    bool is_put = interface_name(dump->next, name) ? put_dump(out, asked, dump)
+                  : links_are_all(asked)           ? put_done(out, asked)
+                                                   : put_plain(out, asked);
     bool is_sent = is_put && real()->send(fd, out->data, out->length, 0) >= 0;
     munmap(out, sizeof *out);
     return is_sent;
@@ -235,19 +236,19 @@ static bool go_on(int fd, const struct nlmsghdr *asked, int index) {
 
 /* Gives a part of a dump, as much as the program and a datagram have room for. */
 static ssize_t give_dump(int fd, struct msghdr *message, const char *request, uint32_t port, int flags) {
-    int index;
+    struct dump dump;
     struct nlmsghdr asked[MAIL / sizeof(struct nlmsghdr)];
     char part[CHUNK];
-    memcpy(&index, request, sizeof index);
-    memcpy(asked, request + sizeof index, sizeof *asked);
-    memcpy(asked, request + sizeof index, MIN((size_t)asked->nlmsg_len, sizeof asked));
+    memcpy(&dump, request, sizeof dump);
+    memcpy(asked, request + sizeof dump, sizeof *asked);
+    memcpy(asked, request + sizeof dump, MIN((size_t)asked->nlmsg_len, sizeof asked));
     size_t room = room_of(message, sizeof part);
     /* Who looks at the length only, has room for it then. */
-    size_t length = links_dump(asked, &index, part, flags & MSG_PEEK ? sizeof part : room);
+    size_t length = links_dump(asked, &dump, part, flags & MSG_PEEK ? sizeof part : room);
     for (size_t at = 0; at < length; at += ((struct nlmsghdr *)(part + at))->nlmsg_len) {
         ((struct nlmsghdr *)(part + at))->nlmsg_pid = port;
     }
-    if (!(flags & MSG_PEEK) && !go_on(fd, asked, index)) {
+    if (!(flags & MSG_PEEK) && !go_on(fd, asked, &dump)) {
         return fail(ENOBUFS);
     }
     return give(message, part, length, flags);

@@ -16,7 +16,7 @@
 
 /* Types of messages that the kernel does not know, as they are above RTM_MAX: it refuses them, and sends back the whole
  * of what it refused. So the socket itself carries what follows their head: an answer to the program; an event; the
- * request of a dump, after the index of the next interface. */
+ * request of a dump, after how far that has come. */
 enum link_mail { LINK_ANSWER = 0x7CA0, LINK_EVENT, LINK_DUMP };
 
 /* What the abstract name of a keeper's socket begins with. */
@@ -55,6 +55,7 @@ struct link_request {
 struct link_reply {
     int32_t error;  /* an errno, or 0 */
     char text[160]; /* why there is an error; without one, a note for the program's user */
+    int32_t last;   /* the last interface of which something is known; 0: of none */
     struct link_facts facts[LINK_SEVERAL];
 };
 
