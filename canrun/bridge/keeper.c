@@ -245,6 +245,9 @@ static void serve(void) {
     struct link_request request;
     struct ucred peer = {.uid = (uid_t)-1};
     int connection = accept4(PROGRAM, NULL, NULL, SOCK_CLOEXEC), fd;
+    if (connection < 0) {
+        return; /* Who has asked is gone. */
+    }
     getsockopt(connection, SOL_SOCKET, SO_PEERCRED, &peer, &(socklen_t){sizeof peer});
     if (peer.uid == geteuid() && read_request(connection, &request, &fd)) {
         reply = (struct link_reply){0};
@@ -313,9 +316,12 @@ bool keeper_is_asked_for(void) {
 }
 
 void keeper_run(void) {
+    struct pollfd polled = {PROGRAM, POLLIN, 0};
     prctl(PR_SET_NAME, "canbusd-links");
     close(WIRE_MEMORY);
-    serve();
+    if (poll(&polled, 1, PATIENCE * 1000) > 0) {
+        serve();
+    }
     /* Without a session it would not know when the server ends. */
     while (has_cards() && do_next()) {
     }

@@ -42,7 +42,7 @@ static socklen_t name_keeper(struct sockaddr_un *name) {
 
 /* Starts a keeper that listens at this name. Who is too late has no error. */
 static int start_keeper(const struct sockaddr_un *name, socklen_t length) {
-    int fd = (int)syscall(SYS_socket, AF_UNIX, SOCK_SEQPACKET | SOCK_CLOEXEC, 0), error = 0;
+    int fd = (int)syscall(SYS_socket, AF_UNIX, SOCK_SEQPACKET | SOCK_CLOEXEC | SOCK_NONBLOCK, 0), error = 0;
     if (fd < 0) {
         return errno;
     }
