@@ -46,7 +46,7 @@ def written(installed, tmp_path_factory):
 
 
 def test_all_recipes_are_there():
-    assert len(recipes()) == 22
+    assert len(recipes()) == 23
     named = re.findall(r"\]\(\.\./examples/recipes/test_(\w+)\.py\)", DOCUMENT.read_text(encoding="utf-8"))
     assert sorted(named) == sorted(recipes())
     for name, path in recipes().items():

@@ -99,7 +99,7 @@ static struct nlattr *put_attribute(struct asked *asked, unsigned type, const vo
     return one;
 }
 
-struct asked *named(struct asked *asked, const char *name) {
+struct asked *with_name(struct asked *asked, const char *name) {
     put_attribute(asked, IFLA_IFNAME, name, strlen(name) + 1);
     return asked;
 }
@@ -242,7 +242,7 @@ void answers(int fd, struct asked *asked) {
 /* Asks for a link, and reads it; NULL where there is none. */
 static const struct asked *link_of(const char *name) {
     int fd = route(0);
-    tells(fd, named(get_link(0), name));
+    tells(fd, with_name(get_link(0), name));
     size_t length = receive(fd);
     close(fd);
     const struct asked *link = (const struct asked *)received;

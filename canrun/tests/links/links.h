@@ -31,7 +31,7 @@ struct asked {
 struct asked *get_link(unsigned flags);
 struct asked *new_link(unsigned flags);
 struct asked *message_of(unsigned type, unsigned flags);
-struct asked *named(struct asked *asked, const char *name);
+struct asked *with_name(struct asked *asked, const char *name);
 struct asked *indexed(struct asked *asked, const char *name);
 struct asked *number(struct asked *asked, unsigned type, uint32_t value);
 struct asked *text(struct asked *asked, unsigned type, const char *value);

@@ -3,26 +3,26 @@
 
 #define GET(flags) get_link(flags)
 #define ASKS(name, ...) CASE(name, a = route(0), answers(a, __VA_ARGS__), next(a))
-ASKS(get_by_name, named(GET(0), "can2"))
+ASKS(get_by_name, with_name(GET(0), "can2"))
 ASKS(get_by_index, indexed(GET(0), "can2"))
-ASKS(get_by_both, named(indexed(GET(0), "can2"), "can3"))
+ASKS(get_by_both, with_name(indexed(GET(0), "can2"), "can3"))
 ASKS(get_by_other_name, text(GET(0), IFLA_ALT_IFNAME, "can2"))
 ASKS(get_by_name_without_end, text(GET(0), IFLA_IFNAME, "can2"))
-ASKS(get_unknown_name, named(GET(0), "can9"))
-ASKS(get_long_name, named(GET(0), "sixteen_letters_"))
-ASKS(get_empty_name, named(GET(0), ""))
-ASKS(get_with_ack, named(GET(NLM_F_ACK), "can2"))
-ASKS(get_unknown_with_ack, named(GET(NLM_F_ACK), "can9"))
-ASKS(get_with_mask, number(named(GET(0), "can2"), IFLA_EXT_MASK, 9))
-ASKS(get_lo, named(GET(0), "lo"))
-ASKS(get_vcan, named(GET(0), "vcan0"))
+ASKS(get_unknown_name, with_name(GET(0), "can9"))
+ASKS(get_long_name, with_name(GET(0), "sixteen_letters_"))
+ASKS(get_empty_name, with_name(GET(0), ""))
+ASKS(get_with_ack, with_name(GET(NLM_F_ACK), "can2"))
+ASKS(get_unknown_with_ack, with_name(GET(NLM_F_ACK), "can9"))
+ASKS(get_with_mask, number(with_name(GET(0), "can2"), IFLA_EXT_MASK, 9))
+ASKS(get_lo, with_name(GET(0), "lo"))
+ASKS(get_vcan, with_name(GET(0), "vcan0"))
 CASE(get_negative_index, a = route(0), b = 0, answers(a, ({
                                                           struct asked *one = get_link(0);
                                                           one->link.ifi_index = -5;
                                                           one;
                                                       })))
 CASE(get_without_request, a = route(0), answers(a, ({
-                                                    struct asked *one = named(get_link(0), "can2");
+                                                    struct asked *one = with_name(get_link(0), "can2");
                                                     one->head.nlmsg_flags = 0;
                                                     one;
                                                 })))
@@ -71,7 +71,7 @@ DUMPS(dump_of_none, GET(NLM_F_DUMP), "can9")
 DUMPS(dump_root, GET(NLM_F_ROOT), "can2")
 DUMPS(dump_match, GET(NLM_F_MATCH), "can2")
 DUMPS(dump_with_ack, GET(NLM_F_DUMP | NLM_F_ACK), "can2")
-DUMPS(dump_of_name, named(GET(NLM_F_DUMP), "can2"), "can3")
+DUMPS(dump_of_name, with_name(GET(NLM_F_DUMP), "can2"), "can3")
 DUMPS(dump_of_index, indexed(GET(NLM_F_DUMP), "can2"), "can3")
 DUMPS(dump_of_kind, kind(GET(NLM_F_DUMP), "can"), "can2")
 DUMPS(dump_of_kind_without_lo, kind(GET(NLM_F_DUMP), "can"), "lo")
@@ -98,12 +98,13 @@ static void two(int fd, struct asked *one, struct asked *other) {
     say(" %d", (int)writev(fd, parts, 2) == (int)(parts[0].iov_len + parts[1].iov_len));
 }
 #define SKIPS_SEQUENCE(fd) (next(fd), next(fd), next(fd))
-CASE(two_questions, a = route(0), two(a, named(GET(0), "can2"), named(GET(0), "can3")), SKIPS_SEQUENCE(a))
-CASE(two_of_both, a = route(0), two(a, named(GET(0), "lo"), named(GET(0), "can3")), SKIPS_SEQUENCE(a))
-CASE(two_of_both_reversed, a = route(0), two(a, named(GET(0), "can2"), named(GET(0), "lo")), SKIPS_SEQUENCE(a))
-CASE(one_after_other, a = route(0), tells(a, named(GET(0), "can2")), tells(a, named(GET(0), "can3")), SKIPS_SEQUENCE(a))
+CASE(two_questions, a = route(0), two(a, with_name(GET(0), "can2"), with_name(GET(0), "can3")), SKIPS_SEQUENCE(a))
+CASE(two_of_both, a = route(0), two(a, with_name(GET(0), "lo"), with_name(GET(0), "can3")), SKIPS_SEQUENCE(a))
+CASE(two_of_both_reversed, a = route(0), two(a, with_name(GET(0), "can2"), with_name(GET(0), "lo")), SKIPS_SEQUENCE(a))
+CASE(one_after_other, a = route(0), tells(a, with_name(GET(0), "can2")), tells(a, with_name(GET(0), "can3")),
+     SKIPS_SEQUENCE(a))
 
-#define READS(name, ...) CASE(name, a = route(0), tells(a, named(GET(0), "can2")), __VA_ARGS__)
+#define READS(name, ...) CASE(name, a = route(0), tells(a, with_name(GET(0), "can2")), __VA_ARGS__)
 static void peek(int fd) {
     char room[4096];
     ssize_t length = recv(fd, NULL, 0, MSG_PEEK | MSG_TRUNC);
@@ -151,7 +152,7 @@ static void many(int fd) {
         say(" %d", all[i].msg_len == ((struct nlmsghdr *)room[i])->nlmsg_len);
     }
 }
-READS(read_many, tells(a, named(GET(0), "can3")), many(a))
+READS(read_many, tells(a, with_name(GET(0), "can3")), many(a))
 READS(read_by_copy, b = dup(a), next(b), next(a))
 static void in_child(int fd) {
     pid_t child = fork();
@@ -171,21 +172,22 @@ CASE(read_idle_timeout, a = route(0),
      SETS(a, SOL_SOCKET, SO_RCVTIMEO, &((struct timeval){0, 20000}), sizeof(struct timeval)),
      DO(recv(a, (char[16]){0}, 16, 0)))
 CASE(write_write, a = route(0), b = 0,
-     say(" %d", write(a, named(GET(0), "can2"), NLMSG_LENGTH(sizeof(struct ifinfomsg)) + 12) == 44), next(a), next(a))
+     say(" %d", write(a, with_name(GET(0), "can2"), NLMSG_LENGTH(sizeof(struct ifinfomsg)) + 12) == 44), next(a),
+     next(a))
 CASE(write_to_kernel, a = route(0),
-     DO(sendto(a, named(GET(0), "can2"), 44, 0, (struct sockaddr *)&(struct sockaddr_nl){.nl_family = AF_NETLINK},
+     DO(sendto(a, with_name(GET(0), "can2"), 44, 0, (struct sockaddr *)&(struct sockaddr_nl){.nl_family = AF_NETLINK},
                sizeof(struct sockaddr_nl))),
      SKIPS_SEQUENCE(a))
 CASE(write_nowhere, a = route(0), DO(send(a, nowhere, 44, 0)))
-CASE(write_short, a = route(0), DO(send(a, named(GET(0), "can2"), 10, 0)), next(a))
-CASE(unbound, OPEN(a = socket(AF_NETLINK, SOCK_DGRAM, NETLINK_ROUTE)), answers(a, named(GET(0), "can2")))
+CASE(write_short, a = route(0), DO(send(a, with_name(GET(0), "can2"), 10, 0)), next(a))
+CASE(unbound, OPEN(a = socket(AF_NETLINK, SOCK_DGRAM, NETLINK_ROUTE)), answers(a, with_name(GET(0), "can2")))
 CASE(other_protocol, OPEN(a = socket(AF_NETLINK, SOCK_DGRAM, NETLINK_GENERIC)),
-     DO(send(a, named(GET(0), "can2"), 44, 0)), say(" %d", recv(a, (char[512]){0}, 512, MSG_DONTWAIT) > 0))
+     DO(send(a, with_name(GET(0), "can2"), 44, 0)), say(" %d", recv(a, (char[512]){0}, 512, MSG_DONTWAIT) > 0))
 CASE(option_explains, a = route(0), SETS(a, SOL_NETLINK, NETLINK_EXT_ACK, &(int){1}, sizeof(int)),
-     answers(a, named(GET(0), "can9")), answers(a, named(GET(0), "can2")))
+     answers(a, with_name(GET(0), "can9")), answers(a, with_name(GET(0), "can2")))
 CASE(option_caps, a = route(0), SETS(a, SOL_NETLINK, NETLINK_CAP_ACK, &(int){1}, sizeof(int)),
-     answers(a, named(GET(0), "can2")), answers(a, named(GET(NLM_F_ACK), "can2")), next(a))
+     answers(a, with_name(GET(0), "can2")), answers(a, with_name(GET(NLM_F_ACK), "can2")), next(a))
 CASE(option_strict, a = route(0), SETS(a, SOL_NETLINK, NETLINK_GET_STRICT_CHK, &(int){1}, sizeof(int)),
-     answers(a, named(GET(0), "can2")), dumps(a, GET(NLM_F_DUMP), "can2"))
+     answers(a, with_name(GET(0), "can2")), dumps(a, GET(NLM_F_DUMP), "can2"))
 CASE(small_buffer, a = route(0), SETS(a, SOL_SOCKET, SO_RCVBUF, &(int){2500}, sizeof(int)),
-     dumps(a, GET(NLM_F_DUMP), "can2"), answers(a, named(GET(0), "can2")))
+     dumps(a, GET(NLM_F_DUMP), "can2"), answers(a, with_name(GET(0), "can2")))
