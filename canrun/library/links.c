@@ -7,6 +7,7 @@
 
 #include <errno.h>
 #include <linux/can/netlink.h>
+#include <pthread.h>
 #include <string.h>
 #include <sys/syscall.h>
 
@@ -219,11 +220,18 @@ static uint32_t rate_asked(const struct nlattr *data, unsigned type) {
     return timing.bitrate || !timing.tq ? timing.bitrate : (uint32_t)(1000000000 / bit);
 }
 
+/* A note for the program's user, which is not written twice in a row. */
 static void note(const char *text) {
+    static pthread_mutex_t lock = PTHREAD_MUTEX_INITIALIZER;
     static char said[sizeof((struct link_reply *)0)->text];
     char line[256];
-    if (*text && strcmp(said, text) != 0) {
+    pthread_mutex_lock(&lock);
+    bool is_news = *text && strcmp(said, text) != 0;
+    if (is_news) {
         strcpy(said, text);
+    }
+    pthread_mutex_unlock(&lock);
+    if (is_news) {
         int length = snprintf(line, sizeof line, "canbusd-run: note: %s\n", text);
         syscall(SYS_write, STDERR_FILENO, line, (size_t)length);
     }

@@ -31,7 +31,8 @@ bool links_are_all(const struct nlmsghdr *asked);
 /* Whether this asks for the addresses of an interface of the server, which has none. */
 bool addresses_are_asked(const struct nlmsghdr *asked);
 
-/* How far a dump has come: the next interface, and the last one of which something is known, once that was asked for. */
+/* How far a dump has come: the next interface, and the last one of which something is known, once that was asked for.
+ */
 struct dump {
     int next, last;
     bool has_asked;

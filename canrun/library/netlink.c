@@ -42,21 +42,23 @@ static bool is_mail(const struct refusal *refusal, ssize_t length) {
 /* Whether the kernel sends back what it refuses: gVisor does not. */
 static bool is_carried(void) {
     static int known; /* 0: not yet; 1: it does; -1 */
+    int answer = __atomic_load_n(&known, __ATOMIC_RELAXED);
     struct {
         struct nlmsghdr head;
         uint64_t text;
     } mail = {{.nlmsg_len = sizeof mail, .nlmsg_type = LINK_ANSWER, .nlmsg_flags = NLM_F_REQUEST}, 0};
     char back[256];
     int before = errno;
-    if (!known) {
+    if (!answer) {
         int fd = (int)syscall(SYS_socket, AF_NETLINK, SOCK_RAW | SOCK_CLOEXEC, NETLINK_ROUTE);
         bool is_sent = syscall(SYS_sendto, fd, &mail, sizeof mail, 0, NULL, 0) == sizeof mail;
         ssize_t length = is_sent ? syscall(SYS_recvfrom, fd, back, sizeof back, MSG_DONTWAIT, NULL, NULL) : -1;
-        known = length > 0 && is_mail((struct refusal *)back, length) ? 1 : -1;
+        answer = length > 0 && is_mail((struct refusal *)back, length) ? 1 : -1;
+        __atomic_store_n(&known, answer, __ATOMIC_RELAXED);
         syscall(SYS_close, fd);
     }
     errno = before;
-    return known > 0;
+    return answer > 0;
 }
 
 /* ---- sending ---- */
