@@ -102,7 +102,7 @@ def capturing(server, sender, path, *words):
         stdout=subprocess.DEVNULL,
         stderr=subprocess.PIPE,
     )
-    deadline = time.monotonic() + WAIT
+    deadline = time.monotonic() + 4 * WAIT
     while not path.exists() or not any(text == "7FF#" for *_, text in read(path)):
         assert child.poll() is None and time.monotonic() < deadline, child.stderr.read()
         sender.send(message(READY), timeout=5)
@@ -127,7 +127,7 @@ def test_each_frame_once(tmp_path):
             can1.send(message(0x300))
             server.expect_state("can1", "off", within=WAIT)
             can0.send(message(0x7FE), timeout=5)
-            deadline = time.monotonic() + WAIT
+            deadline = time.monotonic() + 4 * WAIT
             while not any(text == "7FE#" for *_, text in read(path)) and time.monotonic() < deadline:
                 time.sleep(0.05)
             child.send_signal(signal.SIGINT)
@@ -229,7 +229,7 @@ def test_in_the_list_of_wireshark(home, tmp_path):
     def listed(**more):
         words = {**environment(), "HOME": str(home), "CANBUSD_ADDRESS": str(tmp_path / "none"), **more}
         written = subprocess.run(
-            ["tshark", "-D"], env=words, capture_output=True, text=True, check=True, timeout=WAIT
+            ["tshark", "-D"], env=words, capture_output=True, text=True, check=True, timeout=4 * WAIT
         ).stdout
         return [line.split(" ", 1)[1] for line in written.splitlines() if "canbusd" in line]
 
@@ -242,7 +242,7 @@ def test_in_the_list_of_wireshark(home, tmp_path):
         words = ["tshark", "-i", "canbusd", "-o", f"extcap.canbusd.address:{server.address}", "-c", "20", "-w", path]
         elsewhere = {**environment(), "HOME": str(home), "CANBUSD_ADDRESS": str(tmp_path / "none")}
         child = subprocess.Popen(words, env=elsewhere, stderr=subprocess.PIPE)
-        deadline = time.monotonic() + 2 * WAIT
+        deadline = time.monotonic() + 4 * WAIT
         while child.poll() is None and time.monotonic() < deadline:
             can0.send(message(READY), timeout=5)
             time.sleep(0.02)

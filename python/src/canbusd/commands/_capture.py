@@ -12,7 +12,7 @@ from canbusd.bus import CanbusdBus
 from canbusd.frames import Frame, frame_like
 
 # How many seconds a session may take to hand over what it has, and how many frames are taken of it at once.
-PATIENCE, BATCH = 1.0, 1000
+PATIENCE, BATCH = 5.0, 1000
 
 
 class Watched(CanbusdBus):
