@@ -7,6 +7,7 @@
 
 #include <errno.h>
 #include <fcntl.h>
+#include <linux/can.h>
 #include <linux/filter.h>
 #include <linux/sockios.h>
 #include <net/if.h>
@@ -64,8 +65,21 @@ static void hand_over(const struct call *call, int fd, bool is_cloexec) {
     }
 }
 
+/* Reports once that there is no CAN_J1939: its errors and the wait of its close need the library in the program. */
+static void note_no_j1939(void) {
+    static bool is_said;
+    if (!__atomic_exchange_n(&is_said, true, __ATOMIC_RELAXED)) {
+        fprintf(stderr, "canbusd-run: --static has no CAN_J1939\n");
+    }
+}
+
 static void make_socket(const struct call *call) {
     int type = (int)call->words[1];
+    if ((int)call->words[0] == PF_CAN && (int)call->words[2] == CAN_J1939) {
+        note_no_j1939();
+        reply(call, -EPROTONOSUPPORT, 0);
+        return;
+    }
     int fd = socket((int)call->words[0], type | SOCK_CLOEXEC, (int)call->words[2]);
     if (fd < 0) {
         reply(call, -errno, 0);
