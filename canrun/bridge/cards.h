@@ -1,5 +1,5 @@
-/* What the files of the keeper share, see ../shared/link.h. The keeper is this program with a listening socket in place
- * of a program's. A card is an interface that it has a session for. */
+/* Declarations that the files of the keeper share, see ../shared/link.h. The keeper is this program with a listening
+ * socket in place of a program's. A card is an interface that it has a session for. */
 #ifndef CARDS_H
 #define CARDS_H
 

@@ -344,7 +344,7 @@ static int j1939_request(const struct wire_request *request, int reply_to, struc
         if (error == ECONNREFUSED) {
             memcpy(data, &name, reply->length = length);
         }
-        /* What else is wrong with the index is for bind to say. */
+        /* Bind reports any other fault of the index. */
         return error == EACCES || error == EMFILE ? error : 0;
     default: return refused(EINVAL, "library and bridge are not of the same version");
     }

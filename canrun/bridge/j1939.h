@@ -1,6 +1,6 @@
-/* What the files of CAN_J1939 (SAE J1939) share. A socket's bridge has its options, its error queue and what its writes
- * wait for (j1939.c, j1939_errors.c). What the sockets of one interface share, as struct j1939_priv of the kernel, is
- * in a process of its own, the host, for as long as one of them is bound (j1939_host.c): names and addresses
+/* Declarations of CAN_J1939 (SAE J1939). A socket's bridge has its options, its error queue and the messages that its
+ * writes wait for (j1939.c, j1939_errors.c). The state that sockets of one interface share, struct j1939_priv of the
+ * kernel, is in a process of its own, the host, for as long as one of them is bound (j1939_host.c): names and addresses
  * (j1939_names.c), and the transfers of messages (j1939_transfers.c and others). The rules are those of net/can/j1939
  * of the kernel. */
 #ifndef J1939_H
@@ -38,7 +38,7 @@ static inline bool has_destination(uint32_t pgn) {
     return (pgn & 0xff00) < 0xf000;
 }
 
-/* What decides whether a socket receives a message. */
+/* The facts that decide whether a socket receives a message. */
 struct j1939_socket {
     uint64_t name, to_name;
     uint32_t pgn; /* the only one that is received, or J1939_NO_PGN */
@@ -46,7 +46,7 @@ struct j1939_socket {
     bool is_connected, is_promiscuous, is_broadcast;
 };
 
-/* What a bridge asks of the host; filters or data follow. Each gets one reply. */
+/* A request of a bridge to the host; filters or data follow. Each gets one reply. */
 struct j1939_ask {
     enum { ASK_BIND, ASK_CHANGE, ASK_SEND, ASK_LEAVE } kind;
     uint32_t key, size; /* of a message; its first bytes, or the next, follow */
@@ -55,7 +55,7 @@ struct j1939_ask {
     struct j1939_socket socket;
 };
 
-/* What the host says to a bridge. */
+/* A message of the host to a bridge. */
 struct j1939_told {
     enum {
         TOLD_REPLY,   /* an error, and its text; or 0 */

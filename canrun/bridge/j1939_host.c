@@ -16,8 +16,8 @@
 #define MEMBERS 1000
 /* Received frames that wait: nothing can be sent while the server's messages are read. */
 #define WAITING 8192
-/* What was on the bus in time is not missed, though a processor is busy: before something is given up the server has
- * replied to so many questions that a frame and its reply would have come. */
+/* A frame that was on the bus in time is not missed, though a processor is busy: before something is given up the
+ * server has replied to so many questions that a frame and its reply would have come. */
 #define ROUNDS 10
 #define PAUSE MILLISECOND
 

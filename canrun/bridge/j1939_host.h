@@ -1,4 +1,4 @@
-/* What the files of the host of an interface share: see j1939.h. */
+/* Declarations that the files of the host of an interface share: see j1939.h. */
 #ifndef J1939_HOST_H
 #define J1939_HOST_H
 

@@ -15,7 +15,7 @@
 static int fd = -1;
 static char data_room[WIRE_LARGEST_J1939];
 
-/* What the host has said while its reply was waited for. */
+/* Messages of the host that came before the reply. */
 static struct kept {
     struct kept *next;
     struct j1939_told told;

@@ -9,7 +9,7 @@
 #include <sys/uio.h>
 #include <unistd.h>
 
-/* What waits for a bridge that does not read, at most; past that messages are lost, as those for a full socket. */
+/* The most that waits for a bridge that does not read; further messages are lost, as at a full socket. */
 #define BACKLOG 1024
 
 struct member *members;

@@ -1,4 +1,4 @@
-/* What a socket of J1939 sends: its messages wait in a queue of its own, and begin one after the other. */
+/* The messages that a socket of J1939 sends wait in a queue of its own, and begin one after the other. */
 #include "j1939_host.h"
 
 #include <errno.h>

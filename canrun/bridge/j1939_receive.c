@@ -213,7 +213,7 @@ static void take_command(const struct heard *heard, enum transfer_kind kind) {
         }
         return;
     }
-    /* What a receiver has sent is of transfers that this host receives, and what it gets of those that it sends. */
+    /* Frames of a receiver are of transfers that this host sends, and frames of a sender of those that it receives. */
     bool is_reply = command != ETP_OFFSET && command != ABORT;
     for (int side = 0; side < 2; side++) {
         bool is_sent = is_reply ? side : !side;

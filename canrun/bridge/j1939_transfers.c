@@ -1,5 +1,5 @@
 /* The transfers of J1939: messages on their way, one frame long or several, from and to all sockets of an interface.
- * Those of a socket begin one after the other; no two with the same ends go on at the same time. */
+ * Transfers of a socket begin one after the other; no two with the same ends go on at the same time. */
 #include "j1939_host.h"
 
 #include <errno.h>
@@ -58,7 +58,7 @@ void transfer_settle(struct transfer *transfer) {
     transfer_forget(transfer);
 }
 
-/* Those that are over keep their place until they are forgotten: their timers may run. */
+/* Transfers that are over keep their place until they are forgotten: their timers may run. */
 static void list(struct transfer *transfer) {
     transfer->next = NULL;
     *active_end = transfer;
@@ -206,7 +206,7 @@ void transfer_cancel(struct transfer *transfer, uint8_t reason) {
     }
 }
 
-/* What was to come has not come in time. */
+/* The next frame has not come in time. */
 static void time_out(struct transfer *transfer) {
     transfer->due = NEVER;
     if (transfer->state == TRANSFER_ABORTING) {

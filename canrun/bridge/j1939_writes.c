@@ -1,4 +1,4 @@
-/* What a socket of J1939 writes: its messages go to the host as far as SO_SNDBUF has room for their segments; a write
+/* The messages that a socket of J1939 writes go to the host as far as SO_SNDBUF has room for their segments; a write
  * waits for the rest. */
 #include "j1939.h"
 
@@ -142,7 +142,7 @@ static int go_on(struct turn *turn) {
     return 0;
 }
 
-/* What a write returns: what was handed on counts where it has waited in vain. */
+/* The result of a write: the bytes that were handed on, where it has waited in vain for the rest. */
 static void finish(const struct turn *turn, int error) {
     bool is_part = turn->done && (error == EAGAIN || error == EINTR);
     request_reply(turn->reply_to, is_part ? 0 : error, (int)turn->done | (writes_are_full(0) ? WIRE_FULL : 0));

@@ -14,7 +14,7 @@
 #include <sys/uio.h>
 #include <time.h>
 
-/* What the kernel has a call return that a signal interrupts: it begins anew, or is EINTR, as the handler says. */
+/* The result of a call that a signal interrupts: it begins anew, or is EINTR, as the handler says. */
 #define RESTART 512
 /* Milliseconds after which a call that waits looks for signals: nobody else reports them. */
 #define LOOK 20

@@ -26,7 +26,7 @@ bool program_takes_library(const char *path);
 /* Whether it is linked dynamically with musl, whose loader takes the library and fails. */
 bool program_is_of_musl(const char *path);
 
-/* What helps such a program: the end of a sentence, or nothing. */
+/* The cure for such a program: the end of a sentence, or nothing. */
 const char *program_cure(const char *path);
 
 #endif

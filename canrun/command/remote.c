@@ -25,7 +25,7 @@ bool give(const struct call *call, uint64_t there, const void *here, size_t leng
     return !length || process_vm_writev(call->thread, &ours, 1, &theirs, 1, 0) == (ssize_t)length;
 }
 
-/* What a call of the library returned, as the kernel does. */
+/* The result of a call of the library, as the kernel returns it. */
 int64_t result(int64_t value) {
     return value < 0 ? -errno : value;
 }
@@ -65,7 +65,7 @@ bool has_signal(const struct call *call) {
 
 /* ---- programs ---- */
 
-/* What is known of the files of programs. */
+/* The files of programs that were looked at. */
 static struct {
     dev_t device;
     ino_t file;

@@ -1,4 +1,4 @@
-/* What the files of the supervisor share, see static.h. */
+/* Declarations that the files of the supervisor share, see static.h. */
 #ifndef SUPERVISE_H
 #define SUPERVISE_H
 
@@ -24,7 +24,7 @@ struct call {
 bool take(const struct call *call, void *here, uint64_t there, size_t length);
 bool give(const struct call *call, uint64_t there, const void *here, size_t length);
 
-/* What a call of the library has returned, as the kernel says it: an errno is below 0. */
+/* The result of a call of the library, as the kernel returns it: an errno is below 0. */
 int64_t result(int64_t value);
 
 /* Replies to the call; or has the kernel make it. */

@@ -312,7 +312,7 @@ EXPORT struct dirent64 *readdir64(DIR *stream) {
     return next ? next : next_interface(stream);
 }
 
-/* What programs call that are built with _FORTIFY_SOURCE. */
+/* Programs that are built with _FORTIFY_SOURCE call these. */
 EXPORT int __open_2(const char *path, int flags);
 EXPORT int __open64_2(const char *path, int flags);
 

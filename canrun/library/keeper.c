@@ -40,7 +40,7 @@ static socklen_t name_keeper(struct sockaddr_un *name) {
     return (socklen_t)(offsetof(struct sockaddr_un, sun_path) + 1 + (size_t)length);
 }
 
-/* Starts a keeper that listens at this name. Who is too late has no error. */
+/* Starts a keeper that listens at this name. A second one that comes too late is no error. */
 static int start_keeper(const struct sockaddr_un *name, socklen_t length) {
     int fd = (int)syscall(SYS_socket, AF_UNIX, SOCK_SEQPACKET | SOCK_CLOEXEC | SOCK_NONBLOCK, 0), error = 0;
     if (fd < 0) {

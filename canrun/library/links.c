@@ -68,7 +68,7 @@ static const struct nlattr *attribute(const struct question *question, unsigned 
     return find(question->attributes, question->length, type);
 }
 
-/* Reads a message about links; false where it is another. That of a dump may have a short head. */
+/* Reads a message about links; false where it is another. A request for a dump may have a short head. */
 static bool read_question(const struct nlmsghdr *head, struct question *question) {
     bool is_of_link = head->nlmsg_type == RTM_GETLINK || head->nlmsg_type == RTM_NEWLINK ||
                       head->nlmsg_type == RTM_SETLINK || head->nlmsg_type == RTM_DELLINK;

@@ -19,7 +19,7 @@
 /* The most bytes of a message that brings an answer. */
 #define MAIL 4096
 
-/* What a refusal begins with that brings something. */
+/* The head of a refusal that brings something. */
 struct refusal {
     struct nlmsghdr head;
     int error;
@@ -245,7 +245,7 @@ static ssize_t give_dump(int fd, struct msghdr *message, const char *request, ui
     memcpy(asked, request + sizeof dump, sizeof *asked);
     memcpy(asked, request + sizeof dump, MIN((size_t)asked->nlmsg_len, sizeof asked));
     size_t room = room_of(message, sizeof part);
-    /* Who looks at the length only, has room for it then. */
+    /* A reader that looks only at the length has room for it then. */
     size_t length = links_dump(asked, &dump, part, flags & MSG_PEEK ? sizeof part : room);
     for (size_t at = 0; at < length; at += ((struct nlmsghdr *)(part + at))->nlmsg_len) {
         ((struct nlmsghdr *)(part + at))->nlmsg_pid = port;

@@ -29,7 +29,7 @@ void note_error_of(int fd) {
     }
 }
 
-/* Those of them that have an error queue. */
+/* The sockets among them that have an error queue. */
 static uint64_t queues[KNOWN_MOST / WORD];
 static bool has_queues;
 

@@ -11,7 +11,7 @@
 /* The most sockets of one poll that are looked at. */
 #define MOST 256
 
-/* What is waited for: the program's descriptors, and after them a pipe for each socket with an error queue. */
+/* The descriptors that are waited for: the program's, and after them a pipe for each socket with an error queue. */
 struct watch {
     struct pollfd all[2 * MOST];
     nfds_t count, with_pipes;

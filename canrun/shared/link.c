@@ -102,7 +102,7 @@ static void put_device(struct link_message *message, const struct link_facts *fa
     end(message, data);
 }
 
-/* What was sent and not. The server does not count bytes, and what an interface has received. */
+/* The counts of sent and lost frames. The server counts neither bytes nor the frames that an interface has received. */
 static void put_stats(struct link_message *message, const struct link_facts *facts) {
     const struct rtnl_link_stats64 counts = {
         .tx_packets = facts->done, .tx_dropped = facts->lost + facts->refused, .tx_errors = facts->lost};

@@ -19,10 +19,10 @@
  * request of a dump, after how far that has come. */
 enum link_mail { LINK_ANSWER = 0x7CA0, LINK_EVENT, LINK_DUMP };
 
-/* What the abstract name of a keeper's socket begins with. */
+/* The beginning of the abstract name of a keeper's socket. */
 #define LINK_KEEPER "canbusd-links/"
 
-/* What is known of an interface: of one that has no keeper, nothing. */
+/* The facts of an interface; of one that has no keeper there are none. */
 struct link_facts {
     bool is_known;
     bool has_counts; /* the keeper knows of all errors until now */

@@ -1,4 +1,4 @@
-"""canbusd-run: J1939, by the tools of can-utils and by CPython's own tests. What a kernel does is in kernel/j1939.c and others."""
+"""canbusd-run: J1939, by the tools of can-utils and by CPython's own tests. The cases of a kernel are in kernel/j1939.c and others."""
 
 import importlib.util
 import re
@@ -27,7 +27,7 @@ PYTHON = "/usr/bin/python3"
 
 
 def lines_of(child):
-    """What a program has written that Ctrl-C ends."""
+    """Returns the output of a program that Ctrl-C ends."""
     child.send_signal(signal.SIGINT)
     return child.communicate(timeout=20)[0].splitlines()
 

@@ -38,7 +38,7 @@ def known_differences():
 
 
 def unlike(cases, folder, answer):
-    """The cases of a folder that have another answer than the kernel's, and than what differs says. Those of static.txt have a
+    """The cases of a folder that have another answer than the kernel's or the known difference. Cases of static.txt have a
     server each, since what they leave undone would disturb others.
     """
     alone = known_differences()[1]
@@ -73,7 +73,7 @@ def test_differences():
     assert not [case for case, answer in cases.items() if kernel.get(case, answer) == answer]
 
 
-#: Those of test_run_c.py that need nothing else than can0 and can1 on one bus, and do not look at how the library works.
+#: Programs of test_run_c.py that need nothing else than can0 and can1 on one bus, and do not look at how the library works.
 SAME = ("calls", "options", "filters", "own", "fd", "epoll", "threads", "bcm", "rows", "isotp")
 
 

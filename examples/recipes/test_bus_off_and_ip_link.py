@@ -4,7 +4,6 @@ The scripts of a bench with hardware go on as they are: they set an interface up
 error counter, and restart it. Another bit rate than that of the bus is refused.
 """
 
-import re
 import shutil
 
 import can
@@ -20,16 +19,12 @@ def test_bus_off_and_back(canbusd):
     def link(words):
         return canbusd.run([IP, *words.split()], capture_output=True, text=True, timeout=30)
 
-    def state():
-        return re.search(r"state (\S+) \(berr-counter tx (\d+)", link("-details link show node").stdout).groups()
-
     assert link("link set node up type can bitrate 500000").returncode == 0
     assert "500000 bits a second" in link("link set node type can bitrate 250000").stderr
-    assert state() == ("ERROR-ACTIVE", "0")
     canbusd.inject(Faults().next(32, sender="node").destroyed())
     with canbusd.bus("node") as node:
         node.send(can.Message(arbitration_id=0x123, is_extended_id=False))
-    canbusd.expect_state("node", "off", within=5)
-    assert state() == ("BUS-OFF", "256")
+        canbusd.expect_state("node", "off", within=5)
+    assert "state BUS-OFF (berr-counter tx 256" in link("-details link show node").stdout
     assert link("link set node type can restart").returncode == 0
-    assert state() == ("ERROR-ACTIVE", "0")
+    assert "state ERROR-ACTIVE (berr-counter tx 0" in link("-details link show node").stdout

@@ -1,6 +1,6 @@
 """On a server and on a bench.
 
-What a test says is the same on both: here the ECU goes bus off, comes back, and its heartbeat goes on. On a bench time
+A test says the same on both: here the ECU goes bus off, comes back, and its heartbeat goes on. On a bench time
 is that of the bus, passes while the test waits, and each run is the same.
 """
 

@@ -42,7 +42,10 @@ def run(installed, folder, names, *words, **environment):
 def written(installed, tmp_path_factory):
     """What pytest wrote of all recipes whose modules are installed."""
     there = [name for name in recipes() if name not in NEEDED or importlib.util.find_spec(NEEDED[name])]
-    return run(installed, tmp_path_factory.mktemp("recipes"), there)
+    folder = tmp_path_factory.mktemp("examples") / "recipes"
+    folder.mkdir()
+    (folder.parent / "go").symlink_to(RECIPES.parent / "go")
+    return run(installed, folder, there)
 
 
 def test_all_recipes_are_there():
@@ -60,6 +63,8 @@ def test_all_recipes_are_there():
 def test_a_recipe(written, name):
     if name == "a_virtual_ecu" and "GUEST" not in os.environ:
         pytest.skip("GUEST names no folder with vmlinuz and initrd")
+    if name == "a_go_node" and not shutil.which("go"):
+        pytest.skip("no go: apt-get install golang-go")
     if name in NEEDED:
         pytest.importorskip(NEEDED[name], reason=f"{NEEDED[name]} is not installed; Debian 12 has canmatrix only")
     assert re.search(rf"^PASSED test_{name}\.py::", written, re.M), written

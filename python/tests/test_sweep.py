@@ -523,7 +523,8 @@ def test_examples_and_recipes_hold(pytester, monkeypatch):
 
 
 def attempt(number, sender, frame, nth=0, nth_of_sender=0, errors=0, fault="good"):
-    return Attempted((0, "a"), number, "0.000000", sender, frame, nth, nth_of_sender, errors, "done", fault)
+    places = nth, nth_of_sender, "0.000000"
+    return Attempted((0, "a"), number, "0.000000", sender, frame, *places, errors, "done", fault)
 
 
 def test_rules_of_placements():

@@ -451,7 +451,7 @@ def test_what_is_short_and_what_is_late(tmp_path):
                 browser.until("offs.length === 1 && ticks[ticks.length - 1].time > offs[0].moment + 2")
             browser.run("pause()")
             browser.settle()
-            # What is drawn in the band of states of can0, at its bus off and beside it.
+            # The drawing in the band of states of can0, at its bus off and beside it.
             drawn = """(() => {
               const x = Math.floor(placeOf(plotted(), offs[0].moment - ticks[0].time)), canvas = at('lanes');
               const copy = new OffscreenCanvas(canvas.width, canvas.height).getContext('2d', { willReadFrequently: true });

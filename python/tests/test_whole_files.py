@@ -89,8 +89,8 @@ def folder(tmp_path):
 
 
 def test_all_commands_are_tried():
-    """those of the program write their files themselves, and a sweep only into its folder canbusd-sweep"""
-    assert {*TRIED, "sweep"} | {*PROGRAM} == {*COMMANDS, *PROGRAM, "candump2bench"}
+    """those of the program write their files themselves, a sweep into its folder canbusd-sweep, and extcap where Wireshark looks"""
+    assert {*TRIED, "sweep", "extcap"} | {*PROGRAM} == {*COMMANDS, *PROGRAM, "candump2bench"}
 
 
 @pytest.mark.parametrize("name", [*TRIED])

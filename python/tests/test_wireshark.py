@@ -17,7 +17,7 @@ from canbusd.server import Server
 
 pytestmark = pytest.mark.skipif(not shutil.which("tshark"), reason="no tshark")
 READY = 0x7FF
-# What tshark says of a frame. It writes a flag as 1 or as True, by its version.
+# The fields of a frame in tshark. It writes a flag as 1 or as True, by its version.
 FIELDS = "frame.interface_name frame.packet_flags_direction frame.time_epoch can.flags.err can.id can.flags.xtd can.flags.rtr"
 FIELDS_OF_FD = "canfd.flags.brs canfd.flags.esi can.len data.data"
 DIRECTIONS = {"": "", "1": "in", "2": "out"}

@@ -67,7 +67,7 @@ CASE(bam_own_interface, TO_ALL, c = broadcast(node(OTHER)), send_to(a, ALL, GROU
      receive_none(a))
 CASE(bam_short_data, TO_ALL, BAM(10, 2), HEARS(b, 0x18EBFF90, 1, 2), BAM_DATA(1), BAM_DATA(2), receive_none(a))
 
-/* What is not over when the last socket is closed would end in the next case. */
+/* A transfer that is not over when the last socket is closed would end in the next case. */
 #define ENDS ABORTS(3), EXTENDED_CONTROLS(b, 0xFF, 3, 0xFF, 0xFF, 0xFF, 0, 0x23, 1), pass(20)
 #define REQUESTS(length, total, most) CONTROLS(b, 0x10, length, 0, total, most, 0, 0x23, 1)
 CASE(get_whole, SENDER, REQUESTS(10, 2, 2), take(b, 1), packets(b, 1, 2), take(b, 1), receive(a))

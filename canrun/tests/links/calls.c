@@ -10,7 +10,7 @@
 
 /* ---- ip ---- */
 
-/* What a command writes, without the notes of canbusd-run; returns its status. */
+/* Reads the output of a command, without the notes of canbusd-run; returns its status. */
 static int output_of(const char *words, char *room, size_t size) {
     size_t have = 0;
     char line[2048];

@@ -1,4 +1,4 @@
-/* What ip(8) writes, and does. */
+/* The output and the effects of ip(8). */
 #include "links.h"
 
 #define SHOWS(name, words, expression) CASE(ip_##name, shows(words, expression))

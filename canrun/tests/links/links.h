@@ -12,7 +12,8 @@
 /* Sets can2 up with its bit rate and no restart-ms, as each case that changes it finds it. */
 void reset(void);
 
-/* What ip(8) writes for these words, as far as this regular expression describes it; `-` where it does not. Its status.
+/* Prints the output of ip(8) for these words, as far as this regular expression describes it; `-` where it does not.
+ * Its status.
  */
 void shows(const char *words, const char *expression);
 void status_of(const char *words);

@@ -3,7 +3,7 @@
 
 #include <libsocketcan.h>
 
-/* What a call returns; errno is not the library's own, as it prints why. */
+/* The result of a call; errno is not the library's own, as it prints why. */
 #define LIB(...) say(" %d", (int)(__VA_ARGS__))
 #define GETS(name, ...) CASE(lib_##name, reset(), ({ __VA_ARGS__; }))
 #define CAN2(call, field) LIB(call("can2", &got)), say(" %u", (unsigned)(field))

@@ -19,7 +19,7 @@ from canbusd.frames import data_bytes
 if TYPE_CHECKING:
     from canbusd._database.formats import MessageFormat, SignalFormat
 
-#: What a frame is found to be, in the words of AUTOSAR; those that are good.
+#: The result of a check, in the words of AUTOSAR; the results that are good.
 Status = Literal["initial", "ok", "some lost", "repeated", "wrong sequence", "wrong crc"]
 GOOD = ("initial", "ok", "some lost")
 #: The faults that a Protection makes.
@@ -30,7 +30,7 @@ MODES: tuple[Mode, ...] = get_args(Mode)
 
 
 class Profile:
-    """What all profiles have: where a counter and a checksum are, and what they are of."""
+    """The common part of profiles: the places of a counter and a checksum, and the bytes that they protect."""
 
     #: How many values the counter has, and the first one that is sent.
     modulo: int

@@ -31,7 +31,7 @@ if TYPE_CHECKING:
     from canbusd.bus import CanbusdBus
 
 HOW_TO_GET = "`pip install can-isotp`, or canbusd-run beside the program"
-#: What may do it.
+#: The implementations.
 LIBRARIES = ("can-isotp", "canbusd-run", "canbusd")
 #: What canbusd-run runs.
 SOCKET_PROGRAM = os.path.join(os.path.dirname(__file__), "_process", "isotp_socket.py")

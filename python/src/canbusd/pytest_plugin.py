@@ -45,7 +45,7 @@ CALLED = pytest.StashKey[bool]()
 USED = pytest.StashKey[bool]()
 FOR_FIXTURES = "the test takes neither the fixture canbusd nor canbusd_bench"
 PROGRAM = pytest.StashKey[bool]()
-#: What is known of the buses of a test, and the paths of their pages.
+#: The facts of the buses of a test, and the paths of their pages.
 TEXT, PAGES = pytest.StashKey[str](), pytest.StashKey[Sequence[str]]()
 
 

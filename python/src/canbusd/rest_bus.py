@@ -357,7 +357,7 @@ class RestBus(NamesWhatThereIs):
     @explained()
     def protect(self, message: str, profile: Optional[Profile] = None) -> Protection:
         """Gives each frame of a message the counter and the checksum of a profile: ``rest.protect("EngineData",
-        e2e.Profile1(data_id=0x123))``, without one of that which the database has for it by attributes. What is returned has
+        e2e.Profile1(data_id=0x123))``, without one of that which the database has for it by attributes. The result has
         `inject`, for wrong ones."""
         return self.message(message).protect(profile)
 

@@ -61,7 +61,7 @@ class Shape:
 
 @dataclass(frozen=True)
 class Between(Shape):
-    """What goes between two ends."""
+    """A shape between two ends."""
 
     start: Optional[float]
     end: Optional[float]

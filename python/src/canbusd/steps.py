@@ -54,7 +54,7 @@ class Steps:
             self._depth -= 1
 
 
-#: Those of the test that pytest carries out.
+#: The steps of the test that pytest carries out.
 current = Steps()
 
 

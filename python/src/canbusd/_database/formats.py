@@ -192,7 +192,7 @@ class MessageFormat:
     start_delay: float = 0.0
     #: The name of its send type, as the file has it.
     send_type: str = ""
-    #: What a DBC file says of it by attributes, as texts by their names.
+    #: Its attributes in a DBC file, as texts by their names.
     attributes: Mapping[str, str] = field(default_factory=dict, repr=False, compare=False)
     #: The file.
     path: str = field(default="", compare=False)

@@ -12,7 +12,7 @@ T = TypeVar("T")
 
 
 class Waits(Protocol):
-    """What an observer has of a bench."""
+    """The side of a bench that an observer uses."""
 
     def open(self, channel: str, *, fd: bool = False) -> Session:
         """Opens a session."""

@@ -27,7 +27,7 @@ MOST_AT_ONCE = 100_000
 
 
 class Due(Protocol):
-    """What sends frames at moments, in microseconds."""
+    """A sender of frames at moments, in microseconds."""
 
     def first_due(self) -> Optional[int]:
         """When the next is due."""
@@ -37,7 +37,7 @@ class Due(Protocol):
 
 
 class PassesTime(Expectations):
-    """What a bench has of expectations, and of buses as a server has them."""
+    """The expectations of a bench, and its buses as a server has them."""
 
     names: tuple[str, ...]
     _rates: Optional[Rates]
@@ -50,7 +50,7 @@ class PassesTime(Expectations):
         self._observer: Optional[BenchObserver] = None
         #: How many sessions are the package's own, if they were opened first.
         self._own_sessions = 0
-        # What sends at moments; and now, in microseconds, as far as calls that wait have come.
+        # The senders at moments; and the moment that waiting calls have reached, in microseconds.
         self._due: list[Due] = []
         self._reached = 0
 

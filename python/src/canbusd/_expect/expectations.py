@@ -71,7 +71,7 @@ class Expectations(Supervision):
         return self._observing().shown(self.database, signals)
 
     def _wait(self, predicate: Callable[[], T], timeout: float) -> Optional[T]:
-        """What the predicate returns once that is true; None if it is not within these seconds."""
+        """Returns the first true result of the predicate; None if there is none within these seconds."""
         return wait_for(predicate, timeout)
 
     def step(self, title: str) -> "contextlib.AbstractContextManager[None]":

@@ -98,7 +98,7 @@ class Observer:
     dropped while the test does something else.
     """
 
-    #: What has the interfaces.
+    #: The server or bench that has the interfaces.
     owner = "server"
 
     def __init__(

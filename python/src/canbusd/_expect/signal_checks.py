@@ -1,4 +1,4 @@
-"""What a test expects of a signal over time: that it follows a shape, or stays between two values."""
+"""Expectations of a signal over time: that it follows a shape, or stays between two values."""
 
 from collections.abc import Sequence
 from decimal import Decimal

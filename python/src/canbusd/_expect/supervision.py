@@ -264,7 +264,7 @@ class Supervision:
         return [((moment - began) / 1e6, value) for moment, value in values]
 
     def _message_of(self, id: Union[int, str]) -> Optional[MessageFormat]:
-        """What the database says of the message with this name, or with this identifier; None where it says nothing."""
+        """Returns the message with this name or identifier in the database; None if there is none."""
         if self.database is None:
             return None
         if isinstance(id, str):

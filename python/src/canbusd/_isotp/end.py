@@ -13,7 +13,7 @@ from canbusd.frames import data_bytes
 LONGEST_TRANSFER = 60.0
 #: The most that one message has.
 MOST_BYTES = 4095
-#: What the errors of a socket are, as net/can/isotp.c has them.
+#: The errors of a socket, as net/can/isotp.c has them.
 ERRORS = {
     errno.ECOMM: "the other end sent no flow control in time, or a frame did not go out",
     errno.ETIMEDOUT: "the other end sent no consecutive frame in time",
@@ -36,7 +36,7 @@ class IsoTp(NamesWhatThereIs, ABC):
     """An end of ISO-TP: messages of 1 to 4,095 bytes to one other end, and from it."""
 
     _INSTEAD = {"receive": "recv(timeout=1)", "read": "recv(timeout=1)", "write": "send(data)"}
-    #: What does it: `can-isotp`, `canbusd-run` or `canbusd`.
+    #: Its implementation: `can-isotp`, `canbusd-run` or `canbusd`.
     library: str
 
     @abstractmethod

@@ -9,7 +9,7 @@ FRAME_LENGTHS = (8, 12, 16, 20, 24, 32, 48, 64)
 
 @dataclass(frozen=True)
 class Options:
-    """What an end sends and receives, and how."""
+    """The identifiers of an end, and how it sends and receives."""
 
     tx: int
     rx: int
@@ -18,7 +18,7 @@ class Options:
     fd: bool = False
     #: How many bytes a frame has at most that is sent.
     tx_dl: int = 8
-    #: What its flow control asks for: a byte of time between consecutive frames, and how many of them before the next.
+    #: Its flow control: a byte of time between consecutive frames, and how many of them before the next.
     stmin: int = 0
     block_size: int = 0
     #: The first byte of what is sent, and of what is received.

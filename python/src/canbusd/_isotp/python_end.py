@@ -160,7 +160,7 @@ class PythonIsoTp(IsoTp):
         self._bus.shutdown()
         self._thread.join()
 
-    # What is sent.
+    # Sending.
 
     def _with_faults(self, segment: Segment) -> Iterator[Segment]:
         """Yields what is sent in place of a segment."""
@@ -198,7 +198,7 @@ class PythonIsoTp(IsoTp):
             self._news.wait_for(lambda: self._carried >= number or self._end, seconds_until(is_over))
             if self._carried >= number:
                 return
-            # What was lost at bus off does not come any more.
+            # A frame that was lost at bus off does not come any more.
             self._carried = self._given
             end = self._end
         if end is not None:
@@ -223,7 +223,7 @@ class PythonIsoTp(IsoTp):
             if control.number == GO_ON:
                 return control.data[0], distance(control.data[1])
 
-    # What is received, in the thread.
+    # Receiving, in the thread.
 
     def _read(self) -> None:
         try:

@@ -12,11 +12,11 @@ KINDS: tuple[Kind, ...] = get_args(Kind)
 SINGLE, FIRST, CONSECUTIVE, FLOW_CONTROL = "single frame", "first frame", "consecutive frame", "flow control"
 #: The first four bits of a segment.
 CODES = {0: SINGLE, 1: FIRST, 2: CONSECUTIVE, 3: FLOW_CONTROL}
-#: What a flow control says: go on, wait, and that the message is too long.
+#: The states of a flow control: go on, wait, and that the message is too long.
 GO_ON, WAIT, OVERFLOW = range(3)
 #: The byte that fills frames up where no other is given: it needs no stuff bits.
 FILLER = 0xCC
-#: What of faults is for which segments.
+#: The faults of each kind of segment.
 ONLY_FOR: dict[str, str] = {"wrong number": CONSECUTIVE, "wait": FLOW_CONTROL, "overflow": FLOW_CONTROL}
 
 
@@ -66,7 +66,7 @@ class Segment:
 
 
 class Received(NamedTuple):
-    """What a frame says: which segment it is, the number in its first byte or the length of the message, and the rest."""
+    """The segment that a frame has: its kind, the number in its first byte or the length of the message, and the rest."""
 
     name: str
     number: int
@@ -102,7 +102,7 @@ def read_segment(data: bytes, head: int) -> Received:
         raise ValueError(f"no segment: {data.hex(' ')}")
     number, rest = content[0] & 15, content[1:]
     if name == SINGLE and number == 0 and rest:
-        # That of an FD frame has its length in a byte of its own.
+        # A single frame of an FD frame has its length in a byte of its own.
         number, rest = rest[0], rest[1:]
     if name == SINGLE:
         if not 0 < number <= len(rest):

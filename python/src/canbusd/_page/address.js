@@ -23,7 +23,7 @@ function sayHash() {
   if (lanesWords() !== firstLanes) words.set("lanes", lanesWords());
   history.replaceState(null, "", `#${words}`);
 }
-// What an address names; what it does not name is as it is at first.
+// The choices that an address names; the others are as they are at first.
 function readHash(words) {
   const isByTime = words.has("by") ? words.get("by") === "time" : !!byTime.lengthOf;
   for (const id of FILTERS) at(id).value = words.get(id.slice(3)) ?? "";

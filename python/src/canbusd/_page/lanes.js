@@ -102,7 +102,7 @@ function area(plot, numbers, top, height, most, tint) {
     if (high) plot.pen.fillRect(x, top + height - high / most * height, 1, high / most * height);
   });
 }
-// What waits, where steps have places in time: `queue` from the start of a step to its end, then what is left, `left`.
+// Waiting frames, where steps have places in time: `queue` from the start of a step to its end, then what is left, `left`.
 function waitingArea(plot, queue, left, top, height, most) {
   const { edges } = plot, each = (view.to - view.from) / plot.width, found = { low: 0, high: 0 };
   plot.pen.fillStyle = theme.queue;

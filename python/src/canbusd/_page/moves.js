@@ -1,4 +1,4 @@
-// What a reader does to it: moves, zooms, chooses, asks.
+// The acts of a reader: moves, zooms, chooses, asks.
 
 function look(from, to) {
   const span = Math.min(Math.max(to - from, axis.least), axis.length);

@@ -9,7 +9,7 @@ on("taken", column => {
   other.partner.forEach((number, k) => { if (number) other.partnerOf[number - 1] = k; });
   other.spans = [spansByAttempt(), [other.since, other.since.map((since, k) => since + other.took[k])]];
 });
-// Where each attempt begins and ends. Those between two attempts here share a place over the border.
+// Where each attempt begins and ends. Attempts between two attempts of this run share a place over the border.
 const HALF = 0.3;
 function spansByAttempt() {
   const starts = new Float64Array(other.count), ends = new Float64Array(other.count), { start } = axes[0], between = new Map();
@@ -36,7 +36,7 @@ class OtherLane {
   }
   draw(plot, top, fills) {
     const [starts, ends] = other.spans[Number(byTime.isOn)], kinds = new Uint8Array(plot.width);
-    // What only the other run has is drawn over its neighbours.
+    // An attempt that only the other run has is drawn over its neighbours.
     for (const isPaired of byTime.isOn ? [null] : [true, false]) {
       for (let k = 0; k < other.count; k++) {
         if (other.iface[k] !== this.number || starts[k] > view.to || isPaired !== null && isPaired !== other.partner[k] > 0) continue;

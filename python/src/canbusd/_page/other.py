@@ -1,4 +1,4 @@
-"""What the page of a run has of another run beside it: its attempts at the places of those of this one, and the differences."""
+"""The part of another run on the page of a run: its attempts at the places of those of this one, and the differences."""
 
 from collections.abc import Callable, Iterable
 from typing import Any, Optional

@@ -105,7 +105,7 @@ const won = (sums, iface, kind) => sums[1 + iface * IDLE + kind];
 const members = set => names.filter((_, i) => set >> i & 1);
 const listed = set => members(set).join(", ") || "nobody";
 const isAttempt = step => steps.kind[step] < RESTART;
-// Idle attempts in a row have no one moment. Those of the system's clock, since 1970, are times of day.
+// Idle attempts in a row have no one moment. Moments of the system's clock, since 1970, are times of day.
 const momentOf = step => steps.kind[step] === IDLE ? ""
   : `${hasClock() ? clock(steps.seconds[step]) : steps.seconds[step]}.${String(steps.micros[step]).padStart(6, "0")}`;
 function dayWords() {

@@ -124,7 +124,7 @@ function strip(plot, i, top, fills) {
       block(plot.pen, fills[KINDS[kind]], x, y -= share, Math.max(to - x - (to - x > 5 ? 1 : 0), 1), share);
     });
   }
-  // What the full height of a bar is.
+  // The number that the full height of a bar is.
   if (!plot.isNarrow) write(plot.pen, `${grouped(Math.floor(busiest))}/s`, plot.width + 6, top + 8, theme.soft);
 }
 // Each bus off has its mark, also one that was over before the counts were looked at.

@@ -121,7 +121,7 @@ class Comparison:
         if ends[0] != ends[1]:
             kinds.append(("other outcome", f"{ends[0]} against {ends[1]}"))
         else:
-            # What a node missed in its outage is a part of that.
+            # A frame that a node missed in its outage is a part of that.
             gone = self._away[0][one.first] | self._away[1][other.first]
             takers = accepted(self.one, one, gone), accepted(self.other, other, gone)
             if takers[0] != takers[1]:
@@ -204,7 +204,7 @@ def reversed_pairs(partners: dict[int, int]) -> dict[int, int]:
 
 
 def key_of(attempt: Attempt) -> tuple[object, ...]:
-    """What of an attempt is compared; interfaces are in the order of their bus, so that other keys may be the same, too."""
+    """Returns the compared facts of an attempt; interfaces are in the order of their bus, so other keys may be the same."""
     return attempt.frame, attempt.outcome, attempt.fault, attempt.accepted, attempt.off
 
 
@@ -215,7 +215,7 @@ def told(run: Sequence[Attempt], sent: Sent) -> str:
 
 
 def outcomes(run: Sequence[Attempt], sent: Sent) -> str:
-    """What became of a frame in each of its attempts: `destroyed (global bit), then done`."""
+    """Returns the outcome of each attempt of a frame: `destroyed (global bit), then done`."""
     found = []
     for outcome, same in itertools.groupby(outcome_of(run[place]) for place in sent.attempts):
         many = len(list(same))
@@ -230,7 +230,7 @@ def outcome_of(attempt: Attempt) -> str:
 
 
 def accepted(run: Sequence[Attempt], sent: Sent, gone: "frozenset[str]") -> list[set[str]]:
-    """Who accepted a frame in each of its attempts, but for these, whatever the numbers of these interfaces are."""
+    """Returns the receivers of a frame in each of its attempts, but for these, whatever the numbers of these interfaces are."""
     return [set(run[place].accepted) - gone for place in sent.attempts]
 
 
@@ -248,5 +248,5 @@ def away(record: Record, names: Sequence[str]) -> "list[frozenset[str]]":
 
 
 def named(takers: Iterable[set[str]]) -> str:
-    """Who accepted a frame, in words."""
+    """Returns the receivers of a frame in words."""
     return ", then ".join(" and ".join(sorted(one)) or "nobody" for one in takers)

@@ -26,7 +26,7 @@ TEXTS = (".asc", ".csv", ".trc")
 PCAPNG = ".pcapng"
 #: The endings of files that are written; the others that python-can writes lose frames, flags or channels.
 WRITTEN = (".log", ".asc", ".blf", PCAPNG)
-# Those of them with numbers of channels in place of names.
+# The formats with numbers of channels in place of names.
 NUMBERED = (".asc", ".blf")
 # python-can and later versions of candump put the direction after the frame.
 LINE = re.compile(r"\(([0-9]{1,10}\.[0-9]{6})\) +(\S+) +(\S+)(?: +([RT]))?")

@@ -67,7 +67,7 @@ class Session(InjectsFaults, NamesWhatThereIs):
         self._closed = False
         # The numbers at its interface of the frames that it has sent.
         self._own: set[int] = set()
-        # Those that were taken from the socket, and not from here.
+        # Frames that were taken from the socket, and not from here.
         self._received: deque[Frame] = deque()
         #: The name of its interface.
         self.channel = channel

@@ -38,7 +38,7 @@ class Lock:
 
 
 class Answers:
-    """What an ECU has, and its answers."""
+    """The data of an ECU, and its answers."""
 
     def __init__(self, p2: float, p2_star: float) -> None:
         self._p2, self._p2_star = p2, p2_star

@@ -7,7 +7,7 @@ from canbusd._calls import meant
 SESSION, RESET, CLEAR_DTCS, READ_DTCS, READ, SECURITY = 0x10, 0x11, 0x14, 0x19, 0x22, 0x27
 COMMUNICATION, WRITE, ROUTINE, DOWNLOAD, UPLOAD = 0x28, 0x2E, 0x31, 0x34, 0x35
 TRANSFER, TRANSFER_EXIT, TESTER_PRESENT, DTC_SETTING = 0x36, 0x37, 0x3E, 0x85
-#: What a positive response adds to the number of its service, and what a negative one begins with.
+#: The number that a positive response adds to its service, and the first byte of a negative one.
 POSITIVE, NEGATIVE = 0x40, 0x7F
 #: Services whose second byte is a subfunction.
 WITH_SUBFUNCTION = (SESSION, RESET, READ_DTCS, SECURITY, COMMUNICATION, ROUTINE, TESTER_PRESENT, DTC_SETTING)

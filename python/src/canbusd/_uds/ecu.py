@@ -23,7 +23,7 @@ if TYPE_CHECKING:
     from canbusd.server import Server
 
 F = TypeVar("F", bound=Callable[..., Any])
-#: What part of P2* passes before the next pending response.
+#: The part of P2* that passes before the next pending response.
 PART = 0.9
 
 
@@ -41,7 +41,7 @@ def _keeper(table: dict[int, Guarded], number: int, sessions: Iterable[int], lev
 
 
 class OnDemand:
-    """What answers of a service are changed, for so many requests."""
+    """A change of the answers of a service, for so many requests."""
 
     def __init__(self) -> None:
         self._left: dict[int, list[list[Any]]] = {}
@@ -65,7 +65,7 @@ class Ecu(Answers, NamesWhatThereIs):
     """A simulated ECU on an interface of a server, which answers requests of UDS (ISO 14229-1) over ISO-TP in a thread.
 
     The arguments are those of Server.isotp; `p2` and `p2_star` are the seconds in which it answers, and in which it does after
-    a pending response, and `s3` those after which it goes back to the default session. What it has is in `dids`, `dtcs` and
+    a pending response, and `s3` those after which it goes back to the default session. Its data are in `dids`, `dtcs` and
     `memory`, and what it does in functions with the decorators `did`, `write`, `routine`, `security` and `service`. A function
     that takes longer than P2 has pending responses (78) sent meanwhile, and one that raises NegativeResponse has that sent.
     """
@@ -107,7 +107,7 @@ class Ecu(Answers, NamesWhatThereIs):
         self._thread = threading.Thread(target=self._serve, name="canbusd ECU", daemon=True)
         self._thread.start()
 
-    # What it has and does.
+    # Its data and services.
 
     @explained("bytes are ecu.dids[0xF190] = b'..', and a function has the decorator @ecu.did(0xF190)")
     def did(self, number: int, *, sessions: Iterable[int] = (), level: int = 0) -> Callable[[F], F]:
@@ -180,7 +180,7 @@ class Ecu(Answers, NamesWhatThereIs):
         try:
             self.close()
         except Exception:
-            # What went wrong first is what is raised.
+            # The first fault is raised.
             if kind is None:
                 raise
 

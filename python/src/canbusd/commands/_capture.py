@@ -43,12 +43,12 @@ class Watched(CanbusdBus):
             message = self.recv(0.01)
             if message is not None:
                 yield frame_like(message)
-        # What has not come until now is not waited for again.
+        # A frame that has not come until now is not waited for again.
         self.received = max(self.received, wanted)
 
 
 class Merged:
-    """What several interfaces receive: each frame once, of the interface that sent it if it is one of them."""
+    """The frames that several interfaces receive: each once, of the interface that sent it if it is one of them."""
 
     def __init__(self, buses: Sequence[tuple[str, Watched]]) -> None:
         self._buses = buses

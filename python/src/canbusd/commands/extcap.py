@@ -67,7 +67,7 @@ def run(options: argparse.Namespace) -> None:
     elif options.capture:
         capture(options)
     elif options.extcap_capture_filter:
-        # What is printed is why the filter is refused.
+        # The output is the reason for which the filter is refused.
         print(NO_FILTERS)
     else:
         raise BadWords("canbusd extcap --install: Wireshark calls it with other words")
