@@ -15,50 +15,49 @@
 #include <sys/syscall.h>
 #include <time.h>
 
-/* Descriptors that were such sockets when they were last used: a hint, as the kernel may have given them away. */
 #define KNOWN_MOST 4096
 #define WORD 64
-static uint64_t known[KNOWN_MOST / WORD];
-static bool has_known;
+/* A set of descriptors. */
+struct noted {
+    uint64_t words[KNOWN_MOST / WORD];
+    bool has_any;
+};
+/* Descriptors that were such sockets when they were last used: a hint, as the kernel may have given them away; and the
+ * sockets among them that have an error queue. */
+static struct noted known, queues;
 
-void note_error_of(int fd) {
+static void note(struct noted *noted, int fd) {
     uint64_t bit = 1ull << fd % WORD;
-    if (fd < KNOWN_MOST && !(__atomic_load_n(&known[fd / WORD], __ATOMIC_RELAXED) & bit)) {
-        __atomic_fetch_or(&known[fd / WORD], bit, __ATOMIC_RELAXED);
-        __atomic_store_n(&has_known, true, __ATOMIC_RELAXED);
+    if (fd < KNOWN_MOST && !(__atomic_load_n(&noted->words[fd / WORD], __ATOMIC_RELAXED) & bit)) {
+        __atomic_fetch_or(&noted->words[fd / WORD], bit, __ATOMIC_RELAXED);
+        __atomic_store_n(&noted->has_any, true, __ATOMIC_RELAXED);
     }
 }
 
-/* The sockets among them that have an error queue. */
-static uint64_t queues[KNOWN_MOST / WORD];
-static bool has_queues;
+static bool is_noted(const struct noted *noted, int fd) {
+    return fd >= 0 && fd < KNOWN_MOST && __atomic_load_n(&noted->words[fd / WORD], __ATOMIC_RELAXED) >> fd % WORD & 1;
+}
+
+void note_error_of(int fd) {
+    note(&known, fd);
+}
 
 void note_queue_of(int fd) {
-    uint64_t bit = 1ull << fd % WORD;
-    if (fd < KNOWN_MOST && !(__atomic_load_n(&queues[fd / WORD], __ATOMIC_RELAXED) & bit)) {
-        __atomic_fetch_or(&queues[fd / WORD], bit, __ATOMIC_RELAXED);
-        __atomic_store_n(&has_queues, true, __ATOMIC_RELAXED);
-    }
+    note(&queues, fd);
 }
 
 bool has_error_queue(int fd) {
-    bool is_noted =
-        fd >= 0 && fd < KNOWN_MOST && __atomic_load_n(&queues[fd / WORD], __ATOMIC_RELAXED) >> fd % WORD & 1;
-    struct socket sock = is_noted ? socket_of(fd) : (struct socket){0};
+    struct socket sock = is_noted(&queues, fd) ? socket_of(fd) : (struct socket){0};
     return HAS(sock, has_ways);
 }
 
 static bool is_any_queue(struct pollfd *fds, nfds_t count) {
     bool is_any = false;
-    for (nfds_t i = 0; i < count && !is_any && __atomic_load_n(&has_queues, __ATOMIC_RELAXED); i++) {
+    for (nfds_t i = 0; i < count && !is_any && __atomic_load_n(&queues.has_any, __ATOMIC_RELAXED); i++) {
         struct pollfd one;
         is_any = copy_from(&one, &fds[i], sizeof one) && has_error_queue(one.fd);
     }
     return is_any;
-}
-
-static bool is_known(int fd) {
-    return fd >= 0 && fd < KNOWN_MOST && __atomic_load_n(&known[fd / WORD], __ATOMIC_RELAXED) >> fd % WORD & 1;
 }
 
 bool has_error(int fd) {
@@ -87,11 +86,11 @@ uint32_t error_events(int fd, uint32_t events) {
 
 /* Whether a socket is one to look at: it is ready to be read. */
 static bool shows_error(int fd, uint32_t events) {
-    return is_known(fd) && events & (POLLIN | POLLRDNORM | POLLOUT) && has_error(fd);
+    return is_noted(&known, fd) && events & (POLLIN | POLLRDNORM | POLLOUT) && has_error(fd);
 }
 
 static int polled(struct pollfd *fds, nfds_t count, int result) {
-    for (nfds_t i = 0; i < count && result > 0 && __atomic_load_n(&has_known, __ATOMIC_RELAXED); i++) {
+    for (nfds_t i = 0; i < count && result > 0 && __atomic_load_n(&known.has_any, __ATOMIC_RELAXED); i++) {
         if (shows_error(fds[i].fd, (uint32_t)fds[i].revents)) {
             fds[i].revents = (short)error_events(fds[i].fd, (uint32_t)fds[i].revents);
         }
@@ -144,7 +143,7 @@ static void mark_all(int epoll, struct epoll_event *events, int count) {
         for (line = text; (end = strchr(line, '\n')); line = end + 1) {
             int fd;
             uint64_t data;
-            if (read_line(line, &fd, &data) && is_known(fd) && has_error(fd)) {
+            if (read_line(line, &fd, &data) && is_noted(&known, fd) && has_error(fd)) {
                 mark(events, count, fd, data);
             }
         }
@@ -158,7 +157,7 @@ static void mark_all(int epoll, struct epoll_event *events, int count) {
 
 static bool has_any_error(void) {
     for (int word = 0; word < KNOWN_MOST / WORD; word++) {
-        uint64_t bits = __atomic_load_n(&known[word], __ATOMIC_RELAXED);
+        uint64_t bits = __atomic_load_n(&known.words[word], __ATOMIC_RELAXED);
         for (; bits; bits &= bits - 1) {
             if (has_error(word * WORD + __builtin_ctzll(bits))) {
                 return true;
@@ -170,7 +169,7 @@ static bool has_any_error(void) {
 
 static int epolled(int epoll, struct epoll_event *events, int result) {
     int before = errno;
-    if (result > 0 && __atomic_load_n(&has_known, __ATOMIC_RELAXED) && has_any_error()) {
+    if (result > 0 && __atomic_load_n(&known.has_any, __ATOMIC_RELAXED) && has_any_error()) {
         mark_all(epoll, events, result);
     }
     errno = before;

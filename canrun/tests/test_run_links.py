@@ -11,7 +11,19 @@ import time
 
 import pytest
 
-from running import FAST, SANITIZERS, command, compiled, environment, needs_gcc, passes, run, sanitized_command, started
+from running import (
+    FAST,
+    SANITIZERS,
+    command,
+    compiled,
+    environment,
+    needs_gcc,
+    passes,
+    processes_of,
+    run,
+    sanitized_command,
+    started,
+)
 from serving import ROOT, come_true, plain, serving
 from test_run_kernel import KERNEL, boots, check_differences, probe, unlike
 
@@ -30,16 +42,7 @@ IP = "/usr/sbin/ip"
 
 def keepers(server):
     """The numbers of the keepers of a server."""
-    wanted = f"CANBUSD_ADDRESS={environment(server)['CANBUSD_ADDRESS']}".encode()
-    found = []
-    for process in filter(str.isdigit, os.listdir("/proc")):
-        with contextlib.suppress(OSError):
-            with open(f"/proc/{process}/comm", encoding="utf-8") as comm:
-                name = comm.read().strip()
-            with open(f"/proc/{process}/environ", "rb") as environ:
-                if name == "canbusd-links" and wanted in environ.read().split(b"\0"):
-                    found.append(int(process))
-    return found
+    return processes_of(environment(server)["CANBUSD_ADDRESS"], "canbusd-links")
 
 
 def ended(server):

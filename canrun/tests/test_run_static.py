@@ -3,7 +3,6 @@ have the kernel's answers, but for what differs there and in static.txt; program
 """
 
 import concurrent.futures
-import contextlib
 import os
 import re
 import shutil
@@ -12,7 +11,7 @@ import subprocess
 
 import pytest
 
-from running import FAST, command, compiled, environment, needs_gcc, passes, run, started
+from running import FAST, command, compiled, environment, needs_gcc, passes, processes_of, run, started
 from serving import ROOT, come_true, serving
 from serving import plain as session
 from test_run_kernel import KERNEL, LOTS, answered, answers, differences, file_of, probe
@@ -140,16 +139,7 @@ def test_process(tmp_path):
 
 def supervisors(server):
     """The supervisors of programs that have this server's address."""
-    wanted = f"CANBUSD_ADDRESS={environment(server)['CANBUSD_ADDRESS']}".encode()
-    found = []
-    for process in filter(str.isdigit, os.listdir("/proc")):
-        with contextlib.suppress(OSError):
-            with open(f"/proc/{process}/comm", encoding="utf-8") as comm:
-                name = comm.read().strip()
-            with open(f"/proc/{process}/environ", "rb") as environ:
-                if name == "canbusd-static" and wanted in environ.read().split(b"\0"):
-                    found.append(int(process))
-    return found
+    return processes_of(environment(server)["CANBUSD_ADDRESS"], "canbusd-static")
 
 
 def test_refused(tmp_path):

@@ -89,18 +89,23 @@ def started(server, *words, options=(), **how):
                 os.killpg(child.pid, signal.SIGKILL)
 
 
-def bridges(address):
-    """The numbers of the bridges for a server at this address that have not ended."""
+def processes_of(address, name):
+    """The numbers of the processes with this name for a server at this address that have not ended."""
     found = []
     for process in filter(str.isdigit, os.listdir("/proc")):
         with contextlib.suppress(OSError):
             with open(f"/proc/{process}/environ", "rb") as environ:
                 settings = environ.read().split(b"\0")
             with open(f"/proc/{process}/comm", encoding="utf-8") as comm:
-                name = comm.read().strip()
-            if name == "canbusd-bridge" and f"CANBUSD_ADDRESS={address}".encode() in settings:
+                is_named = comm.read().strip() == name
+            if is_named and f"CANBUSD_ADDRESS={address}".encode() in settings:
                 found.append(int(process))
     return found
+
+
+def bridges(address):
+    """The numbers of the bridges for a server at this address that have not ended."""
+    return processes_of(address, "canbusd-bridge")
 
 
 def none_left(server):

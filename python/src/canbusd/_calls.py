@@ -3,7 +3,7 @@
 import difflib
 import functools
 from collections.abc import Callable, Iterable, Mapping
-from typing import TYPE_CHECKING, Any, ClassVar, TypeVar, cast
+from typing import TYPE_CHECKING, Any, ClassVar, Optional, TypeVar, cast
 
 F = TypeVar("F", bound=Callable[..., Any])
 
@@ -25,6 +25,16 @@ OTHER_NAMES = {
     "txid": "tx",
     "within": "timeout",
 }
+
+
+def close_at_exit(close: Callable[[], object], kind: Optional[type[BaseException]]) -> None:
+    """Ends something at the end of a `with` block, which an exception of this kind has left, if any. That is the fault that
+    counts, and not one of the end."""
+    try:
+        close()
+    except Exception:
+        if kind is None:
+            raise
 
 
 def meant(word: str, known: Iterable[str]) -> str:

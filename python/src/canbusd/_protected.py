@@ -1,4 +1,4 @@
-"""Which profile of end-to-end protection a message has: one that a test gives, or that of its attributes in a database."""
+"""The profile of end-to-end protection of a message: one that a test gives, or that of its attributes in a database."""
 
 import re
 from typing import TYPE_CHECKING, Any, Optional

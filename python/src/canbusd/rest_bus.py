@@ -16,7 +16,7 @@ from numbers import Real
 from types import TracebackType
 from typing import NamedTuple, Optional, TypeVar, Union
 
-from canbusd._calls import NamesWhatThereIs, explained
+from canbusd._calls import NamesWhatThereIs, close_at_exit, explained
 from canbusd._database.formats import DatabaseError, MessageFormat, Value
 from canbusd._restbus.nodes import has, is_sendable, phases_of, sender
 from canbusd._restbus.schedule import MICROS, Schedule, micros
@@ -417,12 +417,7 @@ class RestBus(NamesWhatThereIs):
     def __exit__(
         self, kind: Optional[type[BaseException]], fault: Optional[BaseException], _: Optional[TracebackType]
     ) -> None:
-        try:
-            self.close()
-        except Exception:
-            # What went wrong first is what is raised.
-            if kind is None:
-                raise
+        close_at_exit(self.close, kind)
 
     def check(self) -> None:
         """Raises what it ended with, if that was a fault, such as one of a function given to `on_send`."""

@@ -127,12 +127,8 @@ class Comparison:
             if takers[0] != takers[1]:
                 kinds.append(("other outcome", f"accepted by {named(takers[0])} against {named(takers[1])}"))
         if late:
-            kinds.append(
-                (
-                    "later" if late > 0 else "earlier",
-                    f"{'later' if late > 0 else 'earlier'} by {abs(late) * 1000:,.3f} ms",
-                )
-            )
+            kind: Kind = "later" if late > 0 else "earlier"
+            kinds.append((kind, f"{kind} by {abs(late) * 1000:,.3f} ms"))
         if kinds:
             about = "" if kinds[0][0] == "other data" else f"{texts[0]}: "
             yield Difference(kinds[0][0], one.first, other.first, about + "; ".join(words for _, words in kinds))

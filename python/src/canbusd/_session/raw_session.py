@@ -96,7 +96,8 @@ class RawSession(InjectsFaults):
 
     def answers(self, messages: Sequence[str]) -> list[str]:
         """Gives these messages at once, and returns what each gets: nothing for `ok`, the text of a refusal, or an answer."""
-        place = next((place for place, one in enumerate(messages) if self.planted and self.planted.is_sent(one)), None)
+        planted = self.planted
+        place = next((place for place, one in enumerate(messages) if planted.is_sent(one)), None) if planted else None
         if place is not None:
             self.planted = None
             others = [*messages[:place], *messages[place + 1 :]]

@@ -9,7 +9,7 @@ from concurrent.futures import TimeoutError as NotYet
 from types import TracebackType
 from typing import TYPE_CHECKING, Any, Optional, TypeVar, Union, cast
 
-from canbusd._calls import NamesWhatThereIs, explained
+from canbusd._calls import NamesWhatThereIs, close_at_exit, explained
 from canbusd._isotp.end import IsoTpError
 from canbusd._isotp.segments import SegmentFault
 from canbusd._session.arguments import check_within
@@ -177,12 +177,7 @@ class Ecu(Answers, NamesWhatThereIs):
     def __exit__(
         self, kind: Optional[type[BaseException]], fault: Optional[BaseException], _: Optional[TracebackType]
     ) -> None:
-        try:
-            self.close()
-        except Exception:
-            # The first fault is raised.
-            if kind is None:
-                raise
+        close_at_exit(self.close, kind)
 
     # Its thread.
 
