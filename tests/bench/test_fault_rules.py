@@ -13,7 +13,8 @@ import pytest
 
 from canbusd.faults import lines_of
 from canbusd.record import read_record
-from canbusd.rules import MOST_RULES, NAMES, check_rules, is_rule, parse_rule
+from canbusd._words import MOST_RULES
+from canbusd.rules import NAMES, check_rules, is_rule, parse_rule
 from random_rules import RECORD, RuleMaker
 from rule_model import EXTENDED, REMOTE, RunFaults, word_of
 from serving import Plain, plain, serving

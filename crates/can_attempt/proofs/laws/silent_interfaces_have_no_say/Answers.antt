@@ -1,5 +1,5 @@
 use Rattle.can_attempt.proofs.Same.{same_receivers, same_class, same_counts}
-use Rattle.can_attempt.proofs.laws.off_interfaces_have_no_say.Goals as goal
+use Rattle.can_attempt.proofs.laws.silent_interfaces_have_no_say.Goals as goal
 
 pub returns-clause-class : goal.returns-clause-class
 returns-clause-class c = same_class

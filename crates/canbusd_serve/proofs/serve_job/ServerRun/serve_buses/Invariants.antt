@@ -1,5 +1,5 @@
 use Rattle.can_hub.proofs.Naming.{roll_at, meter_at}
-use Rattle.canbusd_serve.proofs.serve_job.run_serve.Given as goal
+use Rattle.canbusd_serve.proofs.serve_job.ServerRun.serve_buses.Given as goal
 
 abbrev pub ghosts-run_whole-N-RollName : goal.ghosts-run_whole-N-RollName
 ghosts-run_whole-N-RollName g a = record { roll = roll_at a.benches.items }
