@@ -183,6 +183,48 @@ def test_monitor(tmp_path):
         os.killpg(monitor.pid, signal.SIGKILL)
 
 
+# ---- down and up ----
+
+
+@needs_gcc
+@needs_ip
+def test_down_and_up(tmp_path):
+    """an interface that is set down takes no part: it sends nothing, acknowledges nothing, and loses what waits"""
+    writer = compiled("send_one", str(tmp_path))
+    # With a pace: a frame that nobody acknowledges is tried again and again, and has the record be full in seconds.
+    with bus("--ack", "peers", "can0,can1") as server, contextlib.closing(plain(server, "can1")) as other:
+        passes(server, IP, "link", "set", "can1", "down")
+        # Nobody acknowledges the frame of can0, which waits.
+        passes(server, writer, "can0")
+        comes_to(server, "ERROR-PASSIVE")
+        shown = passes(server, IP, "-details", "link", "show", "can1")
+        assert (
+            "<NOARP,ECHO>" in shown and "state DOWN" in shown and "can <FD> state STOPPED (berr-counter tx 0" in shown
+        )
+        refused = run(server, writer, "can1")
+        assert refused.returncode != 0 and "Network is down" in refused.stderr
+        refused = run(server, IP, "link", "set", "can1", "type", "can", "restart")
+        assert (refused.returncode, refused.stderr) == (2, "Error: the interface is down.\n")
+        # Once it is up it receives the frame.
+        passes(server, IP, "link", "set", "can1", "up")
+        assert other.frame()[0] == "123"
+        shown = passes(server, IP, "-details", "-statistics", "link", "show", "can1")
+        assert "<NOARP,UP,LOWER_UP,ECHO>" in shown and "state ERROR-ACTIVE (berr-counter tx 0 rx 0)" in shown
+        # To be set up is no restart of can_restart.
+        assert re.search(r"bus-off\n\s+0 +0 +0 +0 +0 +0 ", shown), shown
+
+
+@needs_ip
+def test_down_by_others():
+    """what a client of the server takes down is down, and is set up by netlink"""
+    with bus(*FAST, "can0,can1") as server, contextlib.closing(plain(server, "can0")) as client:
+        assert state_of(server)[0] == "ERROR-ACTIVE"
+        assert client.answer("< down >") == "< ok >"
+        assert state_of(server)[0] == "STOPPED"
+        passes(server, IP, "link", "set", "can0", "up")
+        assert client.answer("< status >") == "< status active 0 0 >"
+
+
 # ---- what it costs ----
 
 

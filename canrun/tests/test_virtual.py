@@ -91,6 +91,11 @@ def test_isotp(tmp_path, nodes):
     assert sent[2].endswith("write of 60 after 1.000000 s: -1 Communication error on send")
 
 
+def turns(ended):
+    """How many turns the threads of a run had, which it reports with CANBUSD_RUN_DEBUG=1."""
+    return int(re.search(r"(\d+) turns", ended.stderr).group(1))
+
+
 def sockets(folder, nodes, script):
     """Runs a shell script between start and stop of a server; what it printed, the frames of can0, the turns taken."""
     settings = {"RUN": command(), "CANBUSD": program(), "NODES": str(nodes), "CASES": CASES, "OUT": str(folder)}
@@ -98,7 +103,7 @@ def sockets(folder, nodes, script):
     ended = virtual("bash", "-c", script, env={**os.environ, **settings, "CANBUSD_RUN_DEBUG": "1"})
     assert ended.returncode == 0, ended
     frames = (folder / "can0.log").read_text().count("\n")
-    return ended.stdout, frames, int(re.search(r"(\d+) turns", ended.stderr).group(1))
+    return ended.stdout, frames, turns(ended)
 
 
 @needs_gcc
@@ -117,6 +122,14 @@ def test_turns_of_many_sockets(tmp_path, nodes):
     """a process with many sockets takes the same turns in each run, though the names of its sockets are others"""
     runs = [sockets(tmp_path / name, nodes, 'inside "$NODES/many" can0 48 9>&-') for name in "abc"]
     assert len(set(runs)) == 1, runs
+
+
+@needs_gcc
+def test_turns_of_the_late(nodes):
+    """turns are those of threads: two for each child, of it and then of its parent, however late a child begins"""
+    env = {**os.environ, "CANBUSD_RUN_DEBUG": "1"}
+    runs = [virtual(nodes / "late", ms, "4", env=env) for ms in ("0", "100")]
+    assert [(run.returncode, turns(run)) for run in runs] == [(0, 1 + 2 * 4)] * 2, runs
 
 
 @needs_gcc

@@ -30,6 +30,7 @@ def nodes(tmp_path_factory):
         "full",
         "isotp",
         "j1939",
+        "late",
         "lent",
         "many",
         "orphans",

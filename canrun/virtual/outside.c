@@ -310,16 +310,15 @@ static void take_back(uint64_t turn, bool is_stopped) {
     }
 }
 
-/* Whether it has slept for a few looks: one that waits for a disk or for memory runs soon. */
-static bool is_asleep_for_long(uint32_t index, char state, uint64_t times) {
+/* Whether it has slept in this turn for a few looks: one that waits for a disk or for memory runs soon. */
+static bool is_asleep_for_long(uint64_t turn, char state, uint64_t times) {
     static struct {
-        uint32_t index;
-        uint64_t times;
+        uint64_t turn, times;
         int looks;
     } last;
     bool sleeps_now = state == 'S' || state == 'T' || state == 't';
-    if (!sleeps_now || last.index != index || last.times != times) {
-        last.index = index;
+    if (!sleeps_now || last.turn != turn || last.times != times) {
+        last.turn = turn;
         last.times = times;
         last.looks = 0;
         return false;
@@ -328,8 +327,7 @@ static bool is_asleep_for_long(uint32_t index, char state, uint64_t times) {
 }
 
 bool outside_watch(uint64_t turn, int looks, bool (*is_asked)(void)) {
-    uint32_t index = (uint32_t)turn & NOBODY;
-    struct slot *slot = slot_at(index);
+    struct slot *slot = slot_at((uint32_t)turn & NOBODY);
     uint32_t pid = slot->pid, tid = slot->tid;
     char state = proc_state(pid, tid);
     if (state == 'Z' || state == 'X') {
@@ -340,7 +338,7 @@ bool outside_watch(uint64_t turn, int looks, bool (*is_asked)(void)) {
         }
     } else if (!is_traced(pid, tid, state) && find_foreign(slot, looks)) {
         take_back(turn, false);
-    } else if (is_asleep_for_long(index, state, times_run(pid, tid)) && !is_asked() && !outside_any_runs()) {
+    } else if (is_asleep_for_long(turn, state, times_run(pid, tid)) && !is_asked() && !outside_any_runs()) {
         outside_strangers();
         take_back(turn, state == 'T' || state == 't');
     }

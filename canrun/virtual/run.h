@@ -24,7 +24,8 @@
 /* CLOCK_MONOTONIC at the start. */
 #define UPTIME (1000 * SECOND)
 /* The turn: the number of the slot that has it, or NOBODY, and then it is the coordinator's; a bit that this one
- * decides whose turn is next; and above them how often it was handed on, so that no two turns are the same. */
+ * decides whose turn is next; and above them how often a slot was given it, so that no two turns are the same. How
+ * often the coordinator had it hangs on the machine, as where one that is born begins late, and is not counted. */
 #define NOBODY 0x7fffffu
 #define DECIDING 0x800000u
 #define TURN_BITS 24

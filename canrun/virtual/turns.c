@@ -285,7 +285,8 @@ uint32_t turn_owner(void) {
 }
 
 bool turn_change(uint64_t turn, uint32_t to) {
-    uint64_t next = ((turn >> TURN_BITS) + !(to & DECIDING)) << TURN_BITS | to;
+    bool is_given = to != NOBODY && !(to & DECIDING);
+    uint64_t next = ((turn >> TURN_BITS) + is_given) << TURN_BITS | to;
     return __atomic_compare_exchange_n((uint64_t *)&run->turn, &turn, next, 0, __ATOMIC_SEQ_CST, __ATOMIC_SEQ_CST);
 }
 
