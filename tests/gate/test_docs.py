@@ -315,6 +315,7 @@ REFUSED = {
     "fd frames off": ("", RAW + "feed 1 < sendfd 123 0 >"),
     "no buffers": ("--txqueue 1 ", RAW + "feed 1 < send 123 0 >< send 123 0 >"),
     "bus off": ("", RAW + "feed 1 < send 123 0 >\n" + "attempt\n" * 32 + "feed 1 < send 123 0 >"),
+    "interface down": ("", RAW + "feed 1 < down >< send 123 0 >"),
     "not bus off": ("", RAW + "feed 1 < restart >"),
     "record full": ("--limit 1 ", RAW + "feed 1 < close >"),
     "bad rule": ("", RAW + "feed 1 < fault next 0 good >"),
@@ -338,7 +339,7 @@ def last_reply(clone, options, lines):
 def test_refusals_of_the_manual_page(clone):
     """each text that a client can provoke, and no other; how many filters a message has room for"""
     page = clone.read("canbusd.1")
-    listed = re.findall(r"^\.TP\n\.B (.*)$", page[page.index(".SH REFUSALS") : page.index(".SH LIMITS")], re.M)
+    listed = re.findall(r"^\.TP\n\\fB(.*)\\fR$", page[page.index(".SH REFUSALS") : page.index(".SH LIMITS")], re.M)
     assert sorted(listed) == sorted(REFUSED.keys() | NOT_TRIED), f"listed are {listed}"
     for text, (options, lines) in REFUSED.items():
         assert re.fullmatch(rf"1 (< ok >)*< error {text} >", last_reply(clone, options, lines)), text
