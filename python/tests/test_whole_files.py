@@ -14,7 +14,7 @@ import pytest
 from test_commands import call, environment
 
 from canbusd import Bench, Server
-from canbusd.__main__ import COMMANDS, PROGRAM
+from canbusd._words import COMMANDS, PROGRAM
 from canbusd._whole_file import replaced
 
 HERE = Path(__file__).parent
@@ -58,6 +58,8 @@ TRIED = {
     "watch": (["watch", "--port", "0", "can0"], None),
     "fault": (["fault", "can0", "next 1 lastbit"], None),
     "restart": (["restart", "can0"], None),
+    "down": (["down", "can0"], None),
+    "up": (["up", "can0"], None),
     "restbus": (["restbus", str(HERE / "rest.dbc"), "--interface", "can0", "--for", "0.1"], None),
     "convert": (["convert", "run.log", "out.log"], "out.log"),
     "report": (["report", "run.rec"], None),
@@ -90,7 +92,7 @@ def folder(tmp_path):
 
 def test_all_commands_are_tried():
     """those of the program write their files themselves, a sweep into its folder canbusd-sweep, and extcap where Wireshark looks"""
-    assert {*TRIED, "sweep", "extcap"} | {*PROGRAM} == {*COMMANDS, *PROGRAM, "candump2bench"}
+    assert {*TRIED, "sweep", "extcap"} | {*PROGRAM} == {*COMMANDS, "candump2bench"}
 
 
 @pytest.mark.parametrize("name", [*TRIED])

@@ -13,27 +13,31 @@ out whole before the next.
 
 import os
 import re
+import weakref
 from collections.abc import Mapping, Sequence
 from pathlib import Path
 from typing import TYPE_CHECKING, Any, Optional, Union, cast
 
 from canbusd._calls import NamesWhatThereIs, explained
 from canbusd import _placement as placement
-from canbusd._expect.bench_time import PassesTime
-from canbusd._process.dialogue import MOST_INPUT as MOST_INPUT, BenchError as BenchError, Dialogue, moment_text
+from canbusd._expect.bench_time import SOON, PassesTime
+from canbusd._process.dialogue import BenchError as BenchError, Dialogue, moment_text
 from canbusd._process.program import audited
 from canbusd._process.program_run import Ack, bus_of, option_words, rates_of
+from canbusd._restbus.node import Node
 from canbusd._restbus.nodes import database_of
 from canbusd._restbus.simulated_nodes import HasRestBus
+from canbusd._restbus.sleepers import Sleepers
 from canbusd._run.log import read_log
 from canbusd._run.summary import write_page
 from canbusd._session.bench_session import Session as Session
 from canbusd._session.injection import Refused as Refused
 from canbusd._session.protocol import Filters, options
+from canbusd._words import MOST_RULES, MOST_SESSIONS, NO_SUCH_INTERFACE, TOO_MANY_RULES, TOO_MANY_SESSIONS
 from canbusd.faults import Script, rules_in, rules_of, script_bytes
 from canbusd.frames import Frame
 from canbusd.record import Attempt, Outcome, Record, read_record
-from canbusd.rules import MOST_RULES, GivenRules, check_rules, parse_rule
+from canbusd.rules import GivenRules, check_rules, parse_rule
 from canbusd.signals import Database
 
 if TYPE_CHECKING:
@@ -41,7 +45,6 @@ if TYPE_CHECKING:
 
     from canbusd._restbus.bench_rest_bus import BenchRestBus
 
-MOST_SESSIONS = 64
 TRIED = re.compile(
     r"(?:idle|tried (?P<winner>\S+) (?P<number>\d+) (?P<outcome>\w+) (?P<accepted>\S+) (?P<off>\S+))"
     r"(?: restarted (?P<restarted>\S+))?(?: at (?P<at>[0-9.]+))?"
@@ -65,9 +68,13 @@ class Bench(PassesTime, Dialogue, HasRestBus["BenchRestBus"], NamesWhatThereIs):
 
     _INSTEAD = {
         "session": "bus('can0') returns a session",
-        **dict.fromkeys(("status", "stats", "load", "restart"), "a session has it: bus('can0')"),
+        **dict.fromkeys(("status", "stats", "load"), "a session has it: bus('can0')"),
+        "restart": "up('can0'), or bus('can0').restart()",
         **dict.fromkeys(("send", "receive", "recv"), "a session sends and receives: bus('can0').send(0x123)"),
         "tick": "attempt() makes one, run() all",
+        **dict.fromkeys(("isotp", "start", "environment"), "ISO-TP, UDS and programs need a Server"),
+        **dict.fromkeys(("sleep", "advance"), "wait(seconds)"),
+        "attempts": "record().attempts",
     }
 
     @explained()
@@ -98,6 +105,10 @@ class Bench(PassesTime, Dialogue, HasRestBus["BenchRestBus"], NamesWhatThereIs):
         Dialogue.__init__(self, out)
         script = script_bytes(placement.script_of((self._number, self.names[0]), faults))
         self._sessions = 0
+        self._rest_buses: "list[BenchRestBus]" = []
+        self._nodes: dict[str, Node] = {}
+        this: Bench = weakref.proxy(self)
+        self._sleepers = Sleepers(self._turn, lambda name: this.up(name))
         self._sent: dict[str, list[Frame]] = {name: [] for name in self.names}
         words += ["--record", str(self._path("rec")), "--log", str(self._path("log")), "--"]
         bus = ",".join(self.names)
@@ -110,6 +121,8 @@ class Bench(PassesTime, Dialogue, HasRestBus["BenchRestBus"], NamesWhatThereIs):
         self._given = GivenRules(rules_in(script.decode()))
         # The rule of each attempt, where one gave its fault.
         self._rules: list[str] = []
+        # The end of the last attempt.
+        self._busy_until = 0.0
 
     @explained()
     def open(
@@ -133,10 +146,10 @@ class Bench(PassesTime, Dialogue, HasRestBus["BenchRestBus"], NamesWhatThereIs):
         )
         messages += ["origin 1"] if receive_own_messages else []
         if channel not in self.names:
-            raise Refused(f"no such interface {channel!r}; the bench has {', '.join(self.names)}")
+            raise Refused(f"{NO_SUCH_INTERFACE} {channel!r}; the bench has {', '.join(self.names)}")
         with self._turn:
             if self._sessions > MOST_SESSIONS:
-                raise Refused("too many sessions")
+                raise Refused(TOO_MANY_SESSIONS)
             session = Session(self, self._sessions, channel)
             try:
                 for message in [f"open {channel}", "rawmode", *messages]:
@@ -173,6 +186,11 @@ class Bench(PassesTime, Dialogue, HasRestBus["BenchRestBus"], NamesWhatThereIs):
         self._due.append(rest)
         return rest
 
+    @explained()
+    def node(self, name: str) -> Node:
+        """Returns the node of this interface, which comes and goes: ``bench.node("ecu").power_off()``."""
+        return self._nodes.setdefault(self._named(str(name), "name"), Node(self, str(name)))
+
     def _attempt_now(self) -> Optional[Attempt]:
         return self.attempt(at=self.now)
 
@@ -190,12 +208,17 @@ class Bench(PassesTime, Dialogue, HasRestBus["BenchRestBus"], NamesWhatThereIs):
         check_rules(rules, self.names)
         with self._turn:
             if len(self._given) + len(rules) > MOST_RULES:
-                raise Refused("too many rules")
+                raise Refused(TOO_MANY_RULES)
             for rule in rules:
                 # Such a line has no answer.
                 self._write(f"fault {rule}")
                 self._in_step = True
                 self._given.add(rule)
+
+    def rules_left(self, interface: Optional[str] = None) -> int:
+        # Without those of a sweep.
+        planted = self._given.among(len(placement.rules_of((self._number, self.names[0]))))
+        return super().rules_left(interface) - planted
 
     def attempt(self, at: Union[str, float, None] = None) -> Optional[Attempt]:
         """Puts the frame that wins arbitration on the bus, at this moment if one is given; None if no frame waits.
@@ -209,6 +232,8 @@ class Bench(PassesTime, Dialogue, HasRestBus["BenchRestBus"], NamesWhatThereIs):
             words = TRIED.fullmatch(line)
             attempt = self._attempt_of(words) if words else None
             self._in_step = True
+            if attempt is not None:
+                self._sleepers.note(attempt)
         if not words:
             raise Refused(line)
         return attempt
@@ -231,10 +256,35 @@ class Bench(PassesTime, Dialogue, HasRestBus["BenchRestBus"], NamesWhatThereIs):
             attempts.append(attempt)
         raise RuntimeError(f"frames still wait after {most} attempts")
 
-    def _run_until(self, moment: str) -> list[Attempt]:
-        """Makes the attempts that begin before a moment; an echo follows them."""
+    def _run_until(self, moment: str, until_woken: bool = False) -> list[Attempt]:
+        """Makes the attempts that begin before a moment, with `until_woken` only up to one that wakes a node."""
         if self._rates is None:
             raise ValueError("until needs a bench with a bit rate, such as Bench(.., bitrate=500000)")
+        attempts: list[Attempt] = []
+        with self._turn:
+            # The frame that wakes a node may end later.
+            while not attempts or float(self._moment) < float(moment):
+                asleep = len(self._sleepers)
+                found = self._run_to_next(moment, self._rates.bitrate) if asleep else []
+                if not found:
+                    return attempts + self._begin_before(moment)
+                attempts += found
+                if until_woken and len(self._sleepers) < asleep:
+                    break
+        return attempts
+
+    def _run_to_next(self, moment: str, bitrate: int) -> list[Attempt]:
+        """Makes the next attempt, if it begins before a moment, and wakes the nodes that it wakes, at its end."""
+        soon = max(float(self._moment), self._busy_until) + SOON / bitrate
+        attempts = self._begin_before(moment_text(soon) if soon < float(moment) else moment)
+        for attempt in attempts:
+            if self._sleepers.are_woken_by(attempt):
+                self._begin_before(moment_text(attempt.timestamp))
+                self._sleepers.note(attempt)
+        return attempts
+
+    def _begin_before(self, moment: str) -> list[Attempt]:
+        """Makes all attempts that begin before a moment, and sets it; an echo follows them."""
         lines: list[str] = []
         with self._turn:
             last = min(self._sessions, MOST_SESSIONS)
@@ -276,7 +326,8 @@ class Bench(PassesTime, Dialogue, HasRestBus["BenchRestBus"], NamesWhatThereIs):
         try:
             super()._finish(fault)
         finally:
-            placement.keep((self._number, self.names[0]), self.names, self._own_sessions, self._path("rec"))
+            bus = self._number, self.names[0]
+            placement.keep(bus, self.names, self._own_sessions, self._path("rec"), self._rates)
 
     def _path(self, ending: str) -> Path:
         return self._out / f"{self.names[0]}.{ending}"
@@ -284,6 +335,7 @@ class Bench(PassesTime, Dialogue, HasRestBus["BenchRestBus"], NamesWhatThereIs):
     def _attempt_of(self, words: "re.Match[str]") -> Optional[Attempt]:
         """The attempt that these words of a line describe."""
         moment, restarted = float(words["at"] or self._moment), set_of(words["restarted"])
+        self._busy_until = moment
         if words["winner"] is None:
             return Attempt(moment, "", 0, "", "idle", "good", (), (), restarted) if restarted else None
         number, winner = int(words["number"]), words["winner"]

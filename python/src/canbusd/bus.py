@@ -63,6 +63,7 @@ BUS_STATES = {
     "warning": BusState.ACTIVE,
     "passive": BusState.PASSIVE,
     "off": BusState.ERROR,
+    "down": BusState.ERROR,
 }
 # Arguments that python-can and its tools hand to all interfaces.
 OF_PYTHON_CAN = {"single_handle", "timing", "ignore_config", "config_context", "poll_interval"}
@@ -87,6 +88,13 @@ def interfaces(address: Optional[str] = None, timeout: float = 5.0) -> list[str]
     return names
 
 
+def as_message(given: Any) -> Any:
+    """Returns a message of python-can for a Frame, also in a list; anything else as it is."""
+    if isinstance(given, (list, tuple)):
+        return [as_message(one) for one in given]
+    return given.message() if isinstance(given, Frame) else given
+
+
 class Periodic:
     """A bus as a periodic task has it: where the transmit queue is full, or the interface off, the task goes on, as one of
     the system's own CAN sockets does. That is logged once; python-can would log each send, with a traceback.
@@ -101,6 +109,9 @@ class Periodic:
             self._bus.send(msg, timeout)
             self._is_refused = False
         except CanOperationError as fault:
+            if self._bus._is_shutdown:
+                # The task was stopped, after it had looked whether it was.
+                return
             if fault.error_code not in ERROR_CODES.values():
                 raise
             if not self._is_refused:
@@ -257,7 +268,7 @@ class CanbusdBus(InjectsFaults, NamesWhatThereIs, BusABC):
 
         :param timeout: seconds in which a full transmit queue may make room; none: a full one is an error at once
         :raises ~can.exceptions.CanOperationError: where the server refuses it; the ``error_code`` of ``no buffers`` is
-            ``ENOBUFS``, of ``bus off`` ``ENETDOWN``
+            ``ENOBUFS``, of ``bus off`` and ``interface down`` ``ENETDOWN``
         :raises ~can.exceptions.CanTimeoutError: where the queue was full until the timeout, or no answer came
         :raises ValueError: where this is no message that can be sent here
         """
@@ -296,21 +307,35 @@ class CanbusdBus(InjectsFaults, NamesWhatThereIs, BusABC):
 
     @property
     def state(self) -> BusState:
-        """The state of the interface: ACTIVE up to error warning, PASSIVE, or ERROR where it is bus off.
+        """The state of the interface: ACTIVE up to error warning, PASSIVE, or ERROR where it is bus off or down.
 
-        Setting ACTIVE brings it back from bus off; no other state can be set.
+        Setting ACTIVE brings it back from both; no other state can be set.
         """
         return BUS_STATES[self.error_counters().state]
 
     @state.setter
     def state(self, new_state: BusState) -> None:
         if new_state is not BusState.ACTIVE:
-            raise NotImplementedError(f"{new_state} can't be set: there is no listen-only mode, and no switching off")
+            raise NotImplementedError(
+                f"{new_state} can't be set: there is no listen-only mode; down() takes it off the bus"
+            )
         self._session.restart(is_needed=False)
 
     def restart(self) -> None:
-        """Brings the interface back from bus off; CanOperationError where it is not bus off."""
+        """Brings the interface back from bus off, or up; CanOperationError where it is neither bus off nor down."""
         self._session.restart()
+
+    def down(self) -> None:
+        """Takes the interface off the bus, as `ip link set can0 down` does; the frames in its transmit queue are lost.
+
+        It sends, accepts and acknowledges nothing until `up`, and a send is refused as `interface down`. The sockets of the
+        interface stay open. It may be down already.
+        """
+        self._session.down()
+
+    def up(self) -> None:
+        """Brings the interface up, or back from bus off; both error counts are 0 then. It may be up already."""
+        self._session.up()
 
     def error_counters(self) -> ErrorCounters:
         """Returns the state of the interface and its error counts."""
@@ -338,6 +363,7 @@ class CanbusdBus(InjectsFaults, NamesWhatThereIs, BusABC):
     def shutdown(self) -> None:
         """Ends the session; who waits in another thread gets a CanOperationError. It may be called again."""
         super().shutdown()
+        self._is_shutdown = True
         self._session.close()
 
     @staticmethod
@@ -368,8 +394,12 @@ class CanbusdBus(InjectsFaults, NamesWhatThereIs, BusABC):
                 timeout = max(0.0, deadline - time.monotonic())
 
     def send_periodic(self, msgs: Any, *args: Any, **kwargs: Any) -> CyclicSendTaskABC:
-        """Sends a message again and again, as python-can has it; it may be a Frame."""
-        return super().send_periodic(msgs.message() if isinstance(msgs, Frame) else msgs, *args, **kwargs)
+        """Sends a message again and again, as python-can has it; it may be a Frame, also in `modify_data` of the task."""
+        task: Any = super().send_periodic(as_message(msgs), *args, **kwargs)
+        modify = getattr(task, "modify_data", None)
+        if modify is not None:
+            task.modify_data = lambda messages: modify(as_message(messages))
+        return cast(CyclicSendTaskABC, task)
 
     def _send_periodic_internal(self, *args: Any, **kwargs: Any) -> CyclicSendTaskABC:
         # Its thread sends under this lock, so not before it has the bus on which it goes on.

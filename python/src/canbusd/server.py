@@ -22,21 +22,26 @@ from canbusd._calls import NamesWhatThereIs, explained
 from canbusd._expect.expectations import Expectations
 from canbusd._expect.observer import Observer, observed_of
 from canbusd import _placement as placement
+from canbusd._process import lock_file
 from canbusd._process.program import ServerError as ServerError, audited
 from canbusd._process.program_run import RUNNING, Ack, ProgramRun, option_words, rates_of
 from canbusd._process.serve_words import Recorded, bus_words, record_options
-from canbusd._restbus.simulated_nodes import SimulatesNodes
+from canbusd._restbus.node import Node
 from canbusd._restbus.nodes import database_of
+from canbusd._restbus.simulated_nodes import SimulatesNodes
+from canbusd._restbus.sleepers import LiveSleepers
 from canbusd._run.live import LiveLog, LiveRecord, left_by
 from canbusd._run.log import read_log
 from canbusd._session.address import parse_address, reason_of
 from canbusd._session.connection import SessionRefused
-from canbusd._session.injection import RuleSession
-from canbusd._session.raw_session import CURES, RECORD_FULL
+from canbusd._session.injection import TIMEOUT, RuleSession
+from canbusd._session.protocol import Filters
+from canbusd._session.raw_session import CURES, RawSession
+from canbusd._words import MOST_BUSES, NO_SUCH_INTERFACE, RECORD_FULL
 from canbusd.faults import Script, rules_of
 from canbusd.programs import Program, RunsPrograms
 from canbusd.record import Attempt, Record, read_record
-from canbusd.rules import check_rules
+from canbusd.rules import check_rules, parse_rule
 from canbusd.signals import Database
 from canbusd.virtual import note_rate
 
@@ -44,6 +49,7 @@ if TYPE_CHECKING:
     from can.message import Message
 
     from canbusd.bus import CanbusdBus
+    from canbusd.rest_bus import RestBus
 
 #: Seconds in which a server has to listen, and to end. Long records take their time.
 START, END = 10.0, 60.0
@@ -52,8 +58,6 @@ ENTRIES = re.compile(r"bus (\S+) entries (\d+)")
 FULL = re.compile(r"bus (\S+): record full")
 #: The calls that end it, with those that do so only if logs and records are written at the end.
 ENDED_BY = "stop(), {}audit(), report() and its with block end it"
-#: How many buses a server has at most.
-MOST_BUSES = 16
 
 
 def full_record(errors: Path, buses: Mapping[str, Sequence[str]], channel: Optional[str]) -> str:
@@ -97,7 +101,8 @@ class Server(Expectations, SimulatesNodes, RunsPrograms, ProgramRun, NamesWhatTh
         "load": "server.bus('can0').load()",
         "receive": "server.bus('can0').recv(timeout=1), or expect(..)",
         "recv": "server.bus('can0').recv(timeout=1), or expect(..)",
-        "restart": "server.bus('can0').restart()",
+        "sleep": "wait(seconds)",
+        "restart": "up('can0'), or server.bus('can0').restart()",
         "send": "server.bus('can0').send(can.Message(..))",
         "stats": "server.bus('can0').stats()",
     }
@@ -132,7 +137,7 @@ class Server(Expectations, SimulatesNodes, RunsPrograms, ProgramRun, NamesWhatTh
         parse_address(str(listen), "listen", least_port=0)
         options, numbers = record_options(record, limit, flush, sync)
         numbers.update(auto_restart=auto_restart, pace_ms=pace_ms, write_bytes=write_bytes)
-        options += option_words(ack, report, txqueue=txqueue, rxqueue=rxqueue, **numbers)
+        options += option_words(placement.acknowledged_by(ack), report, txqueue=txqueue, rxqueue=rxqueue, **numbers)
         self._rates = rates_of(bitrate, data_bitrate, dbitrate)
         options += self._rates.words if self._rates else []
         note_rate(bitrate)
@@ -146,8 +151,25 @@ class Server(Expectations, SimulatesNodes, RunsPrograms, ProgramRun, NamesWhatTh
         self._start("serve", *words, "--", *(bus[-1] for bus in self._by_bus.values()))
         #: Where clients connect: HOST:PORT, or a Unix path.
         self.address = self._listening()
+        self._sleepers = LiveSleepers(self.address, self._names())
         if self._observed:
             self._observing()
+        placement.note_server(self._names(), self._take_down)
+
+    def _take_down(self, names: Sequence[str], moment: float, seconds: float) -> None:
+        """Has interfaces be down from a moment on for so many seconds, if it still runs."""
+        placement.sleep_until(moment)
+        try:
+            sessions = [RawSession(self.address, name, ["filter 0"], TIMEOUT) for name in names]
+            for session in sessions:
+                session.down()
+            placement.sleep_until(moment + seconds)
+            for session in sessions:
+                session.up()
+                session.close()
+        except Exception as reason:  # noqa: B902  it may have ended
+            if self._result is None and self._child.poll() is None:
+                placement.note_failure(reason)
 
     def _prepare(self, record: str) -> None:
         """What is known of the run before it begins."""
@@ -156,6 +178,10 @@ class Server(Expectations, SimulatesNodes, RunsPrograms, ProgramRun, NamesWhatTh
         self._logs = {name: LiveLog(self._out / f"{name}.log") for name in self._by_bus}
         self._records = {name: LiveRecord(self._out / f"{name}.rec", bus[:-1]) for name, bus in self._by_bus.items()}
         self._programs: list[Program] = []
+        self._rest_buses: "list[RestBus]" = []
+        self._nodes: dict[str, Node] = {}
+        # The first interfaces of the buses of which all rules were ended.
+        self._rules_ended: set[str] = set()
         self._observer: Optional[Observer] = None
         self._ending = threading.Lock()
         self._result: Optional[Result] = None
@@ -171,7 +197,7 @@ class Server(Expectations, SimulatesNodes, RunsPrograms, ProgramRun, NamesWhatTh
         return [name for bus in self._by_bus.values() for name in bus[:-1]]
 
     @explained()
-    def bus(self, channel: str, **kwargs: Any) -> "CanbusdBus":
+    def bus(self, channel: str, can_filters: Optional[Filters] = None, **kwargs: Any) -> "CanbusdBus":
         """Returns a bus of python-can on the interface of this name; the arguments are those of CanbusdBus."""
         import canbusd._python_can  # noqa: F401  it says what is missing, so it comes first
         from can.exceptions import CanInitializationError
@@ -179,12 +205,25 @@ class Server(Expectations, SimulatesNodes, RunsPrograms, ProgramRun, NamesWhatTh
         from canbusd.bus import CanbusdBus
 
         if channel not in self.interfaces:
-            raise CanInitializationError(f"{channel}: no such interface; the server has {', '.join(self.interfaces)}")
+            raise CanInitializationError(f"{channel}: {NO_SUCH_INTERFACE}; the server has {', '.join(self.interfaces)}")
         if self._result is not None:
             raise CanInitializationError(f"{channel}: the server has ended; {ENDED_BY.format(self._ends_too)}")
-        bus = CanbusdBus(channel, address=self.address, **kwargs)
+        bus = CanbusdBus(channel, can_filters=can_filters, address=self.address, **kwargs)
         bus.window = self._txqueue
         return bus
+
+    @explained()
+    def node(self, name: str, *programs: Program) -> Node:
+        """Returns the node of this interface, which comes and goes, with the programs that are it, as :meth:`start` returns them:
+        ``server.node("ecu", server.start("./ecu can0"))``.
+
+        ``node.power_off()`` and ``power_on()`` kill the programs and start them anew, ``sleep()``, ``wake()`` and
+        ``with node.unplugged():`` let them go on. An interface has one node, to which later calls may add programs.
+        """
+        self._first(str(name))
+        node = self._nodes.setdefault(name, Node(self, name))
+        node._programs += tuple(one for one in programs if one not in node._programs)
+        return node
 
     @explained()
     def inject(self, faults: Script, interface: Optional[str] = None) -> None:
@@ -202,13 +241,23 @@ class Server(Expectations, SimulatesNodes, RunsPrograms, ProgramRun, NamesWhatTh
 
     def rules_left(self, interface: Optional[str] = None) -> int:
         """Returns how many rules of faults a bus has that are not used up, those without end too."""
-        with self._rule_session(self._first(interface, "interface", "rules_left({})")) as session:
-            return session.rules_left()
+        first = self._first(interface, "interface", "rules_left({})")
+        with self._rule_session(first) as session:
+            left = session.rules_left()
+        return max(0, left - self._planted_left(first)) if left else 0
+
+    def _planted_left(self, first: str) -> int:
+        """How many of the rules that are left are a sweep's kind `busoff`: one of a sender that has not lost a frame by it."""
+        planted = [] if first in self._rules_ended else map(parse_rule, placement.rules_of((self._number, first)))
+        senders = [rule.senders[0] for rule in planted if rule.senders and rule.identifier is None]
+        return sum(not self._observing().session(sender).stats().lost for sender in senders)
 
     def end_rules(self, interface: Optional[str] = None) -> None:
         """Ends all rules of faults of a bus; lines of its script by the numbers of attempts stay."""
-        with self._rule_session(self._first(interface, "interface", "end_rules({})")) as session:
+        first = self._first(interface, "interface", "end_rules({})")
+        with self._rule_session(first) as session:
             session.end_rules()
+        self._rules_ended.add(first)
 
     def stop(self) -> Result:
         """Ends the server, after the programs that it started; logs and records are written. Again it returns the same.
@@ -353,6 +402,7 @@ class Server(Expectations, SimulatesNodes, RunsPrograms, ProgramRun, NamesWhatTh
             super().expect_from_now()
 
     def _end_observer(self) -> None:
+        self._sleepers.close()
         if self._observer is not None:
             self._observer.close()
 
@@ -417,7 +467,9 @@ class Server(Expectations, SimulatesNodes, RunsPrograms, ProgramRun, NamesWhatTh
             raise ServerError(f"the server did not end within {END:.0f} seconds, and was killed") from None
         finally:
             RUNNING.discard(self)
+            if self._child.returncode:
+                lock_file.remove_left(self._out)
         for name, bus in self._by_bus.items():
             own = sum(one in self._observed for one in bus[:-1])
-            placement.keep((self._number, name), bus[:-1], own, self._out / f"{name}.rec")
+            placement.keep((self._number, name), bus[:-1], own, self._out / f"{name}.rec", self._rates)
         return self._child.returncode, written.decode()

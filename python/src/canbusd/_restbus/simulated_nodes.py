@@ -7,6 +7,7 @@ from canbusd._calls import explained
 
 if TYPE_CHECKING:
     from canbusd._restbus.nodes import Source
+    from canbusd._session.protocol import Filters
     from canbusd.bus import CanbusdBus
     from canbusd.isotp import IsoTp
     from canbusd.rest_bus import RestBus
@@ -20,6 +21,16 @@ class HasRestBus(Generic[R]):
     """What a bench and a server have of a rest bus."""
 
     database: "Optional[Database]"
+    # The rest buses that were made.
+    _rest_buses: "list[R]"
+
+    def down(self, name: str) -> None:
+        """Takes an interface off the bus."""
+        raise NotImplementedError
+
+    def up(self, name: str) -> None:
+        """Brings an interface up."""
+        raise NotImplementedError
 
     @property
     def interfaces(self) -> list[str]:
@@ -49,7 +60,13 @@ class HasRestBus(Generic[R]):
         found = interfaces_of(known, without, nodes or {}, interface, self.interfaces)
         # Expectations then know its names, too.
         self.database = known if self.database is None else self.database.with_more(known)
-        return self._make_rest_bus(known, found)
+        rest = self._make_rest_bus(known, found)
+        self._rest_buses = [*self._open_rest_buses(), rest]
+        return rest
+
+    def _open_rest_buses(self) -> "list[R]":
+        """The rest buses that have not ended."""
+        return [one for one in self._rest_buses if not one._is_closed]
 
 
 class SimulatesNodes(HasRestBus["RestBus"]):
@@ -58,7 +75,7 @@ class SimulatesNodes(HasRestBus["RestBus"]):
     address: str
     _result: Any
 
-    def bus(self, channel: str, **kwargs: Any) -> "CanbusdBus":
+    def bus(self, channel: str, can_filters: "Optional[Filters]" = None, **kwargs: Any) -> "CanbusdBus":
         """Returns a bus of python-can."""
         raise NotImplementedError
 

@@ -10,7 +10,8 @@ from canbusd._calls import NamesWhatThereIs, explained
 from canbusd._session.arguments import check_within
 from canbusd._session.injection import InjectsFaults, Refused
 from canbusd._session.protocol import (
-    LONGEST_MESSAGE,
+    NO_DOWN,
+    PASSING,
     ErrorCounters,
     Filters,
     Load,
@@ -20,12 +21,21 @@ from canbusd._session.protocol import (
     load_of,
     stats_of,
 )
-from canbusd.frames import Frame, MessageLike, command_of, frame_like, frame_of, frame_to_send, without_origin
+from canbusd._words import LONGEST_MESSAGE, NO_BUFFERS, NOT_BUS_OFF, UNKNOWN_COMMAND
+from canbusd.frames import (
+    Frame,
+    MessageLike,
+    command_of,
+    frame_like,
+    frame_of,
+    frame_to_send,
+    identifier_word,
+    without_origin,
+)
 
 if TYPE_CHECKING:
     from canbusd.bench import Bench
 
-NO_BUFFERS, BUS_OFF = "no buffers", "bus off"
 CLOSED = re.compile(r"[0-9]+ < closed ([0-9]+) ([0-9]+) >")
 
 
@@ -36,6 +46,18 @@ class PeriodicSend:
         self._session, self._frame, self._period = session, frame, round(period * 1e6)
         self._next: Optional[int] = session._bench._now
         self._end = None if duration is None else session._bench._now + round(duration * 1e6)
+
+    def modify_data(self, message: MessageLike) -> None:
+        """Sends this frame from now on, at the same moments; it has the same identifier."""
+        frame = frame_like(message)
+        if identifier_word(frame) != identifier_word(self._frame):
+            raise ValueError(f"a periodic frame keeps its identifier: {self._frame} can't become {frame}")
+        self._frame = frame
+
+    def start(self) -> None:
+        """Begins anew, if it was ended."""
+        if self._next is None:
+            self._next = self._session._bench._now
 
     def stop(self) -> None:
         """Ends it."""
@@ -54,7 +76,7 @@ class PeriodicSend:
             try:
                 self._session._put(self._frame)
             except Refused as fault:
-                if str(fault) not in (NO_BUFFERS, BUS_OFF):
+                if str(fault) not in PASSING:
                     raise
             self._next += self._period
 
@@ -160,7 +182,7 @@ class Session(InjectsFaults, NamesWhatThereIs):
 
     def send_periodic(self, msgs: MessageLike, period: float, duration: Optional[float] = None) -> "PeriodicSend":
         """Sends a frame each `period` seconds of the bus, while time passes, from now on and for the `duration`, until `stop()`
-        of what is returned. A full queue, or bus off, does not end it."""
+        of what is returned. A full queue, bus off, or an interface that is down does not end it."""
         check_within(period, "period")
         if not period > 0:
             raise ValueError(f"period is a number of seconds above 0, not {period!r}")
@@ -208,6 +230,26 @@ class Session(InjectsFaults, NamesWhatThereIs):
             self._bench._ask(f"feed {number} < restart >< echo >", at)
         except Refused as fault:
             raise Refused(f"{self.channel}: {fault}, but {self.status().state}") from None
+
+    def down(self, at: Union[str, float, None] = None) -> None:
+        """Takes the interface off the bus, at this moment if one is given; the frames in its transmit queue are lost.
+
+        It sends, accepts and acknowledges nothing until `up`, and a send is refused as `interface down`. It may be down
+        already.
+        """
+        try:
+            self._bench._ask(f"feed {self._live()} < down >< echo >", at)
+        except Refused as fault:
+            raise Refused(f"{self.channel}: {NO_DOWN if str(fault) == UNKNOWN_COMMAND else fault}") from None
+
+    def up(self, at: Union[str, float, None] = None) -> None:
+        """Brings the interface up, at this moment if one is given, or back from bus off; both error counts are 0 then. It
+        may be up already."""
+        try:
+            self._bench._ask(f"feed {self._live()} < restart >< echo >", at)
+        except Refused as fault:
+            if str(fault) != NOT_BUS_OFF:
+                raise
 
     def call(self, message: str) -> list[str]:
         """Feeds a message of the protocol, such as `recvown 1`, and returns the answers to it; a refusal is raised."""

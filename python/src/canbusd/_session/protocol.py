@@ -6,16 +6,22 @@ Frames are in canbusd.frames: `command_of` and `frame_of`. Nothing here needs py
 from collections.abc import Iterable, Mapping, Sequence
 from typing import Any, Literal, NamedTuple, Optional, Union
 
+from canbusd._words import BUS_OFF, INTERFACE_DOWN, LONGEST_MESSAGE, NO_BUFFERS
 from canbusd.frames import EXTENDED, INVERTED
 
-# What may be between `<` and `>`, and in an answer: the names of 256 interfaces.
-LONGEST_MESSAGE, LONGEST_ANSWER = 1024, 4120
+# What may be in an answer: the names of 256 interfaces.
+LONGEST_ANSWER = 4120
 ALL_CLASSES = 0x1FFFFFFF
-# The states of an interface, by how bad they are.
-State = Literal["active", "warning", "passive", "off"]
-STATES: tuple[State, ...] = ("active", "warning", "passive", "off")
+# The states of an interface: the states of its error counts, the best first, and `down`.
+State = Literal["active", "warning", "passive", "off", "down"]
+STATES: tuple[State, ...] = ("active", "warning", "passive", "off", "down")
 # Filters that no frame passes: everything, inverted.
 NO_FRAMES = [{"can_id": INVERTED, "can_mask": 0}]
+
+# Refusals after which a cyclic message goes on: a full transmit queue, and an interface that is off the bus.
+PASSING = (NO_BUFFERS, BUS_OFF, INTERFACE_DOWN)
+# The text for users in place of UNKNOWN_COMMAND, with which an older program refuses a newer message.
+NO_DOWN = "the program is older, and has no interfaces that go down"
 
 Filters = Sequence[Mapping[str, Any]]
 A_FILTER = "{'can_id': 0x123, 'can_mask': 0x7FF}"
@@ -24,7 +30,7 @@ A_FILTER = "{'can_id': 0x123, 'can_mask': 0x7FF}"
 class ErrorCounters(NamedTuple):
     """How an interface is: its state and its error counts."""
 
-    #: `active`, `warning`, `passive` or `off`.
+    #: `active`, `warning`, `passive` or `off`, or `down` of an interface that was taken off the bus.
     state: State
     #: The transmit error count.
     tec: int
@@ -52,7 +58,7 @@ class Stats(NamedTuple):
     done: int
     #: Of the interface: frames that wait in the transmit queue.
     waiting: int
-    #: Of the interface: frames that were lost at bus off.
+    #: Of the interface: frames that were lost at bus off, or when it went down.
     lost: int
     #: Of the interface: frames that a full transmit queue refused.
     refused: int

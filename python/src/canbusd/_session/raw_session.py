@@ -12,18 +12,27 @@ from typing import Optional
 
 from canbusd._placement import DELAY, AtSockets
 from canbusd._session.connection import LONGEST_POLL, POLL, Connection, NoAnswer, SessionRefused
-from canbusd._session.injection import NO_INTERFACE, InjectsFaults, no_interface
-from canbusd._session.protocol import ErrorCounters, Load, Stats, counters_of, load_of, refusal_in, stats_of
+from canbusd._session.injection import InjectsFaults, no_interface
+from canbusd._session.protocol import NO_DOWN, ErrorCounters, Load, Stats, counters_of, load_of, refusal_in, stats_of
 from canbusd._session.waits import seconds_until
 from canbusd._text import times
+from canbusd._words import (
+    BUS_OFF,
+    INTERFACE_DOWN,
+    NO_BUFFERS,
+    NO_SUCH_INTERFACE,
+    NOT_BUS_OFF,
+    RECORD_FULL,
+    UNKNOWN_COMMAND,
+)
 
-NO_BUFFERS, BUS_OFF, NOT_BUS_OFF, RECORD_FULL = "no buffers", "bus off", "not bus off", "record full"
 # What the system's own CAN sockets report.
-ERROR_CODES = {NO_BUFFERS: errno.ENOBUFS, BUS_OFF: errno.ENETDOWN}
+ERROR_CODES = {NO_BUFFERS: errno.ENOBUFS, BUS_OFF: errno.ENETDOWN, INTERFACE_DOWN: errno.ENETDOWN}
 # What to do, where it can be said in a few words.
 CURES = {
     NO_BUFFERS: ": the transmit queue is full; send(msg, timeout=1) waits for room, and a server's txqueue= makes more",
     BUS_OFF: ": restart() brings the interface back, as the server's auto_restart= does",
+    INTERFACE_DOWN: ": up() brings the interface up",
     RECORD_FULL: ": start the server again with a higher limit= (--limit), or with record='live' (--record live)",
 }
 
@@ -77,7 +86,7 @@ class RawSession(InjectsFaults):
             opening = [f"open {channel}", "rawmode", *messages]
             answers = self._connection.ask([*opening, *self._queries])
             refused = next(filter(None, map(refusal_in, answers[: len(opening)])), "")
-            if refused == NO_INTERFACE:
+            if refused == NO_SUCH_INTERFACE:
                 refused = no_interface(self._connection)
             if refused:
                 raise SessionRefused(f"{refused}{CURES.get(refused, '')}")
@@ -195,6 +204,16 @@ class RawSession(InjectsFaults):
         if answer and (is_needed or answer != NOT_BUS_OFF):
             state = f", but {self.error_counters().state}" if answer == NOT_BUS_OFF else ""
             raise refusal(f"{self.channel}: {answer}{state}")
+
+    def down(self) -> None:
+        """Takes the interface off the bus; one that is down stays so."""
+        answer = self.answer("down")
+        if answer:
+            raise refusal(f"{self.channel}: {NO_DOWN if answer == UNKNOWN_COMMAND else answer}")
+
+    def up(self) -> None:
+        """Brings the interface up; one that is up stays so."""
+        self.restart(is_needed=False)
 
     def error_counters(self) -> ErrorCounters:
         """Returns the state of the interface and its error counts."""
